@@ -1,0 +1,53 @@
+-- Shared binary decision diagrams as a set of nodes (Bryant, 1986).
+--
+-- A graph gives some names a node: a pair of references, low and high. It knows no tables, shards or orders
+-- of making.
+use Rattle.std.specs.Prelude.{◌≡◌, ℕ, suc, zero, ◌<◌, Bool, true, false, cond, List, slice_index_or, Option, Some, None}
+use Rattle.dd_store.specs.declared.reference.NodeId.{NodeId}
+use Rattle.dd_store.specs.declared.reference.Ref.{Ref}
+use Rattle.dd_store.specs.declared.reference.Ref.TheVariants.{False, True, Node}
+
+-- the children of a node, low and high
+abbrev pub Pair : Type 0
+Pair = Ref × Ref
+
+-- the children of each node, low and high; None where no node has the name
+abbrev pub Graph : Type 0
+Graph = NodeId → Option Pair
+
+-- the bit of a level; levels past the end of the list have false
+abbrev pub bit : List Bool → ℕ → Bool
+bit x v = slice_index_or x v false
+
+-- the level of a reference: a terminal stands below all n levels
+abbrev pub top : ℕ → Ref → ℕ
+top n False = n
+top n True = n
+top n (Node m) = m.level
+
+-- a reference of the graph
+abbrev pub IsRef : Graph → Ref → Type 0
+IsRef g False = Unit {0}
+IsRef g True = Unit {0}
+IsRef g (Node m) = (p : Pair) × (g m ≡ Some p)
+
+-- the value that at most k steps from r find; a path in a graph of n levels has at most n steps
+unfoldable pub walk : ℕ → Graph → Ref → List Bool → Bool
+walk k g False x = false
+walk k g True x = true
+walk zero g (Node m) x = false
+walk (suc k) g (Node m) x =
+    elim (g m) [ None ↦ false | Some p ↦ walk k g (cond (bit x m.level) p.1 p.0) x ]
+
+-- ordered and reduced, for n levels
+pub record IsReduced (n : ℕ) (g : Graph) : Type 0 where
+  -- a node stands at one of the levels
+  pub placed : (m : NodeId) (p : Pair) → g m ≡ Some p → m.level < n
+  -- its children are references of the graph
+  pub closed : (m : NodeId) (p : Pair) → g m ≡ Some p → IsRef g p.0 × IsRef g p.1
+  -- along each edge the level grows
+  pub ordered : (m : NodeId) (p : Pair) → g m ≡ Some p → (m.level < top n p.0) × (m.level < top n p.1)
+  -- no node has equal children
+  pub proper : (m : NodeId) (p : Pair) → g m ≡ Some p → ¬ (p.0 ≡ p.1)
+  -- no two nodes of a level have equal children
+  pub unique : (l m : NodeId) (p : Pair) → g l ≡ Some p → g m ≡ Some p → l.level ≡ m.level → l ≡ m

@@ -1,0 +1,13 @@
+pub mod Adding
+pub mod Codes
+pub mod Fault
+pub mod Functions
+pub mod Graph
+pub mod Growing
+pub mod Levels
+pub mod Nodes
+pub mod Order
+pub mod Parts
+pub mod Places
+pub mod Size
+pub mod View

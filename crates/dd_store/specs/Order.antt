@@ -1,0 +1,36 @@
+-- The order of references: False, True, then nodes by level, shard and index.
+use Rattle.std.specs.Prelude.{Bool, true, false, nat_lt, ◌==◌, ◌&&◌, ◌||◌}
+use Rattle.std.specs.declared.cmp.Ordering.{Ordering}
+use Rattle.std.specs.Ordering.{ordering_then}
+use Rattle.dd_store.specs.declared.reference.Ref.{Ref}
+use Rattle.dd_store.specs.declared.reference.Ref.TheVariants.{False, True, Node}
+use Rattle.dd_store.specs.declared.reference.NodeId.{NodeId}
+use Rattle.dd_store.specs.contracts.reference.RefOrd.TheImpl as ref_ord
+use Rattle.dd_store.specs.contracts.reference.NodeIdOrd.TheImpl as node_ord
+
+-- a node comes before another by level, then by shard, then by index
+abbrev pub node_lt : NodeId → NodeId → Bool
+node_lt a b = nat_lt a.level b.level || ((a.level == b.level) && (nat_lt a.shard b.shard || ((a.shard == b.shard) && nat_lt a.index b.index)))
+
+-- a reference comes before another: False, True, then nodes
+abbrev pub ref_lt : Ref → Ref → Bool
+ref_lt False False = false
+ref_lt False True = true
+ref_lt False (Node b) = true
+ref_lt True False = false
+ref_lt True True = false
+ref_lt True (Node b) = true
+ref_lt (Node a) (Node b) = node_lt a b
+ref_lt (Node a) _ = false
+
+-- the order of references, as it is derived
+abbrev pub ref_cmp : Ref → Ref → Ordering
+ref_cmp = (ref_ord.ghosts).cmp
+
+-- pairs of references, by the first and then by the second
+abbrev pub pair_cmp : Ref × Ref → Ref × Ref → Ordering
+pair_cmp p q = ordering_then (ref_cmp p.0 q.0) (ref_cmp p.1 q.1)
+
+-- the order of nodes: by level, shard and index
+abbrev pub node_cmp : NodeId → NodeId → Ordering
+node_cmp = (node_ord.ghosts).cmp

@@ -1,0 +1,39 @@
+-- A reduced ordered store of decision diagrams, seen through its references alone.
+use Rattle.std.specs.Prelude.{◌≡◌, ◌≢◌, ℕ, ◌<◌, ◌==◌, Bool, cond, List, ◌∷◌, ◌++◌}
+use Rattle.std.proofs.Common.{length}
+
+-- what stands behind a reference: a terminal, or a node with its level, low and high
+pub data Part (R : Type 0) : Type 0 where
+  leaf : Bool → Part R
+  node : ℕ → R → R → Part R
+
+-- the level of a node, and n of a terminal
+abbrev pub top_of : {R : Type 0} → ℕ → Part R → ℕ
+top_of n (leaf b) = n
+top_of n (node v lo hi) = v
+
+-- the reference for the bit at level v set to b
+abbrev pub step_of : {R : Type 0} → ℕ → R → Bool → Part R → R
+step_of v r b (leaf c) = r
+step_of v r b (node u lo hi) = cond (u == v) (cond b hi lo) r
+
+-- n levels; Has: the references of the store
+pub record AreParts {R : Type 0} (n : ℕ) (part : R → Part R) (Has : R → Type 0) : Type 0 where
+  pub level : (r : R) (v : ℕ) (lo hi : R) → Has r → part r ≡ node v lo hi → v < n
+  pub low : (r : R) (v : ℕ) (lo hi : R) → Has r → part r ≡ node v lo hi → Has lo × (v < top_of n (part lo))
+  pub high : (r : R) (v : ℕ) (lo hi : R) → Has r → part r ≡ node v lo hi → Has hi × (v < top_of n (part hi))
+  pub proper : (r : R) (v : ℕ) (lo hi : R) → Has r → part r ≡ node v lo hi → lo ≢ hi
+  pub unique : (a b : R) → Has a → Has b → part a ≡ part b → a ≡ b
+
+-- den is what references denote
+pub record IsDenotation {R : Type 0} (n : ℕ) (part : R → Part R) (Has : R → Type 0) (den : R → List Bool → Bool) : Type 0 where
+  pub at_leaf : (r : R) (b : Bool) → Has r → part r ≡ leaf b → (x : List Bool) → length x ≡ n → den r x ≡ b
+  pub at_node : (r : R) (v : ℕ) (lo hi : R) → Has r → part r ≡ node v lo hi →
+      (q : List Bool) (b : Bool) (x : List Bool) → length q ≡ v → length (q ++ b ∷ x) ≡ n →
+      den r (q ++ b ∷ x) ≡ den (cond b hi lo) (q ++ b ∷ x)
+
+-- the references met on the way down from r
+pub data Met {R : Type 0} (part : R → Part R) (r : R) : R → Type 0 where
+  here : Met part r r
+  at_low : {m lo hi : R} {v : ℕ} → Met part r m → part m ≡ node v lo hi → Met part r lo
+  at_high : {m lo hi : R} {v : ℕ} → Met part r m → part m ≡ node v lo hi → Met part r hi

@@ -1,0 +1,57 @@
+-- A store as its users see it: through what stands behind its references. Nothing here knows of shards or names.
+use Rattle.std.specs.Prelude.{◌≡◌, ◌≢◌, ℕ, ◌≤◌, ◌⊎◌, true, false, Option, Some, None}
+use Rattle.dd_store.specs.declared.reference.NodeId.{NodeId}
+use Rattle.dd_store.specs.declared.reference.Ref.{Ref}
+use Rattle.dd_store.specs.declared.reference.Ref.TheVariants.{False, True, Node}
+use Rattle.dd_store.specs.declared.StoreFault.{StoreFault}
+use Rattle.dd_store.specs.declared.StoreFault.TheVariants.{Full, OutOfMemory}
+use Rattle.dd_store.specs.Graph.{Pair, IsRef, top as level_of}
+use Rattle.dd_store.specs.Nodes.{Nodes, node as node_at, count_of}
+use Rattle.dd_store.specs.Parts.{Part}
+use Rattle.dd_store.specs.Parts.Part.{leaf, node}
+
+-- what stands behind the name of a node
+abbrev pub part_of : NodeId → Option Pair → Part Ref
+part_of m None = leaf false
+part_of m (Some p) = node m.level p.0 p.1
+
+-- what stands behind a reference
+abbrev pub part : Nodes → Ref → Part Ref
+part S False = leaf false
+part S True = leaf true
+part S (Node m) = part_of m (node_at S m)
+
+-- the references of the store
+abbrev pub Has : Nodes → Ref → Type 0
+Has S r = IsRef (node_at S) r
+
+-- the level of a reference; a terminal stands below all levels
+abbrev pub top : Nodes → Ref → ℕ
+top S r = level_of S.levels r
+
+-- new has the references of old, with what stands behind them
+pub record Keeps (old new : Nodes) : Type 0 where
+  pub levels : new.levels ≡ old.levels
+  pub limit : new.limit ≡ old.limit
+  pub has : (r : Ref) → Has old r → Has new r
+  pub part_is : (r : Ref) → Has old r → part new r ≡ part old r
+
+-- no node of the level has these children
+abbrev pub IsAbsent : Nodes → ℕ → Ref → Ref → Type 0
+IsAbsent S level low high = (r : Ref) → Has S r → part S r ≢ node level low high
+
+-- r is the node of the level that has these children
+abbrev pub IsNode : Nodes → ℕ → Ref → Ref → Ref → Type 0
+IsNode S level low high r = Has S r × (part S r ≡ node level low high)
+
+-- r is the node of two children, or their common value, and new has no other node than old
+pub record IsMade (old new : Nodes) (level : ℕ) (low high r : Ref) : Type 0 where
+  pub keeps : Keeps old new
+  pub has : Has new r
+  pub is : ((low ≡ high) × (r ≡ low)) ⊎ ((low ≢ high) × (part new r ≡ node level low high))
+  pub no_other : (m : Ref) → Has new m → Has old m ⊎ (m ≡ r)
+
+-- why a node was refused: Full only where it is not there, is no child itself, and the limit is reached
+abbrev pub IsFull : Nodes → ℕ → Ref → Ref → StoreFault → Type 0
+IsFull old level low high OutOfMemory = Unit {0}
+IsFull old level low high Full = (old.limit ≤ count_of old) × (low ≢ high) × IsAbsent old level low high

@@ -1,0 +1,42 @@
+//! A store of nodes of shared, reduced, ordered binary decision diagrams (Bryant 1986), with the unique table of
+//! each level divided into 16 shards (van Dijk 2016).
+#![tactic(auto)]
+
+ghost use Rattle.std.specs.Prelude.{Some};
+ghost use Rattle.dd_store.specs.Fault.{fault_text};
+
+use std::fmt;
+use thiserror::Error;
+
+mod level;
+mod reference;
+mod shard;
+mod size;
+mod store;
+
+pub use level::Watch;
+pub use reference::{NodeId, Ref, code, shard_of};
+pub use store::Store;
+
+/// Why a store has not made a node.
+#[derive(Clone, Copy, Debug, PartialEq, Eq, Error)]
+pub enum StoreFault {
+    /// A new node is needed, and the store holds as many as its limit allows.
+    Full,
+    /// The growth of a table was refused.
+    OutOfMemory,
+}
+
+impl fmt::Display for StoreFault {
+    ghost output = { λ f. Some (fault_text f) };
+
+    fn fmt<W: fmt::Write>(&self, f: &mut fmt::Formatter<W>) -> fmt::Result {
+        f.write_str(match self {
+            StoreFault::Full => "more nodes than the limit",
+            StoreFault::OutOfMemory => "out of memory",
+        })
+    }
+}
+
+#[cfg(test)]
+mod tests;

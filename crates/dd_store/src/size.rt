@@ -1,0 +1,35 @@
+//! The number of nodes of a diagram.
+ghost use Rattle.std.specs.Prelude.{◌≡◌, IfOk};
+ghost use Rattle.dd_store.specs.Graph.{IsRef};
+ghost use Rattle.dd_store.specs.Nodes.{node, den};
+ghost use Rattle.dd_store.specs.Size.{HasSize};
+
+use crate::reference::{NodeId, Ref};
+use crate::store::Store;
+use std::alloc::AllocError;
+use std::collections::BTreeSet;
+
+impl Store {
+    /// How many nodes are reached from a reference, itself counted and terminals not. By Bryant (1986) it is a number of
+    /// the function alone, the same in every store with the same order of variables.
+    pub fn size(&self, reference: Ref) -> Result<u64, AllocError>
+        requires here { IsRef (node self.now) reference }
+        ensures { IfOk result (λ k. HasSize self.now.levels (den self.now reference) k) }
+    {
+        let _ = self.levels();
+        let mut seen: BTreeSet<NodeId> = BTreeSet::new(self.allocator());
+        let mut waiting = Vec::new(self.allocator());
+        waiting.push(reference)?;
+        while let Some(next) = waiting.pop() {
+            if let Ref::Node(id) = next {
+                let _ = seen.len();
+                if seen.insert(id)? {
+                    let pair = self.pair(id);
+                    waiting.push(pair.0)?;
+                    waiting.push(pair.1)?;
+                }
+            }
+        }
+        Ok(seen.len() as u64)
+    }
+}

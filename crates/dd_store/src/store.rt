@@ -1,0 +1,301 @@
+//! The store: the nodes of shared diagrams by level and shard, with each pair of children at most once in a level,
+//! so that equal functions have equal references (Bryant 1986).
+ghost use Rattle.std.specs.Prelude.{None, Some, ◌≡◌, ◌<◌, ◌≤◌, ◌^◌, ℕ, List, length, Bool, IfOk, IfErr, IfSome, OnOk, OnErr, IsSome, MatchResult};
+ghost use Rattle.dd_store.specs.declared.reference.NodeId.{NodeId};
+ghost use Rattle.dd_store.specs.Graph.{top, bit, IsRef, Pair};
+ghost use Rattle.dd_store.specs.Levels.{list_at};
+ghost use Rattle.dd_store.specs.View.{IsMade, IsFull};
+ghost use Rattle.dd_store.specs.Adding.{AreReady, GrowsLevel, IsLevelFault};
+ghost use Rattle.dd_store.specs.Nodes.{Nodes, node, count_of, children, low_of, high_of, cofactor_of, IsSound, IsFound, Extends, IsBranch, IsCanonical, IsNeeded, fresh, with_node, Makes, empty_nodes, den};
+
+use crate::StoreFault;
+use crate::level::{Slot, Watch, add_lists, level_count, level_fault};
+use crate::reference::{NodeId, Ref, shard_of};
+use crate::shard::Shard;
+use std::alloc::{AllocError, Global};
+use std::marker::Model;
+use std::thread::Threads;
+
+/// The nodes of shared diagrams over one order of variables; level 0 is the top. References stay valid for as long as
+/// the store lives, since nodes are added and never moved or dropped.
+#[derive(Drop)]
+pub struct Store {
+    alloc: Global,
+    levels: u16,
+    limit: u64,
+    count: u64,
+    slots: Vec<Slot>,
+}
+
+impl Model for Store {
+    ghost use Rattle.dd_store.specs.Nodes.{Nodes, IsKept};
+
+    ghost Value = { Nodes };
+
+    ghost use Rattle.dd_store.specs.Levels.{pairs_of};
+
+    ghost view = { λ s. record { levels = s.levels; limit = s.limit; shards = pairs_of s.slots.items } };
+
+    ghost invariant = { λ s. IsKept (record { levels = s.levels; limit = s.limit; shards = pairs_of s.slots.items }) s.count };
+}
+
+impl Store {
+    /// A store without nodes for diagrams of `levels` variables, in which `make` leaves at most `limit` nodes.
+    pub fn new(alloc: Global, levels: u16, limit: u64) -> Result<Store, AllocError>
+        requires few_levels { levels ≤ 4096 }
+        requires small_limit { limit < 2 ^ 32 }
+        ensures { IfOk result (λ s. s ≡ empty_nodes levels limit) }
+    {
+        let mut slots = Vec::new(alloc);
+        for _ in 0..16 * levels as usize {
+            slots.push(Slot {
+                shard: Shard::new(alloc),
+                fault: None,
+            })?;
+        }
+        Ok(Store {
+            alloc,
+            levels,
+            limit,
+            count: 0,
+            slots,
+        })
+    }
+
+    pub(crate) fn allocator(&self) -> Global {
+        self.alloc
+    }
+
+    /// The number of levels. Its contract also tells a caller what is true of every store.
+    pub fn levels(&self) -> u16
+        ensures value { result ≡ self.now.levels }
+        ensures sound { IsSound self.now }
+        ensures canonical { IsCanonical self.now }
+    {
+        self.levels
+    }
+
+    /// The number of nodes; terminals are not counted.
+    pub fn count(&self) -> u64
+        ensures value { result ≡ count_of self.now }
+        ensures sound { IsSound self.now }
+    {
+        self.count
+    }
+
+    /// The greatest number of nodes that `make` leaves.
+    pub fn limit(&self) -> u64
+        ensures { result ≡ self.now.limit }
+    {
+        self.limit
+    }
+
+    /// The level of a reference; that of a terminal is the number of levels.
+    pub fn top(&self, reference: Ref) -> u16
+        ensures { result ≡ top self.now.levels reference }
+    {
+        match reference {
+            Ref::Node(id) => id.level,
+            _ => self.levels,
+        }
+    }
+
+    /// The children of a node, low and high.
+    pub(crate) fn pair(&self, id: NodeId) -> (Ref, Ref)
+        requires { (p : Pair) × (node self.now id ≡ Some p) }
+        ensures { node self.now id ≡ Some result }
+    {
+        let place = 16 * id.level as usize + id.shard as usize;
+        let slot = &self.slots[place];
+        slot.shard.at(id.index)
+    }
+
+    /// The child of a node for the bit 0.
+    pub fn low(&self, reference: Ref) -> Ref
+        requires { IsSome (children self.now reference) }
+        ensures { result ≡ low_of self.now reference }
+    {
+        match reference {
+            Ref::Node(id) => self.pair(id).0,
+            _ => reference,
+        }
+    }
+
+    /// The child of a node for the bit 1.
+    pub fn high(&self, reference: Ref) -> Ref
+        requires { IsSome (children self.now reference) }
+        ensures { result ≡ high_of self.now reference }
+    {
+        match reference {
+            Ref::Node(id) => self.pair(id).1,
+            _ => reference,
+        }
+    }
+
+    /// The cofactor: a reference's function with the bit of a level fixed. A reference that stands below the level is
+    /// its own cofactor.
+    pub fn cofactor(&self, reference: Ref, level: u16, bit: bool) -> Ref
+        requires here { IsRef (node self.now) reference }
+        requires not_above { level ≤ top self.now.levels reference }
+        requires level { level < self.now.levels }
+        ensures { result ≡ cofactor_of self.now reference level bit }
+    {
+        match reference {
+            Ref::Node(id) if id.level == level => {
+                let pair = self.pair(id);
+                if bit { pair.1 } else { pair.0 }
+            }
+            _ => reference,
+        }
+    }
+
+    /// The node of a level with these children, where there is one.
+    pub fn find(&self, level: u16, lo: Ref, hi: Ref) -> Option<Ref>
+        requires { level < self.now.levels }
+        ensures { IsFound self.now level lo hi result }
+    {
+        let shard = shard_of(lo, hi);
+        let place = 16 * level as usize + shard as usize;
+        let slot = &self.slots[place];
+        match slot.shard.find(lo, hi) {
+            Some(index) => Some(Ref::Node(NodeId {
+                level,
+                shard,
+                index,
+            })),
+            None => None,
+        }
+    }
+
+    /// Adds the node, which is not there yet.
+    fn add(&mut self, level: u16, lo: Ref, hi: Ref) -> Result<Ref, StoreFault>
+        requires level { level < self.old.levels }
+        requires lo_here { IsRef (node self.old) lo }
+        requires hi_here { IsRef (node self.old) hi }
+        requires above_lo { level < top self.old.levels lo }
+        requires above_hi { level < top self.old.levels hi }
+        requires needed { IsNeeded self.old level lo hi }
+        requires room { count_of self.old < self.old.limit }
+        ensures { MatchResult result (λ r. (r ≡ Ref.Node (fresh self.old level lo hi)) × (self.new ≡ with_node self.old level lo hi)) (λ e. (e ≡ StoreFault.OutOfMemory) × (self.new ≡ self.old)) }
+    {
+        let shard = shard_of(lo, hi);
+        let place = 16 * level as usize + shard as usize;
+        let slot = &mut self.slots[place];
+        match slot.shard.add(lo, hi) {
+            Ok(index) => {
+                self.count += 1;
+                Ok(Ref::Node(NodeId {
+                    level,
+                    shard,
+                    index,
+                }))
+            }
+            Err(_) => Err(StoreFault::OutOfMemory),
+        }
+    }
+
+    /// The short answer, or the node that is there, or a new node.
+    fn find_or_add(&mut self, level: u16, lo: Ref, hi: Ref) -> Result<Ref, StoreFault>
+        requires level { level < self.old.levels }
+        requires lo_here { IsRef (node self.old) lo }
+        requires hi_here { IsRef (node self.old) hi }
+        requires above_lo { level < top self.old.levels lo }
+        requires above_hi { level < top self.old.levels hi }
+        ensures { Makes self.old level lo hi result self.new }
+    {
+        if lo == hi {
+            return Ok(lo);
+        }
+        if let Some(there) = self.find(level, lo, hi) {
+            return Ok(there);
+        }
+        if self.count() >= self.limit() {
+            return Err(StoreFault::Full);
+        }
+        self.add(level, lo, hi)
+    }
+
+    /// The reference whose function is that of `lo` where the bit of the level is 0, and that of `hi` where it is 1. Equal
+    /// children answer the child (Bryant 1986), a pair that is there its node, and neither is refused.
+    pub fn make(&mut self, level: u16, lo: Ref, hi: Ref) -> Result<Ref, StoreFault>
+        requires level { level < self.old.levels }
+        requires lo_here { IsRef (node self.old) lo }
+        requires hi_here { IsRef (node self.old) hi }
+        requires above_lo { level < top self.old.levels lo }
+        requires above_hi { level < top self.old.levels hi }
+        ensures makes { Makes self.old level lo hi result self.new }
+        ensures sound { IsSound self.new }
+        ensures extends { Extends self.old self.new }
+        ensures here { IfOk result (λ r. IsRef (node self.new) r) }
+        ensures meaning { IfOk result (λ r. IsBranch self.new level lo hi r) }
+        ensures made { IfOk result (λ r. IsMade self.old self.new level lo hi r) }
+        ensures refused { OnErr result (self.new ≡ self.old) }
+        ensures full { IfErr result (λ e. IsFull self.old level lo hi e) }
+    {
+        let _ = &self.levels;
+        self.find_or_add(level, lo, hi)
+    }
+
+    /// The reference whose function is the bit of a level.
+    pub fn variable(&mut self, level: u16) -> Result<Ref, StoreFault>
+        requires { level < self.old.levels }
+        ensures makes { Makes self.old level Ref.False Ref.True result self.new }
+        ensures sound { IsSound self.new }
+        ensures extends { Extends self.old self.new }
+        ensures here { IfOk result (λ r. IsRef (node self.new) r) }
+        ensures meaning { IfOk result (λ r. (x : List Bool) → den self.new r x ≡ bit x level) }
+        ensures made { IfOk result (λ r. IsMade self.old self.new level Ref.False Ref.True r) }
+        ensures refused { OnErr result (self.new ≡ self.old) }
+        ensures full { IfErr result (λ e. IsFull self.old level Ref.False Ref.True e) }
+    {
+        self.make(level, Ref::False, Ref::True)
+    }
+
+    /// Adds lists to the shards of a level, and says why pairs are missing.
+    fn grow_level<R: Threads + Sync, H: Watch>(
+        &mut self,
+        rt: &R,
+        level: u16,
+        lists: &[Vec<(Ref, Ref)>],
+        watch: &H,
+    ) -> Option<StoreFault>
+        requires lists { length lists.now ≡ 16 }
+        requires ready { AreReady self.old level (list_at lists.now) }
+        ensures grows { GrowsLevel self.old self.new level (list_at lists.now) }
+        ensures sound { IsSound self.new }
+        ensures fault { IsLevelFault self.new level (list_at lists.now) result }
+    {
+        let first = 16 * level as usize;
+        let limit = self.limit;
+        let slots = &mut self.slots[first..first + 16];
+        let before = level_count(slots, limit);
+        add_lists(rt, slots, level, lists, limit, watch);
+        let after = level_count(slots, limit);
+        let fault = level_fault(slots);
+        self.count = self.count - before + after;
+        fault
+    }
+
+    /// Adds to a level a node for each pair of children that has none, by sixteen lists, one for each shard. Four threads
+    /// share the shards. Full is answered only where a shard alone holds as many nodes as the limit and lacks a pair of
+    /// its list, and OutOfMemory where both befall. After a refusal some of the nodes may stand.
+    pub fn add_all<R: Threads + Sync, H: Watch>(
+        &mut self,
+        rt: &R,
+        level: u16,
+        lists: &[Vec<(Ref, Ref)>],
+        watch: &H,
+    ) -> Result<(), StoreFault>
+        requires lists { length lists.now ≡ 16 }
+        requires ready { AreReady self.old level (list_at lists.now) }
+        ensures grows { GrowsLevel self.old self.new level (list_at lists.now) }
+        ensures sound { IsSound self.new }
+        ensures extends { Extends self.old self.new }
+        ensures answer { MatchResult result (λ _. IsLevelFault self.new level (list_at lists.now) None) (λ f. IsLevelFault self.new level (list_at lists.now) (Some f)) }
+    {
+        match self.grow_level(rt, level, lists, watch) {
+            None => Ok(()),
+            Some(fault) => Err(fault),
+        }
+    }
+}

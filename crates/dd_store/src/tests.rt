@@ -1,0 +1,160 @@
+//! Worked examples, which call every public function with ample memory.
+ghost use Rattle.std.specs.Prelude.{◌≡◌, ℕ, length, Ok, IfOk};
+ghost use Rattle.dd_store.specs.Graph.{Pair};
+ghost use Rattle.dd_store.specs.Growing.{IsIn};
+ghost use Rattle.dd_store.specs.Levels.{list_at};
+
+use super::*;
+use std::alloc::{AllocError, Global};
+use std::process::Abort;
+use std::sync::atomic::{AtomicBool, Ordering};
+use std::test::Fail;
+
+fn ok(rt: &impl Abort, answer: Result<Ref, StoreFault>) -> Ref
+    ensures { answer ≡ Ok result }
+{
+    answer.expect(rt, "refused")
+}
+
+#[test]
+fn limit_of_three(rt: HostRuntime) -> Result<(), Fail> {
+    let mut store = Store::new(rt.alloc(), 2, 3)?;
+    let a = ok(&rt, store.variable(0));
+    let b = ok(&rt, store.variable(1));
+    assert_eq!(rt; ok(&rt, store.variable(0)), a);
+    assert_eq!(rt; ok(&rt, store.make(0, b, b)), b);
+    let r = ok(&rt, store.make(0, Ref::False, b));
+    assert_eq!(rt; ok(&rt, store.make(0, Ref::False, b)), r);
+    assert_eq!(rt; store.count(), 3);
+    assert_eq!(rt; store.size(r)?, 2);
+    assert_eq!(rt; store.find(0, Ref::False, b), Some(r));
+    assert!(rt; store.make(0, b, Ref::True) == Err(StoreFault::Full));
+    assert_eq!(rt; store.find(0, b, Ref::True), None);
+    Ok(())
+}
+
+#[test]
+fn parts(rt: HostRuntime) -> Result<(), Fail> {
+    let mut store = Store::new(rt.alloc(), 2, 3)?;
+    let b = ok(&rt, store.variable(1));
+    let r = ok(&rt, store.make(0, Ref::False, b));
+    assert_eq!(rt; store.levels(), 2);
+    assert_eq!(rt; store.limit(), 3);
+    assert_eq!(rt; store.top(Ref::True), 2);
+    assert_eq!(rt; store.top(b), 1);
+    assert!(rt; store.top(r) < store.levels());
+    assert_eq!(rt; store.low(r), Ref::False);
+    assert_eq!(rt; store.high(r), b);
+    assert_eq!(rt; store.cofactor(r, 0, false), Ref::False);
+    assert_eq!(rt; store.cofactor(r, 0, true), b);
+    assert_eq!(rt; store.cofactor(b, 0, true), b);
+    Ok(())
+}
+
+#[test]
+fn codes_and_shards(rt: HostRuntime) -> Result<(), Fail> {
+    let mut store = Store::new(rt.alloc(), 4, 4)?;
+    assert_eq!(rt; code(Ref::False), 0);
+    assert_eq!(rt; code(Ref::True), 1);
+    for (level, number) in [(0, 5), (1, 22), (2, 39), (3, 56)] {
+        assert!(rt; level < store.levels());
+        let variable = ok(&rt, store.variable(level));
+        let id = NodeId {
+            level,
+            shard: 3,
+            index: 0,
+        };
+        assert_eq!(rt; variable, Ref::Node(id));
+        assert_eq!(rt; code(variable), number);
+    }
+    assert!(rt; store.levels() == 4);
+    let b = ok(&rt, store.variable(1));
+    assert_eq!(rt; shard_of(Ref::False, Ref::True), 3);
+    assert_eq!(rt; shard_of(Ref::False, b), 2);
+    Ok(())
+}
+
+#[test]
+fn fault_texts(rt: HostRuntime) -> Result<(), Fail> {
+    for (fault, text) in [
+        (StoreFault::Full, "more nodes than the limit"),
+        (StoreFault::OutOfMemory, "out of memory"),
+    ] {
+        assert_eq!(rt; format!(in rt.alloc(); "{fault}")?.as_str(), text);
+    }
+    Ok(())
+}
+
+/// Sixteen lists, of which one has a pair twice and the others have nothing.
+fn twice_in_one(
+    alloc: Global,
+    shard: usize,
+    pair: (Ref, Ref),
+) -> Result<Vec<Vec<(Ref, Ref)>>, AllocError>
+    ensures count { IfOk result (λ lists. length lists.items ≡ 16) }
+    ensures only { IfOk result (λ lists. (s : ℕ) (p : Pair) → IsIn (list_at lists.items s) p → (s ≡ shard) × (p ≡ pair)) }
+{
+    let mut lists = Vec::new(alloc);
+    for s in 0..16 {
+        let mut list = Vec::new(alloc);
+        if s == shard {
+            list.push(pair)?;
+            list.push(pair)?;
+        }
+        lists.push(list)?;
+    }
+    Ok(lists)
+}
+
+/// Two threads that meet where they come to the shards 0 and 15.
+#[derive(Drop)]
+struct Meeting {
+    first: AtomicBool,
+    last: AtomicBool,
+    missed: AtomicBool,
+}
+
+impl Meeting {
+    fn wait_for(&self, other: &AtomicBool) {
+        for _ in 0..50_000_000 {
+            if other.load(Ordering::SeqCst) {
+                return;
+            }
+        }
+        self.missed.store(true, Ordering::SeqCst);
+    }
+}
+
+impl Watch for Meeting {
+    fn at_shard(&self, shard: u8, _level: u16) {
+        if shard == 0 {
+            self.first.store(true, Ordering::SeqCst);
+            self.wait_for(&self.last);
+        }
+        if shard == 15 {
+            self.last.store(true, Ordering::SeqCst);
+            self.wait_for(&self.first);
+        }
+    }
+}
+
+#[test]
+fn two_at_shards(rt: HostRuntime) -> Result<(), Fail> {
+    let mut store = Store::new(rt.alloc(), 2, 4)?;
+    let _a = ok(&rt, store.variable(0));
+    let b = ok(&rt, store.variable(1));
+    assert_eq!(rt; store.top(b), 1);
+    let shard = shard_of(Ref::False, b) as usize;
+    let lists = twice_in_one(rt.alloc(), shard, (Ref::False, b))?;
+    let watch = Meeting {
+        first: AtomicBool::new(false),
+        last: AtomicBool::new(false),
+        missed: AtomicBool::new(false),
+    };
+    assert!(rt; store.add_all(&rt, 0, lists.as_slice(), &watch) == Ok(()));
+    assert_eq!(rt; store.count(), 3);
+    assert!(rt; store.find(0, Ref::False, b).is_some());
+    assert!(rt; watch.first.load(Ordering::SeqCst) && watch.last.load(Ordering::SeqCst));
+    assert!(rt; !watch.missed.load(Ordering::SeqCst));
+    Ok(())
+}
