@@ -1,0 +1,37 @@
+#!/usr/bin/env python3
+"""Writes chains of NOT gates in the bench format, each of twice as many gates as the one before.
+
+usage: bench/chains.py FOLDER [LARGEST]
+
+For each size a file FOLDER/forward_N.bench has each gate behind its operand, and FOLDER/backward_N.bench
+each gate before it. Their last signal is an output. LARGEST is the most gates, 999999 where it is left out:
+a netlist has at most 1,000,000 signals. A reader that is linear in the text, or nearly so, takes about twice
+the time for each next size, in both orders.
+"""
+import pathlib
+import sys
+
+
+def gates(count):
+    return [f"s{i} = NOT(s{i - 1})\n" for i in range(1, count + 1)]
+
+
+def write_chain(folder, name, count, lines):
+    text = "INPUT(s0)\n" + "".join(lines) + f"OUTPUT(s{count})\n"
+    (folder / f"{name}_{count}.bench").write_text(text)
+
+
+def main():
+    folder = pathlib.Path(sys.argv[1])
+    largest = int(sys.argv[2]) if len(sys.argv) > 2 else 999999
+    folder.mkdir(parents=True, exist_ok=True)
+    count = largest
+    while count >= 1000:
+        lines = gates(count)
+        write_chain(folder, "forward", count, lines)
+        write_chain(folder, "backward", count, lines[::-1])
+        count //= 2
+
+
+if __name__ == "__main__":
+    main()

@@ -1,0 +1,4 @@
+pub mod Written
+pub mod Wording
+pub mod Adding
+pub mod Calling

@@ -1,0 +1,60 @@
+-- What a check has done: the report that it wrote, or why it wrote none.
+use Rattle.std.specs.Prelude.{◌≡◌, ◌≢◌, ◌⊎◌, ℕ, Bool, List, Option, IfSome}
+use Rattle.net_bench.specs.Circuit.{Circuit}
+use Rattle.net_bench.specs.Fault.{MakesNetlist, IsRefused as IsTextRefused}
+use Rattle.net_bench.specs.declared.netlist.BenchFault.{BenchFault}
+use Rattle.net_bench.specs.declared.netlist.BenchFault.TheVariants.{Read as ReadFailed, OutOfMemory as NoTextMemory}
+use Rattle.net_order.specs.declared.order.Match.{Match}
+use Rattle.net_order.specs.declared.order.Order.{Order}
+use Rattle.net_order.specs.declared.order.OrderFault.{OrderFault}
+use Rattle.net_order.specs.declared.order.OrderFault.TheVariants.{OutOfMemory as NoOrderMemory}
+use Rattle.net_order.specs.Order.{Paired, IsPairing, IsRefused}
+use Rattle.check_report.specs.declared.outcome.Outcome.{Outcome}
+use Rattle.check_report.specs.declared.fault.CheckFault.{CheckFault}
+use Rattle.check_report.specs.declared.fault.CheckFault.TheVariants.{First, Second, Order as OrderRefused, Wave, Write, OutOfMemory}
+use Rattle.check_report.specs.Report.{IsReport}
+
+-- what a device told is the text of this netlist
+abbrev pub Gives : Option (List ℕ) → Circuit → Type 0
+Gives told c = IfSome told (λ text. MakesNetlist text c)
+
+-- both devices gave netlists, and this is their pairing
+pub record ArePaired (one two : Option (List ℕ)) (how : Match) (order : Order) (a b : Circuit) (p : Paired) : Type 0 where
+  pub first : Gives one a
+  pub second : Gives two b
+  pub pairing : IsPairing how a b order p
+
+-- The bytes are the report of what the devices gave, and these are its counts.
+pub record IsChecked (one two : Option (List ℕ)) (how : Match) (order : Order) (sizes : Bool) (o : Outcome) (bytes : List ℕ) : Type 0 where
+  pub a : Circuit
+  pub b : Circuit
+  pub p : Paired
+  pub paired : ArePaired one two how order a b p
+  pub report : IsReport sizes a b p o bytes
+
+-- why a text was not accepted: a device that failed, want of memory, or its first fault
+abbrev pub IsUnread : Option (List ℕ) → BenchFault → Type 0
+IsUnread told fault = (fault ≡ NoTextMemory) ⊎ (fault ≡ ReadFailed) ⊎ IfSome told (λ text. IsTextRefused text fault)
+
+-- both devices gave netlists that have a pairing
+abbrev pub AreAccepted : Option (List ℕ) → Option (List ℕ) → Match → Order → Type 0
+AreAccepted one two how order = (a b : Circuit) × (p : Paired) × ArePaired one two how order a b p
+
+-- a fault behind the pairing and before the writing
+abbrev pub IsLate : CheckFault → Type 0
+IsLate (First fault) = ⊥
+IsLate (Second fault) = ⊥
+IsLate (OrderRefused fault) = ⊥
+IsLate (Wave fault) = Unit {0}
+IsLate Write = ⊥
+IsLate OutOfMemory = Unit {0}
+
+-- Why there is no report. What comes before was accepted: the first text, the second, the pairing.
+abbrev pub IsCheckFault : Option (List ℕ) → Option (List ℕ) → Match → Order → CheckFault → Type 0
+IsCheckFault one two how order (First fault) = IsUnread one fault
+IsCheckFault one two how order (Second fault) = (a : Circuit) × Gives one a × IsUnread two fault
+IsCheckFault one two how order (OrderRefused fault) =
+    (a b : Circuit) × Gives one a × Gives two b × ((fault ≡ NoOrderMemory) ⊎ IsRefused how a b order fault)
+IsCheckFault one two how order (Wave fault) = AreAccepted one two how order
+IsCheckFault one two how order Write = AreAccepted one two how order
+IsCheckFault one two how order OutOfMemory = AreAccepted one two how order

@@ -1,0 +1,6 @@
+pub mod Writing
+pub mod Lines
+pub mod Report
+pub mod Comparing
+pub mod Check
+pub mod Texts

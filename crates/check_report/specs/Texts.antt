@@ -1,0 +1,15 @@
+-- What the faults of a check are called in print.
+use Rattle.std.specs.Prelude.{ℕ, List, ◌++◌, codes}
+use Rattle.net_bench.specs.FaultText.{fault_text}
+use Rattle.net_order.specs.Fault.{order_fault_text}
+use Rattle.expand_work.specs.Fault.{wave_fault_text}
+use Rattle.check_report.specs.declared.fault.CheckFault.{CheckFault}
+use Rattle.check_report.specs.declared.fault.CheckFault.TheVariants.{First, Second, Order, Wave, Write, OutOfMemory}
+
+abbrev pub check_fault_text : CheckFault → List ℕ
+check_fault_text (First fault) = codes "first: " ++ fault_text fault
+check_fault_text (Second fault) = codes "second: " ++ fault_text fault
+check_fault_text (Order fault) = codes "order: " ++ order_fault_text fault
+check_fault_text (Wave fault) = codes "build: " ++ wave_fault_text fault
+check_fault_text Write = codes "report: cannot be written"
+check_fault_text OutOfMemory = codes "out of memory"

@@ -1,0 +1,116 @@
+//! From two readers to a report.
+ghost use Rattle.std.specs.Prelude.{◌≡◌, ◌≢◌, ℕ, List, IfOk, IfErr, OnOk, OnErr, IsTrue};
+ghost use Rattle.std.specs.Io.KnownBytes.{Appends};
+ghost use Rattle.net_bench.specs.Circuit.{circuit};
+ghost use Rattle.net_order.specs.Order.{IsPairing};
+ghost use Rattle.check_report.specs.declared.outcome.Outcome.{Outcome};
+ghost use Rattle.check_report.specs.Report.{IsReport};
+ghost use Rattle.check_report.specs.Check.{IsChecked, IsCheckFault, IsLate};
+ghost use Rattle.check_report.specs.Writing.{AppendsFront};
+
+use crate::compare::{Comparison, Report, report_of};
+use crate::fault::CheckFault;
+use crate::outcome::Outcome;
+use crate::settings::Settings;
+use crate::write::write_whole;
+use dd_store::Store;
+use expand_work::Gate;
+use gate_plan::build;
+use net_bench::device::{Sink, Source};
+use net_bench::netlist::BenchFault;
+use net_bench::reader::{Netlist, read_bench};
+use net_order::pairing::{Pairing, pair};
+use std::alloc::Global;
+
+/// The report of two netlists that are paired.
+fn compare<'a, H, G: Gate>(
+    rt: &H,
+    alloc: Global,
+    first: &'a Netlist,
+    second: &'a Netlist,
+    pairing: &'a Pairing,
+    settings: &Settings,
+    gate: &G,
+) -> Result<Report, CheckFault>
+    requires { IsPairing settings.now.matching (circuit first.now) (circuit second.now) settings.now.order pairing.now }
+    ensures ok { IfOk result (λ r. IsReport settings.now.sizes (circuit first.now) (circuit second.now) pairing.now r.outcome r.text.items) }
+    ensures err { IfErr result IsLate }
+{
+    let _ = first.inputs();
+    let _ = second.inputs();
+    let levels = pairing.names().len() as u16;
+    let Ok(mut store) = Store::new(alloc, levels, settings.limit) else {
+        return Err(CheckFault::OutOfMemory);
+    };
+    let built = match build(
+        rt,
+        alloc,
+        &mut store,
+        first,
+        second,
+        pairing,
+        settings.workers,
+        gate,
+    ) {
+        Ok(built) => built,
+        Err(fault) => return Err(CheckFault::Wave(fault)),
+    };
+    let comparison = Comparison {
+        first,
+        second,
+        pairing,
+        store: &store,
+        built: &built,
+        sizes: settings.sizes,
+    };
+    match report_of(alloc, &comparison) {
+        Ok(report) => Ok(report),
+        Err(_) => Err(CheckFault::OutOfMemory),
+    }
+}
+
+/// Reads two netlists, compares their outputs and writes the report. Nothing is written before the whole report stands.
+pub fn check<H, R1: Source, R2: Source, G: Gate, W: Sink>(
+    rt: &H,
+    alloc: Global,
+    first: &mut R1,
+    second: &mut R2,
+    settings: &Settings,
+    gate: &G,
+    out: &mut W,
+) -> Result<Outcome, CheckFault>
+    // What was written is the report of what was read, and nothing else. In it two outputs are called equal exactly
+    // where their functions are equal.
+    ensures report { IfOk result (λ o. (bytes : List ℕ) × IsChecked (R1.remaining first.old) (R2.remaining second.old) settings.now.matching settings.now.order settings.now.sizes o bytes × Appends (W.contents out.old) (W.contents out.new) bytes) }
+    // A fault has its cause, and what comes before it was accepted.
+    ensures fault { IfErr result (IsCheckFault (R1.remaining first.old) (R2.remaining second.old) settings.now.matching settings.now.order) }
+    // Where the writing failed, a front part of the report was written; the whole only where the device has failed.
+    ensures unwritten { result ≡ Err CheckFault.Write → (o : Outcome) × (bytes : List ℕ) × IsChecked (R1.remaining first.old) (R2.remaining second.old) settings.now.matching settings.now.order settings.now.sizes o bytes × AppendsFront (W.contents out.old) (W.contents out.new) (W.has_failed out.new) bytes }
+    // At any other fault nothing was written.
+    ensures untouched { OnErr result (result ≢ Err CheckFault.Write → out.new ≡ out.old) }
+    // A reader that is said to have failed has failed, and a writer that took the report has not.
+    ensures first_read { result ≡ Err (CheckFault.First BenchFault.Read) → IsTrue (R1.has_failed first.new) }
+    ensures second_read { result ≡ Err (CheckFault.Second BenchFault.Read) → IsTrue (R2.has_failed second.new) }
+    ensures written { OnOk result (W.has_failed out.new ≡ W.has_failed out.old) }
+{
+    let one = match read_bench(alloc, first) {
+        Ok(net) => net,
+        Err(fault) => return Err(CheckFault::First(fault)),
+    };
+    let two = match read_bench(alloc, second) {
+        Ok(net) => net,
+        Err(fault) => return Err(CheckFault::Second(fault)),
+    };
+    let pairing = match pair(alloc, &one, &two, settings.matching, &settings.order) {
+        Ok(pairing) => pairing,
+        Err(fault) => return Err(CheckFault::Order(fault)),
+    };
+    let report = match compare(rt, alloc, &one, &two, &pairing, settings, gate) {
+        Ok(report) => report,
+        Err(fault) => return Err(fault),
+    };
+    match write_whole(out, report.text.as_slice()) {
+        Ok(()) => Ok(report.outcome),
+        Err(_) => Err(CheckFault::Write),
+    }
+}

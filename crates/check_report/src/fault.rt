@@ -1,0 +1,41 @@
+//! Why a comparison has no report.
+ghost use Rattle.std.specs.Prelude.{Some};
+ghost use Rattle.check_report.specs.Texts.{check_fault_text};
+
+use expand_work::WaveFault;
+use net_bench::netlist::BenchFault;
+use net_order::order::OrderFault;
+use std::fmt;
+use thiserror::Error;
+
+/// Why a comparison has no report, in the order in which the causes are looked for.
+#[derive(Clone, Copy, Drop, Debug, PartialEq, Eq, Error)]
+pub enum CheckFault {
+    /// The first text was not accepted.
+    First(BenchFault),
+    /// The second text was not accepted.
+    Second(BenchFault),
+    /// The two netlists have no pairing.
+    Order(OrderFault),
+    /// The diagrams were not built.
+    Wave(WaveFault),
+    /// The report could not be written, or not all of it.
+    Write,
+    /// A growth was refused elsewhere: for the store, the comparison or the report's text.
+    OutOfMemory,
+}
+
+impl fmt::Display for CheckFault {
+    ghost output = { λ f. Some (check_fault_text f) };
+
+    fn fmt<W: fmt::Write>(&self, f: &mut fmt::Formatter<W>) -> fmt::Result {
+        match self {
+            CheckFault::First(fault) => write!(f, "first: {fault}"),
+            CheckFault::Second(fault) => write!(f, "second: {fault}"),
+            CheckFault::Order(fault) => write!(f, "order: {fault}"),
+            CheckFault::Wave(fault) => write!(f, "build: {fault}"),
+            CheckFault::Write => write!(f, "report: cannot be written"),
+            CheckFault::OutOfMemory => write!(f, "out of memory"),
+        }
+    }
+}

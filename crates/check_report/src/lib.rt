@@ -1,0 +1,18 @@
+//! Two netlists to the report of their comparison.
+#![tactic(auto)]
+
+mod checking;
+mod compare;
+mod fault;
+mod lines;
+mod outcome;
+mod settings;
+#[cfg(test)]
+mod tests;
+mod write;
+
+pub use checking::check;
+pub use fault::CheckFault;
+pub use outcome::{Outcome, Side};
+pub use settings::Settings;
+pub use write::write_whole;

@@ -1,0 +1,10 @@
+pub mod Folding
+pub mod Lists
+pub mod Needs
+pub mod Pairs
+pub mod Picking
+pub mod Planning
+pub mod Ranks
+pub mod Running
+pub mod Signals
+pub mod Writing

@@ -1,0 +1,68 @@
+-- The gates of a netlist and their ranks.
+use Rattle.std.proofs.Common.{◌≡◌, ◌≢◌, ℕ, zero, suc, ◌+◌, ◌<◌, ◌≤◌, List, [], ◌∷◌, length, map, get_or, refl, sym, ◌∙◌, ap, subst, arith, ◌⊎◌, inl, inr}
+use Rattle.std.specs.Prelude.{Contains, All, slice_index, slice_index_or, IsTrue}
+use Rattle.net_bench.specs.declared.netlist.GateLine.{GateLine}
+use Rattle.net_bench.specs.Statement.{takes_one}
+use Rattle.net_bench.specs.Circuit.{Net, circuit, IsNet, greatest, IsDefined}
+use Rattle.net_bench.proofs.OneLabelling.{at_contained}
+use Rattle.net_bench.proofs.Chains.{greatest_above, lower}
+use Rattle.gate_plan.specs.Plans.{rank_of}
+use Rattle.gate_plan.proofs.Lists.{lt_or_le, same_number}
+
+-- within a list the default does not matter
+pub any_default : {X : Type 0} (xs : List X) (i : ℕ) (c d : X) → i < length xs → get_or xs i c ≡ get_or xs i d
+any_default [] i c d lt = absurd (omega arith)
+any_default (x ∷ xs) zero c d lt = refl
+any_default (x ∷ xs) (suc i) c d lt = any_default xs i c d (omega arith)
+
+module _ (net : Net) (h : IsNet net) where
+  pub gate_rank : (g : GateLine) → Contains net.gates g → rank_of net g ≡ greatest (map (slice_index net.ranks) g.operands) + 1
+  gate_rank g among = at_contained (λ g. slice_index net.ranks g.out ≡ greatest (map (slice_index net.ranks) g.operands) + 1) net.gates g h.ranks.gates among
+
+  pub above_none : (g : GateLine) → Contains net.gates g → 0 < rank_of net g
+  above_none g among = let e = gate_rank g among in omega arith
+
+  pub input_rank : (s : ℕ) → Contains net.inputs s → slice_index net.ranks s ≡ 0
+  input_rank s among = at_contained (λ s. slice_index net.ranks s ≡ 0) net.inputs s h.ranks.inputs among
+
+  pub operand_lower : (g : GateLine) (s : ℕ) → Contains net.gates g → Contains g.operands s → slice_index net.ranks s < rank_of net g
+  operand_lower g s among operand = lower (circuit net) net.ranks h.ranks s g.out (g, among, refl, operand)
+
+  pub out_below : (g : GateLine) → Contains net.gates g → g.out < length net.names
+  out_below g among = at_contained (λ g. g.out < length net.names) net.gates g h.outs among
+
+  pub some_operand : (g : GateLine) → Contains net.gates g → 0 < length g.operands
+  some_operand g among =
+      (at_contained (λ g. All (λ s. s < length net.names) g.operands × (0 < length g.operands) × (IsTrue (takes_one g.kind) → length g.operands ≡ 1)) net.gates g h.operands among).1
+
+  pub one_operand_only : (g : GateLine) → Contains net.gates g → IsTrue (takes_one g.kind) → length g.operands ≡ 1
+  one_operand_only g among =
+      (at_contained (λ g. All (λ s. s < length net.names) g.operands × (0 < length g.operands) × (IsTrue (takes_one g.kind) → length g.operands ≡ 1)) net.gates g h.operands among).2
+
+  pub operand_below : (g : GateLine) (s : ℕ) → Contains net.gates g → Contains g.operands s → s < length net.names
+  operand_below g s among operand =
+      at_contained (λ s. s < length net.names) g.operands s
+      (at_contained (λ g. All (λ s. s < length net.names) g.operands × (0 < length g.operands) × (IsTrue (takes_one g.kind) → length g.operands ≡ 1)) net.gates g h.operands among).0 operand
+
+  -- a signal has at most one gate
+  pub one_gate : (g k : GateLine) → Contains net.gates g → Contains net.gates k → g.out ≡ k.out → g ≡ k
+  one_gate g k a b e = by (lt_or_le a.0 b.0) (lt_or_le b.0 a.0)
+    where
+      by : (a.0 < b.0) ⊎ (b.0 ≤ a.0) → (b.0 < a.0) ⊎ (a.0 ≤ b.0) → g ≡ k
+      by (inl lt) z = absurd (h.one_gate a.0 b.0 g lt b.1 (ap (λ y. y.out) a.2 ∙ e ∙ ap (λ y. y.out) (sym b.2) ∙ ap (λ y. y.out) (any_default net.gates b.0 k g b.1)))
+      by (inr le) (inl lt) = absurd (h.one_gate b.0 a.0 k lt a.1 (ap (λ y. y.out) b.2 ∙ sym e ∙ ap (λ y. y.out) (sym a.2) ∙ ap (λ y. y.out) (any_default net.gates a.0 g k a.1)))
+      by (inr le) (inr ge) = let at : a.0 ≡ b.0 = omega arith in sym a.2 ∙ ap (λ i. get_or net.gates i g) at ∙ any_default net.gates b.0 g k b.1 ∙ b.2
+
+-- no gate's rank is above the greatest
+pub rank_top : (net : Net) (g : GateLine) → Contains net.gates g → rank_of net g ≤ greatest (map (rank_of net) net.gates)
+rank_top net g among = subst (λ z. z ≤ greatest (map (rank_of net) net.gates)) (at_map net.gates among.0 among.1 ∙ ap (rank_of net) among.2) (greatest_above (map (rank_of net) net.gates) among.0 (long net.gates among.0 among.1))
+  where
+    long : (gs : List GateLine) (i : ℕ) → i < length gs → i < length (map (rank_of net) gs)
+    long [] i lt = absurd (omega arith)
+    long (x ∷ gs) zero lt = omega arith
+    long (x ∷ gs) (suc i) lt = let k : i < length (map (rank_of net) gs) = long gs i (omega arith) in omega arith
+
+    at_map : (gs : List GateLine) (i : ℕ) → i < length gs → get_or (map (rank_of net) gs) i 0 ≡ rank_of net (get_or gs i g)
+    at_map [] i lt = absurd (omega arith)
+    at_map (x ∷ gs) zero lt = refl
+    at_map (x ∷ gs) (suc i) lt = at_map gs i (omega arith)

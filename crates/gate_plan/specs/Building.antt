@@ -1,0 +1,125 @@
+-- What is built of two netlists: for each signal a reference that denotes its function.
+use Rattle.std.specs.Prelude.{◌≡◌, ℕ, ◌+◌, ◌<◌, ◌⊎◌, Bool, false, List, [], ◌∷◌, map, length, min, unwrap_or, slice_index, slice_index_or, slice_set, Contains}
+use Rattle.dd_store.specs.declared.StoreFault.{StoreFault}
+use Rattle.dd_store.specs.declared.StoreFault.TheVariants as store_faults
+use Rattle.dd_store.specs.declared.reference.Ref.{Ref}
+use Rattle.dd_store.specs.declared.reference.Ref.TheVariants.{False}
+use Rattle.dd_store.specs.Graph.{bit}
+use Rattle.dd_store.specs.Nodes.{Nodes, den}
+use Rattle.dd_store.specs.View.{Has}
+use Rattle.expand_work.specs.declared.fault.WaveFault.{WaveFault}
+use Rattle.expand_work.specs.declared.fault.WaveFault.TheVariants as wave_faults
+use Rattle.req_table.specs.declared.Op.{Op}
+use Rattle.net_bench.specs.declared.netlist.GateLine.{GateLine}
+use Rattle.net_bench.specs.Circuit.{Circuit, Net, circuit}
+use Rattle.net_bench.specs.Labels.{bit_of, is_complemented, IsLabelling, IsFunctionOf}
+use Rattle.net_order.specs.declared.order.Match.{Match}
+use Rattle.net_order.specs.declared.order.Order.{Order}
+use Rattle.net_order.specs.Order.{Paired, IsPairing}
+use Rattle.gate_plan.specs.declared.inputs.Which.{Which}
+use Rattle.gate_plan.specs.declared.inputs.Which.TheVariants.{First, Second}
+use Rattle.gate_plan.specs.declared.steps.Step.{Step}
+use Rattle.gate_plan.specs.declared.steps.Copied.{Copied}
+use Rattle.gate_plan.specs.Folds.{value_so_far}
+use Rattle.gate_plan.specs.Plans.{rank_of}
+
+-- a reference for each signal of the first and of the second netlist
+pub record References : Type 0 where
+  pub first : List Ref
+  pub second : List Ref
+
+-- p is the pairing of the two netlists for some way of matching and some order
+abbrev pub IsPaired : Circuit → Circuit → Paired → Type 0
+IsPaired a b p = (how : Match) × (order : Order) × IsPairing how a b order p
+
+-- the level of an input of the first netlist
+abbrev pub first_level : Paired → ℕ → ℕ
+first_level p s = slice_index p.first s
+
+-- the level of an input of the second netlist
+abbrev pub second_level : Paired → ℕ → ℕ
+second_level p s = slice_index p.second s
+
+-- the level of an input of one of the two
+abbrev pub level_in : Which → Paired → ℕ → ℕ
+level_in First p s = first_level p s
+level_in Second p s = second_level p s
+
+-- the reference of a signal
+abbrev pub reference_of : List Ref → ℕ → Ref
+reference_of refs s = slice_index_or refs s False
+
+-- each signal has a reference of the store, and that reference denotes the signal's function
+pub record AreDiagrams (c : Circuit) (level : ℕ → ℕ) (S : Nodes) (refs : List Ref) : Type 0 where
+  pub each : length refs ≡ length c.names
+  pub has : (s : ℕ) → s < length c.names → Has S (reference_of refs s)
+  pub functions : (s : ℕ) → s < length c.names → IsFunctionOf c level S.levels s (den S (reference_of refs s))
+
+-- ---- the steps on references
+
+abbrev pub wave_fault_of : StoreFault → WaveFault
+wave_fault_of store_faults.Full = wave_faults.Full
+wave_fault_of store_faults.OutOfMemory = wave_faults.OutOfMemory
+
+-- the first operand of a step, which is the signal itself where the fold goes on
+abbrev pub first_operand : Step → ℕ
+first_operand s = unwrap_or s.first s.out
+
+-- what a step asks for
+abbrev pub entry_of : List Ref → Step → Op × Ref × Ref
+entry_of refs s = (s.op, reference_of refs (first_operand s), reference_of refs s.second)
+
+abbrev pub IsStepBelow : ℕ → Step → Type 0
+IsStepBelow n s = (s.out < n) × (first_operand s < n) × (s.second < n)
+
+abbrev pub IsCopyBelow : ℕ → Copied → Type 0
+IsCopyBelow n c = (c.out < n) × (c.of < n)
+
+-- the references after the copies, one after the other
+abbrev pub copied_all : List Ref → List Copied → List Ref
+copied_all refs [] = refs
+copied_all refs (c ∷ cs) = copied_all (slice_set refs c.out (reference_of refs c.of)) cs
+
+-- the references after each step's gate has got the step's answer
+abbrev pub answered_all : List Ref → List Step → List Ref → List Ref
+answered_all refs [] answers = refs
+answered_all refs (s ∷ ss) [] = refs
+answered_all refs (s ∷ ss) (a ∷ answers) = answered_all (slice_set refs s.out a) ss answers
+
+-- ---- what is built so far
+
+-- the variables by level
+pub record AreVariables (S : Nodes) (variables : List Ref) : Type 0 where
+  pub each : length variables ≡ S.levels
+  pub has : (v : ℕ) → v < S.levels → Has S (reference_of variables v)
+  pub bits : (v : ℕ) → v < S.levels → (x : List Bool) → den S (reference_of variables v) x ≡ bit x v
+
+-- a reference for each signal, that of an input being its variable
+pub record AreInputs (net : Net) (level : ℕ → ℕ) (variables refs : List Ref) : Type 0 where
+  pub each : length refs ≡ length net.names
+  pub inputs : (s : ℕ) → Contains net.inputs s → reference_of refs s ≡ reference_of variables (level s)
+  pub others : (s : ℕ) → (Contains net.inputs s → ⊥) → reference_of refs s ≡ False
+
+-- whatever the labelling, r denotes at each assignment what `value` says of the labels
+abbrev pub Denotes : Circuit → (ℕ → ℕ) → Nodes → Ref → (List Bool → Bool) → Type 0
+Denotes c level S r value = (x bits : List Bool) → length x ≡ S.levels → IsLabelling c level x bits → den S r x ≡ value bits
+
+-- the value of a gate after its first i operands, by the labels of the operands
+abbrev pub value_after : GateLine → ℕ → List Bool → Bool
+value_after g i bits = value_so_far g.kind (map (bit_of bits) g.operands) i
+
+-- the signals of the ranks below this one denote their labels
+pub record AreRight (net : Net) (level : ℕ → ℕ) (S : Nodes) (refs : List Ref) (rank : ℕ) : Type 0 where
+  pub each : length refs ≡ length net.names
+  pub known : (s : ℕ) → Has S (reference_of refs s)
+  pub below : (s : ℕ) → s < length net.names → slice_index net.ranks s < rank → Denotes (circuit net) level S (reference_of refs s) (λ bits. bit_of bits s)
+
+-- a gate has a value after so many folds: after none only if it is a copy
+abbrev pub IsBegun : GateLine → ℕ → Type 0
+IsBegun g fold = (0 < fold) ⊎ ((length g.operands ≡ 1) × (is_complemented g.kind ≡ false))
+
+-- and each gate of this rank denotes its value after so many folds
+pub record AreFolded (net : Net) (level : ℕ → ℕ) (S : Nodes) (refs : List Ref) (rank fold : ℕ) : Type 0 where
+  pub right : AreRight net level S refs rank
+  pub here : (g : GateLine) → Contains net.gates g → rank_of net g ≡ rank → IsBegun g fold →
+      Denotes (circuit net) level S (reference_of refs g.out) (value_after g (min (fold + 1) (length g.operands)))

@@ -1,0 +1,4 @@
+pub mod Building
+pub mod Folds
+pub mod Need
+pub mod Plans

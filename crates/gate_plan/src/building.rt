@@ -1,0 +1,287 @@
+//! The building of two netlists' diagrams in one store, rank by rank.
+ghost use Rattle.std.specs.Prelude.{◌≡◌, ◌≢◌, ◌+◌, ◌<◌, ◌≤◌, ℕ, Contains, length, IfOk, IfErr, OnOk, All, map, ◌++◌, slice_get, Some};
+ghost use Rattle.dd_store.specs.Nodes.{IsSound};
+ghost use Rattle.dd_store.specs.View.{Keeps};
+ghost use Rattle.net_bench.specs.Circuit.{circuit};
+ghost use Rattle.reduce_up.specs.Waves.{IsEntry, AnswersEach};
+ghost use Rattle.gate_plan.specs.Plans.{IsPlan, plan_steps, plan_copies, plan_folds};
+ghost use Rattle.gate_plan.specs.Building.{IsPaired, first_level, second_level, level_in, AreDiagrams, AreInputs, AreRight, AreFolded, IsStepBelow, entry_of};
+
+use crate::folds::{add_entries, copy_all, take_answers};
+use crate::inputs::{Which, input_references, make_variables};
+use crate::steps::{Copied, Plan, Step};
+use dd_store::{Ref, Store};
+use expand_work::{Gate, WaveFault};
+use net_bench::netlist::Signal;
+use net_bench::reader::Netlist;
+use net_order::pairing::Pairing;
+use reduce_up::wave::answer_entries;
+use req_table::Op;
+use std::alloc::{AllocError, Global};
+use std::marker::Model;
+
+/// A reference for each signal of two netlists.
+#[derive(Drop)]
+pub struct Built {
+    first: Vec<Ref>,
+    second: Vec<Ref>,
+}
+
+impl Model for Built {
+    ghost use Rattle.gate_plan.specs.Building.{References};
+
+    ghost Value = { References };
+
+    ghost view = { λ b. record { first = b.first.items; second = b.second.items } };
+}
+
+impl Built {
+    /// The diagram of a signal of the first netlist.
+    pub fn first(&self, signal: Signal) -> Ref
+        requires { signal < length self.now.first }
+        ensures { slice_get self.now.first signal ≡ Some result }
+    {
+        self.first[signal.number() as usize]
+    }
+
+    /// The diagram of a signal of the second netlist.
+    pub fn second(&self, signal: Signal) -> Ref
+        requires { signal < length self.now.second }
+        ensures { slice_get self.now.second signal ≡ Some result }
+    {
+        self.second[signal.number() as usize]
+    }
+}
+
+/// A netlist with the plan of its gates, one of two that are built over the variables of a pairing.
+#[derive(Drop)]
+struct Side<'a> {
+    netlist: &'a Netlist,
+    pairing: &'a Pairing,
+    which: Which,
+    plan: Plan,
+}
+
+impl<'a> Side<'a> {
+    fn new(
+        alloc: Global,
+        netlist: &'a Netlist,
+        pairing: &'a Pairing,
+        which: Which,
+    ) -> Result<Side<'a>, AllocError>
+        ensures netlist { IfOk result (λ s. s.netlist.now ≡ netlist.now) }
+        ensures pairing { IfOk result (λ s. s.pairing.now ≡ pairing.now) }
+        ensures which { IfOk result (λ s. s.which ≡ which) }
+        ensures plan { IfOk result (λ s. IsPlan s.netlist.now s.plan) }
+    {
+        Ok(Side {
+            netlist,
+            pairing,
+            which,
+            plan: Plan::new(alloc, netlist)?,
+        })
+    }
+
+    /// The copies of a rank, none above the last rank.
+    fn copies(&self, rank: usize) -> &[Copied]
+        requires first { 1 ≤ rank }
+        requires plan { IsPlan self.now.netlist.now self.now.plan }
+        ensures { result.now ≡ plan_copies self.now.netlist.now self.now.netlist.now.gates rank }
+    {
+        if rank <= self.plan.ranks() {
+            self.plan.copies(rank)
+        } else {
+            &[]
+        }
+    }
+
+    /// The number of folds of a rank, 0 above the last rank.
+    fn folds(&self, rank: usize) -> usize
+        requires first { 1 ≤ rank }
+        requires plan { IsPlan self.now.netlist.now self.now.plan }
+        ensures { result ≡ plan_folds self.now.netlist.now self.now.netlist.now.gates rank }
+    {
+        if rank <= self.plan.ranks() {
+            self.plan.folds(rank)
+        } else {
+            0
+        }
+    }
+
+    /// The steps of a rank and a fold number, none past the last fold.
+    fn steps(&self, rank: usize, fold: usize) -> &[Step]
+        requires first { 1 ≤ rank }
+        requires plan { IsPlan self.now.netlist.now self.now.plan }
+        ensures { result.now ≡ plan_steps self.now.netlist.now self.now.netlist.now.gates rank fold }
+    {
+        if fold < self.folds(rank) {
+            self.plan.steps(rank, fold)
+        } else {
+            &[]
+        }
+    }
+}
+
+/// What the steps of both netlists ask for.
+fn fold_entries(
+    alloc: Global,
+    built: &Built,
+    first: &[Step],
+    second: &[Step],
+) -> Result<Vec<(Op, Ref, Ref)>, AllocError>
+    requires first { All (IsStepBelow (length built.now.first)) first.now }
+    requires second { All (IsStepBelow (length built.now.second)) second.now }
+    ensures { IfOk result (λ entries. entries.items ≡ map (entry_of built.now.first) first.now ++ map (entry_of built.now.second) second.now) }
+{
+    let mut entries = Vec::new(alloc);
+    add_entries(&mut entries, built.first.as_slice(), first)?;
+    add_entries(&mut entries, built.second.as_slice(), second)?;
+    Ok(entries)
+}
+
+/// The diagrams of a list of operations.
+fn answers_of(
+    alloc: Global,
+    store: &mut Store,
+    entries: &[(Op, Ref, Ref)],
+) -> Result<Vec<Ref>, WaveFault>
+    requires { All (IsEntry store.old) entries.now }
+    ensures sound { IsSound store.new }
+    ensures keeps { Keeps store.old store.new }
+    ensures answers { IfOk result (λ answers. AnswersEach store.old entries.now store.new answers.items) }
+    ensures fault { IfErr result (λ e. e ≢ WaveFault.NoWorker) }
+{
+    match answer_entries(alloc, store, entries) {
+        Ok(answers) => Ok(answers),
+        Err(WaveFault::Full) => Err(WaveFault::Full),
+        Err(_) => Err(WaveFault::OutOfMemory),
+    }
+}
+
+/// The wave of one fold number of a rank: the steps of both netlists are asked for together.
+fn build_fold(
+    alloc: Global,
+    store: &mut Store,
+    first: &Side<'_>,
+    second: &Side<'_>,
+    built: &mut Built,
+    rank: usize,
+    fold: usize,
+) -> Result<(), WaveFault>
+    requires rank { 1 ≤ rank }
+    requires first_plan { IsPlan first.now.netlist.now first.now.plan }
+    requires second_plan { IsPlan second.now.netlist.now second.now.plan }
+    requires first_folded { AreFolded first.now.netlist.now (level_in first.now.which first.now.pairing.now) store.old built.old.first rank fold }
+    requires second_folded { AreFolded second.now.netlist.now (level_in second.now.which second.now.pairing.now) store.old built.old.second rank fold }
+    ensures sound { IsSound store.new }
+    ensures keeps { Keeps store.old store.new }
+    ensures first_next { OnOk result (AreFolded first.now.netlist.now (level_in first.now.which first.now.pairing.now) store.new built.new.first rank (fold + 1)) }
+    ensures second_next { OnOk result (AreFolded second.now.netlist.now (level_in second.now.which second.now.pairing.now) store.new built.new.second rank (fold + 1)) }
+    ensures fault { IfErr result (λ e. e ≢ WaveFault.NoWorker) }
+{
+    let ours = first.steps(rank, fold);
+    let theirs = second.steps(rank, fold);
+    let _ = store.levels();
+    let entries = match fold_entries(alloc, built, ours, theirs) {
+        Ok(entries) => entries,
+        Err(_) => return Err(WaveFault::OutOfMemory),
+    };
+    let answers = answers_of(alloc, store, entries.as_slice())?;
+    let (one, two) = answers.as_slice().split_at(ours.len());
+    take_answers(&mut built.first, ours, one);
+    take_answers(&mut built.second, theirs, two);
+    Ok(())
+}
+
+/// The copies and all folds of one rank.
+fn build_rank(
+    alloc: Global,
+    store: &mut Store,
+    first: &Side<'_>,
+    second: &Side<'_>,
+    built: &mut Built,
+    rank: usize,
+) -> Result<(), WaveFault>
+    requires rank { 1 ≤ rank }
+    requires first_plan { IsPlan first.now.netlist.now first.now.plan }
+    requires second_plan { IsPlan second.now.netlist.now second.now.plan }
+    requires first_right { AreRight first.now.netlist.now (level_in first.now.which first.now.pairing.now) store.old built.old.first rank }
+    requires second_right { AreRight second.now.netlist.now (level_in second.now.which second.now.pairing.now) store.old built.old.second rank }
+    ensures sound { IsSound store.new }
+    ensures keeps { Keeps store.old store.new }
+    ensures first_next { OnOk result (AreRight first.now.netlist.now (level_in first.now.which first.now.pairing.now) store.new built.new.first (rank + 1)) }
+    ensures second_next { OnOk result (AreRight second.now.netlist.now (level_in second.now.which second.now.pairing.now) store.new built.new.second (rank + 1)) }
+    ensures fault { IfErr result (λ e. e ≢ WaveFault.NoWorker) }
+{
+    let _ = store.levels();
+    copy_all(&mut built.first, first.copies(rank));
+    copy_all(&mut built.second, second.copies(rank));
+    for fold in 0..first.folds(rank).max(second.folds(rank)) {
+        build_fold(alloc, store, first, second, built, rank, fold)?;
+    }
+    Ok(())
+}
+
+/// The inputs' diagrams of both netlists.
+fn start(
+    alloc: Global,
+    first: &Side<'_>,
+    second: &Side<'_>,
+    variables: &[Ref],
+) -> Result<Built, AllocError>
+    requires first { (s : ℕ) → Contains first.now.netlist.now.inputs s → level_in first.now.which first.now.pairing.now s < length variables.now }
+    requires second { (s : ℕ) → Contains second.now.netlist.now.inputs s → level_in second.now.which second.now.pairing.now s < length variables.now }
+    ensures first { IfOk result (λ b. AreInputs first.now.netlist.now (level_in first.now.which first.now.pairing.now) variables.now b.first) }
+    ensures second { IfOk result (λ b. AreInputs second.now.netlist.now (level_in second.now.which second.now.pairing.now) variables.now b.second) }
+{
+    Ok(Built {
+        first: input_references(alloc, first.netlist, first.pairing, first.which, variables)?,
+        second: input_references(
+            alloc,
+            second.netlist,
+            second.pairing,
+            second.which,
+            variables,
+        )?,
+    })
+}
+
+/// Builds the diagrams of all signals of two netlists, over the variables of their pairing: all variables in level order,
+/// then per rank the copies and one wave for each fold number, of both netlists together.
+pub fn build<R, G: Gate>(
+    rt: &R,
+    alloc: Global,
+    store: &mut Store,
+    first: &Netlist,
+    second: &Netlist,
+    pairing: &Pairing,
+    workers: u32,
+    gate: &G,
+) -> Result<Built, WaveFault>
+    requires paired { IsPaired (circuit first.now) (circuit second.now) pairing.now }
+    requires levels { store.old.levels ≡ length pairing.now.names }
+    requires some_worker { 1 ≤ workers }
+    requires few_workers { workers ≤ 16 }
+    ensures sound { IsSound store.new }
+    ensures keeps { Keeps store.old store.new }
+    // Each signal of both netlists has the diagram of its function.
+    ensures first { IfOk result (λ b. AreDiagrams (circuit first.now) (first_level pairing.now) store.new b.first) }
+    ensures second { IfOk result (λ b. AreDiagrams (circuit second.now) (second_level pairing.now) store.new b.second) }
+    // No thread is started.
+    ensures fault { IfErr result (λ e. e ≢ WaveFault.NoWorker) }
+{
+    let variables = make_variables(alloc, store)?;
+    let Ok(first) = Side::new(alloc, first, pairing, Which::First) else {
+        return Err(WaveFault::OutOfMemory);
+    };
+    let Ok(second) = Side::new(alloc, second, pairing, Which::Second) else {
+        return Err(WaveFault::OutOfMemory);
+    };
+    let Ok(mut built) = start(alloc, &first, &second, variables.as_slice()) else {
+        return Err(WaveFault::OutOfMemory);
+    };
+    for below in 0..first.plan.ranks().max(second.plan.ranks()) {
+        build_rank(alloc, store, &first, &second, &mut built, below + 1)?;
+    }
+    Ok(built)
+}

@@ -1,0 +1,77 @@
+//! The diagrams of the variables, and of the inputs of a netlist.
+ghost use Rattle.std.specs.Prelude.{◌≡◌, ◌≢◌, ℕ, ◌<◌, Contains, IfOk, IfErr, length};
+ghost use Rattle.dd_store.specs.Nodes.{IsSound};
+ghost use Rattle.dd_store.specs.View.{Keeps};
+ghost use Rattle.gate_plan.specs.Building.{level_in, AreVariables, AreInputs, wave_fault_of};
+
+use dd_store::{Ref, Store, StoreFault};
+use expand_work::WaveFault;
+use net_bench::netlist::Signal;
+use net_bench::reader::Netlist;
+use net_order::pairing::Pairing;
+use std::alloc::{AllocError, Global};
+
+/// Which of two netlists is meant.
+#[derive(Clone, Copy, Debug, PartialEq, Eq)]
+pub enum Which {
+    First,
+    Second,
+}
+
+/// The level of an input of one of the two netlists.
+fn level_of(pairing: &Pairing, which: Which, input: Signal) -> u32
+    ensures { result ≡ level_in which pairing.now input }
+{
+    match which {
+        Which::First => pairing.first_level(input),
+        Which::Second => pairing.second_level(input),
+    }
+}
+
+fn wave_fault(fault: StoreFault) -> WaveFault
+    ensures { result ≡ wave_fault_of fault }
+{
+    match fault {
+        StoreFault::Full => WaveFault::Full,
+        StoreFault::OutOfMemory => WaveFault::OutOfMemory,
+    }
+}
+
+/// Makes the diagrams of all variables, in the order of their levels.
+pub fn make_variables(alloc: Global, store: &mut Store) -> Result<Vec<Ref>, WaveFault>
+    ensures sound { IsSound store.new }
+    ensures keeps { Keeps store.old store.new }
+    ensures made { IfOk result (λ v. AreVariables store.new v.items) }
+    ensures fault { IfErr result (λ e. e ≢ WaveFault.NoWorker) }
+{
+    let mut variables = Vec::new(alloc);
+    for level in 0..store.levels() {
+        let variable = match store.variable(level) {
+            Ok(variable) => variable,
+            Err(fault) => return Err(wave_fault(fault)),
+        };
+        if variables.push(variable).is_err() {
+            return Err(WaveFault::OutOfMemory);
+        }
+    }
+    Ok(variables)
+}
+
+/// A reference for each signal of a netlist: an input's variable, and False for each gate.
+pub fn input_references(
+    alloc: Global,
+    netlist: &Netlist,
+    pairing: &Pairing,
+    which: Which,
+    variables: &[Ref],
+) -> Result<Vec<Ref>, AllocError>
+    requires { (s : ℕ) → Contains netlist.now.inputs s → level_in which pairing.now s < length variables.now }
+    ensures { IfOk result (λ v. AreInputs netlist.now (level_in which pairing.now) variables.now v.items) }
+{
+    let mut references = Vec::from_elem(alloc, Ref::False, netlist.count())?;
+    for input in netlist.inputs() {
+        let level = level_of(pairing, which, *input);
+        references[input.number() as usize] = variables[level as usize];
+    }
+    Ok(references)
+}

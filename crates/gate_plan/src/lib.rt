@@ -1,0 +1,10 @@
+//! The diagrams of two netlists' gates: which folds they need, rank by rank, and the building of them.
+#![tactic(auto)]
+
+mod building;
+mod folds;
+mod inputs;
+mod steps;
+
+pub use building::{Built, build};
+pub use steps::{Copied, Plan, Step};

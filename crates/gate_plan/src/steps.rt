@@ -1,0 +1,279 @@
+//! The folds of a netlist's gates, by rank.
+ghost use Rattle.std.specs.Prelude.{◌≡◌, ◌<◌, ◌≤◌, length, map, replicate, IfOk, OnOk};
+ghost use Rattle.net_bench.specs.Circuit.{greatest};
+ghost use Rattle.net_bench.specs.Labels.{is_complemented};
+ghost use Rattle.gate_plan.specs.Plans.{IsPlan, rank_at, steps_at, plain_op, last_op, folds_of, step_of, copy_of, AddsAt, AddsSteps, AddsGate, no_steps, rank_of};
+
+use net_bench::netlist::{GateLine, Kind, Signal};
+use net_bench::reader::Netlist;
+use req_table::Op;
+use std::alloc::{AllocError, Global};
+use std::marker::Model;
+
+/// One step of a gate's fold: `out` becomes the operation on `first` and `second`.
+#[derive(Clone, Copy, Debug, PartialEq, Eq)]
+pub struct Step {
+    pub out: Signal,
+    pub op: Op,
+    /// Where it is None the fold goes on from the value of `out` so far.
+    pub first: Option<Signal>,
+    pub second: Signal,
+}
+
+/// A gate whose value is that of its operand.
+#[derive(Clone, Copy, Debug, PartialEq, Eq)]
+pub struct Copied {
+    pub out: Signal,
+    pub of: Signal,
+}
+
+/// The operation that a gate folds with.
+fn plain_op(kind: Kind) -> Op
+    ensures { result ≡ plain_op kind }
+{
+    match kind {
+        Kind::And | Kind::Nand | Kind::Not | Kind::Buff => Op::And,
+        Kind::Or | Kind::Nor => Op::Or,
+        Kind::Xor | Kind::Xnor => Op::Xor,
+    }
+}
+
+/// The operation of a gate's last step.
+fn last_op(kind: Kind) -> Op
+    ensures { result ≡ last_op kind }
+{
+    match kind {
+        Kind::And | Kind::Buff => Op::And,
+        Kind::Nand | Kind::Not => Op::Nand,
+        Kind::Or => Op::Or,
+        Kind::Nor => Op::Nor,
+        Kind::Xor => Op::Xor,
+        Kind::Xnor => Op::Xnor,
+    }
+}
+
+fn is_complemented(kind: Kind) -> bool
+    ensures { result ≡ is_complemented kind }
+{
+    matches!(kind, Kind::Nand | Kind::Nor | Kind::Xnor | Kind::Not)
+}
+
+/// The copy that a gate is, if it is one.
+fn copy_of(gate: &GateLine) -> Option<Copied>
+    requires { 0 < length gate.now.operands }
+    ensures { result ≡ copy_of gate.now }
+{
+    let operands = gate.operands.as_slice();
+    if operands.len() == 1 && !is_complemented(gate.kind) {
+        Some(Copied {
+            out: gate.out,
+            of: operands[0],
+        })
+    } else {
+        None
+    }
+}
+
+/// How many steps a gate's fold has.
+fn folds_of(gate: &GateLine) -> usize
+    requires { 0 < length gate.now.operands }
+    ensures { result ≡ folds_of gate.now }
+{
+    let operands = gate.operands.as_slice();
+    if operands.len() > 1 {
+        operands.len() - 1
+    } else if is_complemented(gate.kind) {
+        1
+    } else {
+        0
+    }
+}
+
+/// Step `fold` of a gate's fold, if it has one.
+fn step_of(gate: &GateLine, fold: usize) -> Option<Step>
+    requires { 0 < length gate.now.operands }
+    ensures { result ≡ step_of gate.now fold }
+{
+    if fold >= folds_of(gate) {
+        return None;
+    }
+    let operands = gate.operands.as_slice();
+    if operands.len() == 1 {
+        return Some(Step {
+            out: gate.out,
+            op: Op::Nand,
+            first: Some(operands[0]),
+            second: operands[0],
+        });
+    }
+    let is_last = fold + 2 == operands.len();
+    Some(Step {
+        out: gate.out,
+        op: if is_last {
+            last_op(gate.kind)
+        } else {
+            plain_op(gate.kind)
+        },
+        first: if fold == 0 { Some(operands[0]) } else { None },
+        second: operands[fold + 1],
+    })
+}
+
+/// Adds an item to the list at a place, which has a list or is the next to get one.
+fn add_at<T: Drop>(
+    alloc: Global,
+    lists: &mut Vec<Vec<T>>,
+    place: usize,
+    item: T,
+) -> Result<(), AllocError>
+    requires { place ≤ length lists.old.items }
+    ensures { OnOk result (AddsAt (map (λ row. row.items) lists.old.items) place item (map (λ row. row.items) lists.new.items)) }
+{
+    if place == lists.len() {
+        lists.push(Vec::new(alloc))?;
+    }
+    lists[place].push(item)?;
+    Ok(())
+}
+
+/// Adds the steps of a gate to the lists of steps by fold number.
+fn add_steps(alloc: Global, folds: &mut Vec<Vec<Step>>, gate: &GateLine) -> Result<(), AllocError>
+    requires { 0 < length gate.now.operands }
+    ensures { OnOk result (AddsSteps (map (λ row. row.items) folds.old.items) gate.now (map (λ row. row.items) folds.new.items)) }
+{
+    let operands = gate.operands.as_slice();
+    // no gate has more steps than operands
+    for fold in 0..operands.len() {
+        if let Some(step) = step_of(gate, fold) {
+            add_at(alloc, folds, fold, step)?;
+        }
+    }
+    Ok(())
+}
+
+/// The folds of the gates of one rank.
+#[derive(Drop)]
+struct RankPlan {
+    copies: Vec<Copied>,
+    folds: Vec<Vec<Step>>,
+}
+
+impl Model for RankPlan {
+    ghost use Rattle.std.specs.Prelude.{map};
+    ghost use Rattle.gate_plan.specs.Plans.{RankSteps};
+
+    ghost Value = { RankSteps };
+
+    ghost view = { λ r. record { copies = r.copies.items; folds = map (λ row. row.items) r.folds.items } };
+}
+
+impl RankPlan {
+    fn new(alloc: Global) -> RankPlan
+        ensures { result ≡ no_steps }
+    {
+        RankPlan {
+            copies: Vec::new(alloc),
+            folds: Vec::new(alloc),
+        }
+    }
+
+    /// Adds the copy or the steps of a gate.
+    fn add_gate(&mut self, alloc: Global, gate: &GateLine) -> Result<(), AllocError>
+        requires { 0 < length gate.now.operands }
+        ensures { OnOk result (AddsGate self.old gate.now self.new) }
+    {
+        if let Some(copied) = copy_of(gate) {
+            self.copies.push(copied)?;
+        }
+        add_steps(alloc, &mut self.folds, gate)
+    }
+}
+
+/// The greatest rank of a gate, 0 where there is none.
+fn highest_rank(netlist: &Netlist) -> usize
+    ensures { result ≡ greatest (map (λ g. rank_of netlist.now g) netlist.now.gates) }
+{
+    let mut highest = 0;
+    for gate in netlist.gates() {
+        let rank = netlist.rank(gate.out) as usize;
+        if rank > highest {
+            highest = rank;
+        }
+    }
+    highest
+}
+
+/// So many ranks without gates.
+fn empty_ranks(alloc: Global, count: usize) -> Result<Vec<RankPlan>, AllocError>
+    ensures { IfOk result (λ v. v.items ≡ replicate count no_steps) }
+{
+    let mut ranks = Vec::new(alloc);
+    for _ in 0..count {
+        ranks.push(RankPlan::new(alloc))?;
+    }
+    Ok(ranks)
+}
+
+/// The folds of all gates of a netlist, by rank: what is copied, and for each fold number the steps.
+#[derive(Drop)]
+pub struct Plan {
+    ranks: Vec<RankPlan>,
+}
+
+impl Model for Plan {
+    ghost use Rattle.std.specs.Prelude.{List};
+    ghost use Rattle.gate_plan.specs.Plans.{RankSteps};
+
+    ghost Value = { List RankSteps };
+
+    ghost view = { λ p. p.ranks.items };
+}
+
+impl Plan {
+    /// Takes time by the number of gates and operands.
+    pub fn new(alloc: Global, netlist: &Netlist) -> Result<Plan, AllocError>
+        ensures { IfOk result (λ p. IsPlan netlist.now p) }
+    {
+        let mut ranks = empty_ranks(alloc, highest_rank(netlist))?;
+        for gate in netlist.gates() {
+            let rank = netlist.rank(gate.out) as usize;
+            ranks[rank - 1].add_gate(alloc, gate)?;
+        }
+        Ok(Plan { ranks })
+    }
+
+    /// The greatest rank of a gate.
+    pub fn ranks(&self) -> usize
+        ensures { result ≡ length self.now }
+    {
+        self.ranks.len()
+    }
+
+    /// How many fold numbers the gates of a rank have: 0 where there are only copies.
+    pub fn folds(&self, rank: usize) -> usize
+        requires first { 1 ≤ rank }
+        requires last { rank ≤ length self.now }
+        ensures { result ≡ length (rank_at self.now rank).folds }
+    {
+        self.ranks[rank - 1].folds.len()
+    }
+
+    /// The steps of a rank and a fold number, in the order of the text.
+    pub fn steps(&self, rank: usize, fold: usize) -> &[Step]
+        requires first { 1 ≤ rank }
+        requires last { rank ≤ length self.now }
+        requires fold { fold < length (rank_at self.now rank).folds }
+        ensures { result.now ≡ steps_at self.now rank fold }
+    {
+        self.ranks[rank - 1].folds[fold].as_slice()
+    }
+
+    /// The copies of a rank, in the order of the text.
+    pub fn copies(&self, rank: usize) -> &[Copied]
+        requires first { 1 ≤ rank }
+        requires last { rank ≤ length self.now }
+        ensures { result.now ≡ (rank_at self.now rank).copies }
+    {
+        self.ranks[rank - 1].copies.as_slice()
+    }
+}

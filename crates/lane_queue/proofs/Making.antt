@@ -1,0 +1,158 @@
+-- How far a round of issuing has come.
+use Rattle.std.proofs.Common.{◌≡◌, ◌≢◌, ℕ, zero, suc, ◌+◌, ◌^◌, ◌<◌, ◌≤◌, ◌⊎◌, List, [], ◌∷◌, ◌++◌, map, length, get_or, set, sym, refl, ap, ◌∙◌, subst, inl, inr, ⊎_elim, arith, Option, Some, None}
+use Rattle.std.specs.Prelude.{slice_index_or, slice_set}
+use Rattle.std.proofs.lemmas.List.{get_or-set_same, get_or-set_other, get_or_append_left, get_or-map, length-set, length-map, length-append}
+use Rattle.std.proofs.Math.Seq.{get_or-append_seam}
+use mathlib.Core.Logic.{dite}
+use native.Mathlib.Decide.{ℕ_discrete}
+use Rattle.req_table.specs.declared.Sizes.{Sizes}
+use Rattle.lane_queue.specs.declared.rule.Lane.{Lane}
+use Rattle.lane_queue.specs.declared.make.Root.{Root}
+use Rattle.lane_queue.specs.declared.port.Line.{Line}
+use Rattle.crossbeam_queue.specs.SegTies.{SegId, IsSegPassOf}
+use Rattle.std.specs.declared.alloc.Global.{Global}
+use Rattle.lane_queue.specs.declared.rule.View.{View}
+use Rattle.lane_queue.specs.Rule.{blank, issuer, port, own_sent, IsPort}
+use Rattle.req_table.specs.Lanes.{ends}
+use Rattle.lane_queue.proofs.Lines.{on_live, hand_live}
+use Rattle.lane_queue.specs.Line.{line_view, IsLiveOn}
+use Rattle.lane_queue.specs.Ports.{terms_of, line_on, line_sent, line_taken, PortOk, view_of}
+use Rattle.lane_queue.specs.Make.{RootOk, RootsOk, NewLine, NewLines, new_port}
+
+-- whatever stands for an element past the end
+pub any_default : {X : Type 0} (xs : List X) (i : ℕ) (d e : X) → i < length xs → get_or xs i d ≡ get_or xs i e
+any_default [] i d e lt = absurd (omega arith)
+any_default (x ∷ xs) zero d e lt = refl
+any_default (x ∷ xs) (suc i) d e lt = any_default xs i d e (omega arith)
+
+-- in the round of the port `number`, the lanes below k have issued its pass
+pub record Issued (workers : ℕ) (sizes : Sizes) (number k : ℕ) (lanes : List Lane) (roots : List Root) (lines : List Line) : Type 0 where
+  pub roots_long : length roots ≡ length lanes
+  pub lines_long : length lines ≡ k
+  pub within : k ≤ length lanes
+  pub done : (i : ℕ) (d : Lane) (e : Root) → i < k → RootOk workers sizes (number + 1) i (slice_index_or lanes i d) (slice_index_or roots i e)
+  pub ahead : (i : ℕ) (d : Lane) (e : Root) → k ≤ i → i < length lanes → RootOk workers sizes number i (slice_index_or lanes i d) (slice_index_or roots i e)
+  pub made : (i : ℕ) (d : Lane) (e : Line) → i < k → NewLine workers sizes number i (slice_index_or lanes i d) (slice_index_or lines i e)
+
+pub issued-more : (workers : ℕ) (sizes : Sizes) (number k : ℕ) (lanes : List Lane) (roots : List Root) (lines : List Line) (lane : Lane) (root : Root) (line : Line)
+    → Issued workers sizes number k lanes roots lines → k < length lanes → lane ≡ get_or lanes k lane → RootOk workers sizes (number + 1) k lane root → NewLine workers sizes number k lane line
+    → Issued workers sizes number (k + 1) lanes (set roots k root) (lines ++ line ∷ [])
+issued-more workers sizes number k lanes roots lines lane root line h lt is r n =
+    let at : (d : Lane) → lane ≡ get_or lanes k d = λ d. is ∙ any_default lanes k lane d lt in
+    let here : k < length roots = subst (λ m. k < m) (sym h.roots_long) lt in
+    record {
+      roots_long = length-set roots k root ∙ h.roots_long;
+      lines_long = length-append lines (line ∷ []) ∙ ap (λ m. m + 1) h.lines_long;
+      within = omega arith;
+      done = λ i d e less. dite (ℕ_discrete i k)
+          (λ q. subst (λ (y : ℕ × Lane × Root). RootOk workers sizes (number + 1) y.0 y.1 y.2)
+          (λ j. (sym q j, (at d ∙ ap (λ m. get_or lanes m d) (sym q)) j, (sym (get_or-set_same roots k root e here) ∙ ap (λ m. get_or (set roots k root) m e) (sym q)) j)) r)
+          (λ q. subst (λ (y : Root). RootOk workers sizes (number + 1) i (get_or lanes i d) y) (sym (get_or-set_other roots k i root e q)) (h.done i d e (omega arith)));
+      ahead = λ i d e more less. subst (λ (y : Root). RootOk workers sizes number i (get_or lanes i d) y) (sym (get_or-set_other roots k i root e (λ q. omega arith))) (h.ahead i d e (omega arith) less);
+      made = λ i d e less. dite (ℕ_discrete i k)
+          (λ q. subst (λ (y : ℕ × Lane × Line). NewLine workers sizes number y.0 y.1 y.2)
+          (λ j. (sym q j, (at d ∙ ap (λ m. get_or lanes m d) (sym q)) j, (sym (get_or-append_seam lines line [] e) ∙ ap (λ m. get_or (lines ++ line ∷ []) m e) (h.lines_long ∙ sym q)) j)) n)
+          (λ q. subst (λ (y : Line). NewLine workers sizes number i (get_or lanes i d) y) (sym (get_or_append_left lines (line ∷ []) e i (let z = h.lines_long in omega arith))) (h.made i d e (omega arith)));
+    }
+
+pub issued-none : (workers : ℕ) (sizes : Sizes) (number : ℕ) (lanes : List Lane) (roots : List Root) → RootsOk workers sizes number lanes roots → Issued workers sizes number 0 lanes roots []
+issued-none workers sizes number lanes roots h = record {
+  roots_long = h.0;
+  lines_long = refl;
+  within = omega arith;
+  done = λ i d e lt. absurd (omega arith);
+  ahead = λ i d e _ lt. h.1 i d e lt;
+  made = λ i d e lt. absurd (omega arith);
+}
+
+pub issued-start : (workers : ℕ) (sizes : Sizes) (number : ℕ) (lanes : List Lane) (roots : List Root) (lines : List Line) → lines ≡ [] → RootsOk workers sizes number lanes roots → Issued workers sizes number 0 lanes roots lines
+issued-start workers sizes number lanes roots lines e h = subst (λ l. Issued workers sizes number 0 lanes roots l) (sym e) (issued-none workers sizes number lanes roots h)
+
+pub issued-all : (workers : ℕ) (sizes : Sizes) (number k : ℕ) (lanes : List Lane) (roots : List Root) (lines : List Line) → Issued workers sizes number k lanes roots lines → length lanes ≤ k
+    → RootsOk workers sizes (number + 1) lanes roots × NewLines workers sizes number lanes lines
+issued-all workers sizes number k lanes roots lines h le = let a = h.within in let z = h.lines_long in (
+  (h.roots_long, λ i d e lt. h.done i d e (omega arith)),
+  (omega arith, λ i d e lt. h.made i d e (omega arith)),
+)
+
+-- the same, told of what issuing ensures
+pub issued-step : (workers : ℕ) (sizes : Sizes) (number k : ℕ) (lanes : List Lane) (roots : List Root) (lines lines' : List Line) (lane : Lane) (old root : Root) (line : Line)
+    → Issued workers sizes number k lanes roots lines → k < length lanes → lane ≡ get_or lanes k lane → old ≡ get_or roots k old
+    → IsSegPassOf lane.queue root.pass → root.pass.me.view.client ≡ issuer (terms_of workers k sizes) (old.pass.me.view.client.low + 1)
+    → IsLiveOn lane.queue line.hold → line_view line ≡ port (terms_of workers k sizes) old.pass.me.view.client.low [] [] → line.ends ≡ 0 → line.put ≡ 0
+    → lines' ≡ lines ++ line ∷ []
+    → Issued workers sizes number (k + 1) lanes (set roots k root) lines'
+issued-step workers sizes number k lanes roots lines lines' lane old root line h lt at was queue client live view ends put is =
+    let low : old.pass.me.view.client.low ≡ number = ap (λ (r : Root). r.pass.me.view.client.low) was ∙ (h.ahead k lane old (omega arith) lt).2 in
+    let c : root.pass.me.view.client ≡ issuer (terms_of workers k sizes) (number + 1) = client ∙ ap (λ n. issuer (terms_of workers k sizes) (n + 1)) low in
+    subst (λ l. Issued workers sizes number (k + 1) lanes (set roots k root) l) (sym is)
+    (issued-more workers sizes number k lanes roots lines lane root line h lt at (queue, inr c, ap (λ (v : View). v.low) c)
+    (live, view ∙ ap (λ n. port (terms_of workers k sizes) n [] []) low, ends, put))
+
+-- ---- lanes that were opened
+pub record Opened (workers : ℕ) (sizes : Sizes) (k : ℕ) (lanes : List Lane) (roots : List Root) : Type 0 where
+  pub lanes_long : length lanes ≡ k
+  pub roots_long : length roots ≡ k
+  pub each : (i : ℕ) (d : Lane) (e : Root) → i < k → RootOk workers sizes 0 i (slice_index_or lanes i d) (slice_index_or roots i e)
+
+pub opened-more : (workers : ℕ) (sizes : Sizes) (k : ℕ) (lanes lanes' : List Lane) (roots roots' : List Root) (lane : Lane) (root : Root) → Opened workers sizes k lanes roots
+    → IsSegPassOf lane.queue root.pass → root.pass.me.view.client ≡ blank → lanes' ≡ lanes ++ lane ∷ [] → roots' ≡ roots ++ root ∷ []
+    → Opened workers sizes (k + 1) lanes' roots'
+opened-more workers sizes k lanes lanes' roots roots' lane root h queue client a b = subst (λ (y : List Lane × List Root). Opened workers sizes (k + 1) y.0 y.1) (λ j. (sym a j, sym b j)) (record {
+  lanes_long = length-append lanes (lane ∷ []) ∙ ap (λ m. m + 1) h.lanes_long;
+  roots_long = length-append roots (root ∷ []) ∙ ap (λ m. m + 1) h.roots_long;
+  each = λ i d e less. dite (ℕ_discrete i k)
+      (λ q. subst (λ (y : ℕ × Lane × Root). RootOk workers sizes 0 y.0 y.1 y.2)
+      (λ j. (sym q j, (sym (get_or-append_seam lanes lane [] d) ∙ ap (λ m. get_or (lanes ++ lane ∷ []) m d) (h.lanes_long ∙ sym q)) j, (sym (get_or-append_seam roots root [] e) ∙ ap (λ m. get_or (roots ++ root ∷ []) m e) (h.roots_long ∙ sym q)) j))
+      (queue, inl client, ap (λ (v : View). v.low) client))
+      (λ q. subst (λ (y : Lane × Root). RootOk workers sizes 0 i y.0 y.1)
+      (λ j. (sym (get_or_append_left lanes (lane ∷ []) d i (let z = h.lanes_long in omega arith)) j, sym (get_or_append_left roots (root ∷ []) e i (let z = h.roots_long in omega arith)) j)) (h.each i d e (omega arith)));
+})
+
+pub opened-none : (workers : ℕ) (sizes : Sizes) → Opened workers sizes 0 [] []
+opened-none workers sizes = record { lanes_long = refl; roots_long = refl; each = λ i d e lt. absurd (omega arith) }
+
+pub opened-all : (workers : ℕ) (sizes : Sizes) (k : ℕ) (lanes : List Lane) (roots : List Root) → Opened workers sizes k lanes roots → RootsOk workers sizes 0 lanes roots
+opened-all workers sizes k lanes roots h = (h.roots_long ∙ sym h.lanes_long, λ i d e lt. h.each i d e (let z = h.lanes_long in omega arith))
+
+-- ---- a port of new lines
+map-both : {A B C : Type 0} (f : A → C) (g : B → C) (xs : List A) (ys : List B) → length xs ≡ length ys → ((i : ℕ) (d : A) (e : B) → i < length ys → f (get_or xs i d) ≡ g (get_or ys i e)) → map f xs ≡ map g ys
+map-both f g [] [] n h = refl
+map-both f g [] (y ∷ ys) n h = absurd (omega arith)
+map-both f g (x ∷ xs) [] n h = absurd (omega arith)
+map-both f g (x ∷ xs) (y ∷ ys) n h = λ j. h 0 x y (omega arith) j ∷ map-both f g xs ys (omega arith) (λ i d e lt. h (suc i) d e (omega arith)) j
+
+pub map-twice : {A B C : Type 0} (f : A → B) (g : B → C) (xs : List A) → map g (map f xs) ≡ map (λ x. g (f x)) xs
+map-twice f g [] = refl
+map-twice f g (x ∷ xs) = λ j. g (f x) ∷ map-twice f g xs j
+
+element : {X : Type 0} (xs : List X) (i : ℕ) → i < length xs → X
+element [] i lt = absurd (omega arith)
+element (x ∷ xs) zero lt = x
+element (x ∷ xs) (suc i) lt = element xs i (omega arith)
+
+module _ (workers number : ℕ) (sizes : Sizes) (lanes : List Lane) (lines : List Line) (long : length lanes ≡ workers) (n : NewLines workers sizes number lanes lines) (lt : number < workers) where
+  pub new-ok : sizes.levels < 2 ^ 16 → PortOk number sizes lines
+  new-ok few = let z = n.0 in record {
+    within = omega arith;
+    few = few;
+    each = λ i d less. let d' : Lane = element lanes i (omega arith) in let h = n.1 i d' d (omega arith) in let v = h.1 in record {
+      terms = ap (λ (u : View). u.terms) v ∙ ap (λ m. terms_of m i sizes) (sym long ∙ sym z);
+      low = ap (λ (u : View). u.low) v;
+      line = (subst IsPort (sym v) refl, h.2 ∙ ap (λ (u : View). ends (own_sent u)) (sym v), h.3 ∙ ap (λ (u : View). length (own_sent u)) (sym v));
+      hand = hand_live (get_or lanes i d').queue (get_or lines i d).hold h.0;
+      other = λ _. ap (λ (u : View). u.taken) v;
+    };
+  }
+
+  pub new-view : view_of number sizes lines ≡ new_port number sizes (map (λ (x : Lane). x.queue) lanes)
+  new-view = let z = n.0 in
+      let a : map line_on lines ≡ map (λ (q : SegId Global). Some q) (map (λ (x : Lane). x.queue) lanes) =
+      map-both line_on (λ (x : Lane). Some x.queue) lines lanes z (λ i d e less. on_live (get_or lanes i e).queue (get_or lines i d).hold (n.1 i e d less).0)
+      ∙ sym (map-twice (λ (x : Lane). x.queue) (λ (q : SegId Global). Some q) lanes) in
+      let s : map line_sent lines ≡ map (λ (q : SegId Global). []) (map (λ (x : Lane). x.queue) lanes) =
+      map-both line_sent (λ (x : Lane). []) lines lanes z (λ i d e less. ap own_sent (n.1 i e d less).1)
+      ∙ sym (map-twice (λ (x : Lane). x.queue) (λ (q : SegId Global). []) lanes) in
+      let d : Line = element lines number (omega arith) in let d' : Lane = element lanes number (omega arith) in
+      let t : slice_index_or (map line_taken lines) number [] ≡ [] = get_or-map line_taken lines number d [] (omega arith) ∙ ap (λ (u : View). u.taken) (n.1 number d' d (omega arith)).1 in
+      λ j. record { number = number; lanes = a j; sizes = sizes; sent = s j; taken = t j }

@@ -1,0 +1,175 @@
+-- Each step of a lane keeps the rule.
+use Rattle.std.proofs.Common.{◌≡◌, ◌≢◌, ℕ, zero, suc, ◌+◌, ◌-◌, ◌<◌, ◌≤◌, ◌⊎◌, Bool, true, false, true≢false, cond, eqb, List, [], ◌∷◌, ◌++◌, length, get_or, set, sym, refl, ap, ◌∙◌, subst, inl, inr, ⊎_elim, arith, append_assoc}
+use Rattle.std.specs.Prelude.{filter, All, slice_index_or, slice_set}
+use Rattle.std.proofs.lemmas.List.{append-nil}
+use Rattle.std.proofs.lemmas.List.Elements.{All-append}
+use mathlib.Core.Option.{some, some-injective, some-ne-none}
+use mathlib.Core.Logic.{dite}
+use native.Mathlib.Decide.{ℕ_discrete}
+use lib.ListN.{get_elem?}
+use Rattle.crossbeam_queue.specs.Fifo.{Pushes, Pops, Forks, Merges, Learns}
+use Rattle.crossbeam_queue.proofs.Lists.{at_set, at_snoc, set_here, set_else, at_longer, at_last}
+use Rattle.req_table.specs.declared.Item.{Item}
+use Rattle.req_table.specs.declared.Sizes.{Sizes}
+use Rattle.lane_queue.specs.declared.rule.Terms.{Terms}
+use Rattle.lane_queue.specs.declared.rule.View.{View}
+use Rattle.req_table.specs.Lanes.{from_of, sent_by, ends, MayFollow, IsFairFrom, IsFair, LaneLaw}
+use Rattle.lane_queue.specs.Lists.{FairLane, Begins}
+use Rattle.lane_queue.specs.Rule.{scope, blank, spent, issuer, joined, port, Has, sent_of, Fits, Ruled, Kept, behind, Sends, IsNext, Takes, Owns, Reads, Whole}
+use Rattle.req_table.proofs.Fair.{sent_by-append}
+use Rattle.lane_queue.proofs.Facts.{fair-push, all-one, all-at, of-mine, of-other, law-along}
+
+-- ---- views by number
+pub there : (views : List View) (i : ℕ) (v : View) → get_elem? views i ≡ some v → i < length views
+there [] i v e = absurd (some-ne-none v (sym e))
+there (x ∷ xs) zero v e = omega arith
+there (x ∷ xs) (suc i) v e = let h = there xs i v e in omega arith
+
+pub same_there : (views : List View) (i : ℕ) (u v : View) → get_elem? views i ≡ some u → get_elem? views i ≡ some v → u ≡ v
+same_there views i u v a b = some-injective u v (sym a ∙ b)
+
+-- a view with a port is not the one of a lane that has not begun
+begun_of : (views : List View) (i : ℕ) (v : View) → views ≡ blank ∷ [] → get_elem? views i ≡ some v → v.begun ≡ true → ⊥
+begun_of views zero v e at b = true≢false (sym b ∙ ap (λ (u : View). u.begun) (some-injective v blank (sym at ∙ ap (λ l. get_elem? l 0) e)))
+begun_of views (suc i) v e at b = some-ne-none v (sym at ∙ ap (λ l. get_elem? l (suc i)) e)
+
+pub ruled : (items : List Item) (views : List View) (i : ℕ) (v : View) → Kept items views → get_elem? views i ≡ some v → v.begun ≡ true → Ruled items views
+ruled items views i v h at b = ⊎_elim (λ (x : (items ≡ []) × (views ≡ blank ∷ [])). absurd (begun_of views i v x.1 at b)) (λ (r : Ruled items views). r) h
+
+-- ---- a step of one pass, which keeps the ports that it stands for
+pub step : (items items' : List Item) (views : List View) (i : ℕ) (v w : View) (r : Ruled items views) → get_elem? views i ≡ some v
+    → w.low ≡ v.low → w.high ≡ v.high → w.begun ≡ true
+    → (sent' : ℕ → List Item) (taken' left' : List Item)
+    → LaneLaw (scope r.c) sent' taken' (left' ++ items') → FairLane (scope r.c) sent'
+    → ((p : ℕ) → r.seat p ≢ i → sent' p ≡ r.sent p)
+    → (r.seat r.c.owner ≢ i → (taken' ≡ r.taken) × (left' ≡ r.left))
+    → ((p : ℕ) → Has w p → Fits r.c r.seat sent' taken' left' i w p)
+    → Ruled items' (set views i w)
+step items items' views i v w r at low high b sent' taken' left' law fair others rest mine = record {
+  c = r.c;
+  seat = r.seat;
+  sent = sent';
+  taken = taken';
+  left = left';
+  law = law;
+  fair = fair;
+  present = λ p in_range. let h = r.present p in_range in
+      dite (ℕ_discrete (r.seat p) i)
+      (λ e. let is : h.0 ≡ v = same_there views i h.0 v (subst (λ n. get_elem? views n ≡ some h.0) e h.1) at in
+      let a : w.low ≤ p = subst (λ (n : ℕ). n ≤ p) (ap (λ (u : View). u.low) is ∙ sym low) h.2.0 in
+      let z : p < w.high = subst (λ (n : ℕ). p < n) (ap (λ (u : View). u.high) is ∙ sym high) h.2.1 in
+      (w, subst (λ n. get_elem? (set views i w) n ≡ some w) (sym e) (set_here views i w (there views i v at)), (a, z)))
+      (λ n. (h.0, set_else views i (r.seat p) w n ∙ h.1, h.2));
+  begun = λ j u e. ⊎_elim (λ (x : (j ≡ i) × (w ≡ u)). subst (λ (y : View). y.begun ≡ true) x.1 b) (λ (x : (j ≢ i) × (get_elem? views j ≡ some u)). r.begun j u x.1) (at_set views i j w u e);
+  fits = λ j u p e has. ⊎_elim
+      (λ (x : (j ≡ i) × (w ≡ u)). subst (λ (y : ℕ × View). Fits r.c r.seat sent' taken' left' y.0 y.1 p) (λ k. (sym x.0 k, x.1 k)) (mine p (subst (λ (y : View). Has y p) (sym x.1) has)))
+      (λ (x : (j ≢ i) × (get_elem? views j ≡ some u)). let f = r.fits j u p x.1 has in let away : r.seat p ≢ i = λ q. x.0 (sym f.seated ∙ q) in record {
+        terms = f.terms;
+        within = f.within;
+        seated = f.seated;
+        sends = f.sends ∙ sym (others p away);
+        takes = λ o. let t = f.takes o in let k = rest (λ q. away (ap r.seat o ∙ q)) in (t.0 ∙ sym k.0, t.1 ∙ sym k.1);
+      })
+      (at_set views i j w u e);
+}
+
+-- ---- one port
+-- whoever stands for p in the view of the port s is s
+pub only : (c : Terms) (s p : ℕ) (sent : List Item) (taken : List Item) → Has (port c s sent taken) p → p ≡ s
+only c s p sent taken h = let a = h.0 in let z = h.1 in omega arith
+
+pub lone : (c : Terms) (s : ℕ) (sent : List Item) (taken : List Item) → Has (port c s sent taken) s
+lone c s sent taken = (omega arith, omega arith)
+
+pub own_list : (c : Terms) (s p : ℕ) (sent : List Item) (taken : List Item) → p ≡ s → sent_of (port c s sent taken) p ≡ sent
+own_list c s p sent taken e = let z : p - s ≡ 0 = omega arith in ap (λ n. slice_index_or (sent ∷ []) n []) z
+
+pub own : (c : Terms) (s : ℕ) (sent taken : List Item) (items : List Item) (views : List View) (i : ℕ) (r : Ruled items views) → get_elem? views i ≡ some (port c s sent taken) → Fits r.c r.seat r.sent r.taken r.left i (port c s sent taken) s
+own c s sent taken items views i r at = r.fits i (port c s sent taken) s at (lone c s sent taken)
+
+-- ---- send: an item behind the port's list and behind the lane
+pub push_step : (i : ℕ) (c : Terms) (s : ℕ) (sent taken : List Item) (x : Item) (items : List Item) (views : List View) → from_of x ≡ s → MayFollow (scope c) (ends sent) x
+    → (r : Ruled items views) → get_elem? views i ≡ some (port c s sent taken) → Ruled (items ++ x ∷ []) (set views i (port c s (sent ++ x ∷ []) taken))
+push_step i c s sent taken x items views mine may r at = let v = port c s sent taken in let w = port c s (sent ++ x ∷ []) taken in
+    let f = own c s sent taken items views i r at in
+    let is : sent ≡ r.sent s = sym (own_list c s s sent taken refl) ∙ f.sends in
+    let sent' : ℕ → List Item = λ p. r.sent p ++ sent_by p (x ∷ []) in
+    let whole : (r.taken ++ (r.left ++ items)) ++ x ∷ [] ≡ r.taken ++ (r.left ++ (items ++ x ∷ [])) = append_assoc r.taken (r.left ++ items) (x ∷ []) ∙ ap (λ l. r.taken ++ l) (append_assoc r.left items (x ∷ [])) in
+    let bound : from_of x < r.c.workers = subst (λ n. n < r.c.workers) (sym mine) f.within in
+    let law : LaneLaw (scope r.c) sent' r.taken (r.left ++ (items ++ x ∷ [])) = record {
+      senders = subst (λ (l : List Item). All (λ y. from_of y < r.c.workers) l) whole
+          (All-append (λ y. from_of y < r.c.workers) (r.taken ++ (r.left ++ items)) (x ∷ []) r.law.senders (all-one (λ y. from_of y < r.c.workers) x bound));
+      in_order = λ p lt. ap (sent_by p) (sym whole) ∙ sent_by-append p (r.taken ++ (r.left ++ items)) (x ∷ []) ∙ ap (λ l. l ++ sent_by p (x ∷ [])) (r.law.in_order p lt);
+    } in
+    let fair : FairLane (scope r.c) sent' = λ p lt.
+    dite (ℕ_discrete (from_of x) p)
+    (λ e. let q : s ≡ p = sym mine ∙ e in
+    subst (IsFair (scope r.c)) (ap (λ l. l ++ x ∷ []) (is ∙ ap r.sent q) ∙ ap (λ l. r.sent p ++ l) (sym (of-mine p x [] e)))
+    (fair-push (scope r.c) sent x (subst (IsFair (scope r.c)) (sym (is ∙ ap r.sent q)) (r.fair p lt)) (subst (λ (t : Terms). MayFollow (scope t) (ends sent) x) f.terms may)))
+    (λ n. subst (IsFair (scope r.c)) (sym (ap (λ l. r.sent p ++ l) (of-other p x [] n) ∙ append-nil (r.sent p))) (r.fair p lt)) in
+    step items (items ++ x ∷ []) views i v w r at refl refl refl sent' r.taken r.left law fair
+    (λ p away. ap (λ l. r.sent p ++ l) (of-other p x [] (λ e. away (ap r.seat (sym (sym mine ∙ e)) ∙ f.seated))) ∙ append-nil (r.sent p))
+    (λ _. (refl, refl))
+    (λ p has. let q : p ≡ s = only c s p (sent ++ x ∷ []) taken has in record {
+      terms = f.terms;
+      within = subst (λ n. n < r.c.workers) (sym q) f.within;
+      seated = ap r.seat q ∙ f.seated;
+      sends = own_list c s p (sent ++ x ∷ []) taken q ∙ ap (λ l. l ++ x ∷ []) (is ∙ ap r.sent (sym q)) ∙ ap (λ l. r.sent p ++ l) (sym (of-mine p x [] (mine ∙ sym q)));
+      takes = λ o. f.takes (sym q ∙ o);
+    })
+
+pub pushes : (n i : ℕ) (c : Terms) (s : ℕ) (sent taken : List Item) (x : Item) → from_of x ≡ s → MayFollow (scope c) (ends sent) x → Pushes Kept n i (port c s sent taken) x (Sends (port c s sent taken) x)
+pushes n i c s sent taken x mine may items views room h at =
+    (port c s (sent ++ x ∷ []) taken, inr (push_step i c s sent taken x items views mine may (ruled items views i (port c s sent taken) h at refl) at), refl)
+
+-- ---- take: the front of the lane behind what the owner took
+-- what the queue holds behind the owner's list, where nothing was read out
+front_is : (c : Terms) (s : ℕ) (sent taken : List Item) (items : List Item) (views : List View) (i : ℕ) (r : Ruled items views) → s ≡ c.owner → get_elem? views i ≡ some (port c s sent taken)
+    → (taken ≡ r.taken) × ([] ≡ r.left)
+front_is c s sent taken items views i r mine at = let f = own c s sent taken items views i r at in f.takes (mine ∙ ap (λ (t : Terms). t.owner) f.terms)
+
+pub along : (r_taken r_left taken items : List Item) → (taken ≡ r_taken) × ([] ≡ r_left) → r_taken ++ (r_left ++ items) ≡ taken ++ items
+along r_taken r_left taken items t = λ k. (sym t.0) k ++ ((sym t.1) k ++ items)
+
+pub take_step : (i : ℕ) (c : Terms) (s : ℕ) (sent taken : List Item) (x : Item) (items : List Item) (views : List View) → s ≡ c.owner
+    → (r : Ruled (x ∷ items) views) → get_elem? views i ≡ some (port c s sent taken) → Ruled items (set views i (port c s sent (taken ++ x ∷ [])))
+take_step i c s sent taken x items views mine r at = let v = port c s sent taken in let w = port c s sent (taken ++ x ∷ []) in
+    let f = own c s sent taken (x ∷ items) views i r at in
+    let t = front_is c s sent taken (x ∷ items) views i r mine at in
+    let whole : r.taken ++ (r.left ++ (x ∷ items)) ≡ (taken ++ x ∷ []) ++ ([] ++ items) = along r.taken r.left taken (x ∷ items) t ∙ sym (append_assoc taken (x ∷ []) items) in
+    let law : LaneLaw (scope r.c) r.sent (taken ++ x ∷ []) ([] ++ items) = law-along (scope r.c) r.sent r.taken (r.left ++ (x ∷ items)) (taken ++ x ∷ []) ([] ++ items) whole r.law in
+    step (x ∷ items) items views i v w r at refl refl refl r.sent (taken ++ x ∷ []) [] law r.fair
+    (λ p _. refl)
+    (λ away. absurd (away (ap r.seat (sym (mine ∙ ap (λ (t : Terms). t.owner) f.terms)) ∙ f.seated)))
+    (λ p has. let q : p ≡ s = only c s p sent (taken ++ x ∷ []) has in record {
+      terms = f.terms;
+      within = subst (λ n. n < r.c.workers) (sym q) f.within;
+      seated = ap r.seat q ∙ f.seated;
+      sends = own_list c s p sent (taken ++ x ∷ []) q ∙ sym (own_list c s s sent taken refl) ∙ f.sends ∙ ap r.sent (sym q);
+      takes = λ o. (refl, refl);
+    })
+
+pub next_is : (i : ℕ) (c : Terms) (s : ℕ) (sent taken : List Item) (x : Item) (items : List Item) (views : List View) → s ≡ c.owner
+    → (r : Ruled (x ∷ items) views) → get_elem? views i ≡ some (port c s sent taken) → IsNext (port c s sent taken) x
+next_is i c s sent taken x items views mine r at =
+    let f = own c s sent taken (x ∷ items) views i r at in
+    let t = front_is c s sent taken (x ∷ items) views i r mine at in
+    let whole : r.taken ++ (r.left ++ (x ∷ items)) ≡ (taken ++ x ∷ []) ++ items = along r.taken r.left taken (x ∷ items) t ∙ sym (append_assoc taken (x ∷ []) items) in
+    let lt : from_of x < r.c.workers = all-at (λ y. from_of y < r.c.workers) taken x items (subst (λ (l : List Item). All (λ y. from_of y < r.c.workers) l) (along r.taken r.left taken (x ∷ items) t) r.law.senders) in (
+      r.sent (from_of x),
+      subst (λ (t : Terms). from_of x < t.workers) (sym f.terms) lt,
+      subst (λ (t : Terms). IsFair (scope t) (r.sent (from_of x))) (sym f.terms) (r.fair (from_of x) lt),
+      (sent_by (from_of x) items, sym (r.law.in_order (from_of x) lt) ∙ ap (sent_by (from_of x)) whole ∙ sent_by-append (from_of x) (taken ++ x ∷ []) items),
+      λ q. ap r.sent q ∙ sym f.sends ∙ own_list c s s sent taken refl,
+    )
+
+pub pops : (i : ℕ) (c : Terms) (s : ℕ) (sent taken : List Item) → s ≡ c.owner → Pops Kept i (port c s sent taken) (Takes (port c s sent taken))
+pops i c s sent taken mine x items views h at = let r = ruled (x ∷ items) views i (port c s sent taken) h at refl in
+    (port c s sent (taken ++ x ∷ []), inr (take_step i c s sent taken x items views mine r at), (refl, next_is i c s sent taken x items views mine r at))
+
+-- what an owner learns of the lane's content
+pub owns : (i : ℕ) (c : Terms) (s : ℕ) (sent taken : List Item) → s ≡ c.owner → Learns Kept i (port c s sent taken) (Owns (port c s sent taken))
+owns i c s sent taken mine items views h at = let r = ruled items views i (port c s sent taken) h at refl in
+    let f = own c s sent taken items views i r at in
+    let t = front_is c s sent taken items views i r mine at in
+    ap (sent_by s) (sym (along r.taken r.left taken items t)) ∙ r.law.in_order s f.within ∙ sym f.sends ∙ own_list c s s sent taken refl

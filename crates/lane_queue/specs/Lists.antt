@@ -1,0 +1,13 @@
+-- Words on lists of items that the lanes have beside those of the requests.
+use Rattle.std.specs.Prelude.{◌≡◌, ℕ, ◌<◌, List, ◌++◌}
+use Rattle.req_table.specs.declared.Item.{Item}
+use Rattle.req_table.specs.Wave.{Scope}
+use Rattle.req_table.specs.Lanes.{IsFair}
+
+-- what each worker sent on one lane is fair
+abbrev pub FairLane : Scope → (ℕ → List Item) → Type 0
+FairLane w sent = (s : ℕ) → s < w.workers → IsFair w (sent s)
+
+-- the first list is a beginning of the second
+abbrev pub Begins : List Item → List Item → Type 0
+Begins front xs = (back : List Item) × (xs ≡ front ++ back)

@@ -1,0 +1,109 @@
+//! The lanes of all workers.
+ghost use Rattle.std.specs.Prelude.{◌≡◌, ℕ, ◌<◌, ◌≤◌, ◌-◌, ◌++◌, [], ◌∷◌, length, map, slice_index_or, slice_set, IfOk, MatchResult, MatchOption, IfSome};
+ghost use Rattle.req_table.specs.Lanes.{from_of, sent_by, ends, MayFollow};
+ghost use Rattle.lane_queue.specs.PortView.{PortView, sent_to, IsPortOf, IsTaken, MayLeave, IsOpen, lanes_scope};
+ghost use Rattle.req_table.specs.Sizes.{sizes_of};
+ghost use Rattle.lane_queue.specs.Make.{new_port};
+ghost use Rattle.lane_queue.specs.Joining.{ArePorts, AreRetired, LawOfAll};
+
+use crate::port::Port;
+use crate::rule::Lane;
+use crate::{make, settle};
+use dd_store::Store;
+use req_table::Item;
+use std::alloc::{AllocError, Global};
+use std::marker::Model;
+use std::snapshot::Snapshot;
+use std::sync::Wait;
+
+/// One lane for each worker.
+#[derive(Drop)]
+pub struct Lanes {
+    lanes: Vec<Lane>,
+    store: Snapshot<Store>,
+}
+
+impl Model for Lanes {
+    ghost use Rattle.std.specs.Prelude.{map, length, ◌<◌, ◌≤◌};
+    ghost use Rattle.lane_queue.specs.declared.rule.Lane.{Lane};
+    ghost use Rattle.lane_queue.specs.PortView.{LanesView};
+    ghost use Rattle.req_table.specs.Sizes.{sizes_of};
+
+    ghost Value = { LanesView };
+
+    ghost view = { λ l. record { lanes = map (λ (x : Lane). x.queue) l.lanes.items; sizes = sizes_of l.store.value } };
+
+    ghost invariant = { λ l. (0 < length l.lanes.items) × (length l.lanes.items ≤ 16) };
+}
+
+/// How the lanes ended.
+#[derive(Drop)]
+pub struct Settled {
+    pub left: Vec<Vec<Item>>,
+    pub ports: Vec<Port>,
+}
+
+impl Lanes {
+    /// How many lanes there are.
+    pub fn count(&self) -> u32
+        ensures count { result ≡ length self.now.lanes }
+        ensures some { 0 < length self.now.lanes }
+        ensures few { length self.now.lanes ≤ 16 }
+    {
+        self.lanes.len() as u32
+    }
+
+    /// A lane and a port for each worker. The lanes' store is this one as it stands.
+    pub fn new(alloc: Global, store: &Store, workers: u32) -> Result<(Lanes, Vec<Port>), AllocError>
+        requires { (0 < workers) × (workers ≤ 16) }
+        ensures lanes { IfOk result (λ r. (length r.0.lanes ≡ workers) × (r.0.sizes ≡ sizes_of store.now)) }
+        ensures ports { IfOk result (λ r. (length r.1.items ≡ workers) × ((i : ℕ) (d : PortView) → i < workers → slice_index_or r.1.items i d ≡ new_port i r.0.sizes r.0.lanes)) }
+    {
+        let (lanes, mut roots) = make::open_all(alloc, store, workers)?;
+        let mut ports = Vec::new(alloc);
+        for number in 0..workers {
+            let lines = make::issue_lines(alloc, &lanes, &mut roots, store, workers, number)?;
+            ports.push(Port::of_lines(number, lines, &lanes, store, workers))?;
+        }
+        let store = Snapshot::of(store);
+        Ok((Lanes { lanes, store }, ports))
+    }
+
+    /// Puts the item on the lane of the worker `to`. It comes back only for want of memory or at the end of the lane's numbers.
+    pub fn send<R: Wait>(&self, rt: &R, port: &mut Port, to: u32, item: Item) -> Result<(), Item>
+        requires port { IsPortOf self.now port.old }
+        requires to { to < length self.now.lanes }
+        requires from { from_of item ≡ port.old.number }
+        requires may { MayFollow (lanes_scope self.now) (ends (sent_to port.old to)) item }
+        requires leave { MayLeave (lanes_scope self.now) port.old.taken (ends (sent_to port.old to)) item }
+        ensures { MatchResult result (λ _. port.new ≡ record port.old { sent = slice_set port.old.sent to (sent_to port.old to ++ item ∷ []) }) (λ x. (x ≡ item) × (port.new ≡ port.old)) }
+    {
+        port.send_on(rt, &self.lanes[to as usize], to as usize, item)
+    }
+
+    /// Takes the front of the port's own lane.
+    pub fn take<R: Wait>(&self, rt: &R, port: &mut Port) -> Option<Item>
+        requires { IsPortOf self.now port.old }
+        ensures some { MatchOption result ((port.new ≡ port.old) × (sent_by port.old.number port.old.taken ≡ sent_to port.old port.old.number)) (λ x. (port.new ≡ record port.old { taken = port.old.taken ++ x ∷ [] }) × IsTaken port.old x) }
+        ensures open { IfSome result (IsOpen (lanes_scope self.now) port.old.taken) }
+    {
+        let own = port.number() as usize;
+        port.take_on(rt, &self.lanes[own])
+    }
+
+    /// What was left in each lane, and the ports, which give no pass any more.
+    pub fn settle<R: Wait>(self, rt: &R, ports: Vec<Port>) -> Result<Settled, AllocError>
+        requires { ArePorts (length self.lanes) self.sizes self.lanes ports.items }
+        ensures ports { IfOk result (λ r. AreRetired (length self.lanes) ports.items r.ports.items) }
+        ensures left { IfOk result (λ r. length r.left.items ≡ length self.lanes) }
+        ensures law { IfOk result (λ r. LawOfAll (length self.lanes) self.sizes r.ports.items (map (λ v. v.items) r.left.items)) }
+    {
+        let Lanes { lanes, store } = self;
+        let mut ports = ports;
+        let alloc = *ports.allocator();
+        let workers = lanes.len() as u32;
+        let roots = settle::join_all(alloc, &lanes, &store, &mut ports, workers)?;
+        let left = settle::read_lanes(rt, alloc, &lanes, &store, &ports, roots, workers)?;
+        Ok(Settled { left, ports })
+    }
+}

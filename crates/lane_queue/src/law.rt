@@ -1,0 +1,14 @@
+//! What holds of a lane between any two steps.
+ghost use Rattle.std.specs.Prelude.{List};
+ghost use Rattle.req_table.specs.declared.Item.{Item};
+ghost use Rattle.lane_queue.specs.declared.rule.View.{View};
+ghost use Rattle.lane_queue.specs.Between.{Between};
+
+use crate::rule::{LaneRule, View};
+use crossbeam_queue::protocol::Protocol;
+use req_table::Item;
+
+/// Whatever the other threads did, a lane obeys the law, and its lists are fair.
+pub fn between_steps()
+    ensures { (items : List Item) (views : List View) → ⟦<LaneRule as Protocol<Item, View>>⟧.holds items views → Between items views }
+{}

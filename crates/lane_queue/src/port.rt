@@ -1,0 +1,214 @@
+//! One worker's end of all lanes.
+ghost use Rattle.std.specs.Prelude.{◌≡◌, ◌≢◌, ◌<◌, ◌+◌, ◌^◌, [], ◌∷◌, ◌++◌, length, OnOk, OnErr, IfErr, IfOk, MatchResult, MatchOption, Some, None, slice_index_or, slice_set, map};
+ghost use Rattle.req_table.specs.Lanes.{from_of, sent_by, ends, MayFollow};
+ghost use Rattle.lane_queue.specs.Rule.{scope, port, own_sent, IsNext, Owns};
+ghost use Rattle.lane_queue.specs.PortView.{sent_to, IsTaken, port_scope};
+ghost use Rattle.req_table.specs.Sizes.{sizes_of};
+ghost use Rattle.std.specs.List.{sum_by};
+ghost use Rattle.lane_queue.specs.declared.port.Line.{Line};
+ghost use Rattle.lane_queue.specs.declared.rule.Lane.{Lane};
+ghost use Rattle.lane_queue.specs.Joining.{retired, RootsOf, RootsBelow, RootsWith};
+ghost use Rattle.lane_queue.specs.Make.{NewLines, new_port};
+ghost use Rattle.lane_queue.specs.Line.{line_view, IsLine, IsLiveOn};
+
+use crate::make::Root;
+use crate::rule::{Lane, LanePass};
+use crate::{join, steps};
+use dd_store::Store;
+use req_table::Item;
+use std::alloc::{AllocError, Global};
+use std::marker::Model;
+use std::snapshot::Snapshot;
+use std::sync::Wait;
+
+// A port hands an item back once it has put so many on one lane.
+const MOST: u64 = 1 << 62;
+
+// The pass of one lane, or what it knew when it was joined.
+#[derive(Drop)]
+pub enum Hold {
+    Live(LanePass),
+    Joined(Snapshot<LanePass>),
+}
+
+// One port's end of one lane: its pass, and how many Ends and how many items it put there.
+#[derive(Drop)]
+pub struct Line {
+    pub hold: Hold,
+    pub ends: u16,
+    pub put: u64,
+}
+
+impl Line {
+    // Puts an item at the back of the lane.
+    pub fn send<R: Wait>(&mut self, rt: &R, lane: &Lane, item: Item) -> Result<(), Item>
+        requires live { IsLiveOn lane.now.queue self.old.hold }
+        requires line { IsLine self.old }
+        requires sender { from_of item ≡ (line_view self.old).low }
+        requires may { MayFollow (scope (line_view self.old).terms) (ends (own_sent (line_view self.old))) item }
+        requires levels { (line_view self.old).terms.sizes.levels < 2 ^ 16 }
+        ensures live { IsLiveOn lane.now.queue self.new.hold }
+        ensures line { IsLine self.new }
+        ensures sent { let v = line_view self.old in MatchResult result (λ _. line_view self.new ≡ port v.terms v.low (own_sent v ++ item ∷ []) v.taken) (λ x. (x ≡ item) × (line_view self.new ≡ v)) }
+    {
+        if self.put >= MOST {
+            return Err(item);
+        }
+        let is_end = matches!(item, Item::End { .. });
+        let Hold::Live(pass) = &mut self.hold else {
+            unreachable!();
+        };
+        steps::send(rt, lane, pass, item)?;
+        self.put += 1;
+        if is_end {
+            self.ends += 1;
+        }
+        Ok(())
+    }
+
+    // Takes the front of the lane.
+    pub fn take<R: Wait>(&mut self, rt: &R, lane: &Lane) -> Option<Item>
+        requires live { IsLiveOn lane.now.queue self.old.hold }
+        requires line { IsLine self.old }
+        requires owner { (line_view self.old).low ≡ (line_view self.old).terms.owner }
+        ensures live { IsLiveOn lane.now.queue self.new.hold }
+        ensures line { IsLine self.new }
+        ensures taken { let v = line_view self.old in MatchOption result ((line_view self.new ≡ v) × Owns v []) (λ x. (line_view self.new ≡ port v.terms v.low (own_sent v) (v.taken ++ x ∷ [])) × IsNext v x) }
+    {
+        let Hold::Live(pass) = &mut self.hold else {
+            unreachable!();
+        };
+        steps::take(rt, lane, pass)
+    }
+}
+
+/// One worker's end of all lanes.
+#[derive(Drop)]
+pub struct Port {
+    number: u32,
+    lines: Vec<Line>,
+    store: Snapshot<Store>,
+}
+
+impl Model for Port {
+    ghost use Rattle.lane_queue.specs.PortView.{PortView};
+    ghost use Rattle.req_table.specs.Sizes.{sizes_of};
+
+    ghost Value = { PortView };
+
+    ghost use Rattle.lane_queue.specs.Ports.{view_of, PortOk};
+
+    ghost view = { λ p. view_of p.number (sizes_of p.store.value) p.lines.items };
+
+    ghost invariant = { λ p. PortOk p.number (sizes_of p.store.value) p.lines.items };
+}
+
+// How many items the lines put, together.
+fn added(lines: &Vec<Line>) -> u128
+    ensures { result ≡ sum_by (λ (l : Line). l.put) lines.now.items }
+{
+    let mut total: u128 = 0;
+    for line in lines {
+        total += line.put as u128;
+    }
+    total
+}
+
+impl Port {
+    /// The port of these lines.
+    pub fn of_lines(
+        number: u32,
+        lines: Vec<Line>,
+        lanes: &Vec<Lane>,
+        store: &Store,
+        workers: u32,
+    ) -> Port
+        requires long { length lanes.now.items ≡ workers }
+        requires lines { NewLines workers (sizes_of store.now) number lanes.now.items lines.items }
+        requires number { number < workers }
+        ensures { result ≡ new_port number (sizes_of store.now) (map (λ (x : Lane). x.queue) lanes.now.items) }
+    {
+        let _lanes = lanes;
+        let _workers = workers;
+        let _levels = store.levels();
+        let store = Snapshot::of(store);
+        Port {
+            number,
+            lines,
+            store,
+        }
+    }
+
+    /// The worker that it belongs to.
+    pub fn number(&self) -> u32
+        ensures number { result ≡ self.now.number }
+        ensures within { self.now.number < length self.now.lanes }
+        ensures lists { length self.now.sent ≡ length self.now.lanes }
+    {
+        self.number
+    }
+
+    /// How many Ends it put on the lane.
+    pub fn ends(&self, to: u32) -> u16
+        requires { to < length self.now.sent }
+        ensures { result ≡ ends (sent_to self.now to) }
+    {
+        self.lines[to as usize].ends
+    }
+
+    /// How many items it put on all lanes.
+    pub fn put(&self) -> u128
+        ensures { result ≡ sum_by (λ xs. length xs) self.now.sent }
+    {
+        added(&self.lines)
+    }
+
+    pub fn send_on<R: Wait>(
+        &mut self,
+        rt: &R,
+        lane: &Lane,
+        to: usize,
+        item: Item,
+    ) -> Result<(), Item>
+        requires lane { (to < length self.old.lanes) × (slice_index_or self.old.lanes to None ≡ Some lane.now.queue) }
+        requires sender { from_of item ≡ self.old.number }
+        requires may { MayFollow (port_scope self.old) (ends (sent_to self.old to)) item }
+        ensures { MatchResult result (λ _. self.new ≡ record self.old { sent = slice_set self.old.sent to (sent_to self.old to ++ item ∷ []) }) (λ x. (x ≡ item) × (self.new ≡ self.old)) }
+    {
+        self.lines[to].send(rt, lane, item)
+    }
+
+    pub fn take_on<R: Wait>(&mut self, rt: &R, lane: &Lane) -> Option<Item>
+        requires { slice_index_or self.old.lanes self.old.number None ≡ Some lane.now.queue }
+        ensures { MatchOption result ((self.new ≡ self.old) × (sent_by self.old.number self.old.taken ≡ sent_to self.old self.old.number)) (λ x. (self.new ≡ record self.old { taken = self.old.taken ++ x ∷ [] }) × IsTaken self.old x) }
+    {
+        let own = self.number as usize;
+        self.lines[own].take(rt, lane)
+    }
+
+    /// Gives the passes of the first port away, to begin the joined ones.
+    pub fn begin_join(
+        &mut self,
+        alloc: Global,
+        lanes: &Vec<Lane>,
+        workers: u32,
+    ) -> Result<Vec<Root>, AllocError>
+        requires long { length lanes.now.items ≡ workers }
+        requires lanes { self.old.lanes ≡ map (λ q. Some q) (map (λ (x : Lane). x.queue) lanes.now.items) }
+        ensures port { OnOk result (self.new ≡ retired self.old) }
+        ensures roots { IfOk result (λ r. (length r.items ≡ workers) × RootsOf workers self.old lanes.now.items r.items) }
+    {
+        join::begin(alloc, lanes, &mut self.lines, workers)
+    }
+
+    /// Joins the port's passes to those of the ports below it.
+    pub fn join_to(&mut self, lanes: &Vec<Lane>, roots: &mut Vec<Root>, workers: u32)
+        requires long { (length lanes.now.items ≡ workers) × (length roots.old.items ≡ workers) }
+        requires lanes { self.old.lanes ≡ map (λ q. Some q) (map (λ (x : Lane). x.queue) lanes.now.items) }
+        requires below { RootsBelow workers self.old lanes.now.items roots.old.items }
+        ensures port { self.new ≡ retired self.old }
+        ensures roots { (length roots.new.items ≡ workers) × RootsWith workers self.old lanes.now.items roots.old.items roots.new.items }
+    {
+        join::join_lines(lanes, roots, &mut self.lines, workers);
+    }
+}

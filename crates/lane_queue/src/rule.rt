@@ -1,0 +1,129 @@
+//! The lanes' rule, and what each of its steps tells.
+use crossbeam_queue::protocol::{Join, Lesson, Outcome, Protocol, Split};
+use crossbeam_queue::{RuledSegQueue, SegPass};
+use req_table::{Item, Sizes};
+use std::collections::LinkedList;
+use std::marker::{Brand, PhantomData};
+
+// What never changes of a lane: how many workers there are, which of them takes from this lane, and the store's sizes. No value of it is made.
+pub struct Terms {
+    pub workers: u32,
+    pub owner: u32,
+    pub sizes: Sizes,
+}
+
+// What a pass knows: it stands for the ports from `low` on and below `high`, and has what each of them sent, what the owner took if it is among them, and what was read out at the end. No value of it is made.
+pub struct View {
+    pub begun: bool,
+    pub terms: Terms,
+    pub low: u32,
+    pub high: u32,
+    pub sent: LinkedList<LinkedList<Item>>,
+    pub taken: LinkedList<Item>,
+    pub left: LinkedList<Item>,
+}
+
+/// The rule of a lane.
+pub struct LaneRule;
+
+impl Protocol<Item, View> for LaneRule {
+    ghost use Rattle.lane_queue.specs.Rule.{Kept, blank};
+
+    ghost holds = { Kept };
+
+    ghost first = { blank };
+}
+
+// The terms of the lane whose passes are issued. Each call picks them.
+pub trait Naming {
+    ghost use Rattle.lane_queue.specs.declared.rule.Terms.{Terms};
+
+    ghost terms: { Terms };
+}
+
+impl Naming for Brand {
+    ghost use Rattle.lane_queue.specs.Rule.{no_terms};
+
+    ghost terms = { no_terms };
+}
+
+// A pass is issued for the next port.
+pub struct Issue<J> {
+    of: PhantomData<J>,
+}
+
+impl<J: Naming> Split<View> for Issue<J> {
+    ghost use Rattle.std.specs.Prelude.{◌+◌, []};
+    ghost use Rattle.lane_queue.specs.Rule.{issuer, port};
+
+    ghost left = { λ v. issuer J.terms (v.low + 1) };
+
+    ghost right = { λ v. port J.terms v.low [] [] };
+}
+
+// A port's pass goes into that of the ports below it.
+pub struct Merge;
+
+impl Join<View> for Merge {
+    ghost use Rattle.std.specs.Prelude.{◌+◌, ◌++◌, []};
+    ghost use Rattle.lane_queue.specs.Rule.{joined, spent};
+
+    ghost both = { λ v w. joined v.terms (v.high + 1) (v.sent ++ w.sent) (v.taken ++ w.taken) [] };
+
+    ghost spent = { spent };
+}
+
+// A port puts an item on the lane.
+pub struct Put;
+
+impl Outcome<Item, View> for Put {
+    ghost use Rattle.lane_queue.specs.Rule.{Sends};
+
+    ghost then = { Sends };
+}
+
+// The owner takes the front.
+pub struct Take;
+
+impl Outcome<Item, View> for Take {
+    ghost use Rattle.lane_queue.specs.Rule.{Takes};
+
+    ghost then = { Takes };
+}
+
+impl Lesson<Item, View> for Take {
+    ghost use Rattle.lane_queue.specs.Rule.{Owns};
+
+    ghost fact = { Owns };
+}
+
+// What is left is read out, once all ports are joined.
+pub struct Read;
+
+impl Outcome<Item, View> for Read {
+    ghost use Rattle.lane_queue.specs.Rule.{Reads};
+
+    ghost then = { Reads };
+}
+
+impl Lesson<Item, View> for Read {
+    ghost use Rattle.lane_queue.specs.Rule.{Whole};
+
+    ghost fact = { Whole };
+}
+
+pub type Queue = RuledSegQueue<Item, View, LaneRule>;
+
+pub type LanePass = SegPass<Item, View>;
+
+/// One worker's lane.
+pub struct Lane {
+    pub queue: Queue,
+}
+
+impl Drop for Lane {
+    fn drop(self) {
+        let Lane { queue } = self;
+        queue.destroy();
+    }
+}

@@ -1,0 +1,15 @@
+-- What contracts see of a clock.
+use Rattle.std.specs.Prelude.{◌≡◌, ℕ, ◌<◌, List, All}
+
+-- the number of levels, and how many of them each sender has ended
+pub record Counts : Type 0 where
+  pub levels : ℕ
+  pub ended : List ℕ
+
+-- every sender has ended more levels than v, and so the level v itself
+abbrev pub AreAbove : ℕ → List ℕ → Type 0
+AreAbove v counts = All (λ c. v < c) counts
+
+-- every sender has ended all n levels
+abbrev pub AreAll : ℕ → List ℕ → Type 0
+AreAll n counts = All (λ c. c ≡ n) counts

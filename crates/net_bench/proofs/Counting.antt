@@ -1,0 +1,185 @@
+-- What the tokens that lead to a state have counted.
+use Rattle.std.proofs.Common.{◌≡◌, ◌≢◌, ℕ, ◌+◌, List, [], ◌∷◌, ◌++◌, Bool, true, false, refl, sym, ap, ◌∙◌, subst, map, append_assoc, append-nil, length, length-append, arith}
+use Rattle.std.specs.Prelude.{flat_map, if◌then◌else◌}
+use Rattle.std.proofs.lemmas.List.{map-append}
+use Rattle.std.proofs.lemmas.Grind.{flat_map-append}
+use Rattle.net_bench.specs.declared.syntax.Part.{Part}
+use Rattle.net_bench.specs.declared.syntax.Part.TheVariants.{Nothing as nothing, First as first_name, Opened as opened, Named as named, Defining as defining, AtWord as at_word, Operands as operands_open, AfterOperand as after_operand, AfterComma as comma_behind}
+use Rattle.net_bench.specs.Text.{Word, Token, Open, Close, Comma, Equals, Name, End}
+use Rattle.net_bench.specs.Statement.{Statement, Input, Output, Gate, spelled, after_comma, counted, operands}
+use Rattle.net_bench.specs.Machine.{State, Between, First, Opened, Named, Defining, AtWord, Operands, AfterOperand, AfterComma, Finished, Failed, is_port_word, is_input_word, port, step, tokens_of}
+use Rattle.net_bench.specs.Said.{state_of}
+use Rattle.net_bench.specs.Fault.{counted_in, operands_in}
+use Rattle.net_bench.specs.Symbols.{counted_of, operands_of, newest, newest_operands}
+use Rattle.net_bench.proofs.Machine.{either_true, opens}
+
+abbrev texts : List Word → List (List ℕ)
+texts ws = map (λ w. w.text) ws
+
+-- ---- the names of whole statements
+
+others_counted : (w : Word) (others : List Word) (rest : List Token) → ((v : Word) → counted_in (Name v ∷ rest) ≡ counted_in rest) →
+    counted_in (Name w ∷ (flat_map after_comma others ++ rest)) ≡ texts others ++ counted_in rest
+others_counted w [] rest h = h w
+others_counted w (b ∷ others) rest h = ap (λ ns. b.text ∷ ns) (others_counted b others rest h)
+
+counted_spelled : (s : Statement) (rest : List Token) → counted_in (spelled s ++ rest) ≡ counted s ++ counted_in rest
+counted_spelled (Input word name) rest = refl
+counted_spelled (Output word name) rest = refl
+counted_spelled (Gate out word first others) rest =
+    ap (λ z. out.text ∷ first.text ∷ counted_in (Name first ∷ z)) (append_assoc (flat_map after_comma others) (Close ∷ []) rest) ∙
+    ap (λ ns. out.text ∷ first.text ∷ ns) (others_counted first others (Close ∷ rest) (λ v. refl))
+
+pub counted_all : (ss : List Statement) (rest : List Token) → counted_in (flat_map spelled ss ++ rest) ≡ flat_map counted ss ++ counted_in rest
+counted_all [] rest = refl
+counted_all (s ∷ ss) rest =
+    ap counted_in (append_assoc (spelled s) (flat_map spelled ss) rest) ∙ counted_spelled s (flat_map spelled ss ++ rest) ∙
+    ap (λ ns. counted s ++ ns) (counted_all ss rest) ∙ sym (append_assoc (counted s) (flat_map counted ss) (counted_in rest))
+
+-- the tokens that lead to a state count its names
+pub counted_tokens : (s : State) → counted_in (tokens_of s) ≡ counted_of s
+counted_tokens (Between done) = ap counted_in (sym (append-nil (flat_map spelled done))) ∙ counted_all done [] ∙ append-nil (flat_map counted done)
+counted_tokens (First done w) = counted_all done (Name w ∷ []) ∙ append-nil (flat_map counted done)
+counted_tokens (Opened done w) = counted_all done (Name w ∷ Open ∷ []) ∙ append-nil (flat_map counted done)
+counted_tokens (Named done w n) = counted_all done (Name w ∷ Open ∷ Name n ∷ [])
+counted_tokens (Defining done out) = counted_all done (Name out ∷ Equals ∷ [])
+counted_tokens (AtWord done out g) = counted_all done (Name out ∷ Equals ∷ Name g ∷ [])
+counted_tokens (Operands done out g) = counted_all done (Name out ∷ Equals ∷ Name g ∷ Open ∷ [])
+counted_tokens (AfterOperand done out g a others) =
+    counted_all done (Name out ∷ Equals ∷ Name g ∷ Open ∷ Name a ∷ flat_map after_comma others) ∙
+    ap (λ ns. flat_map counted done ++ out.text ∷ a.text ∷ ns)
+    (ap (λ z. counted_in (Name a ∷ z)) (sym (append-nil (flat_map after_comma others))) ∙ others_counted a others [] (λ v. refl) ∙ append-nil (texts others))
+counted_tokens (AfterComma done out g a others) =
+    counted_all done (Name out ∷ Equals ∷ Name g ∷ Open ∷ Name a ∷ (flat_map after_comma others ++ Comma ∷ [])) ∙
+    ap (λ ns. flat_map counted done ++ out.text ∷ a.text ∷ ns) (others_counted a others (Comma ∷ []) (λ v. refl) ∙ append-nil (texts others))
+counted_tokens (Finished done) = counted_all done (End ∷ []) ∙ append-nil (flat_map counted done)
+counted_tokens Failed = refl
+
+-- ---- and the operands
+
+others_operands : (others : List Word) (rest : List Token) → operands_in (flat_map after_comma others ++ rest) ≡ others ++ operands_in rest
+others_operands [] rest = refl
+others_operands (b ∷ others) rest = ap (λ ws. b ∷ ws) (others_operands others rest)
+
+operands_spelled : (s : Statement) (rest : List Token) → operands_in (spelled s ++ rest) ≡ operands s ++ operands_in rest
+operands_spelled (Input word name) rest = refl
+operands_spelled (Output word name) rest = refl
+operands_spelled (Gate out word first others) rest =
+    ap (λ z. first ∷ operands_in z) (append_assoc (flat_map after_comma others) (Close ∷ []) rest) ∙ ap (λ ws. first ∷ ws) (others_operands others (Close ∷ rest))
+
+operands_all : (ss : List Statement) (rest : List Token) → operands_in (flat_map spelled ss ++ rest) ≡ flat_map operands ss ++ operands_in rest
+operands_all [] rest = refl
+operands_all (s ∷ ss) rest =
+    ap operands_in (append_assoc (spelled s) (flat_map spelled ss) rest) ∙ operands_spelled s (flat_map spelled ss ++ rest) ∙
+    ap (λ ws. operands s ++ ws) (operands_all ss rest) ∙ sym (append_assoc (operands s) (flat_map operands ss) (operands_in rest))
+
+pub operands_tokens : (s : State) → operands_in (tokens_of s) ≡ operands_of s
+operands_tokens (Between done) = ap operands_in (sym (append-nil (flat_map spelled done))) ∙ operands_all done [] ∙ append-nil (flat_map operands done)
+operands_tokens (First done w) = operands_all done (Name w ∷ []) ∙ append-nil (flat_map operands done)
+operands_tokens (Opened done w) = operands_all done (Name w ∷ Open ∷ []) ∙ append-nil (flat_map operands done)
+operands_tokens (Named done w n) = operands_all done (Name w ∷ Open ∷ Name n ∷ []) ∙ append-nil (flat_map operands done)
+operands_tokens (Defining done out) = operands_all done (Name out ∷ Equals ∷ []) ∙ append-nil (flat_map operands done)
+operands_tokens (AtWord done out g) = operands_all done (Name out ∷ Equals ∷ Name g ∷ []) ∙ append-nil (flat_map operands done)
+operands_tokens (Operands done out g) = operands_all done (Name out ∷ Equals ∷ Name g ∷ Open ∷ []) ∙ append-nil (flat_map operands done)
+operands_tokens (AfterOperand done out g a others) =
+    operands_all done (Name out ∷ Equals ∷ Name g ∷ Open ∷ Name a ∷ flat_map after_comma others) ∙
+    ap (λ ws. flat_map operands done ++ a ∷ ws) (ap operands_in (sym (append-nil (flat_map after_comma others))) ∙ others_operands others [] ∙ append-nil others)
+operands_tokens (AfterComma done out g a others) =
+    operands_all done (Name out ∷ Equals ∷ Name g ∷ Open ∷ Name a ∷ (flat_map after_comma others ++ Comma ∷ [])) ∙
+    ap (λ ws. flat_map operands done ++ a ∷ ws) (others_operands others (Comma ∷ []) ∙ append-nil others)
+operands_tokens (Finished done) = operands_all done (End ∷ []) ∙ append-nil (flat_map operands done)
+operands_tokens Failed = refl
+
+-- ---- one more token
+
+pub one_more : {X : Type 0} (f : Statement → List X) (done : List Statement) (s : Statement) (xs : List X) → f s ≡ xs → flat_map f (done ++ s ∷ []) ≡ flat_map f done ++ xs
+one_more f done s xs e = flat_map-append f done (s ∷ []) ∙ ap (λ l. flat_map f done ++ l) (append-nil (f s) ∙ e)
+
+port_counted : (w n : Word) (i : Bool) → counted (if i then Input w n else Output w n) ≡ n.text ∷ []
+port_counted w n true = refl
+port_counted w n false = refl
+
+port_operands : (w n : Word) (i : Bool) → operands (if i then Input w n else Output w n) ≡ []
+port_operands w n true = refl
+port_operands w n false = refl
+
+pub counted_step : (s : State) (t : Token) → step s t ≢ Failed → counted_of (step s t) ≡ counted_of s ++ newest (step s t) t
+counted_step (Between done) (Name w) other = sym (append-nil (flat_map counted done))
+counted_step (Between done) End other = sym (append-nil (flat_map counted done))
+counted_step (First done w) Equals other = refl
+counted_step (First done w) Open other =
+    subst (λ z. counted_of z ≡ flat_map counted done ++ newest z Open) (sym (either_true (is_port_word w) (Opened done w) Failed (opens done w (is_port_word w) other)))
+    (sym (append-nil (flat_map counted done)))
+counted_step (Opened done w) (Name n) other = refl
+counted_step (Named done w n) Close other =
+    one_more counted done (port w n) (n.text ∷ []) (port_counted w n (is_input_word w)) ∙ sym (append-nil (flat_map counted done ++ n.text ∷ []))
+counted_step (Defining done out) (Name g) other = sym (append-nil (flat_map counted done ++ out.text ∷ []))
+counted_step (AtWord done out g) Open other = sym (append-nil (flat_map counted done ++ out.text ∷ []))
+counted_step (Operands done out g) (Name a) other = sym (append_assoc (flat_map counted done) (out.text ∷ []) (a.text ∷ []))
+counted_step (AfterOperand done out g a others) Comma other = sym (append-nil (flat_map counted done ++ out.text ∷ a.text ∷ texts others))
+counted_step (AfterOperand done out g a others) Close other =
+    one_more counted done (Gate out g a others) (out.text ∷ a.text ∷ texts others) refl ∙ sym (append-nil (flat_map counted done ++ out.text ∷ a.text ∷ texts others))
+counted_step (AfterComma done out g a others) (Name b) other =
+    ap (λ ns. flat_map counted done ++ out.text ∷ a.text ∷ ns) (map-append (λ w. w.text) others (b ∷ [])) ∙
+    sym (append_assoc (flat_map counted done) (out.text ∷ a.text ∷ texts others) (b.text ∷ []))
+counted_step s t other = absurd (other refl)
+
+none_more : (n : ℕ) → n ≡ n + 0
+none_more n = omega arith
+
+pub operands_step : (s : State) (t : Token) → step s t ≢ Failed → length (operands_of (step s t)) ≡ length (operands_of s) + newest_operands (step s t) t
+operands_step (Between done) (Name w) other = none_more (length (flat_map operands done))
+operands_step (Between done) End other = none_more (length (flat_map operands done))
+operands_step (First done w) Equals other = none_more (length (flat_map operands done))
+operands_step (First done w) Open other =
+    subst (λ z. length (operands_of z) ≡ length (flat_map operands done) + newest_operands z Open) (sym (either_true (is_port_word w) (Opened done w) Failed (opens done w (is_port_word w) other)))
+    (none_more (length (flat_map operands done)))
+operands_step (Opened done w) (Name n) other = none_more (length (flat_map operands done))
+operands_step (Named done w n) Close other =
+    ap length (one_more operands done (port w n) [] (port_operands w n (is_input_word w)) ∙ append-nil (flat_map operands done)) ∙ none_more (length (flat_map operands done))
+operands_step (Defining done out) (Name g) other = none_more (length (flat_map operands done))
+operands_step (AtWord done out g) Open other = none_more (length (flat_map operands done))
+operands_step (Operands done out g) (Name a) other = length-append (flat_map operands done) (a ∷ [])
+operands_step (AfterOperand done out g a others) Comma other = none_more (length (flat_map operands done ++ a ∷ others))
+operands_step (AfterOperand done out g a others) Close other =
+    ap length (one_more operands done (Gate out g a others) (a ∷ others) refl) ∙ none_more (length (flat_map operands done ++ a ∷ others))
+operands_step (AfterComma done out g a others) (Name b) other =
+    ap length (sym (append_assoc (flat_map operands done) (a ∷ others) (b ∷ []))) ∙ length-append (flat_map operands done ++ a ∷ others) (b ∷ [])
+operands_step s t other = absurd (other refl)
+
+-- ---- the part alone says what was counted last
+
+pub newest_same : (done : List Statement) (p : Part) (t : Token) → newest (state_of done p) t ≡ newest (state_of [] p) t
+newest_same done nothing t = refl
+newest_same done (first_name word) t = refl
+newest_same done (opened word) t = refl
+newest_same done (named word name) t = refl
+newest_same done (defining out) t = refl
+newest_same done (at_word out word) t = refl
+newest_same done (operands_open out word) t = refl
+newest_same done (after_operand g) (Name b) = refl
+newest_same done (after_operand g) t = refl
+newest_same done (comma_behind g) t = refl
+
+pub newest_operands_same : (done : List Statement) (p : Part) (t : Token) → newest_operands (state_of done p) t ≡ newest_operands (state_of [] p) t
+newest_operands_same done nothing t = refl
+newest_operands_same done (first_name word) t = refl
+newest_operands_same done (opened word) t = refl
+newest_operands_same done (named word name) t = refl
+newest_operands_same done (defining out) t = refl
+newest_operands_same done (at_word out word) t = refl
+newest_operands_same done (operands_open out word) t = refl
+newest_operands_same done (after_operand g) (Name b) = refl
+newest_operands_same done (after_operand g) t = refl
+newest_operands_same done (comma_behind g) t = refl
+
+pub live : (done : List Statement) (p : Part) → state_of done p ≢ Failed
+live done nothing e = cc
+live done (first_name word) e = cc
+live done (opened word) e = cc
+live done (named word name) e = cc
+live done (defining out) e = cc
+live done (at_word out word) e = cc
+live done (operands_open out word) e = cc
+live done (after_operand g) e = cc
+live done (comma_behind g) e = cc

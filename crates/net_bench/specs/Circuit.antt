@@ -1,0 +1,118 @@
+-- The netlist that statements make.
+use Rattle.std.specs.Prelude.{◌≡◌, ◌≢◌, ◌⊎◌, ℕ, zero, suc, ◌+◌, ◌<◌, ◌≤◌, Bool, true, false, not, if◌then◌else◌, IsTrue, List, [], ◌∷◌, ◌++◌, map, length, flat_map, filter_map, fold, position, unwrap_or, Option, Some, None, option_map, bytes_eq, Contains, slice_index, slice_index_or, All}
+use Rattle.std.specs.List.{list_any}
+use Rattle.net_bench.specs.declared.netlist.Kind.{Kind}
+use Rattle.net_bench.specs.declared.netlist.GateLine.{GateLine}
+use Rattle.net_bench.specs.Text.{Word}
+use Rattle.net_bench.specs.Statement.{Statement, Input, Output, Gate, kind_of, takes_one, counted, input_name, output_name, operands}
+
+-- whether the name is among the names
+abbrev pub is_name_in : List (List ℕ) → List ℕ → Bool
+is_name_in names n = list_any (λ m. bytes_eq m n) names
+
+-- the list with the name at its end, unless the name is there
+abbrev pub with_name : List (List ℕ) → List ℕ → List (List ℕ)
+with_name names n = if is_name_in names n then names else names ++ n ∷ []
+
+-- each name once, at its first place
+abbrev pub distinct : List (List ℕ) → List (List ℕ)
+distinct names = fold with_name [] names
+
+-- a signal's number is its place among the names
+abbrev pub find : List (List ℕ) → List ℕ → Option ℕ
+find names n = position (λ m. bytes_eq m n) names
+
+-- a name's number, 0 where it has none
+abbrev pub number_of : List (List ℕ) → List ℕ → ℕ
+number_of names n = unwrap_or (find names n) 0
+
+-- A netlist, its signals by number.
+pub record Circuit : Type 0 where
+  pub names : List (List ℕ)
+  pub inputs : List ℕ
+  pub outputs : List ℕ
+  pub gates : List GateLine
+
+-- the gate of this kind, its operands by number
+abbrev pub gate_with : List (List ℕ) → Word → Kind → List Word → GateLine
+gate_with names out kind operands =
+    record { out = number_of names out.text; kind = kind; operands = map (λ w. number_of names w.text) operands; line = out.line }
+
+-- the gate of a statement whose word names a kind
+abbrev pub gate_line : List (List ℕ) → Statement → Option GateLine
+gate_line names (Input word name) = None
+gate_line names (Output word name) = None
+gate_line names (Gate out word first others) = option_map (λ kind. gate_with names out kind (first ∷ others)) (kind_of word.text)
+
+-- the signals in the order in which the statements count them
+abbrev pub names_of : List Statement → List (List ℕ)
+names_of ss = distinct (flat_map counted ss)
+
+-- signals are numbered by first counting; a repeated INPUT or OUTPUT counts once
+abbrev pub circuit_of : List Statement → Circuit
+circuit_of ss =
+    let names = names_of ss in
+    record {
+      names = names;
+      inputs = map (number_of names) (distinct (flat_map input_name ss));
+      outputs = map (number_of names) (distinct (flat_map output_name ss));
+      gates = filter_map (gate_line names) ss;
+    }
+
+-- ---- chains of operands
+
+-- the signal's gate has this operand
+abbrev pub Feeds : Circuit → ℕ → ℕ → Type 0
+Feeds c operand out = (g : GateLine) × Contains c.gates g × (g.out ≡ out) × Contains g.operands operand
+
+-- an endless chain of operands starts at the signal
+abbrev pub IsEndless : Circuit → ℕ → Type 0
+IsEndless c s = (chain : ℕ → ℕ) × (chain 0 ≡ s) × ((n : ℕ) → Feeds c (chain (suc n)) (chain n))
+
+-- the greatest of the numbers, 0 where there are none
+abbrev pub greatest : List ℕ → ℕ
+greatest [] = 0
+greatest (x ∷ xs) = if Rattle.std.specs.Prelude.nat_le x (greatest xs) then greatest xs else x
+
+-- one rank for each signal: 0 for an input, 1 more than the greatest of the operands for a gate
+pub record AreRanks (c : Circuit) (ranks : List ℕ) : Type 0 where
+  pub each : length ranks ≡ length c.names
+  pub inputs : All (λ s. slice_index ranks s ≡ 0) c.inputs
+  pub gates : All (λ g. slice_index ranks g.out ≡ greatest (map (slice_index ranks) g.operands) + 1) c.gates
+
+-- A netlist as its users see it.
+pub record Net : Type 0 where
+  pub names : List (List ℕ)
+  pub inputs : List ℕ
+  pub outputs : List ℕ
+  pub gates : List GateLine
+  pub ranks : List ℕ
+
+-- the netlist without its ranks
+abbrev pub circuit : Net → Circuit
+circuit n = record { names = n.names; inputs = n.inputs; outputs = n.outputs; gates = n.gates }
+
+-- the signal has an INPUT or a gate
+abbrev pub IsDefined : Circuit → ℕ → Type 0
+IsDefined c s = Contains c.inputs s ⊎ ((g : GateLine) × Contains c.gates g × (g.out ≡ s))
+
+-- no number stands twice
+abbrev pub AreOnce : List ℕ → Type 0
+AreOnce xs = (i j : ℕ) → i < j → j < length xs → slice_index xs i ≢ slice_index xs j
+
+-- what holds of each netlist that was read
+pub record IsNet (n : Net) : Type 0 where
+  pub names : (i j : ℕ) → i < j → j < length n.names → slice_index_or n.names i [] ≢ slice_index_or n.names j []
+  pub few : length n.names ≤ 1000000
+  pub inputs : All (λ s. s < length n.names) n.inputs
+  pub outs : All (λ g. g.out < length n.names) n.gates
+  -- no input has a gate, and no signal two
+  pub apart : All (λ s. All (λ g. g.out ≢ s) n.gates) n.inputs
+  pub one_gate : (i j : ℕ) (d : GateLine) → i < j → j < length n.gates → (slice_index_or n.gates i d).out ≢ (slice_index_or n.gates j d).out
+  pub defined : (s : ℕ) → s < length n.names → IsDefined (circuit n) s
+  pub outputs : All (λ s. s < length n.names) n.outputs
+  -- an input stands once among the inputs, an output once among the outputs
+  pub inputs_once : AreOnce n.inputs
+  pub outputs_once : AreOnce n.outputs
+  pub operands : All (λ g. All (λ s. s < length n.names) g.operands × (0 < length g.operands) × (IsTrue (takes_one g.kind) → length g.operands ≡ 1)) n.gates
+  pub ranks : AreRanks (circuit n) n.ranks

@@ -1,0 +1,193 @@
+-- Why a text is no netlist: the faulty places of a text, and which fault is answered.
+use Rattle.std.specs.Prelude.{◌≡◌, ℕ, ◌+◌, ◌<◌, ◌≤◌, Bool, false, ◌||◌, ◌⊎◌, IsTrue, List, [], ◌∷◌, ◌++◌, map, length, take, flat_map, slice_get, Option, Some, None, Contains}
+use Rattle.std.specs.List.{list_any, list_all}
+use Rattle.net_bench.specs.declared.netlist.Kind.{Kind}
+use Rattle.net_bench.specs.declared.netlist.GateLine.{GateLine}
+use Rattle.net_bench.specs.declared.netlist.BenchFault.{BenchFault}
+use Rattle.net_bench.specs.declared.netlist.BenchFault.TheVariants.{TooLong, BadByte, BadStatement, UnknownGate, WrongOperands, Redefined, TooMany, Sequential, Undefined, Cycle, Read, OutOfMemory}
+use Rattle.net_bench.specs.Text.{Word, Token, Open, Comma, Equals, Name, Unknown, HasTokens}
+use Rattle.net_bench.specs.Statement.{Statement, Input, Output, Gate, spelled, IsSpelledRight, AreSpelledRight, spelling, token_of, Reads, kind_of, takes_one, is_register_word, line_of, input_name, gate_name, uses, defined}
+use Rattle.net_bench.specs.Circuit.{Circuit, is_name_in, circuit_of, distinct, IsEndless}
+
+-- the most bytes of a text
+abbrev pub max_text : ℕ
+max_text = 67108864
+
+-- the most bytes of a name
+abbrev pub max_name : ℕ
+max_name = 255
+
+-- the most signals of a netlist
+abbrev pub max_signals : ℕ
+max_signals = 1000000
+
+-- the most operands of all gates
+abbrev pub max_operands : ℕ
+max_operands = 4000000
+
+-- the tokens from the first up to the one at this place
+abbrev pub up_to : List (ℕ × Token) → ℕ → List Token
+up_to ts place = map token_of (take (place + 1) ts)
+
+-- some list of right statements begins with these tokens
+abbrev pub Begins : List Token → Type 0
+Begins front = (ss : List Statement) × (more : List Token) × AreSpelledRight ss × (front ++ more ≡ spelling ss)
+
+-- The names that the tokens count: behind `(` and `,` where they stand, left of `=` at the `=`.
+abbrev pub counted_in : List Token → List (List ℕ)
+counted_in [] = []
+counted_in (Open ∷ Name w ∷ ts) = w.text ∷ counted_in (Name w ∷ ts)
+counted_in (Comma ∷ Name w ∷ ts) = w.text ∷ counted_in (Name w ∷ ts)
+counted_in (Name w ∷ Equals ∷ ts) = w.text ∷ counted_in (Equals ∷ ts)
+counted_in (t ∷ ts) = counted_in ts
+
+-- The operands: in a gate behind `(` and `,`. A gate's `(` stands behind `=` and the gate word.
+abbrev pub operands_in : List Token → List Word
+operands_in [] = []
+operands_in (Equals ∷ Name g ∷ Open ∷ Name w ∷ ts) = w ∷ operands_in (Name w ∷ ts)
+operands_in (Comma ∷ Name w ∷ ts) = w ∷ operands_in (Name w ∷ ts)
+operands_in (t ∷ ts) = operands_in ts
+
+-- What may be wrong at a place of a text.
+pub data Cause : Type 0 where
+  StrayByte : Cause
+  LongName : Cause
+  Misplaced : Cause
+  NoGateWord : Cause
+  Register : Cause
+  OperandCount : Cause
+  SecondDefinition : Cause
+  Crowded : Cause
+
+-- which comes first at one place
+abbrev pub order_of : Cause → ℕ
+order_of StrayByte = 0
+order_of LongName = 0
+order_of Misplaced = 1
+order_of NoGateWord = 2
+order_of Register = 2
+order_of OperandCount = 3
+order_of SecondDefinition = 4
+order_of Crowded = 5
+
+-- the fault that is answered for a cause on this line
+abbrev pub fault_of : Cause → ℕ → BenchFault
+fault_of StrayByte line = BadByte line
+fault_of LongName line = TooMany line
+fault_of Misplaced line = BadStatement line
+fault_of NoGateWord line = UnknownGate line
+fault_of Register line = Sequential line
+fault_of OperandCount line = WrongOperands line
+fault_of SecondDefinition line = Redefined line
+fault_of Crowded line = TooMany line
+
+-- a kind that takes one operand
+abbrev pub is_one_operand_kind : Option Kind → Bool
+is_one_operand_kind None = false
+is_one_operand_kind (Some kind) = takes_one kind
+
+-- a gate of one operand has more
+abbrev pub has_wrong_operands : Statement → Bool
+has_wrong_operands (Input word name) = false
+has_wrong_operands (Output word name) = false
+has_wrong_operands (Gate out word first []) = false
+has_wrong_operands (Gate out word first (second ∷ others)) = is_register_word word.text || is_one_operand_kind (kind_of word.text)
+
+-- whether the name is one of the names
+abbrev pub is_among : List ℕ → List (List ℕ) → Bool
+is_among name names = is_name_in names name
+
+-- the statement's signal has a gate before it, or has an INPUT before it and the statement is a gate
+abbrev pub redefines : List Statement → Statement → Bool
+redefines before s =
+    list_any (λ n. is_among n (flat_map gate_name before)) (defined s) || list_any (λ n. is_among n (flat_map input_name before)) (gate_name s)
+
+-- up to this place the tokens are these whole statements, and then these
+abbrev pub StandsAfter : List Statement → List (ℕ × Token) → ℕ → List Token → Type 0
+StandsAfter ss ts place last = AreSpelledRight ss × (up_to ts place ≡ flat_map spelled ss ++ last)
+
+-- The place has this fault, whose line this is. Tokens before the place may be faulty too.
+abbrev pub IsFaulty : List (ℕ × Token) → ℕ → Cause → ℕ → Type 0
+IsFaulty ts place StrayByte line = (b : ℕ) × (slice_get ts place ≡ Some (line, Unknown b))
+IsFaulty ts place LongName line = (w : Word) × (slice_get ts place ≡ Some (line, Name w)) × (max_name < length w.text)
+IsFaulty ts place Misplaced line = (t : Token) × (slice_get ts place ≡ Some (line, t)) × (Begins (up_to ts place) → ⊥)
+IsFaulty ts place NoGateWord line =
+    (ss : List Statement) × (out word : Word) × StandsAfter ss ts place (Name out ∷ Equals ∷ Name word ∷ []) ×
+    (line ≡ out.line) × (kind_of word.text ≡ None) × (is_register_word word.text ≡ false)
+IsFaulty ts place Register line =
+    (ss : List Statement) × (out word : Word) × StandsAfter ss ts place (Name out ∷ Equals ∷ Name word ∷ []) ×
+    (line ≡ out.line) × IsTrue (is_register_word word.text)
+IsFaulty ts place OperandCount line =
+    (ss : List Statement) × (s : Statement) × StandsAfter ss ts place (spelled s) × IsSpelledRight s ×
+    (line ≡ line_of s) × IsTrue (has_wrong_operands s)
+IsFaulty ts place SecondDefinition line =
+    (ss : List Statement) × (s : Statement) × StandsAfter ss ts place (spelled s) × IsSpelledRight s ×
+    (line ≡ line_of s) × IsTrue (redefines ss s)
+IsFaulty ts place Crowded line =
+    (t : Token) × (slice_get ts place ≡ Some (line, t)) ×
+    ((max_signals < length (distinct (counted_in (up_to ts place)))) ⊎ (max_operands < length (operands_in (up_to ts place))))
+
+-- This is the first faulty place, and the first fault there.
+pub record IsFirst (ts : List (ℕ × Token)) (place : ℕ) (cause : Cause) (line : ℕ) : Type 0 where
+  pub inside : place < length ts
+  pub here : IsFaulty ts place cause line
+  pub earlier : (p l : ℕ) (other : Cause) → p < place → IsFaulty ts p other l → ⊥
+  pub same : (l : ℕ) (other : Cause) → IsFaulty ts place other l → order_of cause ≤ order_of other
+
+-- no place has a fault
+abbrev pub IsFaultless : List (ℕ × Token) → Type 0
+IsFaultless ts = (place line : ℕ) (cause : Cause) → place < length ts → IsFaulty ts place cause line → ⊥
+
+-- the word's name has an INPUT or a gate
+abbrev pub is_defined : List Statement → Word → Bool
+is_defined ss w = is_among w.text (flat_map defined ss)
+
+-- the first use of a name without definition stands on this line
+abbrev pub FirstUndefined : List Statement → ℕ → Type 0
+FirstUndefined ss line =
+    (front back : List Word) × (w : Word) × (flat_map uses ss ≡ front ++ w ∷ back) ×
+    IsTrue (list_all (is_defined ss) front) × (is_defined ss w ≡ false) × (line ≡ w.line)
+
+-- the first gate at which an endless chain of operands starts stands on this line
+abbrev pub FirstEndless : Circuit → ℕ → Type 0
+FirstEndless c line =
+    (front back : List GateLine) × (g : GateLine) × (c.gates ≡ front ++ g ∷ back) ×
+    ((h : GateLine) → Contains front h → IsEndless c h.out → ⊥) × IsEndless c g.out × (line ≡ g.line)
+
+-- The text is a netlist of these statements.
+pub record IsNetlistText (text : List ℕ) (ss : List Statement) : Type 0 where
+  pub short : length text ≤ max_text
+  pub reads : Reads text ss
+  pub faultless : (ts : List (ℕ × Token)) → HasTokens text ts → IsFaultless ts
+  pub defined : IsTrue (list_all (is_defined ss) (flat_map uses ss))
+  pub acyclic : (s : ℕ) → IsEndless (circuit_of ss) s → ⊥
+
+-- a refusal at a place of the text
+abbrev pub IsPlaced : List ℕ → BenchFault → Type 0
+IsPlaced text fault =
+    (length text ≤ max_text) × (ts : List (ℕ × Token)) × HasTokens text ts ×
+    (place line : ℕ) × (cause : Cause) × IsFirst ts place cause line × (fault ≡ fault_of cause line)
+
+-- the statements of a text without a faulty place
+abbrev pub ReadsWell : List ℕ → List Statement → Type 0
+ReadsWell text ss = (length text ≤ max_text) × Reads text ss × ((ts : List (ℕ × Token)) → HasTokens text ts → IsFaultless ts)
+
+-- The text is refused with this fault, apart from memory and devices.
+abbrev pub IsRefused : List ℕ → BenchFault → Type 0
+IsRefused text TooLong = max_text < length text
+IsRefused text (Undefined line) = (ss : List Statement) × ReadsWell text ss × FirstUndefined ss line
+IsRefused text (Cycle line) =
+    (ss : List Statement) × ReadsWell text ss × IsTrue (list_all (is_defined ss) (flat_map uses ss)) × FirstEndless (circuit_of ss) line
+IsRefused text Read = ⊥
+IsRefused text OutOfMemory = ⊥
+IsRefused text (BadByte line) = IsPlaced text (BadByte line)
+IsRefused text (BadStatement line) = IsPlaced text (BadStatement line)
+IsRefused text (UnknownGate line) = IsPlaced text (UnknownGate line)
+IsRefused text (WrongOperands line) = IsPlaced text (WrongOperands line)
+IsRefused text (Redefined line) = IsPlaced text (Redefined line)
+IsRefused text (TooMany line) = IsPlaced text (TooMany line)
+IsRefused text (Sequential line) = IsPlaced text (Sequential line)
+
+-- the text is a netlist of some statements, and this is what they make
+abbrev pub MakesNetlist : List ℕ → Circuit → Type 0
+MakesNetlist text c = (ss : List Statement) × IsNetlistText text ss × (c ≡ circuit_of ss)

@@ -1,0 +1,130 @@
+-- The first fault of a text, computed token by token from the reader's states. The definition of faulty places does not mention it; the laws in proofs/ tie the two.
+use Rattle.std.specs.Prelude.{◌≡◌, ℕ, ◌+◌, Bool, true, false, ◌||◌, nat_lt, if◌then◌else◌, List, [], ◌∷◌, ◌++◌, map, flat_map, length, fold, Option, Some, None, Result, Ok, Err}
+use Rattle.std.specs.List.{list_all, list_any}
+use Rattle.net_bench.specs.declared.netlist.Kind.{Kind}
+use Rattle.net_bench.specs.declared.netlist.GateLine.{GateLine}
+use Rattle.net_bench.specs.declared.netlist.BenchFault.{BenchFault}
+use Rattle.net_bench.specs.declared.netlist.BenchFault.TheVariants.{Undefined, Cycle}
+use Rattle.net_bench.specs.Text.{Word, Token, Close, Name, Unknown, Tokens}
+use Rattle.net_bench.specs.Pieces.{tokens_at}
+use Rattle.net_bench.specs.Statement.{Statement, Gate, kind_of, is_register_word, line_of, uses}
+use Rattle.net_bench.specs.Machine.{State, Between, Named, AtWord, AfterOperand, Finished, Failed, port, step}
+use Rattle.net_bench.specs.Circuit.{circuit_of, distinct}
+use Rattle.net_bench.specs.Fault.{Cause, StrayByte, LongName, Misplaced, NoGateWord, Register, OperandCount, SecondDefinition, Crowded, fault_of, max_name, max_signals, max_operands, counted_in, operands_in, has_wrong_operands, redefines, is_defined}
+
+-- a fault and its line
+abbrev pub Found : Type 0
+Found = Cause × ℕ
+
+-- the fault as it is answered
+abbrev pub told : Found → BenchFault
+told found = fault_of found.0 found.1
+
+-- the token itself is faulty
+abbrev pub lexical : ℕ → Token → Option Found
+lexical line (Unknown b) = Some (StrayByte, line)
+lexical line (Name w) = if nat_lt max_name (length w.text) then Some (LongName, line) else None
+lexical line t = None
+
+-- no statement has the token there
+abbrev pub syntactic : ℕ → State → Option Found
+syntactic line Failed = Some (Misplaced, line)
+syntactic line s = None
+
+-- a gate word that names no kind
+abbrev pub without_kind : ℕ → Option Kind → Option Found
+without_kind line None = Some (NoGateWord, line)
+without_kind line (Some kind) = None
+
+-- the gate word at which the state stands is a register or none
+abbrev pub gate_word : State → Option Found
+gate_word (AtWord done out g) = if is_register_word g.text then Some (Register, out.line) else without_kind out.line (kind_of g.text)
+gate_word s = None
+
+-- the statement that the token closes, with those before it
+abbrev pub closed : State → Token → Option (List Statement × Statement)
+closed (Named done w n) Close = Some (done, port w n)
+closed (AfterOperand done out g a others) Close = Some (done, Gate out g a others)
+closed s t = None
+
+-- the closed statement has too many operands
+abbrev pub wrong_count : Option (List Statement × Statement) → Option Found
+wrong_count None = None
+wrong_count (Some c) = if has_wrong_operands c.1 then Some (OperandCount, line_of c.1) else None
+
+-- the closed statement defines a signal again
+abbrev pub second : Option (List Statement × Statement) → Option Found
+second None = None
+second (Some c) = if redefines c.0 c.1 then Some (SecondDefinition, line_of c.1) else None
+
+-- the tokens up to here count too many signals or operands
+abbrev pub crowded : ℕ → List Token → Option Found
+crowded line front =
+    if nat_lt max_signals (length (distinct (counted_in front))) || nat_lt max_operands (length (operands_in front)) then Some (Crowded, line) else None
+
+-- what is wrong at the token, the causes in their order
+abbrev pub tests : State → ℕ → Token → List Token → List (Option Found)
+tests s line t front =
+    lexical line t ∷ syntactic line (step s t) ∷ gate_word (step s t) ∷ wrong_count (closed s t) ∷ second (closed s t) ∷ crowded line front ∷ []
+
+-- the first test that shows a fault
+abbrev pub first_of : List (Option Found) → Option Found
+first_of [] = None
+first_of (Some found ∷ more) = Some found
+first_of (None ∷ more) = first_of more
+
+-- goes on where nothing was found
+abbrev pub unless : Option Found → (Unit {0} → Result State Found) → Result State Found
+unless (Some found) next = Err found
+unless None next = next tt
+
+-- walks over the tokens with the reader's state and the tokens seen, up to the first fault
+unfoldable pub judge : State → List Token → Tokens → Result State Found
+judge s seen [] = Ok s
+judge s seen (t ∷ ts) = unless (first_of (tests s t.0 t.1 (seen ++ t.1 ∷ []))) (λ _. judge (step s t.1) (seen ++ t.1 ∷ []) ts)
+
+-- ---- the whole answer
+
+-- the line of the first word that is not good
+abbrev pub undefined_line : (Word → Bool) → List Word → Option ℕ
+undefined_line good [] = None
+undefined_line good (w ∷ ws) = if good w then undefined_line good ws else Some w.line
+
+-- whether the number is among the numbers
+abbrev pub is_member : ℕ → List ℕ → Bool
+is_member n ns = list_any (λ m. Rattle.std.specs.Prelude.nat_eq n m) ns
+
+-- the signals that are known, and those of the gates all of whose operands are known
+abbrev pub with_gate : List ℕ → GateLine → List ℕ
+with_gate known g = if list_all (λ s. is_member s known) g.operands then known ++ g.out ∷ [] else known
+
+-- what is known after as many sweeps over the gates as the first list is long
+abbrev pub sweeps : {A : Type 0} → List A → List GateLine → List ℕ → List ℕ
+sweeps [] gates known = known
+sweeps (x ∷ xs) gates known = sweeps xs gates (fold with_gate known gates)
+
+-- the line of the first gate that is not known
+abbrev pub endless_line : List ℕ → List GateLine → Option ℕ
+endless_line known [] = None
+endless_line known (g ∷ gs) = if is_member g.out known then endless_line known gs else Some g.line
+
+-- the statements, unless an endless chain was found
+abbrev pub on_endless : List Statement → Option ℕ → Result (List Statement) BenchFault
+on_endless ss (Some line) = Err (Cycle line)
+on_endless ss None = Ok ss
+
+-- looks for endless chains, unless an undefined use was found
+abbrev pub on_undefined : List Statement → Option ℕ → Result (List Statement) BenchFault
+on_undefined ss (Some line) = Err (Undefined line)
+on_undefined ss None =
+    let c = circuit_of ss in on_endless ss (endless_line (sweeps c.gates c.gates c.inputs) c.gates)
+
+-- looks for undefined uses, unless the judge has found a fault
+abbrev pub on_judged : Result State Found → Result (List Statement) BenchFault
+on_judged (Ok (Finished ss)) = on_undefined ss (undefined_line (is_defined ss) (flat_map uses ss))
+on_judged (Ok s) = Ok []
+on_judged (Err found) = Err (told found)
+
+-- the statements of the text, or its fault
+abbrev pub answer : List ℕ → Result (List Statement) BenchFault
+answer text = on_judged (judge (Between []) [] (tokens_at 1 text))

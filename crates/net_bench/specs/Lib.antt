@@ -1,0 +1,15 @@
+pub mod Text
+pub mod Pieces
+pub mod Scan
+pub mod Examples
+pub mod Statement
+pub mod Machine
+pub mod Said
+pub mod Circuit
+pub mod Fault
+pub mod FaultText
+pub mod Judge
+pub mod Labels
+pub mod Marks
+pub mod Sound
+pub mod Symbols

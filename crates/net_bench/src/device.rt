@@ -1,0 +1,150 @@
+//! What a text comes from, and what a report goes to.
+ghost use Rattle.std.specs.Prelude.{◌≡◌, ℕ, ◌<◌, ◌≤◌, ◌^◌, ◌||◌, Bool, false, List, length, Option, IfOk, IfSome, IsTrue, is_err, Err};
+ghost use Rattle.std.specs.Io.KnownBytes.{ReadConsumes, WriteAppends, Keeps};
+
+use std::alloc::{AllocError, Global};
+use std::io::{Read, Write};
+
+/// The device has failed.
+#[derive(Clone, Copy, Debug, PartialEq, Eq)]
+pub struct Failed;
+
+/// Something that bytes are read from. A read that answers `Failed` gives no bytes.
+pub trait Source {
+    // The bytes that reads will give from here on, where the device tells them.
+    ghost remaining: { Self → Option (List ℕ) };
+    // Whether a call has answered `Failed`.
+    ghost has_failed: { Self → Bool };
+
+    /// Reads bytes to the front of the buffer, and answers how many; 0 in a buffer with room is the end.
+    fn read(&mut self, buf: &mut [u8]) -> Result<usize, Failed>
+        ensures count { IfOk result (λ n. n ≤ length buf.new) }
+        ensures bytes { ReadConsumes (remaining self.old) (remaining self.new) result buf.new }
+        ensures failed { has_failed self.new ≡ (has_failed self.old || is_err result) };
+}
+
+/// Something that bytes are written to. A write that answers `Failed` takes no bytes.
+pub trait Sink {
+    // The bytes that the device holds, where it tells them.
+    ghost contents: { Self → Option (List ℕ) };
+    // Whether a call has answered `Failed`.
+    ghost has_failed: { Self → Bool };
+
+    /// Takes bytes from the front of these, and answers how many.
+    fn write(&mut self, bytes: &[u8]) -> Result<usize, Failed>
+        ensures count { IfOk result (λ n. n ≤ length bytes.now) }
+        ensures bytes { WriteAppends (contents self.old) (contents self.new) result bytes.now }
+        ensures failed { has_failed self.new ≡ (has_failed self.old || is_err result) };
+
+    /// Passes on what is held back.
+    fn flush(&mut self) -> Result<(), Failed>
+        ensures bytes { Keeps (contents self.old) (contents self.new) }
+        ensures failed { has_failed self.new ≡ (has_failed self.old || is_err result) };
+}
+
+/// A std reader or writer as a device.
+#[derive(Drop)]
+pub struct Through<T> {
+    inner: T,
+    failed: bool,
+}
+
+impl<T> Through<T> {
+    /// It has not failed yet.
+    pub fn new(inner: T) -> Through<T>
+        ensures inner { result.inner ≡ inner }
+        ensures fresh { result.failed ≡ false }
+    {
+        Through {
+            inner,
+            failed: false,
+        }
+    }
+}
+
+impl<T: Read> Source for Through<T> {
+    ghost remaining = { λ d. T.remaining d.inner };
+
+    ghost has_failed = { λ d. d.failed };
+
+    fn read(&mut self, buf: &mut [u8]) -> Result<usize, Failed> {
+        match self.inner.read(buf) {
+            Ok(n) => Ok(n),
+            Err(_) => {
+                self.failed = true;
+                Err(Failed)
+            }
+        }
+    }
+}
+
+impl<T: Write> Sink for Through<T> {
+    ghost contents = { λ d. T.contents d.inner };
+
+    ghost has_failed = { λ d. d.failed };
+
+    fn write(&mut self, bytes: &[u8]) -> Result<usize, Failed> {
+        match self.inner.write(bytes) {
+            Ok(n) => Ok(n),
+            Err(_) => {
+                self.failed = true;
+                Err(Failed)
+            }
+        }
+    }
+
+    fn flush(&mut self) -> Result<(), Failed> {
+        match self.inner.flush() {
+            Ok(()) => Ok(()),
+            Err(_) => {
+                self.failed = true;
+                Err(Failed)
+            }
+        }
+    }
+}
+
+/// Why no text was read.
+#[derive(Clone, Copy, Debug, PartialEq, Eq)]
+pub enum TextFault {
+    /// The device failed.
+    Read,
+    /// The text is longer than the limit.
+    TooLong,
+    /// A growth was refused.
+    OutOfMemory,
+}
+
+/// The most bytes that are asked for at once.
+const CHUNK: usize = 65_536;
+
+/// The whole text of the device, of at most `limit` bytes. No more than one byte beyond the limit is asked for.
+pub fn read_text<R: Source>(
+    alloc: Global,
+    device: &mut R,
+    limit: usize,
+) -> Result<Vec<u8>, TextFault>
+    requires { limit < 2 ^ 40 }
+    ensures whole { IfOk result (λ v. IfSome (R.remaining device.old) (λ told. v.items ≡ told)) }
+    ensures within { IfOk result (λ v. length v.items ≤ limit) }
+    ensures long { result ≡ Err TextFault.TooLong → IfSome (R.remaining device.old) (λ told. limit < length told) }
+    ensures read { result ≡ Err TextFault.Read → IsTrue (R.has_failed device.new) }
+    ensures kept { (result ≡ Err TextFault.Read → ⊥) → R.has_failed device.new ≡ R.has_failed device.old }
+{
+    let mut text = Vec::new(alloc);
+    let mut chunk = [0u8; CHUNK];
+    while text.len() <= limit {
+        let room = usize::min(limit + 1 - text.len(), CHUNK);
+        let taken = match device.read(&mut chunk[..room]) {
+            Ok(taken) => taken,
+            Err(_) => return Err(TextFault::Read),
+        };
+        if taken == 0 {
+            return Ok(text);
+        }
+        if text.extend_from_slice(&chunk[..taken]).is_err() {
+            return Err(TextFault::OutOfMemory);
+        }
+    }
+    Err(TextFault::TooLong)
+}

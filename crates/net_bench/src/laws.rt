@@ -1,0 +1,59 @@
+//! Laws of the definitions.
+ghost use Rattle.std.specs.Prelude.{◌≡◌, ◌≢◌, ◌<◌, ℕ, Bool, length, List, [], Result, Ok, Err};
+ghost use Rattle.net_bench.specs.Text.{Token, Tokens, HasTokens};
+ghost use Rattle.net_bench.specs.Statement.{Statement, Reads};
+ghost use Rattle.net_bench.specs.Machine.{State, Between, Failed, run};
+ghost use Rattle.net_bench.specs.Circuit.{Circuit, Net, IsNet, circuit, circuit_of, AreRanks, IsEndless};
+ghost use Rattle.net_bench.specs.Labels.{IsLabelling, bit_of};
+ghost use Rattle.net_bench.specs.Fault.{Begins, IsFirst, IsFaultless, IsRefused, IsNetlistText, ReadsWell};
+ghost use Rattle.net_bench.specs.declared.netlist.BenchFault.{BenchFault};
+ghost use Rattle.net_bench.specs.Judge.{Found, judge};
+ghost use Rattle.net_bench.specs.Sound.{IsSound, net_of, AreDefined};
+
+/// A text reads as one list of statements at most.
+#[tactic(auto, using(crate::proofs::Reading::reads_once))]
+pub fn one_reading()
+    ensures { (text : List ℕ) (ss more : List Statement) → Reads text ss → Reads text more → ss ≡ more }
+{}
+
+/// The reader's machine fails exactly at the first token with which no list of statements begins.
+#[tactic(auto, using(crate::proofs::Machine::can_begin, crate::proofs::Machine::cannot_begin))]
+pub fn machine_is_exact()
+    ensures goes_on { (front : List Token) → run (Between []) front ≢ Failed → Begins front }
+    ensures fails { (front : List Token) → run (Between []) front ≡ Failed → Begins front → ⊥ }
+{}
+
+/// What the judge finds is the first fault of the text; where it finds none no place is faulty.
+#[tactic(auto, using(crate::proofs::Judging::first_found, crate::proofs::Judging::none_found))]
+pub fn judge_is_exact()
+    ensures fault { (ts : Tokens) (f : Found) → judge (Between []) [] ts ≡ Err f → (place : ℕ) × IsFirst ts place f.0 f.1 }
+    ensures none { (ts : Tokens) (s : State) → judge (Between []) [] ts ≡ Ok s → IsFaultless ts }
+{}
+
+/// Where each signal has a rank no chain of operands is endless.
+#[tactic(auto, using(crate::proofs::Chains::ranked_ends))]
+pub fn ranks_end()
+    ensures { (c : Circuit) (ranks : List ℕ) → AreRanks c ranks → (s : ℕ) → IsEndless c s → ⊥ }
+{}
+
+/// Each assignment has a labelling of a netlist, and the signals' bits in it are determined.
+pub fn labellings()
+    ensures some { (n : Net) → IsNet n → (level : ℕ → ℕ) (x : List Bool) → (bits : List Bool) × IsLabelling (circuit n) level x bits }
+    ensures one { (n : Net) → IsNet n → (level : ℕ → ℕ) (x a b : List Bool) → IsLabelling (circuit n) level x a →
+        IsLabelling (circuit n) level x b → (s : ℕ) → s < length n.names → bit_of a s ≡ bit_of b s }
+{}
+
+/// What is refused, memory and devices aside, is no netlist.
+pub fn refused_is_none()
+    ensures { (text : List ℕ) (ss : List Statement) (fault : BenchFault) → IsRefused text fault → IsNetlistText text ss → ⊥ }
+{}
+
+/// The circuit of sound statements whose uses are all defined, with its ranks, is a netlist as its users see it.
+pub fn sound_nets()
+    ensures { (ss : List Statement) → IsSound ss → AreDefined ss → (ranks : List ℕ) → AreRanks (circuit_of ss) ranks → IsNet (net_of ss ranks) }
+{}
+
+/// The statements of a text without a faulty place are sound, one by one.
+pub fn faultless_sound()
+    ensures { (text : List ℕ) (ss : List Statement) → ReadsWell text ss → IsSound ss }
+{}

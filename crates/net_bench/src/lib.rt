@@ -1,0 +1,17 @@
+//! Netlists in the bench format: what a text says, and the reader.
+#![tactic(auto)]
+
+mod build;
+pub mod device;
+mod judge;
+mod kinds;
+pub mod laws;
+pub mod name_table;
+pub mod netlist;
+mod ranks;
+pub mod reader;
+pub mod scan;
+mod symbols;
+mod syntax;
+#[cfg(test)]
+mod tests;

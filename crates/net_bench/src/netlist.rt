@@ -1,0 +1,150 @@
+//! The parts of a netlist, and why a text is none.
+ghost use Rattle.std.specs.Prelude.{◌≡◌, Some};
+ghost use Rattle.net_bench.specs.FaultText.{fault_text};
+
+use std::fmt;
+use std::marker::Model;
+use thiserror::Error;
+
+/// What a gate computes of its operands.
+#[derive(Clone, Copy, Debug, PartialEq, Eq)]
+pub enum Kind {
+    And,
+    Nand,
+    Or,
+    Nor,
+    Xor,
+    Xnor,
+    Not,
+    Buff,
+}
+
+/// Why a text is no netlist. Lines are counted from 1.
+#[derive(Clone, Copy, Debug, PartialEq, Eq, Error)]
+pub enum BenchFault {
+    /// The text has more than 67,108,864 bytes.
+    TooLong,
+    /// A byte outside comments that is no blank and not printable.
+    BadByte { line: u32 },
+    /// A token that no statement has there, or the text ends in a statement.
+    BadStatement { line: u32 },
+    /// The word of a gate is none of the gate words.
+    UnknownGate { line: u32 },
+    /// NOT, BUFF or DFF with two operands or more.
+    WrongOperands { line: u32 },
+    /// The signal has a gate already, or an INPUT and a gate.
+    Redefined { line: u32 },
+    /// A name over 255 bytes, the 1,000,001st signal, or the 4,000,001st operand.
+    TooMany { line: u32 },
+    /// The gate word DFF.
+    Sequential { line: u32 },
+    /// An operand or an OUTPUT name without INPUT and gate.
+    Undefined { line: u32 },
+    /// An endless chain of operands starts at the gate.
+    Cycle { line: u32 },
+    /// The device failed.
+    Read,
+    /// A growth was refused.
+    OutOfMemory,
+}
+
+impl fmt::Display for BenchFault {
+    ghost output = { λ f. Some (fault_text f) };
+
+    fn fmt<W: fmt::Write>(&self, f: &mut fmt::Formatter<W>) -> fmt::Result {
+        match self {
+            BenchFault::TooLong => write!(f, "longer than 67108864 bytes"),
+            BenchFault::BadByte { line } => write!(f, "line {line}: a byte that no statement has"),
+            BenchFault::BadStatement { line } => write!(f, "line {line}: broken statement"),
+            BenchFault::UnknownGate { line } => write!(f, "line {line}: unknown gate"),
+            BenchFault::WrongOperands { line } => write!(
+                f,
+                "line {line}: wrong number of operands"
+            ),
+            BenchFault::Redefined { line } => write!(f, "line {line}: signal defined twice"),
+            BenchFault::TooMany { line } => write!(
+                f,
+                "line {line}: too many signals or operands, or a name too long"
+            ),
+            BenchFault::Sequential { line } => write!(
+                f,
+                "line {line}: register in a combinational netlist"
+            ),
+            BenchFault::Undefined { line } => write!(f, "line {line}: signal without definition"),
+            BenchFault::Cycle { line } => write!(f, "line {line}: gate that depends on a cycle"),
+            BenchFault::Read => write!(f, "cannot be read"),
+            BenchFault::OutOfMemory => write!(f, "out of memory"),
+        }
+    }
+}
+
+/// The number of a signal in its netlist.
+#[derive(Clone, Copy, Debug, PartialEq, Eq)]
+pub struct Signal {
+    number: u32,
+}
+
+impl Model for Signal {
+    ghost use Rattle.std.specs.Prelude.{ℕ};
+
+    ghost Value = { ℕ };
+
+    ghost view = { λ s. s.number };
+
+    ghost inverse = { λ n. record { number = n } };
+}
+
+impl Signal {
+    /// The signal of this number.
+    pub fn of(number: u32) -> Signal
+        ensures { result ≡ number }
+    {
+        Signal { number }
+    }
+
+    /// The number, from 0.
+    pub fn number(&self) -> u32
+        ensures { result ≡ self.now }
+    {
+        self.number
+    }
+}
+
+/// The operands of a gate, from left to right.
+#[derive(Debug, Drop)]
+pub struct Operands {
+    signals: Vec<Signal>,
+}
+
+impl Model for Operands {
+    ghost use Rattle.std.specs.Prelude.{List, ℕ};
+
+    ghost Value = { List ℕ };
+
+    ghost view = { λ s. s.signals.items };
+}
+
+impl Operands {
+    /// These signals as operands.
+    pub fn of(signals: Vec<Signal>) -> Operands
+        ensures { result ≡ signals.items }
+    {
+        Operands { signals }
+    }
+
+    /// The operands, from left to right.
+    pub fn as_slice(&self) -> &[Signal]
+        ensures { result.now ≡ self.now }
+    {
+        self.signals.as_slice()
+    }
+}
+
+/// A gate, and the line of its statement's first token.
+#[derive(Debug, Drop)]
+pub struct GateLine {
+    pub out: Signal,
+    pub kind: Kind,
+    pub operands: Operands,
+    pub line: u32,
+}

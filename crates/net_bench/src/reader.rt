@@ -1,0 +1,222 @@
+//! The netlist of a text.
+ghost use Rattle.std.specs.Prelude.{◌≡◌, ◌<◌, ◌⊎◌, length, IfOk, IfErr, IfSome, IsTrue, slice_index, slice_get, Some, Err};
+ghost use Rattle.net_bench.specs.Circuit.{circuit, circuit_of, find, IsNet, AreRanks};
+ghost use Rattle.net_bench.specs.Fault.{IsRefused, MakesNetlist};
+ghost use Rattle.net_bench.specs.Said.{statements_of};
+ghost use Rattle.net_bench.specs.Sound.{IsSound, AreDefined, IsLate};
+ghost use Rattle.net_bench.specs.Machine.{Between};
+ghost use Rattle.net_bench.specs.Symbols.{IsTold};
+
+use crate::build::{first_undefined, gates_of, numbers_of};
+use crate::device::{Source, TextFault, read_text};
+use crate::judge::{Judged, judge_text};
+use crate::name_table::NameTable;
+use crate::netlist::{BenchFault, GateLine, Signal};
+use crate::ranks::ranks_of;
+use crate::symbols::SymbolTable;
+use crate::syntax::Said;
+use std::alloc::Global;
+use std::marker::Model;
+
+/// The most bytes of a text.
+const MAX_TEXT: usize = 67_108_864;
+
+/// A netlist. Its signals are numbered in the order in which the text counts them.
+#[derive(Drop)]
+pub struct Netlist {
+    names: NameTable,
+    inputs: Vec<Signal>,
+    outputs: Vec<Signal>,
+    gates: Vec<GateLine>,
+    ranks: Vec<u32>,
+}
+
+impl Model for Netlist {
+    ghost use Rattle.net_bench.specs.Circuit.{Net, IsNet};
+
+    ghost Value = { Net };
+
+    ghost view = { λ a. record {
+      names = a.names;
+      inputs = a.inputs.items;
+      outputs = a.outputs.items;
+      gates = a.gates.items;
+      ranks = a.ranks.items;
+    } };
+
+    ghost invariant = { λ a. IsNet (record {
+      names = a.names;
+      inputs = a.inputs.items;
+      outputs = a.outputs.items;
+      gates = a.gates.items;
+      ranks = a.ranks.items;
+    }) };
+}
+
+impl Netlist {
+    /// The inputs, in the order of their first INPUT.
+    pub fn inputs(&self) -> &[Signal]
+        ensures value { result.now ≡ self.now.inputs }
+        ensures sound { IsNet self.now }
+    {
+        self.inputs.as_slice()
+    }
+
+    /// The outputs, in the order of their first OUTPUT.
+    pub fn outputs(&self) -> &[Signal]
+        ensures value { result.now ≡ self.now.outputs }
+        ensures sound { IsNet self.now }
+    {
+        self.outputs.as_slice()
+    }
+
+    /// The gates, in text order.
+    pub fn gates(&self) -> &[GateLine]
+        ensures value { result.now ≡ self.now.gates }
+        ensures sound { IsNet self.now }
+    {
+        self.gates.as_slice()
+    }
+
+    /// How many signals the netlist has: their numbers are those below.
+    pub fn count(&self) -> usize
+        ensures value { result ≡ length self.now.names }
+        ensures sound { IsNet self.now }
+    {
+        self.names.len()
+    }
+
+    /// The signal of this name.
+    pub fn find(&self, name: &[u8]) -> Option<Signal>
+        ensures value { result ≡ find self.now.names name.now }
+        ensures sound { IsNet self.now }
+    {
+        match self.names.find(name) {
+            Some(number) => Some(Signal::of(number)),
+            None => None,
+        }
+    }
+
+    /// The name of a signal.
+    pub fn name(&self, signal: Signal) -> &[u8]
+        requires { signal < length self.now.names }
+        ensures value { slice_get self.now.names signal ≡ Some result.now }
+        ensures sound { IsNet self.now }
+    {
+        self.names.name(signal.number())
+    }
+
+    /// 0 for an input, 1 more than the greatest of its operands for a gate.
+    pub fn rank(&self, signal: Signal) -> u32
+        requires { signal < length self.now.names }
+        ensures value { result ≡ slice_index self.now.ranks signal }
+        ensures sound { IsNet self.now }
+    {
+        self.ranks[signal.number() as usize]
+    }
+}
+
+/// The ranks of the statements' circuit.
+fn ranks_for(
+    alloc: Global,
+    said: &[Said<'_>],
+    count: usize,
+    inputs: &[Signal],
+    gates: &[GateLine],
+) -> Result<Vec<u32>, BenchFault>
+    requires sound { IsSound (statements_of said.now) }
+    requires defined { AreDefined (statements_of said.now) }
+    requires count { count ≡ length (circuit_of (statements_of said.now)).names }
+    requires inputs { inputs.now ≡ (circuit_of (statements_of said.now)).inputs }
+    requires gates { gates.now ≡ (circuit_of (statements_of said.now)).gates }
+    ensures ranks { IfOk result (λ v. AreRanks (circuit_of (statements_of said.now)) v.items) }
+    ensures refused { IfErr result (IsLate (statements_of said.now)) }
+{
+    let _ = said;
+    match ranks_of(alloc, count, inputs, gates) {
+        Ok(ranks) => Ok(ranks),
+        Err(fault) => Err(fault),
+    }
+}
+
+/// The netlist of statements that are sound one by one.
+fn netlist_of(alloc: Global, said: &[Said<'_>], symbols: SymbolTable) -> Result<Netlist, BenchFault>
+    requires sound { IsSound (statements_of said.now) }
+    requires told { IsTold (statements_of said.now) (Between (statements_of said.now)) symbols }
+    ensures accepted { IfOk result (λ net. (circuit net ≡ circuit_of (statements_of said.now)) × AreDefined (statements_of said.now) × IsNet net) }
+    ensures refused { IfErr result (IsLate (statements_of said.now)) }
+{
+    if let Some(line) = first_undefined(&symbols, said) {
+        return Err(BenchFault::Undefined { line });
+    }
+    let SymbolTable {
+        names,
+        inputs,
+        outputs,
+        ..
+    } = symbols;
+    let Ok(inputs) = numbers_of(alloc, &names, &inputs) else {
+        return Err(BenchFault::OutOfMemory);
+    };
+    let Ok(outputs) = numbers_of(alloc, &names, &outputs) else {
+        return Err(BenchFault::OutOfMemory);
+    };
+    let Ok(gates) = gates_of(alloc, &names, said) else {
+        return Err(BenchFault::OutOfMemory);
+    };
+    match ranks_for(
+        alloc,
+        said,
+        names.len(),
+        inputs.as_slice(),
+        gates.as_slice(),
+    ) {
+        Ok(ranks) => Ok(Netlist {
+            names,
+            inputs,
+            outputs,
+            gates,
+            ranks,
+        }),
+        Err(fault) => Err(fault),
+    }
+}
+
+/// The netlist of a text in the bench format: INPUT, OUTPUT and gates, as ISCAS 1985 and 1989 benchmarks are distributed.
+/// A text is one pass over its tokens; then undefined uses are sought, then endless chains of operands. Never answers `Read`.
+pub fn parse_bench(alloc: Global, text: &[u8]) -> Result<Netlist, BenchFault>
+    // What is accepted is a netlist, and the answer is the netlist of its statements.
+    ensures accepted { IfOk result (λ net. MakesNetlist text.now (circuit net)) }
+    // What is refused has the fault that comes first, unless memory ran out.
+    ensures refused { IfErr result (λ fault. (fault ≡ BenchFault.OutOfMemory) ⊎ IsRefused text.now fault) }
+{
+    if text.len() > MAX_TEXT {
+        return Err(BenchFault::TooLong);
+    }
+    let Judged { said, symbols } = match judge_text(alloc, text) {
+        Ok(judged) => judged,
+        Err(fault) => return Err(fault),
+    };
+    match netlist_of(alloc, said.as_slice(), symbols) {
+        Ok(netlist) => Ok(netlist),
+        Err(fault) => Err(fault),
+    }
+}
+
+/// The netlist of the text that the device gives. A failed read is `Read`; a read of 0 bytes is the end.
+/// No more than 67,108,865 bytes are asked for.
+pub fn read_bench<R: Source>(alloc: Global, device: &mut R) -> Result<Netlist, BenchFault>
+    ensures accepted { IfOk result (λ net. IfSome (R.remaining device.old) (λ text. MakesNetlist text (circuit net))) }
+    ensures refused { IfErr result (λ fault. (fault ≡ BenchFault.OutOfMemory) ⊎ (fault ≡ BenchFault.Read) ⊎
+        IfSome (R.remaining device.old) (λ text. IsRefused text fault)) }
+    // Read says that the device has failed, and nothing else does.
+    ensures read { result ≡ Err BenchFault.Read → IsTrue (R.has_failed device.new) }
+    ensures kept { (result ≡ Err BenchFault.Read → ⊥) → R.has_failed device.new ≡ R.has_failed device.old }
+{
+    match read_text(alloc, device, MAX_TEXT) {
+        Ok(text) => parse_bench(alloc, text.as_slice()),
+        Err(TextFault::Read) => Err(BenchFault::Read),
+        Err(TextFault::TooLong) => Err(BenchFault::TooLong),
+        Err(TextFault::OutOfMemory) => Err(BenchFault::OutOfMemory),
+    }
+}

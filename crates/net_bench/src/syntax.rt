@@ -1,0 +1,156 @@
+// The statements of a text, as they are spelled, and the parts of a statement.
+ghost use Rattle.std.specs.Prelude.{◌≡◌, ◌≢◌, ◌⊎◌, List, IfOk, IfErr};
+ghost use Rattle.net_bench.specs.Text.{End};
+ghost use Rattle.net_bench.specs.Said.{word_of, statement_of, state_of, next_state, closing};
+ghost use Rattle.net_bench.specs.Scan.{seen};
+ghost use Rattle.net_bench.specs.Statement.{Statement, line_of};
+ghost use Rattle.net_bench.specs.Machine.{Failed, is_input_word, is_output_word, port, step};
+ghost use Rattle.net_bench.specs.Judge.{closed};
+ghost use Rattle.net_bench.specs.declared.netlist.BenchFault.TheVariants.{BadStatement};
+
+use crate::netlist::BenchFault;
+use crate::scan::Token;
+use std::alloc::Global;
+
+/// A name of the text, and its line.
+#[derive(Clone, Copy)]
+pub struct Word<'a> {
+    pub line: u32,
+    pub text: &'a [u8],
+}
+
+/// A gate of the text, with its operands so far.
+#[derive(Drop)]
+pub struct SaidGate<'a> {
+    pub out: Word<'a>,
+    pub word: Word<'a>,
+    pub first: Word<'a>,
+    pub others: Vec<Word<'a>>,
+}
+
+/// A statement of the text.
+#[derive(Drop)]
+pub enum Said<'a> {
+    Input { word: Word<'a>, name: Word<'a> },
+    Output { word: Word<'a>, name: Word<'a> },
+    Gate(SaidGate<'a>),
+}
+
+impl Said<'_> {
+    /// The line of the statement's first token.
+    pub fn line(&self) -> u32
+        ensures { result ≡ line_of (statement_of self.now) }
+    {
+        match self {
+            Said::Input { word, .. } | Said::Output { word, .. } => word.line,
+            Said::Gate(gate) => gate.out.line,
+        }
+    }
+}
+
+/// What the tokens behind the last whole statement have said.
+#[derive(Drop)]
+pub enum Part<'a> {
+    Nothing,
+    First { word: Word<'a> },
+    Opened { word: Word<'a> },
+    Named { word: Word<'a>, name: Word<'a> },
+    Defining { out: Word<'a> },
+    AtWord { out: Word<'a>, word: Word<'a> },
+    Operands { out: Word<'a>, word: Word<'a> },
+    AfterOperand(SaidGate<'a>),
+    AfterComma(SaidGate<'a>),
+}
+
+/// INPUT, in either case.
+fn is_input(word: Word<'_>) -> bool
+    ensures { result ≡ is_input_word (word_of word.entry) }
+{
+    word.text.eq_ignore_ascii_case(b"INPUT")
+}
+
+/// OUTPUT, in either case.
+fn is_output(word: Word<'_>) -> bool
+    ensures { result ≡ is_output_word (word_of word.entry) }
+{
+    word.text.eq_ignore_ascii_case(b"OUTPUT")
+}
+
+/// The statement of a word that is INPUT or OUTPUT.
+fn port<'a>(word: Word<'a>, name: Word<'a>) -> Said<'a>
+    ensures { statement_of result ≡ port (word_of word.entry) (word_of name.entry) }
+{
+    if is_input(word) {
+        return Said::Input { word, name };
+    }
+    Said::Output { word, name }
+}
+
+/// What one more token makes of a part of a statement: more of it, or the whole.
+#[derive(Drop)]
+pub enum Next<'a> {
+    More(Part<'a>),
+    Whole(Said<'a>),
+}
+
+/// What one more token, which is not the end, makes of a part of a statement.
+pub fn next_part<'a>(
+    alloc: Global,
+    part: Part<'a>,
+    line: u32,
+    token: Token<'a>,
+) -> Result<Next<'a>, BenchFault>
+    requires { seen line token ≢ End }
+    ensures step { IfOk result (λ n. (done : List Statement) → next_state done n ≡ step (state_of done part.entry) (seen line token.entry)) }
+    ensures closed { IfOk result (λ n. (done : List Statement) → closing done n ≡ closed (state_of done part.entry) (seen line token.entry)) }
+    ensures broken { IfErr result (λ e. (e ≡ BenchFault.OutOfMemory) ⊎
+        ((e ≡ BadStatement line) × ((done : List Statement) → step (state_of done part.entry) (seen line token.entry) ≡ Failed))) }
+{
+    match (part, token) {
+        (Part::Nothing, Token::Name(text)) => Ok(Next::More(Part::First {
+            word: Word { line, text },
+        })),
+        (Part::First { word }, Token::Equals) => Ok(Next::More(Part::Defining { out: word })),
+        (Part::First { word }, Token::Open) if is_input(word) || is_output(word) => Ok(Next::More(
+            Part::Opened { word },
+        )),
+        (Part::Opened { word }, Token::Name(text)) => Ok(Next::More(Part::Named {
+            word,
+            name: Word { line, text },
+        })),
+        (Part::Named { word, name }, Token::Close) => Ok(Next::Whole(port(word, name))),
+        (Part::Defining { out }, Token::Name(text)) => Ok(Next::More(Part::AtWord {
+            out,
+            word: Word { line, text },
+        })),
+        (Part::AtWord { out, word }, Token::Open) => Ok(Next::More(Part::Operands { out, word })),
+        (Part::Operands { out, word }, Token::Name(text)) => Ok(Next::More(Part::AfterOperand(
+            SaidGate {
+                out,
+                word,
+                first: Word { line, text },
+                others: Vec::new(alloc),
+            },
+        ))),
+        (Part::AfterOperand(gate), Token::Comma) => Ok(Next::More(Part::AfterComma(gate))),
+        (Part::AfterOperand(gate), Token::Close) => Ok(Next::Whole(Said::Gate(gate))),
+        (Part::AfterComma(gate), Token::Name(text)) => {
+            let SaidGate {
+                out,
+                word,
+                first,
+                mut others,
+            } = gate;
+            match others.push(Word { line, text }) {
+                Ok(()) => Ok(Next::More(Part::AfterOperand(SaidGate {
+                    out,
+                    word,
+                    first,
+                    others,
+                }))),
+                Err(_) => Err(BenchFault::OutOfMemory),
+            }
+        }
+        _ => Err(BenchFault::BadStatement { line }),
+    }
+}

@@ -1,0 +1,185 @@
+-- The leaves below a signal are those of its operands.
+use Rattle.std.proofs.Common.{◌≡◌, ℕ, zero, suc, ◌+◌, ◌<◌, ◌≤◌, List, [], ◌∷◌, ◌++◌, Bool, true, false, refl, sym, ap, ◌∙◌, subst, length, arith, add-one, ◌⊎◌, inl, inr, All}
+use Rattle.std.specs.Prelude.{cond, ◌||◌, ◌==◌, flat_map, find, Option, Some, None, Contains, slice_index, slice_index_or}
+use Rattle.net_bench.specs.declared.netlist.GateLine.{GateLine}
+use Rattle.net_bench.specs.Circuit.{Circuit, Feeds, AreRanks, Net, IsNet, circuit}
+use Rattle.net_bench.proofs.Chains.{lower}
+use Rattle.std.specs.List.{sum_by}
+use Rattle.std.proofs.lemmas.List.Sums.{sum_by-cons}
+use Rattle.net_order.specs.Order.{is_member, leaves, below, operands_of, gate_operands}
+use Rattle.net_order.specs.Walk.{steps_within, steps_below}
+use Rattle.net_order.proofs.Ranks.{deep}
+
+deeper : (x : ℕ) (xs : List ℕ) (s : ℕ) (among : Contains xs s) → slice_index_or (x ∷ xs) (among.0 + 1) s ≡ s
+deeper x xs s among = rw add-one among.2
+
+flat_map_same : (f g : ℕ → List ℕ) (xs : List ℕ) → ((x : ℕ) → Contains xs x → f x ≡ g x) → flat_map f xs ≡ flat_map g xs
+flat_map_same f g [] h = refl
+flat_map_same f g (x ∷ xs) h =
+    ap (λ ys. ys ++ flat_map f xs) (h x (0, omega arith, refl)) ∙
+    ap (λ ys. g x ++ ys) (flat_map_same f g xs (λ s among. h s (among.0 + 1, omega arith, deeper x xs s among)))
+
+sum_by_same : (f g : ℕ → ℕ) (xs : List ℕ) → ((x : ℕ) → Contains xs x → f x ≡ g x) → sum_by f xs ≡ sum_by g xs
+sum_by_same f g [] h = refl
+sum_by_same f g (x ∷ xs) h =
+    sum_by-cons f x xs ∙ ap (λ k. k + sum_by f xs) (h x (0, omega arith, refl)) ∙
+    ap (λ k. g x + k) (sum_by_same f g xs (λ s among. h s (among.0 + 1, omega arith, deeper x xs s among))) ∙ sym (sum_by-cons g x xs)
+
+empty : (xs : List ℕ) → ((x : ℕ) → Contains xs x → ⊥) → xs ≡ []
+empty [] h = refl
+empty (x ∷ xs) h = absurd (h x (0, omega arith, refl))
+
+-- A value that is computed from a signal's operands down to a bound on depth: `value depth s`. With a bound that no rank passes it
+-- computes the same one step further down.
+module _ (c : Circuit) (ranks : List ℕ) (ranked : AreRanks c ranks) (feeds : (s o : ℕ) → Contains (operands_of c s) o → Feeds c o s) (A : Type 0) (value : ℕ → ℕ → A) (at_input : ℕ → A) (at_gate : (ℕ → A) → List ℕ → A)
+    (same : (f g : ℕ → A) (xs : List ℕ) → ((x : ℕ) → Contains xs x → f x ≡ g x) → at_gate f xs ≡ at_gate g xs)
+    (start : (s : ℕ) → value zero s ≡ cond (is_member s c.inputs) (at_input s) (at_gate (value zero) []))
+    (step : (depth s : ℕ) → value (suc depth) s ≡ cond (is_member s c.inputs) (at_input s) (at_gate (value depth) (operands_of c s))) where
+  lower_rank : (s o : ℕ) → Contains (operands_of c s) o → slice_index ranks o < slice_index ranks s
+  lower_rank s o among = lower c ranks ranked o s (feeds s o among)
+
+  -- a bound that is not below the rank makes no difference
+  stable : (depth s : ℕ) → slice_index ranks s ≤ depth → value depth s ≡ value (suc depth) s
+  stable zero s h =
+      let none : operands_of c s ≡ [] = empty (operands_of c s) (λ o among. let low : slice_index ranks o < slice_index ranks s = lower_rank s o among in absurd (omega arith)) in
+      start s ∙ ap (λ xs. cond (is_member s c.inputs) (at_input s) (at_gate (value zero) xs)) (sym none) ∙ sym (step zero s)
+  stable (suc depth) s h =
+      step depth s ∙
+      ap (cond (is_member s c.inputs) (at_input s))
+      (same (value depth) (value (suc depth)) (operands_of c s)
+      (λ o among. let low : slice_index ranks o < slice_index ranks s = lower_rank s o among in stable depth o (omega arith))) ∙
+      sym (step (suc depth) s)
+
+  -- with a bound that no rank passes, a gate's value is that of its operands, with the same bound
+  pub unfolds : (bound s : ℕ) → slice_index ranks s ≤ bound → is_member s c.inputs ≡ false → value bound s ≡ at_gate (value bound) (operands_of c s)
+  unfolds bound s h e = stable bound s h ∙ step bound s ∙ ap (λ b. cond b (at_input s) (at_gate (value bound) (operands_of c s))) e
+
+-- ---- gates and inputs of a netlist
+
+same_number : (x : ℕ) → (x == x) ≡ true
+same_number x = grind arith
+
+equal_numbers : (x y : ℕ) → (x == y) ≡ true → x ≡ y
+equal_numbers x y e = grind arith
+
+some_same : (g h : GateLine) → Some g ≡ Some h → g ≡ h
+some_same g h e = cc
+
+none_some : (g : GateLine) (X : Type 0) → None ≡ Some g → X
+none_some g X e = cc
+
+more_gates : (h : GateLine) (gates : List GateLine) (g : GateLine) → Contains gates g → Contains (h ∷ gates) g
+more_gates h gates g among = (among.0 + 1, omega (arith, among.1), rw add-one among.2)
+
+abbrev At : ℕ → GateLine → List GateLine → Type 0
+At s g gates = Contains gates g × (g.out ≡ s)
+
+found_first : (b : Bool) (s : ℕ) (h : GateLine) (gates : List GateLine) (g : GateLine) → (h.out == s) ≡ b → cond b (Some h) (find (λ x. x.out == s) gates) ≡ Some g →
+    (find (λ x. x.out == s) gates ≡ Some g → At s g gates) → At s g (h ∷ gates)
+found_first true s h gates g is e k =
+    let same : h ≡ g = some_same h g e in
+    subst (λ x. At s x (h ∷ gates)) same ((0, omega arith, refl), equal_numbers h.out s is)
+found_first false s h gates g isnt e k = let a = k e in (more_gates h gates g a.0, a.1)
+
+pub found_gate : (s : ℕ) (gates : List GateLine) (g : GateLine) → find (λ x. x.out == s) gates ≡ Some g → At s g gates
+found_gate s [] g e = none_some g (At s g []) e
+found_gate s (h ∷ gates) g e = found_first (h.out == s) s h gates g refl e (found_gate s gates g)
+
+no_member : (X : Type 0) → false ≡ true → X
+no_member X e = cc
+
+or_two : (a b : Bool) → (a || b) ≡ true → (a ≡ true) ⊎ (b ≡ true)
+or_two true b e = inl refl
+or_two false b e = inr e
+
+pub member_at : (s : ℕ) (xs : List ℕ) → is_member s xs ≡ true → Contains xs s
+member_at s [] e = no_member (Contains [] s) e
+member_at s (x ∷ xs) e = elim (or_two (x == s) (is_member s xs) e) [
+  | inl is ↦ (0, omega arith, equal_numbers x s is)
+  | inr more ↦ let a = member_at s xs more in (a.0 + 1, omega (arith, a.1), rw add-one a.2)
+]
+
+among_operands : (c : Circuit) (s o : ℕ) (f : Option GateLine) → find (λ x. x.out == s) c.gates ≡ f → Contains (gate_operands f) o → Feeds c o s
+among_operands c s o None e among = absurd (omega (arith, among.1))
+among_operands c s o (Some g) e among = let a = found_gate s c.gates g e in (g, a.0, a.1, among)
+
+pub feeds_of : (c : Circuit) (s o : ℕ) → Contains (operands_of c s) o → Feeds c o s
+feeds_of c s o among = among_operands c s o (find (λ x. x.out == s) c.gates) refl among
+
+false_or_true : (b : Bool) → (b ≡ true → ⊥) → b ≡ false
+false_or_true true h = absurd (h refl)
+false_or_true false h = refl
+
+module _ (n : Net) (sound : IsNet n) where
+  no_input : (s : ℕ) (g : GateLine) → find (λ x. x.out == s) n.gates ≡ Some g → is_member s n.inputs ≡ false
+  no_input s g e =
+      let a = found_gate s n.gates g e in
+      false_or_true (is_member s n.inputs) (λ is.
+      let i = member_at s n.inputs is in
+      sound.apart i.0 s i.1 a.0.0 g a.0.1 (ap (λ x. x.out) a.0.2 ∙ a.1 ∙ sym i.2))
+
+  -- the leaves of a gate are its operands' leaves
+  pub gate_leaves : (s : ℕ) (g : GateLine) → find (λ x. x.out == s) n.gates ≡ Some g → below (circuit n) s ≡ flat_map (below (circuit n)) g.operands
+  gate_leaves s g e =
+      unfolds (circuit n) n.ranks sound.ranks (feeds_of (circuit n)) (List ℕ) (leaves (circuit n)) (λ t. t ∷ []) (λ f xs. flat_map f xs) flat_map_same (λ t. refl) (λ depth t. refl)
+      (length n.gates) s (deep n sound s) (no_input s g e) ∙
+      ap (λ f. flat_map (below (circuit n)) (gate_operands f)) e
+
+  -- walking a gate takes two steps beside those of its operands
+  pub gate_steps : (s : ℕ) (g : GateLine) → find (λ x. x.out == s) n.gates ≡ Some g → steps_below (circuit n) s ≡ sum_by (steps_below (circuit n)) g.operands + 2
+  gate_steps s g e =
+      unfolds (circuit n) n.ranks sound.ranks (feeds_of (circuit n)) ℕ (steps_within (circuit n)) (λ t. 1) (λ f xs. sum_by f xs + 2) (λ f h xs same. ap (λ k. k + 2) (sum_by_same f h xs same)) (λ t. refl) (λ depth t. refl)
+      (length n.gates) s (deep n sound s) (no_input s g e) ∙
+      ap (λ f. sum_by (steps_below (circuit n)) (gate_operands f) + 2) e
+
+  pub gate_inside : (s : ℕ) (g : GateLine) → find (λ x. x.out == s) n.gates ≡ Some g → All (λ o. o < length n.names) g.operands
+  gate_inside s g e =
+      let a = found_gate s n.gates g e in
+      subst (λ x. All (λ o. o < length n.names) x.operands) a.0.2 (sound.operands a.0.0 g a.0.1).0
+
+  none_here : (b : Bool) (h : GateLine) (x : Option GateLine) → cond b (Some h) x ≡ None → b ≡ false
+  none_here true h x e = cc
+  none_here false h x e = refl
+
+  either_right : (a b : Bool) → b ≡ true → (a || b) ≡ true
+  either_right true b e = refl
+  either_right false b e = e
+
+  -- a signal without a gate is an input
+  none_left : (gates : List GateLine) (s : ℕ) (g : GateLine) → find (λ x. x.out == s) gates ≡ None → (i : ℕ) → i < length gates → slice_index_or gates i g ≡ g → g.out ≡ s → ⊥
+  none_left [] s g e i low at out = absurd (omega (arith, low))
+  none_left (h ∷ gates) s g e zero low at out =
+      let other : (h.out == s) ≡ false = none_here (h.out == s) h (find (λ x. x.out == s) gates) e in
+      let same : (h.out == s) ≡ true = ap (λ y. y == s) (ap (λ x. x.out) at ∙ out) ∙ same_number s in
+      no_member ⊥ (sym other ∙ same)
+  none_left (h ∷ gates) s g e (suc i) low at out =
+      let other : (h.out == s) ≡ false = none_here (h.out == s) h (find (λ x. x.out == s) gates) e in
+      none_left gates s g (ap (λ b. cond b (Some h) (find (λ x. x.out == s) gates)) (sym other) ∙ e) i (omega (arith, low)) at out
+
+  contains_member : (xs : List ℕ) (s i : ℕ) → i < length xs → slice_index_or xs i s ≡ s → is_member s xs ≡ true
+  contains_member [] s i low at = absurd (omega (arith, low))
+  contains_member (x ∷ xs) s zero low at = ap (λ b. b || is_member s xs) (ap (λ y. y == s) at ∙ same_number s)
+  contains_member (x ∷ xs) s (suc i) low at = either_right (x == s) (is_member s xs) (contains_member xs s i (omega (arith, low)) at)
+
+  is_input : (s : ℕ) → s < length n.names → find (λ x. x.out == s) n.gates ≡ None → is_member s n.inputs ≡ true
+  is_input s low e =
+      elim (sound.defined s low) [
+        | inl among ↦ contains_member n.inputs s among.0 among.1 among.2
+        | inr (g, among, out) ↦ absurd (none_left n.gates s g e among.0 among.1 among.2 out)
+      ]
+
+  leaf : (depth s : ℕ) → is_member s n.inputs ≡ true → leaves (circuit n) depth s ≡ s ∷ []
+  leaf zero s e = ap (λ b. cond b (s ∷ []) []) e
+  leaf (suc depth) s e = ap (λ b. cond b (s ∷ []) (flat_map (leaves (circuit n) depth) (operands_of (circuit n) s))) e
+
+  -- an input is its own leaf
+  pub input_leaves : (s : ℕ) → s < length n.names → find (λ x. x.out == s) n.gates ≡ None → below (circuit n) s ≡ s ∷ []
+  input_leaves s low e = leaf (length n.gates) s (is_input s low e)
+
+at_least_one : (b : Bool) (k : ℕ) → 0 < cond b 1 (k + 2)
+at_least_one true k = omega arith
+at_least_one false k = omega arith
+
+pub some_steps : (c : Circuit) (depth s : ℕ) → 0 < steps_within c depth s
+some_steps c zero s = at_least_one (is_member s c.inputs) 0
+some_steps c (suc depth) s = at_least_one (is_member s c.inputs) (sum_by (steps_within c depth) (operands_of c s))

@@ -1,0 +1,12 @@
+pub mod Ranks
+pub mod Named
+pub mod Steps
+pub mod Seconds
+pub mod Walking
+pub mod Leaves
+pub mod Walks
+pub mod Different
+pub mod Orders
+pub mod InputLevels
+pub mod OutputPairs
+pub mod NameTexts

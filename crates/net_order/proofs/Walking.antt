@@ -1,0 +1,256 @@
+-- Steps of the walk.
+use Rattle.std.proofs.Common.{◌≡◌, ℕ, zero, suc, ◌+◌, ◌<◌, ◌⊎◌, inl, inr, List, [], ◌∷◌, ◌++◌, Bool, true, false, refl, sym, ap, ◌∙◌, subst, length, arith, append_assoc, get_or, set, replicate, drop, drop-cons, add-one}
+use Rattle.std.specs.Prelude.{cond, ◌||◌, ◌==◌, fold, flat_map, reverse, All, find, Some, slice_get}
+use Rattle.std.proofs.lemmas.List.Folds.{list_any-append}
+use Rattle.std.proofs.lemmas.List.Sums.{fold-append}
+use Rattle.std.proofs.lemmas.Bool.{cases_eq}
+use Rattle.std.proofs.lemmas.List.{append-nil, length-set, length-replicate}
+use Rattle.std.proofs.lemmas.Option.{slice_get_read}
+use Rattle.std.proofs.lemmas.List.{get_or-set_other, get_or-set_same}
+use Rattle.net_bench.specs.declared.netlist.GateLine.{GateLine}
+use Rattle.net_order.specs.declared.walk.Frame.{Frame}
+use Rattle.net_order.specs.declared.walk.Frame.TheVariants.{Enter, Leave}
+use Rattle.net_order.specs.Order.{is_member, with_number}
+use Rattle.net_order.specs.Walk.{Among, pending, IsWell, entered, signal_of, IsWalking, picked}
+
+or_cases : (a b : Bool) → (a || b) ≡ true → (a ≡ true) ⊎ (b ≡ true)
+or_cases true b e = inl refl
+or_cases false b e = inr e
+
+or_left : (a b : Bool) → a ≡ true → (a || b) ≡ true
+or_left a b e = ap (λ x. x || b) e
+
+or_right : (a b : Bool) → b ≡ true → (a || b) ≡ true
+or_right true b e = refl
+or_right false b e = e
+
+pub in_append : (x : ℕ) (xs ys : List ℕ) → is_member x (xs ++ ys) ≡ (is_member x xs || is_member x ys)
+in_append x xs ys = list_any-append (λ t. t == x) xs ys
+
+pub among_same : (xs : List ℕ) → Among xs xs
+among_same xs x h = h
+
+pub among_more : (xs ys zs : List ℕ) → Among xs ys → Among (xs ++ zs) (ys ++ zs)
+among_more xs ys zs h x e =
+    in_append x ys zs ∙
+    elim (or_cases (is_member x xs) (is_member x zs) (sym (in_append x xs zs) ∙ e)) [
+      | inl l ↦ or_left (is_member x ys) (is_member x zs) (h x l)
+      | inr r ↦ or_right (is_member x ys) (is_member x zs) r
+    ]
+
+-- what was there already adds nothing
+pub among_joined : (xs ys : List ℕ) → Among ys xs → Among (xs ++ ys) xs
+among_joined xs ys h x e =
+    elim (or_cases (is_member x xs) (is_member x ys) (sym (in_append x xs ys) ∙ e)) [ inl l ↦ l | inr r ↦ h x r ]
+
+pub among_right : (xs ys : List ℕ) → Among ys (xs ++ ys)
+among_right xs ys x e = in_append x xs ys ∙ or_right (is_member x xs) (is_member x ys) e
+
+pub among_left : (xs ys : List ℕ) → Among xs (xs ++ ys)
+among_left xs ys x e = in_append x xs ys ∙ or_left (is_member x xs) (is_member x ys) e
+
+same_number : (x : ℕ) → (x == x) ≡ true
+same_number x = grind arith
+
+pub nothing_new : (found xs : List ℕ) → Among xs found → fold with_number found xs ≡ found
+nothing_new found [] h = refl
+nothing_new found (x ∷ xs) h =
+    let there : is_member x found ≡ true = h x (or_left (x == x) (is_member x xs) (same_number x)) in
+    ap (λ b. fold with_number (cond b found (found ++ x ∷ [])) xs) there ∙
+    nothing_new found xs (λ y e. h y (or_right (x == y) (is_member y xs) e))
+
+other_number : (x y : ℕ) → (x ≡ y → ⊥) → (x == y) ≡ false
+other_number x y h = grind arith
+
+not_yes : (b : Bool) → (b ≡ true → ⊥) → b ≡ false
+not_yes true h = absurd (h refl)
+not_yes false h = refl
+
+old_last : (t s : ℕ) (b : Bool) → (t ≡ s → ⊥) → (b || ((s == t) || false)) ≡ true → b ≡ true
+old_last t s b ne e = grind arith
+
+old_one : (t s : ℕ) (found : List ℕ) → (t ≡ s → ⊥) → is_member t (found ++ s ∷ []) ≡ true → is_member t found ≡ true
+old_one t s found ne e = old_last t s (is_member t found) ne (sym (in_append t found (s ∷ [])) ∙ e)
+
+no_true : false ≡ true → ⊥
+no_true e = cc
+
+module _ (leaves : ℕ → List ℕ) where
+  pub wider : (todo : List Frame) (xs ys : List ℕ) → Among xs ys → IsWell leaves todo xs → IsWell leaves todo ys
+  wider [] xs ys h w = tt
+  wider (Enter s ∷ todo) xs ys h w = wider todo (xs ++ leaves s) (ys ++ leaves s) (among_more xs ys (leaves s) h) w
+  wider (Leave s ∷ todo) xs ys h (a, w) = (λ x e. h x (a x e), wider todo xs ys h w)
+
+  -- a signal whose leaves have been found is passed
+  pub passed_well : (s : ℕ) (todo : List Frame) (found : List ℕ) → Among (leaves s) found → IsWell leaves (Enter s ∷ todo) found → IsWell leaves todo found
+  passed_well s todo found h w = wider todo (found ++ leaves s) found (among_joined found (leaves s) h) w
+
+  pub passed_rest : (s : ℕ) (todo : List Frame) (found : List ℕ) → Among (leaves s) found → fold with_number found (pending leaves (Enter s ∷ todo)) ≡ fold with_number found (pending leaves todo)
+  passed_rest s todo found h =
+      fold-append with_number found (leaves s) (pending leaves todo) ∙ ap (λ f. fold with_number f (pending leaves todo)) (nothing_new found (leaves s) h)
+
+  pub entered_pending : (os : List ℕ) (todo : List Frame) → pending leaves (entered os todo) ≡ flat_map leaves os ++ pending leaves todo
+  entered_pending [] todo = refl
+  entered_pending (o ∷ os) todo = ap (λ xs. leaves o ++ xs) (entered_pending os todo) ∙ sym (append_assoc (leaves o) (flat_map leaves os) (pending leaves todo))
+
+  pub entered_well : (os : List ℕ) (todo : List Frame) (found : List ℕ) → IsWell leaves todo (found ++ flat_map leaves os) → IsWell leaves (entered os todo) found
+  entered_well [] todo found w = wider todo (found ++ []) found (among_joined found [] (λ x e. elim (no_true e) [ ])) w
+  entered_well (o ∷ os) todo found w =
+      entered_well os todo (found ++ leaves o) (subst (IsWell leaves todo) (sym (append_assoc found (leaves o) (flat_map leaves os))) w)
+
+  -- a gate: its operands, and then the mark
+  pub opened_well : (s : ℕ) (os : List ℕ) (todo : List Frame) (found : List ℕ) → leaves s ≡ flat_map leaves os → IsWell leaves (Enter s ∷ todo) found → IsWell leaves (entered os (Leave s ∷ todo)) found
+  opened_well s os todo found e w =
+      entered_well os (Leave s ∷ todo) found
+      (subst (λ xs. Among (leaves s) (found ++ xs)) e (among_right found (leaves s)), subst (λ xs. IsWell leaves todo (found ++ xs)) e w)
+
+  pub opened_rest : (s : ℕ) (os : List ℕ) (todo : List Frame) (found : List ℕ) → leaves s ≡ flat_map leaves os →
+      fold with_number found (pending leaves (entered os (Leave s ∷ todo))) ≡ fold with_number found (pending leaves (Enter s ∷ todo))
+  opened_rest s os todo found e =
+      ap (fold with_number found) (entered_pending os (Leave s ∷ todo) ∙ ap (λ xs. xs ++ pending leaves todo) (sym e))
+
+  -- ---- the four ways of a step
+
+  module _ (count : ℕ) (goal : List ℕ) where
+    abbrev Inside : List Frame → Type 0
+    Inside todo = All (λ f. signal_of f < count) todo
+
+    rest_all : (P : Frame → Type 0) (f : Frame) (todo : List Frame) → All P (f ∷ todo) → All P todo
+    rest_all P f todo h i d low = subst P (rw add-one refl) (h (i + 1) d (omega arith))
+
+    rest_inside : (f : Frame) (todo : List Frame) → Inside (f ∷ todo) → Inside todo
+    rest_inside f todo h = rest_all (λ g. signal_of g < count) f todo h
+
+    top_inside : (f : Frame) (todo : List Frame) → Inside (f ∷ todo) → signal_of f < count
+    top_inside f todo h = h 0 f (omega arith)
+
+    -- a signal is left: it is marked
+    pub left : (found : List ℕ) (marks : List Bool) (s : ℕ) (todo : List Frame) →
+        IsWalking leaves count goal found marks (Leave s ∷ todo) → IsWalking leaves count goal found (set marks s true) todo
+    left found marks s todo w =
+        let in_marks : s < length marks = omega (arith, w.len, top_inside (Leave s) todo w.inside) in
+        record {
+          len = length-set marks s true ∙ w.len;
+          leads = w.leads;
+          marked = λ t low e. elim (cases_eq t s) [
+            | inl same ↦ subst (λ x. Among (leaves x) found) (sym same) w.well.0
+            | inr ne ↦ w.marked t low (sym (get_or-set_other marks s t true false ne) ∙ e)
+          ];
+          kept = λ t low e. elim (cases_eq t s) [
+            | inl same ↦ ap (λ x. get_or (set marks s true) x false) same ∙ get_or-set_same marks s true false in_marks
+            | inr ne ↦ get_or-set_other marks s t true false ne ∙ w.kept t low e
+          ];
+          well = w.well.1;
+          inside = rest_inside (Leave s) todo w.inside;
+        }
+
+    -- a signal with a mark is passed
+    pub passed : (found : List ℕ) (marks : List Bool) (s : ℕ) (todo : List Frame) → get_or marks s false ≡ true →
+        IsWalking leaves count goal found marks (Enter s ∷ todo) → IsWalking leaves count goal found marks todo
+    passed found marks s todo e w =
+        let there : Among (leaves s) found = w.marked s (top_inside (Enter s) todo w.inside) e in
+        record {
+          len = w.len;
+          leads = sym (passed_rest s todo found there) ∙ w.leads;
+          marked = w.marked;
+          kept = w.kept;
+          well = passed_well s todo found there w.well;
+          inside = rest_inside (Enter s) todo w.inside;
+        }
+
+    entered_inside : (os : List ℕ) (todo : List Frame) → All (λ o. o < count) os → Inside todo → Inside (entered os todo)
+    entered_inside [] todo h k i d low = k i d low
+    entered_inside (o ∷ os) todo h k zero d low = h zero o (omega arith)
+    entered_inside (o ∷ os) todo h k (suc i) d low =
+        entered_inside os todo (λ j e b. subst (λ x. x < count) (rw add-one refl) (h (j + 1) e (omega arith))) k i d (omega arith)
+
+    left_inside : (s : ℕ) (todo : List Frame) → Inside (Enter s ∷ todo) → Inside (Leave s ∷ todo)
+    left_inside s todo h zero d low = h zero d (omega arith)
+    left_inside s todo h (suc i) d low = h (suc i) d low
+
+    -- a gate is opened: its operands are entered, and then it is left
+    pub opened : (found : List ℕ) (marks : List Bool) (s : ℕ) (os : List ℕ) (todo : List Frame) → leaves s ≡ flat_map leaves os → All (λ o. o < count) os →
+        IsWalking leaves count goal found marks (Enter s ∷ todo) → IsWalking leaves count goal found marks (entered os (Leave s ∷ todo))
+    opened found marks s os todo e low w = record {
+      len = w.len;
+      leads = opened_rest s os todo found e ∙ w.leads;
+      marked = w.marked;
+      kept = w.kept;
+      well = opened_well s os todo found e w.well;
+      inside = entered_inside os (Leave s ∷ todo) low (left_inside s todo w.inside);
+    }
+
+    -- an input without a mark has not been found
+    met_rest : (found : List ℕ) (marks : List Bool) (s : ℕ) (todo : List Frame) → leaves s ≡ s ∷ [] → get_or marks s false ≡ false →
+        IsWalking leaves count goal found marks (Enter s ∷ todo) →
+        fold with_number (found ++ s ∷ []) (pending leaves todo) ≡ fold with_number found (pending leaves (Enter s ∷ todo))
+    met_rest found marks s todo e h w =
+        let new : is_member s found ≡ false = not_yes (is_member s found) (λ yes. no_true (sym h ∙ w.kept s (top_inside (Enter s) todo w.inside) yes)) in
+        sym (
+        ap (λ xs. fold with_number found (xs ++ pending leaves todo)) e ∙
+        ap (λ b. fold with_number (cond b found (found ++ s ∷ [])) (pending leaves todo)) new
+        )
+
+    -- an input without a mark is put at the end of what has been found, and marked
+    pub found_input : (found : List ℕ) (marks : List Bool) (s : ℕ) (todo : List Frame) → leaves s ≡ s ∷ [] → get_or marks s false ≡ false →
+        IsWalking leaves count goal found marks (Enter s ∷ todo) → IsWalking leaves count goal (found ++ s ∷ []) (set marks s true) todo
+    found_input found marks s todo e h w =
+        let in_marks : s < length marks = omega (arith, w.len, top_inside (Enter s) todo w.inside) in
+        record {
+          len = length-set marks s true ∙ w.len;
+          leads = met_rest found marks s todo e h w ∙ w.leads;
+          marked = λ t low k. elim (cases_eq t s) [
+            | inl same ↦ subst (λ xs. Among xs (found ++ s ∷ [])) (sym e ∙ ap leaves (sym same)) (among_right found (s ∷ []))
+            | inr ne ↦ λ x j. among_left found (s ∷ []) x (w.marked t low (sym (get_or-set_other marks s t true false ne) ∙ k) x j)
+          ];
+          kept = λ t low k. elim (cases_eq t s) [
+            | inl same ↦ ap (λ x. get_or (set marks s true) x false) same ∙ get_or-set_same marks s true false in_marks
+            | inr ne ↦ get_or-set_other marks s t true false ne ∙ w.kept t low (old_one t s found ne k)
+          ];
+          well = subst (λ xs. IsWell leaves todo (found ++ xs)) e w.well;
+          inside = rest_inside (Enter s) todo w.inside;
+        }
+
+    no_mark : (n s : ℕ) → get_or (replicate n false) s false ≡ true → ⊥
+    no_mark zero s e = no_true e
+    no_mark (suc n) zero e = no_true e
+    no_mark (suc n) (suc s) e = no_mark n s e
+
+    -- nothing has been found, and the outputs are to be entered
+    pub started : (outs : List ℕ) → fold with_number [] (flat_map leaves outs) ≡ goal → All (λ s. s < count) outs →
+        IsWalking leaves count goal [] (replicate count false) (entered outs [])
+    started outs e inside = record {
+      len = length-replicate count false;
+      leads = ap (fold with_number []) (entered_pending outs [] ∙ append-nil (flat_map leaves outs)) ∙ e;
+      marked = λ s low h. absurd (no_mark count s h);
+      kept = λ s low h. absurd (no_true h);
+      well = entered_well outs [] [] tt;
+      inside = entered_inside outs [] inside (λ i d low. absurd (omega arith));
+    }
+
+-- ---- the table of gates
+
+gate_found : (b : Bool) (g : GateLine) (x y : Rattle.std.specs.Prelude.Option GateLine) → b ≡ true → y ≡ Some g → cond b (Some g) x ≡ y
+gate_found b g x y e h = ap (λ v. cond v (Some g) x) e ∙ sym h
+
+pub gate_kept : (gates : List GateLine) (table : List ℕ) (i k x count : ℕ) (g : GateLine) → i ≡ suc k → k < length gates → g ≡ get_or gates k g → x ≡ g.out → x < length table →
+    ((s : ℕ) → s < count → find (λ h. h.out == s) (drop i gates) ≡ picked gates (get_or table s 0)) →
+    (s : ℕ) → s < count → find (λ h. h.out == s) (drop k gates) ≡ picked gates (get_or (set table x i) s 0)
+gate_kept gates table i k x count g is_i low at out inside each s below =
+    let here : drop k gates ≡ g ∷ drop i gates = drop-cons gates k g low ∙ ap (λ y. y ∷ drop (suc k) gates) (sym at) ∙ ap (λ j. g ∷ drop j gates) (sym is_i) in
+    ap (find (λ h. h.out == s)) here ∙
+    elim (cases_eq s x) [
+      | inl same ↦
+          let yes : (g.out == s) ≡ true = ap (λ y. g.out == y) (same ∙ out) ∙ same_number g.out in
+          let value : get_or (set table x i) s 0 ≡ suc k = ap (λ y. get_or (set table x i) y 0) same ∙ get_or-set_same table x i 0 inside ∙ is_i in
+          let place : slice_get gates k ≡ Some g = slice_get_read gates (length gates) k g refl low at in
+          gate_found (g.out == s) g (find (λ h. h.out == s) (drop i gates)) (picked gates (get_or (set table x i) s 0)) yes (ap (picked gates) value ∙ place)
+      | inr ne ↦
+          let no : (g.out == s) ≡ false = other_number g.out s (λ e. ne (sym e ∙ sym out)) in
+          ap (λ b. cond b (Some g) (find (λ h. h.out == s) (drop i gates))) no ∙ each s below ∙ ap (picked gates) (sym (get_or-set_other table x s i 0 ne))
+    ]
+
+pub same_mark : (marks : List Bool) (i : ℕ) (d e : Bool) → i < length marks → get_or marks i d ≡ get_or marks i e
+same_mark [] i d e h = absurd (omega (arith, h))
+same_mark (m ∷ ms) zero d e h = refl
+same_mark (m ∷ ms) (suc i) d e h = same_mark ms i d e (omega (arith, h))

@@ -1,0 +1,66 @@
+-- Worked orders, computed.
+use Rattle.std.specs.Prelude.{◌≡◌, ℕ, List, [], ◌∷◌, codes, refl, map, Result, Ok, Err, Some}
+use Rattle.net_bench.specs.declared.netlist.BenchFault.{BenchFault}
+use Rattle.net_bench.specs.Pieces.{pieces_in, tokens_in}
+use Rattle.net_bench.specs.Statement.{Statement}
+use Rattle.net_bench.specs.Circuit.{Circuit, circuit_of}
+use Rattle.net_bench.specs.Judge.{judge, answer}
+use Rattle.net_order.specs.declared.order.Match.TheVariants.{Name, Position}
+use Rattle.net_order.specs.Order.{declared, by_depth, bad_place, IsListing, output_pairs, only_in}
+
+abbrev read : Result (List Statement) BenchFault → Circuit
+read (Ok ss) = circuit_of ss
+read (Err f) = circuit_of []
+
+abbrev netlist : List ℕ → Circuit
+netlist text = read (answer text)
+
+abbrev c17 : List ℕ
+c17 = codes "INPUT(1)\nINPUT(2)\nINPUT(3)\nINPUT(6)\nINPUT(7)\nOUTPUT(22)\nOUTPUT(23)\n10 = NAND(1, 3)\n11 = NAND(3, 6)\n16 = NAND(2, 11)\n19 = NAND(11, 7)\n22 = NAND(10, 16)\n23 = NAND(16, 19)\n"
+
+declared_c17 : declared Name (netlist c17) (netlist c17) ≡ map (λ d. d ∷ []) (codes "12367")
+unfolding tokens_in pieces_in judge
+declared_c17 = refl
+
+depth_c17 : by_depth Name (netlist c17) (netlist c17) ≡ map (λ d. d ∷ []) (codes "13267")
+unfolding tokens_in pieces_in judge
+depth_c17 = refl
+
+-- by name the inputs are joined; by position they are the first netlist's
+joined : declared Name (netlist (codes "INPUT(a) OUTPUT(a)")) (netlist (codes "INPUT(x) OUTPUT(a) a = BUFF(x)")) ≡ map (λ d. d ∷ []) (codes "ax")
+unfolding tokens_in pieces_in judge
+joined = refl
+
+across : declared Position (netlist (codes "INPUT(a) OUTPUT(a)")) (netlist (codes "INPUT(x) OUTPUT(a) a = BUFF(x)")) ≡ map (λ d. d ∷ []) (codes "a")
+unfolding tokens_in pieces_in judge
+across = refl
+
+-- the second's inputs are met in its own order, under the first's names; the first's gate comes later in its text than its use
+crossed : by_depth Position (netlist (codes "INPUT(a) INPUT(b) INPUT(c) OUTPUT(b)")) (netlist (codes "INPUT(x) INPUT(y) INPUT(z) OUTPUT(f) f = AND(g, y) g = NOT(z)")) ≡ map (λ d. d ∷ []) (codes "bca")
+unfolding tokens_in pieces_in judge
+crossed = refl
+
+-- outputs that only one netlist has
+lone : output_pairs Name (netlist (codes "INPUT(a) OUTPUT(a) OUTPUT(b) b = NOT(a)")) (netlist (codes "INPUT(a) OUTPUT(c) OUTPUT(a) c = NOT(a)")) ≡ (0, 0) ∷ []
+unfolding tokens_in pieces_in judge
+lone = refl
+
+lone_first : only_in Name (netlist (codes "INPUT(a) OUTPUT(a) OUTPUT(b) b = NOT(a)")) (netlist (codes "INPUT(a) OUTPUT(c) OUTPUT(a) c = NOT(a)")) ≡ 1 ∷ []
+unfolding tokens_in pieces_in judge
+lone_first = refl
+
+abbrev six : List (List ℕ)
+six = map (λ d. 120 ∷ d ∷ []) (codes "123456")
+
+repeated : bad_place six [] (map (λ d. 120 ∷ d ∷ []) (codes "1213456")) 1 ≡ Some 3
+repeated = refl
+
+short : bad_place six [] (map (λ d. 120 ∷ d ∷ []) (codes "12")) 1 ≡ Some 3
+short = refl
+
+-- one name too many is at its own place
+long : bad_place six [] (map (λ d. 120 ∷ d ∷ []) (codes "1234561")) 1 ≡ Some 7
+long = refl
+
+fits : IsListing six (map (λ d. 120 ∷ d ∷ []) (codes "135246"))
+fits = refl

@@ -1,0 +1,6 @@
+pub mod Order
+pub mod Fault
+pub mod OrderText
+pub mod Tables
+pub mod Walk
+pub mod Examples

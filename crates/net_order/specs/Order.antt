@@ -1,0 +1,200 @@
+-- The order of the variables of two netlists.
+use Rattle.std.specs.Prelude.{◌≡◌, ◌<◌, ◌≤◌, ℕ, zero, suc, ◌+◌, ◌==◌, Bool, not, ◌&&◌, if◌then◌else◌, List, [], ◌∷◌, ◌++◌, map, fold, length, flat_map, find, zip, unwrap_or, Option, Some, None, nat_lt, slice_index, All}
+use Rattle.std.specs.List.{list_any, slice_index_or}
+use Rattle.net_bench.specs.declared.netlist.GateLine.{GateLine}
+use Rattle.net_bench.specs.Circuit.{Circuit, is_name_in, distinct, find as number}
+use Rattle.net_order.specs.declared.order.Match.{Match}
+use Rattle.net_order.specs.declared.order.Match.TheVariants.{Name, Position}
+use Rattle.net_order.specs.declared.order.Order.{Order}
+use Rattle.net_order.specs.declared.order.Order.TheVariants.{Declared, Depth, Listed}
+use Rattle.net_order.specs.declared.order.OrderFault.{OrderFault}
+use Rattle.net_order.specs.declared.order.OrderFault.TheVariants.{CountsDiffer, NotAPermutation, TooManyInputs, OutOfMemory, BadName, TooLong, Read}
+
+-- The name of a signal.
+abbrev pub name_of : Circuit → ℕ → List ℕ
+name_of c s = slice_index_or c.names s []
+
+-- The names of signals, in their order.
+abbrev pub names_of : Circuit → List ℕ → List (List ℕ)
+names_of c ss = map (name_of c) ss
+
+-- Whether the number stands in the list.
+abbrev pub is_member : ℕ → List ℕ → Bool
+is_member s ss = list_any (λ t. t == s) ss
+
+-- ---- the inputs below the outputs
+
+-- The operands of a gate that was looked for, none where there is no gate.
+abbrev pub gate_operands : Option GateLine → List ℕ
+gate_operands None = []
+gate_operands (Some g) = g.operands
+
+-- The operands of the signal's gate, none for an input.
+abbrev pub operands_of : Circuit → ℕ → List ℕ
+operands_of c s = gate_operands (find (λ g. g.out == s) c.gates)
+
+-- The inputs below a signal, operands from left to right, as often as they are met. The first number bounds the depth.
+abbrev pub leaves : Circuit → ℕ → ℕ → List ℕ
+leaves c zero s = if is_member s c.inputs then s ∷ [] else []
+leaves c (suc depth) s = if is_member s c.inputs then s ∷ [] else flat_map (leaves c depth) (operands_of c s)
+
+-- The inputs below a signal: no chain of operands is longer than the number of gates.
+abbrev pub below : Circuit → ℕ → List ℕ
+below c s = leaves c (length c.gates) s
+
+-- The inputs below the outputs, as often as they are met.
+abbrev pub all_leaves : Circuit → List ℕ
+all_leaves c = flat_map (below c) c.outputs
+
+-- The list with the number at its end, unless it is there.
+abbrev pub with_number : List ℕ → ℕ → List ℕ
+with_number ss s = if is_member s ss then ss else ss ++ s ∷ []
+
+-- The inputs below the outputs, each where it is met first.
+abbrev pub met : Circuit → List ℕ
+met c = fold with_number [] (all_leaves c)
+
+-- ---- variables
+
+-- There are at most so many variables.
+abbrev pub max_variables : ℕ
+max_variables = 4096
+
+-- The number in the second list at the first place where the first list has s.
+abbrev pub partner : List ℕ → List ℕ → ℕ → ℕ
+partner [] ts s = 0
+partner (x ∷ xs) [] s = 0
+partner (x ∷ xs) (t ∷ ts) s = if x == s then t else partner xs ts s
+
+-- The variable of an input of the second netlist. By position, input i of both is one variable, with the first netlist's name.
+abbrev pub second_name : Match → Circuit → Circuit → ℕ → List ℕ
+second_name Name a b s = name_of b s
+second_name Position a b s = name_of a (partner b.inputs a.inputs s)
+
+-- The variables of inputs of the second netlist, in their order.
+abbrev pub second_names : Match → Circuit → Circuit → List ℕ → List (List ℕ)
+second_names how a b ss = map (second_name how a b) ss
+
+-- The names of all inputs, the first netlist's and then the second's, as often as they stand.
+abbrev pub input_names : Match → Circuit → Circuit → List (List ℕ)
+input_names how a b = names_of a a.inputs ++ second_names how a b b.inputs
+
+-- The variables: the first netlist's inputs, then the second's that are not there yet.
+abbrev pub declared : Match → Circuit → Circuit → List (List ℕ)
+declared how a b = distinct (input_names how a b)
+
+-- The inputs as they are met below the first netlist's outputs, then below the second's, then the others as they are declared.
+abbrev pub by_depth : Match → Circuit → Circuit → List (List ℕ)
+by_depth how a b = distinct (names_of a (met a) ++ second_names how a b (met b) ++ input_names how a b)
+
+-- The names of the variables in the order that is asked for, from level 0 on.
+abbrev pub ordered : Match → Circuit → Circuit → Order → List (List ℕ)
+ordered how a b Declared = declared how a b
+ordered how a b Depth = by_depth how a b
+ordered how a b (Listed names) = names
+
+-- ---- a list of names
+
+-- The first place, counted on from the number given, at which a name is no variable or stood before; one past the end where names are missing.
+abbrev pub bad_place : List (List ℕ) → List (List ℕ) → List (List ℕ) → ℕ → Option ℕ
+bad_place variables before [] place = if nat_lt (length before) (length variables) then Some place else None
+bad_place variables before (n ∷ ns) place =
+    if is_name_in variables n && not (is_name_in before n) then bad_place variables (before ++ n ∷ []) ns (place + 1) else Some place
+
+-- The list has each variable's name exactly once.
+abbrev pub IsListing : List (List ℕ) → List (List ℕ) → Type 0
+IsListing variables names = bad_place variables [] names 1 ≡ None
+
+-- ---- outputs
+
+-- The signal, where it is an output.
+abbrev pub where_output : Circuit → Option ℕ → Option ℕ
+where_output c None = None
+where_output c (Some t) = if is_member t c.outputs then Some t else None
+
+-- The output of this name.
+abbrev pub output_named : Circuit → List ℕ → Option ℕ
+output_named c n = where_output c (number c.names n)
+
+-- The pairs behind the pair of a signal and its partner, where it has one.
+abbrev pub with_pair : ℕ → Option ℕ → List (ℕ × ℕ) → List (ℕ × ℕ)
+with_pair s None ps = ps
+with_pair s (Some t) ps = (s, t) ∷ ps
+
+-- By name: the outputs that both have, in the first netlist's order.
+abbrev pub pairs_by_name : Circuit → Circuit → List ℕ → List (ℕ × ℕ)
+pairs_by_name a b [] = []
+pairs_by_name a b (s ∷ ss) = with_pair s (output_named b (name_of a s)) (pairs_by_name a b ss)
+
+-- The outputs that are compared. By position: output i of both.
+abbrev pub output_pairs : Match → Circuit → Circuit → List (ℕ × ℕ)
+output_pairs Name a b = pairs_by_name a b a.outputs
+output_pairs Position a b = zip a.outputs b.outputs
+
+-- The signals behind a signal that has no partner.
+abbrev pub without_pair : ℕ → Option ℕ → List ℕ → List ℕ
+without_pair s None ss = s ∷ ss
+without_pair s (Some t) ss = ss
+
+-- The signals among these whose name no output of the other netlist has.
+abbrev pub unmatched : Circuit → Circuit → List ℕ → List ℕ
+unmatched a b [] = []
+unmatched a b (s ∷ ss) = without_pair s (output_named b (name_of a s)) (unmatched a b ss)
+
+-- The outputs of one netlist that are in no pair.
+abbrev pub only_in : Match → Circuit → Circuit → List ℕ
+only_in Name a b = unmatched a b a.outputs
+only_in Position a b = []
+
+-- ---- levels
+
+-- A variable's level is its place among the names.
+abbrev pub level_of : List (List ℕ) → List ℕ → ℕ
+level_of names n = unwrap_or (number names n) 0
+
+-- ---- what is answered
+
+-- By position, the numbers of inputs and of outputs agree.
+abbrev pub AreCounted : Match → Circuit → Circuit → Type 0
+AreCounted Name a b = Unit {0}
+AreCounted Position a b = (length a.inputs ≡ length b.inputs) × (length a.outputs ≡ length b.outputs)
+
+-- A list that is asked for has each variable's name exactly once.
+abbrev pub IsFit : Match → Circuit → Circuit → Order → Type 0
+IsFit how a b Declared = Unit {0}
+IsFit how a b Depth = Unit {0}
+IsFit how a b (Listed names) = IsListing (declared how a b) names
+
+-- A pairing as its users see it: the variables by level, and by signal the level of an input of each netlist.
+pub record Paired : Type 0 where
+  pub names : List (List ℕ)
+  pub first : List ℕ
+  pub second : List ℕ
+  pub pairs : List (ℕ × ℕ)
+  pub only_first : List ℕ
+  pub only_second : List ℕ
+
+-- This is the pairing of two netlists: its variables are few and in the order that is asked for, each input has its variable's level,
+-- and its outputs are the pairs and those that are in none.
+pub record IsPairing (how : Match) (a b : Circuit) (order : Order) (p : Paired) : Type 0 where
+  pub counted : AreCounted how a b
+  pub few : length (declared how a b) ≤ max_variables
+  pub fit : IsFit how a b order
+  pub names : p.names ≡ ordered how a b order
+  pub first : All (λ s. slice_index p.first s ≡ level_of (ordered how a b order) (name_of a s)) a.inputs
+  pub second : All (λ s. slice_index p.second s ≡ level_of (ordered how a b order) (second_name how a b s)) b.inputs
+  pub pairs : p.pairs ≡ output_pairs how a b
+  pub only_first : p.only_first ≡ only_in how a b
+  pub only_second : p.only_second ≡ only_in how b a
+
+-- Why there is no pairing, each cause only where none comes before it. Want of memory is said apart.
+abbrev pub IsRefused : Match → Circuit → Circuit → Order → OrderFault → Type 0
+IsRefused how a b order CountsDiffer = AreCounted how a b → ⊥
+IsRefused how a b order TooManyInputs = AreCounted how a b × (max_variables < length (declared how a b))
+IsRefused how a b order (NotAPermutation place) =
+    AreCounted how a b × (length (declared how a b) ≤ max_variables) ×
+    ((names : List (List ℕ)) × (order ≡ Listed names) × (bad_place (declared how a b) [] names 1 ≡ Some place))
+IsRefused how a b order OutOfMemory = ⊥
+IsRefused how a b order (BadName line) = ⊥
+IsRefused how a b order TooLong = ⊥
+IsRefused how a b order Read = ⊥

@@ -1,0 +1,14 @@
+-- What the tables of the code hold.
+use Rattle.std.specs.Prelude.{◌≡◌, ◌⊎◌, ◌<◌, ℕ, List, fold, length}
+use Rattle.net_bench.specs.Circuit.{with_name}
+use Rattle.net_order.specs.declared.order.OrderFault.{OrderFault}
+use Rattle.net_order.specs.declared.order.OrderFault.TheVariants.{TooManyInputs, OutOfMemory}
+use Rattle.net_order.specs.Order.{max_variables}
+
+-- Names, and then more, each where it is not there yet.
+abbrev pub with_names : List (List ℕ) → List (List ℕ) → List (List ℕ)
+with_names names more = fold with_name names more
+
+-- Why these names were not put together: memory ran out, or they are too many.
+abbrev pub IsOverflow : List (List ℕ) → OrderFault → Type 0
+IsOverflow names fault = (fault ≡ OutOfMemory) ⊎ ((fault ≡ TooManyInputs) × (max_variables < length names))

@@ -1,0 +1,79 @@
+-- A walk below the outputs with a stack: what holds between its steps.
+use Rattle.std.specs.Prelude.{◌≡◌, ◌==◌, ◌+◌, ◌<◌, ℕ, zero, suc, Bool, true, false, if◌then◌else◌, List, [], ◌∷◌, ◌++◌, fold, find, flat_map, length, slice_index, slice_index_or, slice_get, Option, None, All}
+use Rattle.std.specs.List.{sum_by}
+use Rattle.net_bench.specs.declared.netlist.GateLine.{GateLine}
+use Rattle.net_bench.specs.Circuit.{Circuit}
+use Rattle.net_order.specs.declared.walk.Frame.{Frame}
+use Rattle.net_order.specs.declared.walk.Frame.TheVariants.{Enter, Leave}
+use Rattle.net_order.specs.Order.{is_member, with_number, operands_of, below, met}
+
+-- What stands in the one list stands in the other.
+abbrev pub Among : List ℕ → List ℕ → Type 0
+Among xs ys = (x : ℕ) → is_member x xs ≡ true → is_member x ys ≡ true
+
+-- The leaves below a frame: a signal to enter has its own, one to leave has none left.
+abbrev pub frame_leaves : (ℕ → List ℕ) → Frame → List ℕ
+frame_leaves leaves (Enter s) = leaves s
+frame_leaves leaves (Leave s) = []
+
+-- The leaves that are still to come, from the top of the stack.
+abbrev pub pending : (ℕ → List ℕ) → List Frame → List ℕ
+pending leaves todo = flat_map (frame_leaves leaves) todo
+
+-- The signal that a frame is about.
+abbrev pub signal_of : Frame → ℕ
+signal_of (Enter s) = s
+signal_of (Leave s) = s
+
+-- Where a signal is left, its leaves have been found: those found before, and those of the frames above it.
+abbrev pub IsWell : (ℕ → List ℕ) → List Frame → List ℕ → Type 0
+IsWell leaves [] before = Unit {0}
+IsWell leaves (Enter s ∷ todo) before = IsWell leaves todo (before ++ leaves s)
+IsWell leaves (Leave s ∷ todo) before = Among (leaves s) before × IsWell leaves todo before
+
+-- The signals are to be entered, the first one first, and then what was to do.
+abbrev pub entered : List ℕ → List Frame → List Frame
+entered [] todo = todo
+entered (o ∷ os) todo = Enter o ∷ entered os todo
+
+-- Between two steps of a walk that is to find `goal`: what has been found, the marks by signal, and what is to do, from the top of
+-- the stack. The first argument gives the leaves below a signal, the second is the number of signals.
+pub record IsWalking (leaves : ℕ → List ℕ) (count : ℕ) (goal found : List ℕ) (marks : List Bool) (todo : List Frame) : Type 0 where
+  pub len : length marks ≡ count
+  pub leads : fold with_number found (pending leaves todo) ≡ goal
+  pub marked : (s : ℕ) → s < count → slice_index_or marks s false ≡ true → Among (leaves s) found
+  pub kept : (s : ℕ) → s < count → is_member s found ≡ true → slice_index_or marks s false ≡ true
+  pub well : IsWell leaves todo found
+  pub inside : All (λ f. signal_of f < count) todo
+
+-- Between two steps of the walk below the outputs of a netlist.
+abbrev pub IsWalk : Circuit → List ℕ → List Bool → List Frame → Type 0
+IsWalk c found marks todo = IsWalking (below c) (length c.names) (met c) found marks todo
+
+-- How many steps a walk below a signal takes where no mark cuts it short: one for an input, and for a gate two beside its operands'.
+-- The first number bounds the depth.
+abbrev pub steps_within : Circuit → ℕ → ℕ → ℕ
+steps_within c zero s = if is_member s c.inputs then 1 else 2
+steps_within c (suc depth) s = if is_member s c.inputs then 1 else sum_by (steps_within c depth) (operands_of c s) + 2
+
+-- How many steps a walk below a signal takes at most.
+abbrev pub steps_below : Circuit → ℕ → ℕ
+steps_below c s = steps_within c (length c.gates) s
+
+-- The steps for a frame, where the first argument gives those below a signal.
+abbrev pub frame_steps : (ℕ → ℕ) → Frame → ℕ
+frame_steps steps (Enter s) = steps s
+frame_steps steps (Leave s) = 1
+
+-- The steps that are still to come, at most.
+abbrev pub steps_left : Circuit → List Frame → ℕ
+steps_left c todo = sum_by (frame_steps (steps_below c)) todo
+
+-- The gate at a place, counted from 1, and none at 0.
+abbrev pub picked : List GateLine → ℕ → Option GateLine
+picked gates zero = None
+picked gates (suc k) = slice_get gates k
+
+-- The table has for each signal the place of its gate, counted from 1, or 0.
+abbrev pub HasGates : List GateLine → List ℕ → Type 0
+HasGates gates table = (s : ℕ) → s < length table → find (λ g. g.out == s) gates ≡ picked gates (slice_index table s)

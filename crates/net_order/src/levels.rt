@@ -1,0 +1,34 @@
+//! The levels of inputs.
+ghost use Rattle.std.specs.Prelude.{◌≡◌, ℕ, ◌<◌, length, All, IfOk, slice_index};
+ghost use Rattle.net_bench.specs.Circuit.{circuit};
+ghost use Rattle.net_order.specs.Order.{name_of, level_of};
+
+use net_bench::name_table::NameTable;
+use net_bench::netlist::Signal;
+use net_bench::reader::Netlist;
+use std::alloc::{AllocError, Global};
+
+/// By signal below `count`, the level of the variable that it is. Input i has the variable that `called[i]` of `net` names.
+pub fn levels(
+    alloc: Global,
+    table: &NameTable,
+    count: usize,
+    inputs: &[Signal],
+    net: &Netlist,
+    called: &[Signal],
+) -> Result<Vec<u32>, AllocError>
+    requires inside { All (λ s. s < count) inputs.now }
+    requires same { length inputs.now ≡ length called.now }
+    requires known { All (λ s. s < length net.now.names) called.now }
+    // an input that stands twice has one variable
+    requires clear { (i j : ℕ) → i < length inputs.now → j < length inputs.now → slice_index inputs.now i ≡ slice_index inputs.now j → slice_index called.now i ≡ slice_index called.now j }
+    ensures each { IfOk result (λ v. (k : ℕ) → k < length inputs.now →
+        slice_index v.items (slice_index inputs.now k) ≡ level_of table.now (name_of (circuit net.now) (slice_index called.now k))) }
+{
+    let mut levels = Vec::from_elem(alloc, 0u32, count)?;
+    for i in 0..inputs.len() {
+        let level = table.find(net.name(called[i])).unwrap_or(0);
+        levels[inputs[i].number() as usize] = level;
+    }
+    Ok(levels)
+}

@@ -1,0 +1,79 @@
+//! What is asked of a pairing, and why there is none.
+ghost use Rattle.std.specs.Prelude.{◌≡◌, Some};
+ghost use Rattle.net_order.specs.Fault.{order_fault_text};
+ghost use Rattle.net_order.specs.declared.order.OrderFault.TheVariants.{OutOfMemory};
+
+use crate::names::Names;
+use std::alloc::AllocError;
+use std::fmt;
+use thiserror::Error;
+
+/// How inputs and outputs of two netlists are paired.
+#[derive(Clone, Copy, Debug, PartialEq, Eq)]
+pub enum Match {
+    /// Equal names are paired.
+    Name,
+    /// Input i is paired with input i, and output i with output i.
+    Position,
+}
+
+/// The order of the variables, from the top level down.
+#[derive(Drop)]
+pub enum Order {
+    /// The first netlist's inputs as they are declared, then the second's that are not there yet.
+    Declared,
+    /// The inputs as they are met below the outputs, operands from left to right, then the others as they are declared.
+    Depth,
+    /// The names of a list, which must have each variable once.
+    Listed(Names),
+}
+
+/// Why two netlists were not paired, or an order file not read.
+#[derive(Clone, Copy, Debug, PartialEq, Eq, Error)]
+pub enum OrderFault {
+    /// By position: the netlists have different numbers of inputs or of outputs.
+    CountsDiffer,
+    /// The list does not have each variable once. The place, counted from 1, is that of the first name that is no variable or
+    /// stood before, or one past the end of a list that is short.
+    NotAPermutation { place: u32 },
+    /// There are more variables than levels.
+    TooManyInputs,
+    /// A growth was refused.
+    OutOfMemory,
+    /// An order file has something else than a name of at most 255 bytes.
+    BadName { line: u32 },
+    /// An order file has more than 67,108,864 bytes.
+    TooLong,
+    /// The device that an order file is read from has failed.
+    Read,
+}
+
+impl fmt::Display for OrderFault {
+    ghost output = { λ f. Some (order_fault_text f) };
+
+    fn fmt<W: fmt::Write>(&self, f: &mut fmt::Formatter<W>) -> fmt::Result {
+        match self {
+            OrderFault::CountsDiffer => write!(
+                f,
+                "the netlists have different numbers of inputs or outputs"
+            ),
+            OrderFault::NotAPermutation { place } => write!(
+                f,
+                "name {place} of the list does not fit"
+            ),
+            OrderFault::TooManyInputs => write!(f, "more than 4096 variables"),
+            OrderFault::OutOfMemory => write!(f, "out of memory"),
+            OrderFault::BadName { line } => write!(f, "line {line}: not a signal name"),
+            OrderFault::TooLong => write!(f, "longer than 67108864 bytes"),
+            OrderFault::Read => write!(f, "cannot be read"),
+        }
+    }
+}
+
+impl From<AllocError> for OrderFault {
+    ghost from_gives = { λ _ fault. fault ≡ OutOfMemory };
+
+    fn from(_: AllocError) -> OrderFault {
+        OrderFault::OutOfMemory
+    }
+}

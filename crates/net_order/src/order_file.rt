@@ -1,0 +1,80 @@
+//! Order files: the names of variables, from the top level down.
+ghost use Rattle.std.specs.Prelude.{◌≡◌, ◌≤◌, ◌⊎◌, ◌∷◌, ◌++◌, ℕ, [], length, map, IfOk, IfErr, IfSome, OnOk, IsTrue, MatchOption, Some, None, Err};
+ghost use Rattle.net_bench.specs.Scan.{seen};
+ghost use Rattle.net_order.specs.OrderText.{IsBadText, IsOrderText, IsReadFault, listed_name};
+
+use crate::names::Names;
+use crate::order::OrderFault;
+use net_bench::device::{Source, TextFault, read_text};
+use net_bench::scan::{Scanner, Token};
+use std::alloc::{AllocError, Global};
+
+const MAX_TEXT: usize = 67_108_864;
+
+const MAX_NAME: usize = 255;
+
+/// The name that a token of an order file is.
+fn listed_name(token: Token<'_>) -> Option<&[u8]>
+    ensures { (line : ℕ) → MatchOption result (listed_name (seen line token.entry) ≡ None) (λ name. listed_name (seen line token.entry) ≡ Some name.now) }
+{
+    match token {
+        Token::Name(name) => if name.len() <= MAX_NAME {
+            Some(name)
+        } else {
+            None
+        },
+        _ => None,
+    }
+}
+
+/// Puts a copy of the name at the end.
+fn push_name(alloc: Global, names: &mut Vec<Vec<u8>>, name: &[u8]) -> Result<(), AllocError>
+    ensures { OnOk result (map (λ n. n.items) names.new.items ≡ map (λ n. n.items) names.old.items ++ name.now ∷ []) }
+{
+    let copy = Vec::from_slice(alloc, name)?;
+    names.push(copy)?;
+    Ok(())
+}
+
+/// The names of the text.
+fn names_in(alloc: Global, text: &[u8]) -> Result<Vec<Vec<u8>>, OrderFault>
+    requires { length text.now ≤ MAX_TEXT }
+    ensures names { IfOk result (λ v. IsOrderText text.now (map (λ n. n.items) v.items)) }
+    ensures refused { IfErr result (λ fault. (fault ≡ OrderFault.OutOfMemory) ⊎ IsBadText text.now fault) }
+{
+    let mut scanner = Scanner::new(text);
+    let mut names = Vec::new(alloc);
+    'tokens: loop {
+        let (line, token) = scanner.next();
+        if let Token::End = token {
+            return Ok(names);
+        }
+        match listed_name(token) {
+            Some(name) => push_name(alloc, &mut names, name)?,
+            None => return Err(OrderFault::BadName { line }),
+        }
+    }
+}
+
+/// The names of the order file that the device gives.
+pub fn read_order<R: Source>(alloc: Global, device: &mut R) -> Result<Names, OrderFault>
+    // What is accepted is a list of names, and they are answered in its order.
+    ensures names { IfOk result (λ names. IfSome (R.remaining device.old) (λ text. IsOrderText text names)) }
+    // What is refused is too long, or has no name at the first place that is told, unless memory ran out or the device failed.
+    ensures refused { IfErr result (λ fault. (fault ≡ OrderFault.OutOfMemory) ⊎ (fault ≡ OrderFault.Read) ⊎
+        IfSome (R.remaining device.old) (λ text. IsBadText text fault)) }
+    ensures reading { IfErr result IsReadFault }
+    // Read says that the device has failed, and nothing else does.
+    ensures read { result ≡ Err OrderFault.Read → IsTrue (R.has_failed device.new) }
+    ensures kept { (result ≡ Err OrderFault.Read → ⊥) → R.has_failed device.new ≡ R.has_failed device.old }
+{
+    match read_text(alloc, device, MAX_TEXT) {
+        Ok(text) => match names_in(alloc, text.as_slice()) {
+            Ok(names) => Ok(Names::of(names)),
+            Err(fault) => Err(fault),
+        },
+        Err(TextFault::Read) => Err(OrderFault::Read),
+        Err(TextFault::TooLong) => Err(OrderFault::TooLong),
+        Err(TextFault::OutOfMemory) => Err(OrderFault::OutOfMemory),
+    }
+}

@@ -1,0 +1,127 @@
+//! The variables of two netlists, as they are declared and as they are met below the outputs.
+ghost use Rattle.std.specs.Prelude.{◌≡◌, ◌<◌, ◌≤◌, length, All, IsTrue, OnOk, IfOk, IfErr};
+ghost use Rattle.net_bench.specs.Circuit.{circuit};
+ghost use Rattle.net_order.specs.Order.{AreCounted, by_depth, declared, input_names, is_member, names_of, second_names};
+ghost use Rattle.net_order.specs.Tables.{IsOverflow, with_names};
+
+use crate::order::{Match, OrderFault};
+use crate::partners::partners;
+use crate::walk::met;
+use net_bench::name_table::NameTable;
+use net_bench::netlist::Signal;
+use net_bench::reader::Netlist;
+use std::alloc::Global;
+
+const MAX_VARIABLES: usize = 4_096;
+
+/// Puts the signals' names into the table, each where it is not there yet.
+fn add_names(
+    alloc: Global,
+    table: &mut NameTable,
+    net: &Netlist,
+    signals: &[Signal],
+) -> Result<(), OrderFault>
+    requires room { length table.old ≤ MAX_VARIABLES }
+    requires known { All (λ s. s < length net.now.names) signals.now }
+    ensures ok { OnOk result (table.new ≡ with_names table.old (names_of (circuit net.now) signals.now)) }
+    ensures few { OnOk result (length table.new ≤ MAX_VARIABLES) }
+    ensures err { IfErr result (IsOverflow (with_names table.old (names_of (circuit net.now) signals.now))) }
+{
+    for signal in signals {
+        let name = net.name(*signal);
+        table.count(alloc, name)?;
+        if table.len() > MAX_VARIABLES {
+            return Err(OrderFault::TooManyInputs);
+        }
+    }
+    Ok(())
+}
+
+/// Puts the variables of these inputs of the second netlist into the table, each where it is not there yet.
+fn add_second(
+    alloc: Global,
+    table: &mut NameTable,
+    first: &Netlist,
+    second: &Netlist,
+    how: Match,
+    signals: &[Signal],
+) -> Result<(), OrderFault>
+    requires counted { AreCounted how (circuit first.now) (circuit second.now) }
+    requires room { length table.old ≤ MAX_VARIABLES }
+    requires known { All (λ s. s < length second.now.names) signals.now }
+    requires inputs { All (λ s. IsTrue (is_member s second.now.inputs)) signals.now }
+    ensures ok { OnOk result (table.new ≡ with_names table.old (second_names how (circuit first.now) (circuit second.now) signals.now)) }
+    ensures few { OnOk result (length table.new ≤ MAX_VARIABLES) }
+    ensures err { IfErr result (IsOverflow (with_names table.old (second_names how (circuit first.now) (circuit second.now) signals.now))) }
+{
+    match how {
+        Match::Name => add_names(alloc, table, second, signals),
+        Match::Position => {
+            let called = partners(
+                alloc,
+                second.count(),
+                second.inputs(),
+                first.inputs(),
+                signals,
+            )?;
+            add_names(alloc, table, first, called.as_slice())
+        }
+    }
+}
+
+/// Puts the variables of all inputs into the table, as they are declared, each where it is not there yet.
+fn add_inputs(
+    alloc: Global,
+    table: &mut NameTable,
+    first: &Netlist,
+    second: &Netlist,
+    how: Match,
+) -> Result<(), OrderFault>
+    requires counted { AreCounted how (circuit first.now) (circuit second.now) }
+    requires room { length table.old ≤ MAX_VARIABLES }
+    ensures ok { OnOk result (table.new ≡ with_names table.old (input_names how (circuit first.now) (circuit second.now))) }
+    ensures few { OnOk result (length table.new ≤ MAX_VARIABLES) }
+    ensures err { IfErr result (IsOverflow (with_names table.old (input_names how (circuit first.now) (circuit second.now)))) }
+{
+    add_names(alloc, table, first, first.inputs())?;
+    add_second(alloc, table, first, second, how, second.inputs())
+}
+
+/// The variables in declared order.
+pub fn declared_table(
+    alloc: Global,
+    first: &Netlist,
+    second: &Netlist,
+    how: Match,
+) -> Result<NameTable, OrderFault>
+    requires { AreCounted how (circuit first.now) (circuit second.now) }
+    ensures ok { IfOk result (λ t. t ≡ declared how (circuit first.now) (circuit second.now)) }
+    ensures few { IfOk result (λ t. length t ≤ MAX_VARIABLES) }
+    ensures err { IfErr result (IsOverflow (declared how (circuit first.now) (circuit second.now))) }
+{
+    let mut table = NameTable::new(alloc);
+    add_inputs(alloc, &mut table, first, second, how)?;
+    Ok(table)
+}
+
+/// The variables in depth order.
+pub fn depth_table(
+    alloc: Global,
+    first: &Netlist,
+    second: &Netlist,
+    how: Match,
+) -> Result<NameTable, OrderFault>
+    requires counted { AreCounted how (circuit first.now) (circuit second.now) }
+    requires few { length (declared how (circuit first.now) (circuit second.now)) ≤ MAX_VARIABLES }
+    ensures ok { IfOk result (λ t. t ≡ by_depth how (circuit first.now) (circuit second.now)) }
+    ensures few { IfOk result (λ t. length t ≤ MAX_VARIABLES) }
+    ensures err { IfErr result (λ fault. fault ≡ OrderFault.OutOfMemory) }
+{
+    let mut table = NameTable::new(alloc);
+    let inputs = met(alloc, first)?;
+    add_names(alloc, &mut table, first, inputs.as_slice())?;
+    let others = met(alloc, second)?;
+    add_second(alloc, &mut table, first, second, how, others.as_slice())?;
+    add_inputs(alloc, &mut table, first, second, how)?;
+    Ok(table)
+}

@@ -1,0 +1,111 @@
+-- One level after the other, from the last.
+use Rattle.std.proofs.Common.{◌≡◌, ℕ, ◌+◌, ◌<◌, ◌≤◌, ◌⊎◌, inl, inr, Bool, List, [], length, ap, refl, sym, ◌∙◌, subst, arith, Contains}
+use Rattle.std.proofs.Math.Nat.{eq-or-lt_of_le}
+use Rattle.std.proofs.Math.ListN.{get_or-eq_default}
+use Rattle.std.proofs.lemmas.Bool.{cases_lt}
+use Rattle.expand_work.specs.declared.fault.WaveFault.{WaveFault}
+use Rattle.expand_work.specs.declared.fault.WaveFault.TheVariants.{OutOfMemory, NoWorker, Full}
+use Rattle.dd_store.specs.declared.reference.Ref.{Ref}
+use Rattle.req_table.specs.declared.Key.{Key}
+use Rattle.req_table.specs.declared.Child.{Child}
+use Rattle.req_table.specs.declared.Child.TheVariants.{Done, Ask}
+use Rattle.req_table.specs.declared.Record.{Record}
+use Rattle.dd_store.specs.Parts.Part.{node}
+use Rattle.dd_store.specs.Nodes.{Nodes, den, IsSound, count_of}
+use Rattle.dd_store.specs.View.{part, Has, Keeps}
+use Rattle.reduce_up.specs.Reducing.{IsRecordAt, IsChild, HasAnswer, IsReady, AddsDescribed, AskedBy, IsRow, IsRowReduced, IsRowWithin, IsRowFault}
+use Rattle.req_table.specs.Tables.{row_at}
+use Rattle.reduce_up.specs.Levels.{IsAsked, AreRecords, AskedInRows, AreReducedFrom, AreReduced, IsWithinFrom, IsReduceFault}
+use Rattle.reduce_up.proofs.Reduction.{record_kept, kept_meaning, adds_none}
+use Rattle.reduce_up.proofs.Noting.{nothing}
+use Rattle.dd_store.proofs.View.{kept_den, keeps-trans}
+
+ready : (start : Nodes) (rows : List (List Record)) (v : ℕ) (s : Nodes) (pairs : List (Key × Ref)) (k : Key) (bit : Bool) (c : Child) → AreReducedFrom start rows (v + 1) s pairs → IsChild start v k bit c → IsAsked rows c → IsReady pairs c
+ready start rows v s pairs k bit (Done r) d i a = tt
+ready start rows v s pairs k bit (Ask l m) d i a =
+    let lt : v < l = i.0 in
+    let fit : l < start.levels = i.1.bounded in
+    subst (HasAnswer pairs) a.2 (d.done l a.0 (omega arith) fit a.1)
+
+pub level_ready : (start : Nodes) (rows : List (List Record)) (v : ℕ) (s : Nodes) (pairs : List (Key × Ref)) → IsSound start → AreRecords start rows → v < start.levels → AreReducedFrom start rows (v + 1) s pairs → IsRow s pairs v (row_at rows v)
+level_ready start rows v s pairs S R lt d = record {
+  records = λ r c. record_kept start s S d.adds.keeps v r (R.records v r lt c);
+  low_ready = λ r c. ready start rows v s pairs r.key Bool.false r.low d (R.records v r lt c).low (R.low_asked v r lt c);
+  high_ready = λ r c. ready start rows v s pairs r.key Bool.true r.high d (R.records v r lt c).high (R.high_asked v r lt c);
+}
+
+-- what a row adds is described for the rows
+pub level_adds : (start : Nodes) (rows : List (List Record)) (v : ℕ) (s u : Nodes) → IsSound start → IsSound s → AreRecords start rows → v < start.levels →
+    AddsDescribed start s (AskedInRows start rows) → AddsDescribed s u (AskedBy s v (row_at rows v)) → AddsDescribed start u (AskedInRows start rows)
+level_adds start rows v s u S T R lt i j = record { keeps = keeps-trans start s u i.keeps j.keeps; described = λ m h. later m (j.described m h) }
+  where
+    K : Keeps start s
+    K = i.keeps
+
+    L : Keeps s u
+    L = j.keeps
+
+    earlier : (m : Ref) → Has s m → Has start m ⊎ ((w : ℕ) × (lo : Ref) × (hi : Ref) × (part s m ≡ node w lo hi) × AskedInRows start rows w (den s m)) → Has start m ⊎ ((w : ℕ) × (lo : Ref) × (hi : Ref) × (part u m ≡ node w lo hi) × AskedInRows start rows w (den u m))
+    earlier m h (inl k) = inl k
+    earlier m h (inr k) = inr (k.0, k.1, k.2, L.part_is m h ∙ k.3, (k.4.0, k.4.1, λ x hx. kept_den s u T L m h x ∙ k.4.2 x hx))
+
+    later : (m : Ref) → Has s m ⊎ ((w : ℕ) × (lo : Ref) × (hi : Ref) × (part u m ≡ node w lo hi) × AskedBy s v (row_at rows v) w (den u m)) → Has start m ⊎ ((w : ℕ) × (lo : Ref) × (hi : Ref) × (part u m ≡ node w lo hi) × AskedInRows start rows w (den u m))
+    later m (inl h) = earlier m h (i.described m h)
+    later m (inr k) =
+        let r : Record = k.4.1.0 in
+        let at : k.0 ≡ v = k.4.0 in
+        let member : Contains (row_at rows k.0) r = subst (λ w. Contains (row_at rows w) r) (sym at) k.4.1.1 in
+        let key : IsRecordAt start v r = R.records v r lt k.4.1.1 in
+        inr (k.0, k.1, k.2, k.3, (r, member, λ x hx. k.4.1.2 x (hx ∙ sym K.levels) ∙ kept_meaning start s S K r.key key.key.first key.key.second x))
+
+level_within : (start : Nodes) (rows : List (List Record)) (v : ℕ) (s u : Nodes) → IsWithinFrom start rows (v + 1) s → IsRowWithin s (row_at rows v) u → IsWithinFrom start rows v u
+level_within start rows v s u h (inl le) = inl le
+level_within start rows v s u (inl le) (inr e) = inl (subst (λ z. count_of z ≤ z.limit) (sym e.1) le)
+level_within start rows v s u (inr n) (inr e) = inr (λ w r le c. by w r (eq-or-lt_of_le le) c, e.1 ∙ n.1)
+  where
+    by : (w : ℕ) (r : Record) → (v ≡ w) ⊎ (v < w) → Contains (row_at rows w) r → ⊥
+    by w r (inl same) c = nothing r (subst (λ z. Contains z r) (ap (row_at rows) (sym same) ∙ e.0) c)
+    by w r (inr lt) c = n.0 w r (omega arith) c
+
+pub level_next : (start : Nodes) (rows : List (List Record)) (v : ℕ) (s : Nodes) (pairs : List (Key × Ref)) (u : Nodes) (pairs' : List (Key × Ref)) → IsSound start → AreRecords start rows → v < start.levels →
+    AreReducedFrom start rows (v + 1) s pairs → IsRowReduced s pairs v (row_at rows v) (length (row_at rows v)) u pairs' → IsRowWithin s (row_at rows v) u → AreReducedFrom start rows v u pairs'
+level_next start rows v s pairs u pairs' S R lt d so within = record {
+  held = so.held;
+  adds = level_adds start rows v s u S d.held R lt d.adds so.adds;
+  answers = so.answers;
+  done = λ w r le fit c. by w r (eq-or-lt_of_le le) fit c;
+  within = level_within start rows v s u d.within within;
+}
+  where
+    by : (w : ℕ) (r : Record) → (v ≡ w) ⊎ (v < w) → w < start.levels → Contains (row_at rows w) r → HasAnswer pairs' r.key
+    by w r (inl e) fit c =
+        let c' : Contains (row_at rows v) r = subst (λ z. Contains (row_at rows z) r) (sym e) c in
+        subst (λ z. HasAnswer pairs' z.key) c'.2 (so.done c'.0 r c'.1)
+    by w r (inr l) fit c = so.more r.key (d.done w r (omega arith) fit c)
+
+-- no row is past the levels
+pub past_rows : (rows : List (List Record)) (w : ℕ) (r : Record) → length rows ≤ w → Contains (row_at rows w) r → ⊥
+past_rows rows w r le c = nothing r (subst (λ z. Contains z r) (get_or-eq_default rows [] le) c)
+
+pub none_reduced : (start : Nodes) (rows : List (List Record)) → IsSound start → AreRecords start rows → AreReducedFrom start rows start.levels start []
+none_reduced start rows S R = record {
+  held = S;
+  adds = adds_none start start (AskedInRows start rows) refl;
+  answers = λ k r c. absurd (nothing {X = Key × Ref} (k, r) c);
+  done = λ w r le lt c. absurd (omega arith);
+  within = inr (λ w r le c. past_rows rows w r (let e : length rows ≡ start.levels = R.levels in omega arith) c, refl);
+}
+
+pub all_reduced : (start : Nodes) (rows : List (List Record)) (s : Nodes) (pairs : List (Key × Ref)) → AreRecords start rows → AreReducedFrom start rows 0 s pairs → AreReduced rows s pairs
+all_reduced start rows s pairs R d = record { answers = d.answers; done = λ v r c. d.done v r (omega arith) (within v r c) c }
+  where
+    within : (v : ℕ) (r : Record) → Contains (row_at rows v) r → v < start.levels
+    within v r c =
+        let e : length rows ≡ start.levels = R.levels in
+        elim (cases_lt v start.levels) [ inl lt ↦ lt | inr le ↦ absurd (past_rows rows v r (omega arith) c) ]
+
+-- the cause of a level's refusal is one of the rows'
+pub level_fault : (rows : List (List Record)) (v : ℕ) (s : Nodes) (e : WaveFault) → IsRowFault s v (row_at rows v) e → IsReduceFault s rows e
+level_fault rows v s OutOfMemory f = tt
+level_fault rows v s NoWorker f = f
+level_fault rows v s Full f = (v, f.0, f.1, f.2)

@@ -1,0 +1,12 @@
+pub mod Keys
+pub mod Noting
+pub mod Reduction
+pub mod Levelling
+pub mod Closed
+pub mod Missing
+pub mod Below
+pub mod Entries
+pub mod Rooted
+pub mod Waving
+pub mod Applying
+pub mod Splits

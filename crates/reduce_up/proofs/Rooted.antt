@@ -1,0 +1,98 @@
+-- The requests of a list of entries.
+use Rattle.std.proofs.Common.{◌≡◌, ℕ, ◌+◌, ◌<◌, ◌⊎◌, inl, inr, Bool, true, false, not, cond, List, [], ◌∷◌, ◌++◌, length, take, get_or, Option, Some, None, refl, sym, ◌∙◌, ap, subst, arith, append_assoc, true≢false, is_some, Contains, All}
+use Rattle.std.proofs.lemmas.List.{take_more, append-nil, get_or_default}
+use Rattle.std.proofs.lemmas.List.Elements.{Contains-append_left, Contains-append_right, Contains-append_cases, All-contains}
+use Rattle.dd_store.specs.declared.reference.Ref.{Ref}
+use Rattle.dd_store.specs.Nodes.{Nodes, IsSound, IsDiagram, den}
+use Rattle.dd_store.specs.View.{Has}
+use Rattle.dd_store.proofs.Laws.{den-false, den-true}
+use Rattle.req_table.specs.declared.Op.{Op}
+use Rattle.req_table.specs.declared.Key.{Key}
+use Rattle.req_table.specs.Short.{short_of, ref_lt, op_value}
+use Rattle.req_table.specs.Keys.{key, normal_of, IsKey, meaning}
+use Rattle.req_table.proofs.Means.{Answers, short_means, op_comm}
+use Rattle.req_table.proofs.Shorts.{OnAnswer, short_is}
+use Rattle.req_table.proofs.Waved.{is_key}
+use Rattle.reduce_up.specs.Waves.{Entry, entry_value, IsEntry, HasRequest, request_of, requests_of}
+use Rattle.reduce_up.proofs.Noting.{nothing, head_in, tail_in, in_cases}
+
+-- one more entry
+requests_on : (es : List Entry) (e : Entry) → requests_of (es ++ e ∷ []) ≡ requests_of es ++ request_of (short_of e.0 e.1 e.2) e
+requests_on [] e = append-nil (request_of (short_of e.0 e.1 e.2) e)
+requests_on (d ∷ es) e =
+    ap (λ z. request_of (short_of d.0 d.1 d.2) d ++ z) (requests_on es e) ∙ sym (append_assoc (request_of (short_of d.0 d.1 d.2) d) (requests_of es) (request_of (short_of e.0 e.1 e.2) e))
+
+pub requests_more : (es : List Entry) (i : ℕ) (d : Entry) → i < length es →
+    requests_of (take (i + 1) es) ≡ requests_of (take i es) ++ request_of (short_of (get_or es i d).0 (get_or es i d).1 (get_or es i d).2) (get_or es i d)
+requests_more es i d lt = ap requests_of (take_more es i d lt) ∙ requests_on (take i es) (get_or es i d)
+
+-- a request is that of an entry
+pub of_entry : (es : List Entry) (k : Key) → Contains (requests_of es) k → (e : Entry) × Contains es e × (short_of e.0 e.1 e.2 ≡ None) × (k ≡ normal_of e.0 e.1 e.2)
+of_entry [] k c = absurd (nothing k c)
+of_entry (e ∷ es) k c =
+    elim (Contains-append_cases (request_of (short_of e.0 e.1 e.2) e) (requests_of es) k c) [
+      | inl h ↦ let m = own (short_of e.0 e.1 e.2) refl h in (e, head_in {X = Entry} e es, m.0, m.1)
+      | inr h ↦ let m = of_entry es k h in (m.0, tail_in {X = Entry} e m.0 es m.1, m.2, m.3)
+    ]
+  where
+    own : (o : Option Ref) → short_of e.0 e.1 e.2 ≡ o → Contains (request_of o e) k → (short_of e.0 e.1 e.2 ≡ None) × (k ≡ normal_of e.0 e.1 e.2)
+    own None h d = (h, elim (in_cases (normal_of e.0 e.1 e.2) k [] d) [ inl same ↦ sym same | inr i ↦ absurd (nothing k i) ])
+    own (Some r) h d = absurd (nothing k d)
+
+-- an entry that has no short answer has its request
+pub to_request : (es : List Entry) (e : Entry) → Contains es e → short_of e.0 e.1 e.2 ≡ None → Contains (requests_of es) (normal_of e.0 e.1 e.2)
+to_request [] e c long = absurd (nothing {X = Entry} e c)
+to_request (d ∷ es) e c long =
+    elim (in_cases {X = Entry} d e es c) [
+      | inl same ↦
+          let own : Contains (request_of (short_of e.0 e.1 e.2) e) (normal_of e.0 e.1 e.2) = subst (λ o. Contains (request_of o e) (normal_of e.0 e.1 e.2)) (sym long) (head_in (normal_of e.0 e.1 e.2) []) in
+          Contains-append_left (request_of (short_of d.0 d.1 d.2) d) (requests_of es) (normal_of e.0 e.1 e.2)
+          (subst (λ (z : Entry). Contains (request_of (short_of z.0 z.1 z.2) z) (normal_of e.0 e.1 e.2)) (sym same) own)
+      | inr i ↦ Contains-append_right (request_of (short_of d.0 d.1 d.2) d) (requests_of es) (normal_of e.0 e.1 e.2) (to_request es e i long)
+    ]
+
+-- what holds of each element of a list
+pub all_of : {X : Type 0} (P : X → Type 0) (xs : List X) → ((x : X) → Contains xs x → P x) → All P xs
+all_of P xs h k d lt = h (get_or xs k d) (k, lt, get_or_default xs k (get_or xs k d) d lt)
+
+-- the requests of entries of a store are keys of it
+pub requests_good : (S : Nodes) (es : List Entry) → All (IsEntry S) es → All (IsKey S) (requests_of es)
+requests_good S es h =
+    all_of (IsKey S) (requests_of es)
+    (λ k c.
+    let e = of_entry es k c in
+    let i : IsEntry S e.0 = All-contains (IsEntry S) es e.0 h e.1 in
+    subst (IsKey S) (sym e.3) (is_key S e.0.0 e.0.1 e.0.2 i.0 i.1 e.2))
+
+-- the normal key asks for what the entry asks for
+pub normal_means : (S : Nodes) (e : Entry) (x : List Bool) → meaning S (normal_of e.0 e.1 e.2) x ≡ entry_value S e x
+normal_means S e x =
+    elim (ref_lt e.2 e.1) as (λ t. meaning S (cond t (key e.0 e.2 e.1) (key e.0 e.1 e.2)) x ≡ entry_value S e x) [
+      | true ↦ op_comm e.0 (den S e.2 x) (den S e.1 x)
+      | false ↦ refl
+    ]
+
+-- a short answer is the entry's diagram
+pub short_diagram : (S : Nodes) (e : Entry) → IsEntry S e → (r : Ref) → short_of e.0 e.1 e.2 ≡ Some r → IsDiagram S r (entry_value S e)
+short_diagram S e i r h = (
+  subst (OnAnswer (Has S)) h (short_is (Has S) e.0 e.1 e.2 tt tt i.0 i.1),
+  λ x hx. subst (λ o. Answers (λ r. den S r x) o (entry_value S e x)) h (short_means (λ r. den S r x) (record { at_false = den-false S x; at_true = den-true S x }) e.0 e.1 e.2),
+)
+
+-- an entry that a loop reads
+pub entry_at : (es : List Entry) (i : ℕ) (d : Entry) → i < length es → Contains es (get_or es i d)
+entry_at es i d lt = (i, lt, get_or_default es i (get_or es i d) d lt)
+
+-- one more entry's request, or none
+pub request_none : (o : Option Ref) (b : Bool) (e : Entry) → is_some o ≡ not b → b ≡ true → request_of o e ≡ normal_of e.0 e.1 e.2 ∷ []
+request_none None b e s t = refl
+request_none (Some r) b e s t = absurd (true≢false (s ∙ ap not t))
+
+pub request_some : (o : Option Ref) (b : Bool) (e : Entry) → is_some o ≡ not b → b ≡ false → request_of o e ≡ []
+request_some None b e s t = absurd (true≢false (sym (s ∙ ap not t)))
+request_some (Some r) b e s t = refl
+
+pub requests_next : (es : List Entry) (i : ℕ) (d : Entry) (before new after : List Key) → i < length es → before ≡ requests_of (take i es) →
+    request_of (short_of (get_or es i d).0 (get_or es i d).1 (get_or es i d).2) (get_or es i d) ≡ new → after ≡ before ++ new → after ≡ requests_of (take (i + 1) es)
+requests_next es i d before new after lt b n a =
+    a ∙ ap (λ z. z ++ new) b ∙ ap (λ z. requests_of (take i es) ++ z) (sym n) ∙ sym (requests_more es i d lt)

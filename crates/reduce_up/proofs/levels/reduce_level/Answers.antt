@@ -1,0 +1,13 @@
+use Rattle.std.proofs.Common.{arith, ◌≡◌, ◌<◌, ◌∙◌, false, length, sym}
+use Rattle.std.specs.Prelude.{◌==◌}
+use Rattle.std.proofs.lemmas.Bool.Decides.{nat_tests}
+use Rattle.dd_store.specs.Nodes.{count_of}
+use Rattle.reduce_up.proofs.Reduction.{row_over}
+use Rattle.reduce_up.proofs.levels.reduce_level.Goals as goal
+
+pub returns-then-count-limit-clause-fault : goal.returns-then-count-limit-clause-fault
+returns-then-count-limit-clause-fault c =
+    let empty : (length c.args.row.now == 0) ≡ false = sym c.is_empty.ensures ∙ c.if-is_empty.false in
+    let some : 0 < length c.args.row.now = grind (arith, nat_tests) in
+    let over : c.reduce_row.new.store.limit < count_of c.reduce_row.new.store = omega arith in
+    row_over c.reduce_row.new.store c.args.level c.args.row.now some over

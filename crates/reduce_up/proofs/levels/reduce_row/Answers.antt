@@ -1,0 +1,55 @@
+use Rattle.std.proofs.Common.{rules, ◌≡◌, ℕ, sym, subst}
+use Rattle.req_table.specs.declared.Record.{Record}
+use Rattle.reduce_up.specs.Reducing.{IsRowReduced, IsRowFault, Notes}
+use Rattle.reduce_up.proofs.Reduction.{member, none_past, record_kept, ready_more, row_stopped, row_next, row_fault}
+use Rattle.reduce_up.proofs.levels.reduce_row.Goals as goal
+
+pub reduce_record-requires-clause-record_at : goal.reduce_record-requires-clause-record_at
+reduce_record-requires-clause-record_at c =
+    let r : Record = c.entry-item.result in
+    record_kept c.args.store.now c.loop-entry.store c.requires.held c.loop-entry.invariant.adds.keeps c.args.level r
+    (c.requires.row.records r (member c.args.row.now c.loop-entry.entry-index r c.loop-entry-test.true c.entry-item.is))
+
+pub reduce_record-requires-clause-low_ready : goal.reduce_record-requires-clause-low_ready
+reduce_record-requires-clause-low_ready c =
+    let r : Record = c.entry-item.result in
+    ready_more c.args.results.now c.loop-entry.results c.loop-entry.invariant.more r.low
+    (c.requires.row.low_ready r (member c.args.row.now c.loop-entry.entry-index r c.loop-entry-test.true c.entry-item.is))
+
+pub reduce_record-requires-clause-high_ready : goal.reduce_record-requires-clause-high_ready
+reduce_record-requires-clause-high_ready c =
+    let r : Record = c.entry-item.result in
+    ready_more c.args.results.now c.loop-entry.results c.loop-entry.invariant.more r.high
+    (c.requires.row.high_ready r (member c.args.row.now c.loop-entry.entry-index r c.loop-entry-test.true c.entry-item.is))
+
+pub returns-in-Err-clause-left : goal.returns-in-Err-clause-left
+returns-in-Err-clause-left c =
+    let i : ℕ = c.loop-entry.entry-index in
+    let r : Record = c.entry-item.result in
+    none_past c.args.store.now c.args.results.now c.args.level c.args.row.now i c.reduce_record.new.store c.loop-entry.results
+    (row_stopped c.args.store.now c.args.results.now c.args.level c.args.row.now i c.loop-entry.store c.loop-entry.results c.reduce_record.new.store r
+    c.requires.held c.requires.row (member c.args.row.now i r c.loop-entry-test.true c.entry-item.is) c.loop-entry.invariant c.reduce_record.ensures.sound c.reduce_record.ensures.adds)
+
+pub returns-then-is_err-clause-left : goal.returns-then-is_err-clause-left
+returns-then-is_err-clause-left c =
+    let i : ℕ = c.loop-entry.entry-index in
+    let r : Record = c.entry-item.result in
+    let same : c.note.new.self ≡ c.loop-entry.results = search rules in
+    subst (IsRowReduced c.args.store.now c.args.results.now c.args.level c.args.row.now 0 c.reduce_record.new.store) (sym same)
+    (none_past c.args.store.now c.args.results.now c.args.level c.args.row.now i c.reduce_record.new.store c.loop-entry.results
+    (row_stopped c.args.store.now c.args.results.now c.args.level c.args.row.now i c.loop-entry.store c.loop-entry.results c.reduce_record.new.store r
+    c.requires.held c.requires.row (member c.args.row.now i r c.loop-entry-test.true c.entry-item.is) c.loop-entry.invariant c.reduce_record.ensures.sound c.reduce_record.ensures.adds))
+
+pub returns-in-Err-clause-fault : goal.returns-in-Err-clause-fault
+returns-in-Err-clause-fault c =
+    let r : Record = c.entry-item.result in
+    subst (IsRowFault c.reduce_record.new.store c.args.level c.args.row.now) (sym c.wave_fault.ensures)
+    (row_fault c.reduce_record.new.store c.args.level c.args.row.now r c.in-Err.fault (member c.args.row.now c.loop-entry.entry-index r c.loop-entry-test.true c.entry-item.is) c.in-Err.ensures.fault)
+
+pub loop-entry-preserved : goal.loop-entry-preserved
+loop-entry-preserved c =
+    let r : Record = c.entry-item.result in
+    let notes : Notes c.loop-entry.results r.key c.in-Ok.answer c.note.new.self = search rules in
+    row_next c.args.store.now c.args.results.now c.args.level c.args.row.now c.loop-entry.entry-index c.loop-entry.store c.loop-entry.results c.reduce_record.new.store r c.in-Ok.answer c.note.new.self
+    c.requires.held c.requires.row c.loop-entry-test.true c.entry-item.is c.loop-entry.invariant c.reduce_record.ensures.sound c.reduce_record.ensures.adds
+    c.in-Ok.ensures.answer notes

@@ -1,0 +1,4 @@
+pub mod Reducing
+pub mod Levels
+pub mod Recurring
+pub mod Waves

@@ -1,0 +1,84 @@
+-- Waves: lists of operations on references of a store, whose diagrams are asked for together, and what a wave leaves.
+use Rattle.std.specs.Prelude.{◌≡◌, ℕ, ◌<◌, ◌≤◌, ◌⊎◌, Bool, List, [], ◌∷◌, ◌++◌, length, Contains, Option, None, Some}
+use Rattle.std.specs.List.{AllZip}
+use Rattle.dd_store.specs.declared.reference.Ref.{Ref}
+use Rattle.dd_store.specs.Functions.{Agree, IsFixedSomehow, DependsOn}
+use Rattle.dd_store.specs.Parts.{Met}
+use Rattle.dd_store.specs.Nodes.{Nodes, den, IsDiagram, count_of}
+use Rattle.dd_store.specs.View.{part, Has}
+use Rattle.req_table.specs.declared.Op.{Op}
+use Rattle.req_table.specs.declared.Key.{Key}
+use Rattle.req_table.specs.declared.Record.{Record}
+use Rattle.req_table.specs.Keys.{key, normal_of, meaning, wave_of}
+use Rattle.req_table.specs.Settled.{IsClosure}
+use Rattle.req_table.specs.Tables.{row_at}
+use Rattle.req_table.specs.Short.{short_of}
+use Rattle.expand_work.specs.declared.fault.WaveFault.{WaveFault}
+use Rattle.expand_work.specs.declared.fault.WaveFault.TheVariants as wave_faults
+
+-- an operation and its two operands
+abbrev pub Entry : Type 0
+Entry = Op × Ref × Ref
+
+-- the function that an entry asks for
+abbrev pub entry_value : Nodes → Entry → List Bool → Bool
+entry_value s e = meaning s (key e.0 e.1 e.2)
+
+-- both operands are references of the store
+abbrev pub IsEntry : Nodes → Entry → Type 0
+IsEntry s e = Has s e.1 × Has s e.2
+
+-- an answer for each entry, in order: the diagram in the store `new` of what the entry asks for in the store `old`
+abbrev pub AnswersEach : Nodes → List Entry → Nodes → List Ref → Type 0
+AnswersEach old entries new answers = AllZip (λ e r. IsDiagram new r (entry_value old e)) entries answers
+
+-- f is the function of an entry with the bits before level v fixed, and depends on the bit of level v
+pub record IsWanted (s : Nodes) (entries : List Entry) (v : ℕ) (f : List Bool → Bool) : Type 0 where
+  pub entry : Entry
+  pub is_entry : Contains entries entry
+  pub fixed : IsFixedSomehow s.levels v (entry_value s entry) f
+  pub depends : DependsOn s.levels v f
+
+-- each node of `new` is one of `old` or lies below an answer
+abbrev pub AddsBelow : Nodes → Nodes → List Ref → Type 0
+AddsBelow old new answers = (m : Ref) → Has new m → Has old m ⊎ ((r : Ref) × Contains answers r × Met (part new) r m)
+
+-- some entry needs a request: it has no short answer
+abbrev pub HasRequest : List Entry → Type 0
+HasRequest entries = (e : Entry) × Contains entries e × (short_of e.0 e.1 e.2 ≡ None)
+
+-- the store `new` is within its limit, or there was no request and the store is as it was
+abbrev pub IsWithinLimit : Nodes → List Entry → Nodes → Type 0
+IsWithinLimit old entries new = (count_of new ≤ new.limit) ⊎ ((HasRequest entries → ⊥) × (new ≡ old))
+
+-- some function is wanted, and no reference of the store `new` denotes it
+abbrev pub LacksWanted : Nodes → List Entry → Nodes → Type 0
+LacksWanted old entries new =
+    (v : ℕ) × (f : List Bool → Bool) × IsWanted old entries v f × ((r : Ref) → Has new r → Agree new.levels (den new r) f → ⊥)
+
+-- the cause of the answer Full: there was a request, and the store has more nodes than its limit, or as many and lacks one that is wanted
+abbrev pub IsWaveFault : Nodes → List Entry → Nodes → WaveFault → Type 0
+IsWaveFault old entries new wave_faults.OutOfMemory = Unit {0}
+IsWaveFault old entries new wave_faults.NoWorker = Unit {0}
+IsWaveFault old entries new wave_faults.Full =
+    HasRequest entries × ((new.limit < count_of new) ⊎ ((count_of new ≡ new.limit) × LacksWanted old entries new))
+
+-- the request of an entry that has no short answer
+abbrev pub request_of : Option Ref → Entry → List Key
+request_of None e = normal_of e.0 e.1 e.2 ∷ []
+request_of (Some r) e = []
+
+-- the requests of a list of entries, in order
+abbrev pub requests_of : List Entry → List Key
+requests_of [] = []
+requests_of (e ∷ es) = request_of (short_of e.0 e.1 e.2) e ++ requests_of es
+
+-- r is the short answer of an entry, or what the pairs have for its request
+abbrev pub IsTakenFrom : List (Key × Ref) → Option Ref → Entry → Ref → Type 0
+IsTakenFrom pairs None e r = Contains pairs (normal_of e.0 e.1 e.2, r)
+IsTakenFrom pairs (Some s) e r = r ≡ s
+
+-- the roots' requests and all that they ask for, by level
+pub record IsClosureOf (s : Nodes) (workers : ℕ) (roots : List Key) (rows : List (List Record)) : Type 0 where
+  pub levels : length rows ≡ s.levels
+  pub closure : IsClosure (wave_of s workers) roots (row_at rows)

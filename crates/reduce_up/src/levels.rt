@@ -1,0 +1,125 @@
+//! Reduction of the records of a wave, from the last level up.
+ghost use Rattle.std.specs.Prelude.{◌≡◌, ◌<◌, ◌≤◌, length, IfOk, IfErr, OnOk, [], ◌∷◌};
+ghost use Rattle.dd_store.specs.Nodes.{IsSound, count_of};
+ghost use Rattle.reduce_up.specs.Reducing.{IsReady, IsResolved, IsRecordAt, AreAnswers, IsAnswer, AddsDescribed, AskedBy, IsRow, IsRowReduced, IsRowWithin, IsRecordFault, IsRowFault, wave_fault};
+ghost use Rattle.reduce_up.specs.Levels.{AreRecords, AskedInRows, AreReduced, IsReduceFault, IsWithinFrom};
+
+use crate::results::Results;
+use dd_store::{Ref, Store, StoreFault};
+use expand_work::WaveFault;
+use req_table::{Child, Record, Records};
+use std::alloc::Global;
+
+/// The diagram of a child.
+fn resolve(results: &Results, child: Child) -> Ref
+    requires { IsReady results.now child }
+    ensures { IsResolved results.now child result }
+{
+    match child {
+        Child::Done(answer) => answer,
+        Child::Ask { key, .. } => results.get(&key),
+    }
+}
+
+/// The diagram of a record's request, which adds at most its node.
+fn reduce_record(
+    store: &mut Store,
+    results: &Results,
+    level: u16,
+    entry: Record,
+) -> Result<Ref, StoreFault>
+    requires held { IsSound store.old }
+    requires record_at { IsRecordAt store.old level entry }
+    requires answers { AreAnswers store.old results.now }
+    requires low_ready { IsReady results.now entry.low }
+    requires high_ready { IsReady results.now entry.high }
+    ensures sound { IsSound store.new }
+    ensures answer { IfOk result (λ r. IsAnswer store.new entry.key r) }
+    ensures adds { AddsDescribed store.old store.new (AskedBy store.old level (entry ∷ [])) }
+    ensures fault { IfErr result (λ e. IsRecordFault store.new level entry.key e) }
+{
+    let low = resolve(results, entry.low);
+    let high = resolve(results, entry.high);
+    store.make(level, low, high)
+}
+
+/// The answer of a wave whose store refuses a node.
+fn wave_fault(fault: StoreFault) -> WaveFault
+    ensures { result ≡ wave_fault fault }
+{
+    match fault {
+        StoreFault::Full => WaveFault::Full,
+        StoreFault::OutOfMemory => WaveFault::OutOfMemory,
+    }
+}
+
+/// Notes the diagrams of a row of records.
+fn reduce_row(
+    store: &mut Store,
+    results: &mut Results,
+    level: u16,
+    row: &[Record],
+) -> Result<(), WaveFault>
+    requires held { IsSound store.old }
+    requires answers { AreAnswers store.old results.old }
+    requires row { IsRow store.old results.old level row.now }
+    ensures left { IsRowReduced store.old results.old level row.now 0 store.new results.new }
+    ensures whole { OnOk result (IsRowReduced store.old results.old level row.now (length row.now) store.new results.new) }
+    ensures fault { IfErr result (λ e. IsRowFault store.new level row.now e) }
+{
+    for entry in row {
+        let answer = match reduce_record(store, results, level, *entry) {
+            Ok(answer) => answer,
+            Err(fault) => return Err(wave_fault(fault)),
+        };
+        if results.note(entry.key, answer).is_err() {
+            return Err(WaveFault::OutOfMemory);
+        }
+    }
+    Ok(())
+}
+
+/// Notes the diagrams of a row, and sees that the store is within its limit where the row has records.
+fn reduce_level(
+    store: &mut Store,
+    results: &mut Results,
+    level: u16,
+    row: &[Record],
+) -> Result<(), WaveFault>
+    requires held { IsSound store.old }
+    requires answers { AreAnswers store.old results.old }
+    requires row { IsRow store.old results.old level row.now }
+    ensures left { IsRowReduced store.old results.old level row.now 0 store.new results.new }
+    ensures whole { OnOk result (IsRowReduced store.old results.old level row.now (length row.now) store.new results.new) }
+    ensures within { OnOk result (IsRowWithin store.old row.now store.new) }
+    ensures fault { IfErr result (λ e. IsRowFault store.new level row.now e) }
+{
+    if row.is_empty() {
+        return Ok(());
+    }
+    reduce_row(store, results, level, row)?;
+    if store.count() > store.limit() {
+        return Err(WaveFault::Full);
+    }
+    Ok(())
+}
+
+/// The diagram of each record's request.
+///
+/// The answer Full may also come at the first refused node, before all of a level are tried. NoWorker never comes.
+pub fn reduce(alloc: Global, store: &mut Store, records: &Records) -> Result<Results, WaveFault>
+    requires { AreRecords store.old records.now }
+    ensures sound { IsSound store.new }
+    ensures adds { AddsDescribed store.old store.new (AskedInRows store.old records.now) }
+    ensures answers { IfOk result (λ results. AreReduced records.now store.new results) }
+    ensures within { OnOk result (IsWithinFrom store.old records.now 0 store.new) }
+    ensures fault { IfErr result (λ e. IsReduceFault store.new records.now e) }
+{
+    let mut results = Results::new(alloc);
+    let mut level = store.levels();
+    while level > 0 {
+        level -= 1;
+        reduce_level(store, &mut results, level, records.level(level))?;
+    }
+    Ok(results)
+}

@@ -1,0 +1,72 @@
+-- The derived `==` of keys is equality, and what that makes of a set of keys.
+use Rattle.std.proofs.Common.{arith, if◌then◌else◌, ◌≡◌, ◌∙◌, ap, subst, sym, refl, true, false, true≢false, Bool, not, List, [], ◌∷◌, ◌++◌, IsTrue, Contains}
+use Rattle.std.proofs.lemmas.Bool.Decides.{nat_tests}
+use Rattle.std.specs.List.{list_any}
+use Rattle.indexmap.specs.IndexSet.{insert_key}
+use Rattle.std.specs.Cmp.{IsEquivalence}
+use Rattle.std.specs.Bool.{Decides}
+use Rattle.std.proofs.lemmas.Map.Views.{Contains-from_any, list_any-from_Contains}
+use Rattle.dd_store.specs.declared.reference.Ref.{Ref}
+use Rattle.dd_store.specs.declared.reference.Ref.TheVariants.{False, True, Node}
+use Rattle.dd_store.specs.declared.reference.NodeId.{NodeId}
+use Rattle.dd_store.specs.contracts.reference.NodeIdPartialEq.TheImpl.{eq-value as node_eq}
+use Rattle.dd_store.specs.contracts.reference.RefPartialEq.TheImpl.{eq-value as ref_eq}
+use Rattle.req_table.specs.declared.Op.{Op}
+use Rattle.req_table.specs.declared.Op.TheVariants.{And, Or, Xor, Nand, Nor, Xnor}
+use Rattle.req_table.specs.declared.Key.{Key}
+use Rattle.req_table.specs.Tables.{Offers}
+use Rattle.req_table.specs.contracts.OpPartialEq.TheImpl.{eq-value as op_eq}
+use Rattle.req_table.specs.contracts.KeyPartialEq.TheImpl.{eq-value}
+use Rattle.req_table.specs.contracts.KeyEq.TheImpl.Laws.{laws-law}
+
+pub op_same : (x y : Op) → op_eq.it x y ≡ true → x ≡ y
+op_same And And e = refl
+op_same Or Or e = refl
+op_same Xor Xor e = refl
+op_same Nand Nand e = refl
+op_same Nor Nor e = refl
+op_same Xnor Xnor e = refl
+op_same x y e = absurd (true≢false (sym e))
+
+pub node_same : (x y : NodeId) → node_eq.it x y ≡ true → x ≡ y
+node_same x y e =
+    let level : x.level ≡ y.level = grind (arith, nat_tests) in
+    let shard : x.shard ≡ y.shard = grind (arith, nat_tests) in
+    let index : x.index ≡ y.index = grind (arith, nat_tests) in
+    λ i. record { level = level i; shard = shard i; index = index i }
+
+pub ref_same : (x y : Ref) → ref_eq.it x y ≡ true → x ≡ y
+ref_same False False e = refl
+ref_same True True e = refl
+ref_same (Node x) (Node y) e = ap Node (node_same x y e)
+ref_same x y e = absurd (true≢false (sym e))
+
+pub key_same : (x y : Key) → eq-value.it x y ≡ true → x ≡ y
+key_same x y e =
+    let op = op_same x.op y.op (grind (arith, nat_tests)) in
+    let f = ref_same x.f y.f (grind (arith, nat_tests)) in
+    let g = ref_same x.g y.g (grind (arith, nat_tests)) in
+    λ i. record { op = op i; f = f i; g = g i }
+
+-- the laws of that `==`, for look-ups by key
+pub key_laws : IsEquivalence eq-value.it
+key_laws = laws-law
+
+pub key_decides : (x y : Key) → Decides (eq-value.it x y) (x ≡ y)
+key_decides x y = (key_same x y, λ e. ap (eq-value.it x) (sym e) ∙ key_laws.refl x)
+
+-- what a set of keys answers says whether its list has the key
+pub contains_iff : (keys : List Key) (k : Key) (r : Bool) → r ≡ list_any (eq-value.it k) keys → Decides r (Contains keys k)
+contains_iff keys k r e =
+    (λ t. Contains-from_any {eq = eq-value.it} key_same k keys (sym e ∙ t), λ m. e ∙ list_any-from_Contains key_laws k keys m)
+
+pub absent_from : (keys : List Key) (k : Key) → list_any (eq-value.it k) keys ≡ false → ¬ Contains keys k
+absent_from keys k e m = true≢false (sym (list_any-from_Contains key_laws k keys m) ∙ e)
+
+-- what an insertion answers and leaves is an offer
+pub offered : (old new : List Key) (k : Key) (fresh : Bool) → fresh ≡ not (list_any (eq-value.it k) old) → new ≡ insert_key eq-value.it old k → Offers old k fresh new
+offered old new k fresh e f =
+    elim (list_any (eq-value.it k) old) as (λ t. list_any (eq-value.it k) old ≡ t → fresh ≡ not t → new ≡ (if t then old else old ++ k ∷ []) → Offers old k fresh new) [
+      | true ↦ (λ t e' f'. subst (λ b. Offers old k b new) (sym e') (Contains-from_any {eq = eq-value.it} key_same k old t, f'))
+      | false ↦ (λ t e' f'. subst (λ b. Offers old k b new) (sym e') (absent_from old k t, f'))
+    ] refl e f

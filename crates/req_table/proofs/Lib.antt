@@ -1,0 +1,12 @@
+pub mod Lists
+pub mod Keyed
+pub mod Admits
+pub mod Items
+pub mod Fair
+pub mod Rows
+pub mod Closure
+pub mod Means
+pub mod Shorts
+pub mod Waved
+pub mod Sized
+pub mod AsksFor

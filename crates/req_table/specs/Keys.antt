@@ -1,0 +1,72 @@
+-- The keys of a store: their levels, their children, what they ask for, and the wave that they make.
+use Rattle.std.specs.Prelude.{◌≡◌, ℕ, ◌<◌, Bool, true, false, cond, min, List, Option, Some, None}
+use Rattle.dd_store.specs.declared.reference.Ref.{Ref}
+use Rattle.dd_store.specs.Graph.{top}
+use Rattle.dd_store.specs.Nodes.{Nodes, cofactor_of, den}
+use Rattle.dd_store.specs.View.{Has}
+use Rattle.req_table.specs.declared.Op.{Op}
+use Rattle.req_table.specs.declared.Key.{Key}
+use Rattle.req_table.specs.declared.Child.{Child}
+use Rattle.req_table.specs.declared.Child.TheVariants.{Done, Ask}
+use Rattle.req_table.specs.declared.Record.{Record}
+use Rattle.req_table.specs.Short.{short_of, ref_lt, owner_of, op_value}
+use Rattle.req_table.specs.Wave.{Wave}
+
+abbrev pub key : Op → Ref → Ref → Key
+key op f g = record { op = op; f = f; g = g }
+
+-- the operands in order
+abbrev pub normal_of : Op → Ref → Ref → Key
+normal_of op f g = cond (ref_lt g f) (key op g f) (key op f g)
+
+-- the smaller level of the operands, in a store of n levels
+abbrev pub level_at : ℕ → Key → ℕ
+level_at n k = min (top n k.f) (top n k.g)
+
+abbrev pub level_of : Nodes → Key → ℕ
+level_of S k = level_at S.levels k
+
+-- a key of the store: it has no short answer, and its operands are in order
+pub record IsKey (S : Nodes) (k : Key) : Type 0 where
+  pub first : Has S k.f
+  pub second : Has S k.g
+  pub long : short_of k.op k.f k.g ≡ None
+  pub ordered : normal_of k.op k.f k.g ≡ k
+
+-- the function that a key asks for
+abbrev pub meaning : Nodes → Key → List Bool → Bool
+meaning S k x = op_value k.op (den S k.f x) (den S k.g x)
+
+abbrev pub ask_of : Nodes → Key → Child
+ask_of S k = Ask (level_of S k) k
+
+-- the answer of an operation where it is short, else the request
+abbrev pub answer_of : Nodes → Op → Ref → Ref → Option Ref → Child
+answer_of S op f g None = ask_of S (normal_of op f g)
+answer_of S op f g (Some r) = Done r
+
+abbrev pub child : Nodes → Op → Ref → Ref → Child
+child S op f g = answer_of S op f g (short_of op f g)
+
+-- the child of a key for the bit of its level
+abbrev pub child_of : Nodes → Key → Bool → Child
+child_of S k b = child S k.op (cofactor_of S k.f (level_of S k) b) (cofactor_of S k.g (level_of S k) b)
+
+abbrev pub owner : ℕ → Key → ℕ
+owner workers k = owner_of k.op k.f k.g workers
+
+-- a key with its children
+abbrev pub record_of : Nodes → Key → Record
+record_of S k = record { key = k; low = child_of S k false; high = child_of S k true }
+
+-- a wave over a store, of so many levels and workers
+abbrev pub wave_at : Nodes → ℕ → ℕ → Wave
+wave_at S levels workers = record {
+  scope = record { levels = levels; workers = workers; Holds = IsKey S; level = level_of S };
+  child = child_of S;
+  owner = owner workers;
+}
+
+-- the wave over a store with so many workers
+abbrev pub wave_of : Nodes → ℕ → Wave
+wave_of S workers = wave_at S S.levels workers

@@ -1,0 +1,10 @@
+pub mod Wave
+pub mod Lanes
+pub mod Reached
+pub mod Settled
+pub mod Short
+pub mod Operation
+pub mod Keys
+pub mod Meanings
+pub mod Sizes
+pub mod Tables
