@@ -274,7 +274,8 @@ fn refusals(rt: HostRuntime) -> Result<(), Fail> {
         assert_eq!(rt; answer, Err(fault), "{fault}");
         assert!(rt; written.is_empty(), "{fault}");
     }
-    assert!(rt; order_of(rt.alloc(), "x1(") == Err(OrderFault::BadName { line: 1 }));
+    let bad = order_of(rt.alloc(), "x1(");
+    assert_eq!(rt; bad.err(), Some(OrderFault::BadName { line: 1 }));
     Ok(())
 }
 

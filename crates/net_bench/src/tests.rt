@@ -120,7 +120,10 @@ fn refusals(rt: HostRuntime) -> Result<(), Fail> {
 fn unclosed(text: &[u8]) -> &[u8] {
     let mut rest = text;
     let mut left = text;
-    while let Some((byte, after)) = rest.split_first() {
+    for _ in 0..text.len() {
+        let Some((byte, after)) = rest.split_first() else {
+            break;
+        };
         rest = after;
         if *byte == b')' {
             left = after;

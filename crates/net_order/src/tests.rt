@@ -6,6 +6,7 @@ use super::order::{Match, Order, OrderFault};
 use super::order_file::read_order;
 use super::pairing::{Pairing, pair};
 use net_bench::device::{Failed, Source, Through};
+use net_bench::netlist::Signal;
 use net_bench::reader::{Netlist, parse_bench};
 use std::alloc::{AllocError, Global};
 use std::test::Fail;
@@ -50,6 +51,12 @@ fn listed(alloc: Global, net: &Netlist, file: &[u8]) -> Result<Pairing, OrderFau
     pair(alloc, net, net, Match::Name, &Order::Listed(names))
 }
 
+/// The names of a pairing in the order of the file.
+fn names_listed(alloc: Global, net: &Netlist, file: &[u8]) -> Result<Vec<u8>, OrderFault> {
+    let pairing = listed(alloc, net, file)?;
+    Ok(spelled(alloc, pairing.names())?)
+}
+
 #[test]
 fn listed_orders(rt: HostRuntime) -> Result<(), Fail> {
     let alloc = rt.alloc();
@@ -62,12 +69,16 @@ fn listed_orders(rt: HostRuntime) -> Result<(), Fail> {
         ),
     ];
     for (file, names) in accepted {
-        let pairing = listed(alloc, &net, file)?;
-        assert_eq!(rt;
-            spelled(alloc, pairing.names())?.as_slice(),
-            names.as_bytes()
-        );
+        let found = names_listed(alloc, &net, file)?;
+        assert_eq!(rt; found.as_slice(), names.as_bytes());
     }
+    Ok(())
+}
+
+#[test]
+fn refused_lists(rt: HostRuntime) -> Result<(), Fail> {
+    let alloc = rt.alloc();
+    let net = netlist(alloc, PAIRS)?;
     let refused = [
         (
             b"x1 x2 x1 x3 x4 x5 x6".as_slice(),
@@ -93,37 +104,61 @@ fn listed_orders(rt: HostRuntime) -> Result<(), Fail> {
         ),
     ];
     for (file, fault) in refused {
-        assert_eq!(rt; listed(alloc, &net, file).err(), Some(fault));
+        assert_eq!(rt; names_listed(alloc, &net, file).err(), Some(fault));
     }
     Ok(())
+}
+
+/// The names of the variables of two texts, in declared or in depth order.
+fn ordered(
+    alloc: Global,
+    first: &str,
+    second: &str,
+    how: Match,
+    depth: bool,
+) -> Result<Vec<u8>, Fail> {
+    let first = netlist(alloc, first)?;
+    let second = netlist(alloc, second)?;
+    let order = if depth { Order::Depth } else { Order::Declared };
+    let pairing = pair(alloc, &first, &second, how, &order)?;
+    Ok(spelled(alloc, pairing.names())?)
 }
 
 #[test]
 fn declared_and_depth(rt: HostRuntime) -> Result<(), Fail> {
     let alloc = rt.alloc();
     let rows = [
-        (C17, C17B, Match::Name, Order::Declared, "1 2 3 6 7 "),
-        (C17, C17B, Match::Name, Order::Depth, "1 3 2 6 7 "),
-        (C17, C17B, Match::Position, Order::Depth, "1 3 2 6 7 "),
-        (THROUGH, BUFFERED, Match::Name, Order::Declared, "a x "),
-        (BUFFERED, THROUGH, Match::Name, Order::Depth, "x a "),
-        (THROUGH, BUFFERED, Match::Position, Order::Declared, "a "),
-        (BUFFERED, THROUGH, Match::Position, Order::Depth, "x "),
+        (C17, C17B, Match::Name, false, "1 2 3 6 7 "),
+        (C17, C17B, Match::Name, true, "1 3 2 6 7 "),
+        (C17, C17B, Match::Position, true, "1 3 2 6 7 "),
+        (THROUGH, BUFFERED, Match::Name, false, "a x "),
+        (BUFFERED, THROUGH, Match::Name, true, "x a "),
+        (THROUGH, BUFFERED, Match::Position, false, "a "),
+        (BUFFERED, THROUGH, Match::Position, true, "x "),
     ];
-    for (first, second, how, order, names) in rows {
-        let pairing = pair(
-            alloc,
-            &netlist(alloc, first)?,
-            &netlist(alloc, second)?,
-            how,
-            &order,
-        )?;
-        assert_eq!(rt;
-            spelled(alloc, pairing.names())?.as_slice(),
-            names.as_bytes()
-        );
+    for (first, second, how, depth, names) in rows {
+        let found = ordered(alloc, first, second, how, depth)?;
+        assert_eq!(rt; found.as_slice(), names.as_bytes());
     }
     Ok(())
+}
+
+/// The outputs of a pairing: the first pair, and the first of each netlist that is in none.
+type Outputs = (Option<(Signal, Signal)>, Option<Signal>, Option<Signal>);
+
+fn first_outputs(pairing: &Pairing) -> Outputs {
+    (
+        pairing.output_pairs().first().copied(),
+        pairing.only_first().first().copied(),
+        pairing.only_second().first().copied(),
+    )
+}
+
+fn pair_named(first: &Netlist, second: &Netlist, name: &[u8]) -> Option<(Signal, Signal)> {
+    match (first.find(name), second.find(name)) {
+        (Some(left), Some(right)) => Some((left, right)),
+        _ => None,
+    }
 }
 
 #[test]
@@ -132,23 +167,30 @@ fn outputs(rt: HostRuntime) -> Result<(), Fail> {
     let first = netlist(alloc, C17)?;
     let second = netlist(alloc, C17C)?;
     let pairing = pair(alloc, &first, &second, Match::Name, &Order::Declared)?;
-    let both = (
-        first.find(b"22").ok_or("22")?,
-        second.find(b"22").ok_or("22")?,
-    );
-    assert_eq!(rt; pairing.output_pairs(), [both].as_slice());
-    assert_eq!(rt;
-        pairing.only_first(),
-        [first.find(b"23").ok_or("23")?].as_slice()
-    );
-    assert_eq!(rt;
-        pairing.only_second(),
-        [second.find(b"24").ok_or("24")?].as_slice()
-    );
+    let found = first_outputs(&pairing);
+    assert_eq!(rt; found.0, pair_named(&first, &second, b"22"));
+    assert_eq!(rt; found.1, first.find(b"23"));
+    assert_eq!(rt; found.2, second.find(b"24"));
+    assert_eq!(rt; pairing.output_pairs().len(), 1);
+    Ok(())
+}
+
+#[test]
+fn counts_differ(rt: HostRuntime) -> Result<(), Fail> {
+    let alloc = rt.alloc();
+    let first = netlist(alloc, C17)?;
     let short = netlist(alloc, C17_SHORT)?;
     let fault = pair(alloc, &first, &short, Match::Position, &Order::Declared).err();
     assert_eq!(rt; fault, Some(OrderFault::CountsDiffer));
     Ok(())
+}
+
+/// The levels of the only inputs of two netlists.
+fn only_levels(first: &Netlist, second: &Netlist, pairing: &Pairing) -> Option<(u32, u32)> {
+    match (first.find(b"a"), second.find(b"x")) {
+        (Some(a), Some(x)) => Some((pairing.first_level(a), pairing.second_level(x))),
+        _ => None,
+    }
 }
 
 #[test]
@@ -156,14 +198,13 @@ fn levels(rt: HostRuntime) -> Result<(), Fail> {
     let alloc = rt.alloc();
     let first = netlist(alloc, THROUGH)?;
     let second = netlist(alloc, BUFFERED)?;
-    let a = first.find(b"a").ok_or("a")?;
-    let x = second.find(b"x").ok_or("x")?;
-    let b = second.find(b"a").ok_or("a")?;
     for (how, level) in [(Match::Name, 1), (Match::Position, 0)] {
         let pairing = pair(alloc, &first, &second, how, &Order::Declared)?;
-        assert_eq!(rt; pairing.first_level(a), 0);
-        assert_eq!(rt; pairing.second_level(x), level);
-        assert_eq!(rt; pairing.output_pairs(), [(a, b)].as_slice());
+        assert_eq!(rt; only_levels(&first, &second, &pairing), Some((0, level)));
+        assert_eq!(rt;
+            first_outputs(&pairing).0,
+            pair_named(&first, &second, b"a")
+        );
         assert!(rt; pairing.only_first().is_empty() && pairing.only_second().is_empty());
     }
     Ok(())
@@ -189,26 +230,25 @@ fn chain(alloc: Global, gates: u32) -> Result<Netlist, Fail> {
 }
 
 #[test]
-fn large(rt: HostRuntime) -> Result<(), Fail> {
+fn most_inputs(rt: HostRuntime) -> Result<(), Fail> {
     let alloc = rt.alloc();
-    let most = wide(alloc, 4_096)?;
-    let pairing = pair(alloc, &most, &most, Match::Name, &Order::Depth)?;
-    assert_eq!(rt; pairing.names().len(), 4_096);
-    let more = wide(alloc, 4_097)?;
-    let fault = pair(alloc, &more, &more, Match::Name, &Order::Declared).err();
-    assert_eq!(rt; fault, Some(OrderFault::TooManyInputs));
+    for (inputs, fault) in [(4_096, None), (4_097, Some(OrderFault::TooManyInputs))] {
+        let net = wide(alloc, inputs)?;
+        assert_eq!(rt;
+            pair(alloc, &net, &net, Match::Name, &Order::Depth).err(),
+            fault
+        );
+    }
     Ok(())
 }
 
 #[test]
 fn deep(rt: HostRuntime) -> Result<(), Fail> {
     let alloc = rt.alloc();
-    let deep = chain(alloc, 10_000)?;
-    let pairing = pair(alloc, &deep, &deep, Match::Position, &Order::Depth)?;
-    assert_eq!(rt;
-        spelled(alloc, pairing.names())?.as_slice(),
-        b"a b ".as_slice()
-    );
+    let net = chain(alloc, 10_000)?;
+    let pairing = pair(alloc, &net, &net, Match::Position, &Order::Depth)?;
+    let names = spelled(alloc, pairing.names())?;
+    assert_eq!(rt; names.as_slice(), b"a b ".as_slice());
     Ok(())
 }
 
