@@ -193,7 +193,7 @@ impl Sink for Page {
     }
 }
 
-fn page(alloc: Global) -> Page {
+fn new_page(alloc: Global) -> Page {
     Page {
         held: Vec::new(alloc),
         failed: false,
@@ -246,8 +246,8 @@ fn runs(rt: HostRuntime) -> Result<(), Fail> {
             words.push(String::from_str(rt.alloc(), word)?)?;
         }
         let mut input = Through::new(text.as_bytes());
-        let mut out = page(rt.alloc());
-        let mut errors = page(rt.alloc());
+        let mut out = new_page(rt.alloc());
+        let mut errors = new_page(rt.alloc());
         let got = run_tool(
             &rt,
             rt.alloc(),
@@ -274,8 +274,8 @@ fn runs(rt: HostRuntime) -> Result<(), Fail> {
             words.push(String::from_str(rt.alloc(), word)?)?;
         }
         let mut input = Through::new("".as_bytes());
-        let mut out = page(rt.alloc());
-        let mut errors = page(rt.alloc());
+        let mut out = new_page(rt.alloc());
+        let mut errors = new_page(rt.alloc());
         let got = run_tool(
             &rt,
             rt.alloc(),

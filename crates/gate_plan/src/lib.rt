@@ -5,8 +5,6 @@ mod building;
 mod folds;
 mod inputs;
 mod steps;
-#[cfg(test)]
-mod tests;
 
 pub use building::{Built, build};
 pub use steps::{Copied, Plan, Step};

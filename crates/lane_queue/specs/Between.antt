@@ -9,17 +9,20 @@ use Rattle.req_table.specs.Lanes.{LaneLaw}
 use Rattle.lane_queue.specs.Lists.{FairLane}
 use Rattle.lane_queue.specs.Rule.{scope, blank, Has, sent_of}
 
--- some pass stands for the port p, and this is what the port sent
+-- Some pass stands for the port p, and this is what the port sent.
 abbrev pub HasSent : List View → ℕ → List Item → Type 0
 HasSent views p xs = (i : ℕ) × (v : View) × (get_elem? views i ≡ some v) × Has v p × (xs ≡ sent_of v p)
 
--- each port has a pass, and whatever its passes say it sent obeys the law and is fair, with what the owner's pass says it took
+-- Each port has a pass, and whatever the passes say that the ports sent obeys the law and is fair, with what the
+-- owner's pass says that it took.
 abbrev pub Lawful : List Item → List View → Type 0
 Lawful items views =
     (c : Terms)
     × ((p : ℕ) → p < c.workers → (xs : List Item) × HasSent views p xs)
-    × ((sent : ℕ → List Item) (i : ℕ) (o : View) → ((p : ℕ) → p < c.workers → HasSent views p (sent p)) → get_elem? views i ≡ some o → Has o c.owner
+    × ((sent : ℕ → List Item) (i : ℕ) (o : View) → ((p : ℕ) → p < c.workers → HasSent views p (sent p))
+    → get_elem? views i ≡ some o → Has o c.owner
     → LaneLaw (scope c) sent o.taken (o.left ++ items) × FairLane (scope c) sent)
 
+-- Nothing has begun in the lane, or it is lawful.
 abbrev pub Between : List Item → List View → Type 0
 Between items views = ((items ≡ []) × (views ≡ blank ∷ [])) ⊎ Lawful items views

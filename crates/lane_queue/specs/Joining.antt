@@ -16,14 +16,15 @@ use Rattle.lane_queue.specs.Line.{line_view, IsLine, IsLiveOn}
 use Rattle.lane_queue.specs.Ports.{terms_of, line_on}
 use Rattle.lane_queue.specs.PortView.{PortView, sent_to}
 
+-- What the pass knows.
 abbrev pub root_view : Root → View
 root_view r = r.pass.me.view.client
 
--- the line gave its pass away, and remembers what it knew
+-- The line gave its pass away, and remembers what it knew.
 abbrev pub Retired : Line → Line → Type 0
 Retired old new = (line_on new ≡ None) × (line_view new ≡ line_view old) × (new.ends ≡ old.ends) × (new.put ≡ old.put)
 
--- the line's pass can join the ports below it
+-- The line's pass can join that of the ports below it.
 pub record MayJoin (lane : Lane) (root : Root) (line : Line) : Type 0 where
   pub queue : IsSegPassOf lane.queue root.pass
   pub live : IsLiveOn lane.queue line.hold
@@ -34,83 +35,122 @@ pub record MayJoin (lane : Lane) (root : Root) (line : Line) : Type 0 where
   pub theirs : (root_view root).high ≢ (root_view root).terms.owner → (line_view line).taken ≡ []
   pub mine : (¬ (root_view root).terms.owner < (root_view root).high) → (root_view root).taken ≡ []
 
+-- What the pass of the ports below knows once it was joined by the next port's.
 abbrev pub JoinedTo : View → View → View
 JoinedTo v w = joined v.terms (v.high + 1) (v.sent ++ own_sent w ∷ []) (v.taken ++ w.taken) []
 
+-- The line's pass has joined, and the line is retired.
 abbrev pub HasJoined : Lane → Root → Root → Line → Line → Type 0
-HasJoined lane root root' line line' = IsSegPassOf lane.queue root'.pass × (root_view root' ≡ JoinedTo (root_view root) (line_view line)) × Retired line line'
+HasJoined lane root root' line line' =
+    IsSegPassOf lane.queue root'.pass × (root_view root' ≡ JoinedTo (root_view root) (line_view line))
+    × Retired line line'
 
+-- Each of the n lines can join.
 abbrev pub MayJoinAll : ℕ → List Lane → List Root → List Line → Type 0
-MayJoinAll n lanes roots lines = (i : ℕ) (d : Lane) (e : Root) (f : Line) → i < n → MayJoin (slice_index_or lanes i d) (slice_index_or roots i e) (slice_index_or lines i f)
+MayJoinAll n lanes roots lines =
+    (i : ℕ) (d : Lane) (e : Root) (f : Line) → i < n
+    → MayJoin (slice_index_or lanes i d) (slice_index_or roots i e) (slice_index_or lines i f)
 
+-- Each of the n lines has joined.
 abbrev pub HaveJoined : ℕ → List Lane → List Root → List Root → List Line → List Line → Type 0
 HaveJoined n lanes roots roots' lines lines' =
-    (i : ℕ) (d : Lane) (e : Root) (f : Line) → i < n → HasJoined (slice_index_or lanes i d) (slice_index_or roots i e) (slice_index_or roots' i e) (slice_index_or lines i f) (slice_index_or lines' i f)
+    (i : ℕ) (d : Lane) (e : Root) (f : Line) → i < n
+    → HasJoined (slice_index_or lanes i d) (slice_index_or roots i e) (slice_index_or roots' i e)
+    (slice_index_or lines i f) (slice_index_or lines' i f)
 
--- the first port's passes begin the joined ones
+-- The first port's passes begin the joined ones.
 abbrev pub HaveBegun : ℕ → List Lane → List Root → List Line → List Line → Type 0
 HaveBegun n lanes roots lines lines' =
     (i : ℕ) (d : Lane) (e : Root) (f : Line) → i < n
-    → IsSegPassOf (slice_index_or lanes i d).queue (slice_index_or roots i e).pass × (root_view (slice_index_or roots i e) ≡ line_view (slice_index_or lines i f)) × Retired (slice_index_or lines i f) (slice_index_or lines' i f)
+    → IsSegPassOf (slice_index_or lanes i d).queue (slice_index_or roots i e).pass
+    × (root_view (slice_index_or roots i e) ≡ line_view (slice_index_or lines i f))
+    × Retired (slice_index_or lines i f) (slice_index_or lines' i f)
 
+-- Each of the n lines has its pass.
 abbrev pub AllLive : ℕ → List Lane → List Line → Type 0
-AllLive n lanes lines = (i : ℕ) (d : Lane) (f : Line) → i < n → IsLiveOn (slice_index_or lanes i d).queue (slice_index_or lines i f).hold
+AllLive n lanes lines =
+    (i : ℕ) (d : Lane) (f : Line) → i < n
+    → IsLiveOn (slice_index_or lanes i d).queue (slice_index_or lines i f).hold
 
 -- ---- told of ports
--- what the port took from this lane
+-- What the port took from this lane.
 abbrev pub taken_on : PortView → ℕ → List Item
 taken_on p i = cond (eqb i p.number) p.taken []
 
+-- The port once it was joined: it goes with no lanes.
 abbrev pub retired : PortView → PortView
 retired p = record p { lanes = map (λ q. None) p.lanes }
 
--- the passes of one port
+-- The passes of one port, by lane.
 abbrev pub RootsOf : ℕ → PortView → List Lane → List Root → Type 0
 RootsOf workers p lanes roots =
     (i : ℕ) (d : Lane) (e : Root) → i < workers
-    → IsSegPassOf (slice_index_or lanes i d).queue (slice_index_or roots i e).pass × (root_view (slice_index_or roots i e) ≡ port (terms_of workers i p.sizes) p.number (sent_to p i) (taken_on p i))
+    → IsSegPassOf (slice_index_or lanes i d).queue (slice_index_or roots i e).pass
+    × (root_view (slice_index_or roots i e) ≡ port (terms_of workers i p.sizes) p.number (sent_to p i) (taken_on p i))
 
--- the joined pass of the lane i, of ports that this one is the next of
+-- The joined pass of the lane i, of the ports below this one.
 abbrev pub IsBelow : ℕ → PortView → ℕ → View → Type 0
-IsBelow workers p i v = IsJoined v × (v.left ≡ []) × (v.terms ≡ terms_of workers i p.sizes) × (v.high ≡ p.number) × ((i < p.number → ⊥) → v.taken ≡ [])
+IsBelow workers p i v =
+    IsJoined v × (v.left ≡ []) × (v.terms ≡ terms_of workers i p.sizes) × (v.high ≡ p.number)
+    × ((i < p.number → ⊥) → v.taken ≡ [])
 
+-- The joined passes of the ports below this one, by lane.
 abbrev pub RootsBelow : ℕ → PortView → List Lane → List Root → Type 0
 RootsBelow workers p lanes roots =
-    (i : ℕ) (d : Lane) (e : Root) → i < workers → IsSegPassOf (slice_index_or lanes i d).queue (slice_index_or roots i e).pass × IsBelow workers p i (root_view (slice_index_or roots i e))
+    (i : ℕ) (d : Lane) (e : Root) → i < workers
+    → IsSegPassOf (slice_index_or lanes i d).queue (slice_index_or roots i e).pass
+    × IsBelow workers p i (root_view (slice_index_or roots i e))
 
+-- The joined passes once this port's were joined.
 abbrev pub RootsWith : ℕ → PortView → List Lane → List Root → List Root → Type 0
 RootsWith workers p lanes roots roots' =
     (i : ℕ) (d : Lane) (e : Root) → i < workers
     → IsSegPassOf (slice_index_or lanes i d).queue (slice_index_or roots' i e).pass
-    × (root_view (slice_index_or roots' i e) ≡ joined (root_view (slice_index_or roots i e)).terms ((root_view (slice_index_or roots i e)).high + 1) ((root_view (slice_index_or roots i e)).sent ++ sent_to p i ∷ []) ((root_view (slice_index_or roots i e)).taken ++ taken_on p i) [])
+    × (root_view (slice_index_or roots' i e)
+    ≡ joined (root_view (slice_index_or roots i e)).terms ((root_view (slice_index_or roots i e)).high + 1)
+    ((root_view (slice_index_or roots i e)).sent ++ sent_to p i ∷ [])
+    ((root_view (slice_index_or roots i e)).taken ++ taken_on p i) [])
 
 -- ---- all ports
--- what the joined pass of the lane i knows, of these ports
+-- What the pass of the lane i knows once all these ports were joined.
 abbrev pub whole_view : ℕ → Sizes → List PortView → ℕ → View
-whole_view workers sizes ports i = joined (terms_of workers i sizes) (length ports) (map (λ p. sent_to p i) ports) (slice_index_or (map (λ (p : PortView). p.taken) ports) i []) []
+whole_view workers sizes ports i =
+    joined (terms_of workers i sizes) (length ports) (map (λ p. sent_to p i) ports)
+    (slice_index_or (map (λ (p : PortView). p.taken) ports) i []) []
 
+-- The passes once all these ports were joined, by lane.
 abbrev pub RootsHave : ℕ → Sizes → List PortView → List Lane → List Root → Type 0
 RootsHave workers sizes ports lanes roots =
     (length roots ≡ workers)
-    × ((i : ℕ) (d : Lane) (e : Root) → i < workers → IsSegPassOf (slice_index_or lanes i d).queue (slice_index_or roots i e).pass × (root_view (slice_index_or roots i e) ≡ whole_view workers sizes ports i))
+    × ((i : ℕ) (d : Lane) (e : Root) → i < workers
+    → IsSegPassOf (slice_index_or lanes i d).queue (slice_index_or roots i e).pass
+    × (root_view (slice_index_or roots i e) ≡ whole_view workers sizes ports i))
 
--- the ports of these lanes, by number
+-- The ports of these lanes, by number, none of them joined.
 abbrev pub ArePorts : ℕ → Sizes → List (SegId Global) → List PortView → Type 0
 ArePorts workers sizes lanes ports =
     (length ports ≡ workers)
-    × ((i : ℕ) (d : PortView) → i < workers → ((slice_index_or ports i d).lanes ≡ map (λ q. Some q) lanes) × ((slice_index_or ports i d).sizes ≡ sizes) × ((slice_index_or ports i d).number ≡ i))
+    × ((i : ℕ) (d : PortView) → i < workers
+    → ((slice_index_or ports i d).lanes ≡ map (λ q. Some q) lanes) × ((slice_index_or ports i d).sizes ≡ sizes)
+    × ((slice_index_or ports i d).number ≡ i))
 
+-- Each port is as it was but for its lanes, which are gone.
 abbrev pub AreRetired : ℕ → List PortView → List PortView → Type 0
-AreRetired workers old new = (length new ≡ workers) × ((i : ℕ) (d : PortView) → i < workers → slice_index_or new i d ≡ retired (slice_index_or old i d))
+AreRetired workers old new =
+    (length new ≡ workers)
+    × ((i : ℕ) (d : PortView) → i < workers → slice_index_or new i d ≡ retired (slice_index_or old i d))
 
--- what s sent to k, and what k took
+-- What the port s sent on the lane k.
 abbrev pub sent_from : List PortView → ℕ → ℕ → List Item
 sent_from ports k s = slice_index_or (map (λ p. sent_to p k) ports) s []
 
+-- What the port k took.
 abbrev pub taken_by : List PortView → ℕ → List Item
 taken_by ports k = slice_index_or (map (λ (p : PortView). p.taken) ports) k []
 
--- with what is left, the law holds of each lane, and its lists are fair
+-- With what is left, the law holds of each lane, and its lists are fair.
 abbrev pub LawOfAll : ℕ → Sizes → List PortView → List (List Item) → Type 0
 LawOfAll workers sizes ports left =
-    (k : ℕ) → k < workers → LaneLaw (scope_of workers sizes) (sent_from ports k) (taken_by ports k) (slice_index_or left k []) × FairLane (scope_of workers sizes) (sent_from ports k)
+    (k : ℕ) → k < workers
+    → LaneLaw (scope_of workers sizes) (sent_from ports k) (taken_by ports k) (slice_index_or left k [])
+    × FairLane (scope_of workers sizes) (sent_from ports k)

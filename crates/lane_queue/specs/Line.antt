@@ -9,18 +9,20 @@ use Rattle.lane_queue.specs.declared.port.Line.{Line}
 use Rattle.req_table.specs.Lanes.{ends}
 use Rattle.lane_queue.specs.Rule.{own_sent, IsPort}
 
+-- What the pass knows, or knew when it was joined.
 abbrev pub hold_view : Hold → View
 hold_view (Live pass) = pass.me.view.client
 hold_view (Joined was) = was.value.me.view.client
 
+-- What the line's pass knows, or knew.
 abbrev pub line_view : Line → View
 line_view l = hold_view l.hold
 
--- its pass is of this queue
+-- The pass is at hand, and is of this queue.
 abbrev pub IsLiveOn : SegId Global → Hold → Type 0
 IsLiveOn q (Live pass) = IsSegPassOf q pass
 IsLiveOn q (Joined was) = ⊥
 
--- the view is that of one port, and the numbers are those of its list
+-- The view is that of one port, and the numbers are those of the list that it sent.
 abbrev pub IsLine : Line → Type 0
 IsLine l = IsPort (line_view l) × (l.ends ≡ ends (own_sent (line_view l))) × (l.put ≡ length (own_sent (line_view l)))

@@ -4,10 +4,10 @@ use Rattle.req_table.specs.declared.Item.{Item}
 use Rattle.req_table.specs.Wave.{Scope}
 use Rattle.req_table.specs.Lanes.{IsFair}
 
--- what each worker sent on one lane is fair
+-- What each worker sent on one lane is fair.
 abbrev pub FairLane : Scope → (ℕ → List Item) → Type 0
 FairLane w sent = (s : ℕ) → s < w.workers → IsFair w (sent s)
 
--- the first list is a beginning of the second
+-- The first list is a beginning of the second.
 abbrev pub Begins : List Item → List Item → Type 0
 Begins front xs = (back : List Item) × (xs ≡ front ++ back)

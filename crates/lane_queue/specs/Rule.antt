@@ -11,41 +11,46 @@ use Rattle.req_table.specs.Sizes.{scope_of}
 use Rattle.req_table.specs.Lanes.{from_of, sent_by, MayFollow, IsFair, LaneLaw}
 use Rattle.lane_queue.specs.Lists.{FairLane, Begins}
 
+-- The terms where there are none.
 abbrev pub no_terms : Terms
 no_terms = record { workers = 0; owner = 0; sizes = record { levels = 0; counts = [] } }
 
--- what the lists of a lane with these terms are held against
+-- What the lists of a lane with these terms are held against.
 abbrev pub scope : Terms → Scope
 scope c = scope_of c.workers c.sizes
 
--- the view of a pass whose lane has no terms yet
+-- The view of a pass whose lane has no terms yet.
 abbrev pub blank : View
 blank = record { begun = false; terms = no_terms; low = 0; high = 0; sent = []; taken = []; left = [] }
 
--- what knows nothing more: the view that a joined pass leaves
+-- The view that a joined pass leaves, which stands for no port.
 abbrev pub spent : View
 spent = record { begun = true; terms = no_terms; low = 0; high = 0; sent = []; taken = []; left = [] }
 
--- the ports from `low` on that no pass was issued for
+-- The view that stands for the ports from `low` on, which no pass was issued for.
 abbrev pub issuer : Terms → ℕ → View
 issuer c low = record { begun = true; terms = c; low = low; high = c.workers; sent = []; taken = []; left = [] }
 
--- the ports below `high`, with what each sent, what the owner took and what was read out of the lane at the end
+-- The view of the ports below `high`, with what each sent, what the owner took and what was read out of the lane at
+-- the end.
 abbrev pub joined : Terms → ℕ → List (List Item) → List Item → List Item → View
-joined c high sent taken left = record { begun = true; terms = c; low = 0; high = high; sent = sent; taken = taken; left = left }
+joined c high sent taken left =
+    record { begun = true; terms = c; low = 0; high = high; sent = sent; taken = taken; left = left }
 
--- one port
+-- The view of one port.
 abbrev pub port : Terms → ℕ → List Item → List Item → View
-port c s sent taken = record { begun = true; terms = c; low = s; high = s + 1; sent = sent ∷ []; taken = taken; left = [] }
+port c s sent taken =
+    record { begun = true; terms = c; low = s; high = s + 1; sent = sent ∷ []; taken = taken; left = [] }
 
--- the view stands for the port p
+-- The view stands for the port p.
 abbrev pub Has : View → ℕ → Type 0
 Has v p = (v.low ≤ p) × (p < v.high)
 
+-- What the view says that the port p sent.
 abbrev pub sent_of : View → ℕ → List Item
 sent_of v p = slice_index_or v.sent (p - v.low) []
 
--- pass i, with the view v, is the one that stands for these ports
+-- The pass i, with the view v, is the one that stands for the port p, and says of it what the lists say.
 pub record Fits (c : Terms) (seat : ℕ → ℕ) (sent : ℕ → List Item) (taken left : List Item) (i : ℕ) (v : View) (p : ℕ) : Type 0 where
   pub terms : v.terms ≡ c
   pub within : p < c.workers
@@ -53,7 +58,7 @@ pub record Fits (c : Terms) (seat : ℕ → ℕ) (sent : ℕ → List Item) (tak
   pub sends : sent_of v p ≡ sent p
   pub takes : p ≡ c.owner → (v.taken ≡ taken) × (v.left ≡ left)
 
--- each port has one pass. Of each port, what was taken and then what waits is what it sent, and that list is fair
+-- Each port has one pass. Of each port, what was taken and then what waits is what it sent, and that list is fair.
 pub record Ruled (items : List Item) (views : List View) : Type 0 where
   pub c : Terms
   pub seat : ℕ → ℕ
@@ -64,59 +69,66 @@ pub record Ruled (items : List Item) (views : List View) : Type 0 where
   pub fair : FairLane (scope c) sent
   pub present : (p : ℕ) → p < c.workers → (v : View) × (get_elem? views (seat p) ≡ some v) × Has v p
   pub begun : (i : ℕ) (v : View) → get_elem? views i ≡ some v → v.begun ≡ true
-  pub fits : (i : ℕ) (v : View) (p : ℕ) → get_elem? views i ≡ some v → Has v p → Fits c seat sent taken left i v p
+  pub fits : (i : ℕ) (v : View) (p : ℕ) → get_elem? views i ≡ some v → Has v p
+      → Fits c seat sent taken left i v p
 
--- nothing has begun, or the rule holds
+-- Nothing has begun, or the rule holds.
 abbrev pub Kept : List Item → List View → Type 0
 Kept items views = ((items ≡ []) × (views ≡ blank ∷ [])) ⊎ Ruled items views
 
 -- ---- what the steps tell
--- x is behind what the first of these sent
+-- The lists with x at the end of the first.
 abbrev pub behind : List (List Item) → Item → List (List Item)
 behind [] x = []
 behind (l ∷ ls) x = (l ++ x ∷ []) ∷ ls
 
--- the sender put x at the end of its list
+-- The sender put x at the end of its list.
 abbrev pub Sends : View → Item → View → Type 0
 Sends v x w = w ≡ record v { sent = behind v.sent x }
 
--- x is the next of what its sender had sent by then, which is fair, and which is the port's own list if the port is the sender
+-- The item is the next of what its sender had sent by then, which is fair, and which is the port's own list if the port
+-- is the sender.
 abbrev pub IsNext : View → Item → Type 0
-IsNext v x = (sent : List Item) × (from_of x < v.terms.workers) × IsFair (scope v.terms) sent × Begins (sent_by (from_of x) (v.taken ++ x ∷ [])) sent × (from_of x ≡ v.low → sent ≡ slice_index_or v.sent 0 [])
+IsNext v x =
+    (sent : List Item) × (from_of x < v.terms.workers) × IsFair (scope v.terms) sent
+    × Begins (sent_by (from_of x) (v.taken ++ x ∷ [])) sent
+    × (from_of x ≡ v.low → sent ≡ slice_index_or v.sent 0 [])
 
--- the owner took x
+-- The owner took x, the next of its sender.
 abbrev pub Takes : View → Item → View → Type 0
 Takes v x w = (w ≡ record v { taken = v.taken ++ x ∷ [] }) × IsNext v x
 
--- what the owner sent to itself is what it took of that, and then what waits of it
+-- What the owner sent to itself is what it took of that, and then what waits of it.
 abbrev pub Owns : View → List Item → Type 0
 Owns v items = sent_by v.low (v.taken ++ items) ≡ slice_index_or v.sent 0 []
 
--- x was read out at the end
+-- The item was read out at the end.
 abbrev pub Reads : View → Item → View → Type 0
 Reads v x w = w ≡ record v { left = v.left ++ x ∷ [] }
 
--- all ports' lists by number, what was taken and what is left obey the law, and are fair
+-- All ports' lists by number obey the law with what was taken and what is left, and are fair.
 abbrev pub Whole : View → List Item → Type 0
 Whole v items =
-    LaneLaw (scope v.terms) (λ s. slice_index_or v.sent s []) v.taken (v.left ++ items) × FairLane (scope v.terms) (λ s. slice_index_or v.sent s [])
+    LaneLaw (scope v.terms) (λ s. slice_index_or v.sent s []) v.taken (v.left ++ items)
+    × FairLane (scope v.terms) (λ s. slice_index_or v.sent s [])
 
 -- ---- what a view is, for the functions that make the steps
+-- What the one port sent.
 abbrev pub own_sent : View → List Item
 own_sent v = slice_index_or v.sent 0 []
 
--- the view of one port
+-- The view is that of one port.
 abbrev pub IsPort : View → Type 0
 IsPort v = v ≡ port v.terms v.low (own_sent v) v.taken
 
--- the view of the ports below v.high, as many as there are lists
+-- The view is that of the ports below `v.high`, as many as there are lists.
 abbrev pub IsJoined : View → Type 0
 IsJoined v = (v ≡ joined v.terms v.high v.sent v.taken v.left) × (length v.sent ≡ v.high)
 
--- the view of all ports
+-- The view is that of all ports, one of which takes from the lane.
 abbrev pub IsWhole : View → Type 0
 IsWhole v = (v ≡ joined v.terms v.terms.workers v.sent v.taken v.left) × (v.terms.owner < v.terms.workers)
 
--- the next pass can be issued: the lane has no terms yet, or these
+-- The next pass can be issued: the lane has no terms yet, or these.
 abbrev pub IsReady : Terms → View → Type 0
 IsReady c v = ((v ≡ blank) ⊎ (v ≡ issuer c v.low)) × (v.low < c.workers)

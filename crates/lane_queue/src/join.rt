@@ -53,7 +53,8 @@ pub fn begin(
 
 /// Joins a port's passes to those of the ports below it.
 pub fn join_lines(lanes: &Vec<Lane>, roots: &mut Vec<Root>, lines: &mut Vec<Line>, workers: u32)
-    requires long { (length lanes.now.items ≡ workers) × (length roots.old.items ≡ workers) × (length lines.old.items ≡ workers) }
+    requires long { (length lanes.now.items ≡ workers) × (length roots.old.items ≡ workers)
+        × (length lines.old.items ≡ workers) }
     requires may { MayJoinAll workers lanes.now.items roots.old.items lines.old.items }
     ensures long { (length roots.new.items ≡ workers) × (length lines.new.items ≡ workers) }
     ensures joined { HaveJoined workers lanes.now.items roots.old.items roots.new.items lines.old.items lines.new.items }

@@ -16,7 +16,7 @@ use std::marker::Model;
 use std::snapshot::Snapshot;
 use std::sync::Wait;
 
-/// One lane for each worker.
+/// One lane for each of 1 to 16 workers: all ports put items on it, and its worker's port alone takes them.
 #[derive(Drop)]
 pub struct Lanes {
     lanes: Vec<Lane>,
@@ -39,12 +39,14 @@ impl Model for Lanes {
 /// How the lanes ended.
 #[derive(Drop)]
 pub struct Settled {
+    /// What was left in each lane, by worker, front first.
     pub left: Vec<Vec<Item>>,
+    /// The ports by number.
     pub ports: Vec<Port>,
 }
 
 impl Lanes {
-    /// How many lanes there are.
+    /// How many lanes there are: one for each worker.
     pub fn count(&self) -> u32
         ensures count { result ≡ length self.now.lanes }
         ensures some { 0 < length self.now.lanes }
@@ -53,11 +55,14 @@ impl Lanes {
         self.lanes.len() as u32
     }
 
-    /// A lane and a port for each worker. The lanes' store is this one as it stands.
+    /// A lane and a port for each worker, by number. The lanes' store is this one as it stands: the lanes keep its number
+    /// of levels and of nodes in contracts alone, and no reference to it.
     pub fn new(alloc: Global, store: &Store, workers: u32) -> Result<(Lanes, Vec<Port>), AllocError>
         requires { (0 < workers) × (workers ≤ 16) }
         ensures lanes { IfOk result (λ r. (length r.0.lanes ≡ workers) × (r.0.sizes ≡ sizes_of store.now)) }
-        ensures ports { IfOk result (λ r. (length r.1.items ≡ workers) × ((i : ℕ) (d : PortView) → i < workers → slice_index_or r.1.items i d ≡ new_port i r.0.sizes r.0.lanes)) }
+        ensures ports { IfOk result (λ r. (length r.1.items ≡ workers)
+            × ((i : ℕ) (d : PortView) → i < workers
+            → slice_index_or r.1.items i d ≡ new_port i r.0.sizes r.0.lanes)) }
     {
         let (lanes, mut roots) = make::open_all(alloc, store, workers)?;
         let mut ports = Vec::new(alloc);
@@ -69,34 +74,44 @@ impl Lanes {
         Ok((Lanes { lanes, store }, ports))
     }
 
-    /// Puts the item on the lane of the worker `to`. It comes back only for want of memory or at the end of the lane's numbers.
+    /// Puts the item at the back of the lane of the worker `to`. It comes back, and the port is as it was, only for want
+    /// of memory, where the port has put 2^62 items on that lane, or at the end of the lane's numbers, which is after
+    /// nearly 2^62 items of all ports.
     pub fn send<R: Wait>(&self, rt: &R, port: &mut Port, to: u32, item: Item) -> Result<(), Item>
         requires port { IsPortOf self.now port.old }
         requires to { to < length self.now.lanes }
         requires from { from_of item ≡ port.old.number }
         requires may { MayFollow (lanes_scope self.now) (ends (sent_to port.old to)) item }
         requires leave { MayLeave (lanes_scope self.now) port.old.taken (ends (sent_to port.old to)) item }
-        ensures { MatchResult result (λ _. port.new ≡ record port.old { sent = slice_set port.old.sent to (sent_to port.old to ++ item ∷ []) }) (λ x. (x ≡ item) × (port.new ≡ port.old)) }
+        ensures { MatchResult result
+            (λ _. port.new ≡ record port.old { sent = slice_set port.old.sent to (sent_to port.old to ++ item ∷ []) })
+            (λ x. (x ≡ item) × (port.new ≡ port.old)) }
     {
         port.send_on(rt, &self.lanes[to as usize], to as usize, item)
     }
 
-    /// Takes the front of the port's own lane.
+    /// Takes the front of the port's own lane, or answers that the lane held nothing at some moment of the call. It takes
+    /// no memory.
     pub fn take<R: Wait>(&self, rt: &R, port: &mut Port) -> Option<Item>
         requires { IsPortOf self.now port.old }
-        ensures some { MatchOption result ((port.new ≡ port.old) × (sent_by port.old.number port.old.taken ≡ sent_to port.old port.old.number)) (λ x. (port.new ≡ record port.old { taken = port.old.taken ++ x ∷ [] }) × IsTaken port.old x) }
+        ensures some { MatchOption result
+            ((port.new ≡ port.old)
+            × (sent_by port.old.number port.old.taken ≡ sent_to port.old port.old.number))
+            (λ x. (port.new ≡ record port.old { taken = port.old.taken ++ x ∷ [] }) × IsTaken port.old x) }
         ensures open { IfSome result (IsOpen (lanes_scope self.now) port.old.taken) }
     {
         let own = port.number() as usize;
         port.take_on(rt, &self.lanes[own])
     }
 
-    /// What was left in each lane, and the ports, which give no pass any more.
+    /// What was left in each lane, and the ports, which go with no lanes any more: they only tell their lists. After want
+    /// of memory lanes and ports are gone.
     pub fn settle<R: Wait>(self, rt: &R, ports: Vec<Port>) -> Result<Settled, AllocError>
         requires { ArePorts (length self.lanes) self.sizes self.lanes ports.items }
         ensures ports { IfOk result (λ r. AreRetired (length self.lanes) ports.items r.ports.items) }
         ensures left { IfOk result (λ r. length r.left.items ≡ length self.lanes) }
-        ensures law { IfOk result (λ r. LawOfAll (length self.lanes) self.sizes r.ports.items (map (λ v. v.items) r.left.items)) }
+        ensures law { IfOk result (λ r.
+            LawOfAll (length self.lanes) self.sizes r.ports.items (map (λ v. v.items) r.left.items)) }
     {
         let Lanes { lanes, store } = self;
         let mut ports = ports;

@@ -8,7 +8,9 @@ use crate::rule::{LaneRule, View};
 use crossbeam_queue::protocol::Protocol;
 use req_table::Item;
 
-/// Whatever the other threads did, a lane obeys the law, and its lists are fair.
+/// Whatever the threads did, between any two steps each port has its pass, the passes' lists obey the law with what
+/// waits in the lane, and they are fair. Nothing runs: the contract is the fact.
 pub fn between_steps()
-    ensures { (items : List Item) (views : List View) → ⟦<LaneRule as Protocol<Item, View>>⟧.holds items views → Between items views }
+    ensures { (items : List Item) (views : List View)
+        → ⟦<LaneRule as Protocol<Item, View>>⟧.holds items views → Between items views }
 {}

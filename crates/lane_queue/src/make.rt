@@ -50,8 +50,10 @@ fn issue_for<J: Naming>(
     requires queue { IsSegPassOf lane.now.queue root.old }
     requires ready { IsReady (terms_of workers owner (sizes_of store.now)) root.old.me.view.client }
     ensures queue { IsSegPassOf lane.now.queue root.new × IsSegPassOf lane.now.queue result }
-    ensures root { root.new.me.view.client ≡ issuer (terms_of workers owner (sizes_of store.now)) (root.old.me.view.client.low + 1) }
-    ensures port { result.me.view.client ≡ port (terms_of workers owner (sizes_of store.now)) root.old.me.view.client.low [] [] }
+    ensures root { root.new.me.view.client
+        ≡ issuer (terms_of workers owner (sizes_of store.now)) (root.old.me.view.client.low + 1) }
+    ensures port { result.me.view.client
+        ≡ port (terms_of workers owner (sizes_of store.now)) root.old.me.view.client.low [] [] }
 {
     steps::issue::<J>(lane, root)
 }

@@ -1,5 +1,6 @@
 //! One worker's end of all lanes.
-ghost use Rattle.std.specs.Prelude.{◌≡◌, ◌≢◌, ◌<◌, ◌+◌, ◌^◌, [], ◌∷◌, ◌++◌, length, OnOk, OnErr, IfErr, IfOk, MatchResult, MatchOption, Some, None, slice_index_or, slice_set, map};
+ghost use Rattle.std.specs.Prelude.{◌≡◌, ◌≢◌, ◌<◌, ◌+◌, ◌^◌, [], ◌∷◌, ◌++◌, length, Some, None};
+ghost use Rattle.std.specs.Prelude.{OnOk, OnErr, IfErr, IfOk, MatchResult, MatchOption, slice_index_or, slice_set, map};
 ghost use Rattle.req_table.specs.Lanes.{from_of, sent_by, ends, MayFollow};
 ghost use Rattle.lane_queue.specs.Rule.{scope, port, own_sent, IsNext, Owns};
 ghost use Rattle.lane_queue.specs.PortView.{sent_to, IsTaken, port_scope};
@@ -45,11 +46,14 @@ impl Line {
         requires live { IsLiveOn lane.now.queue self.old.hold }
         requires line { IsLine self.old }
         requires sender { from_of item ≡ (line_view self.old).low }
-        requires may { MayFollow (scope (line_view self.old).terms) (ends (own_sent (line_view self.old))) item }
+        requires may { let v = line_view self.old in MayFollow (scope v.terms) (ends (own_sent v)) item }
         requires levels { (line_view self.old).terms.sizes.levels < 2 ^ 16 }
         ensures live { IsLiveOn lane.now.queue self.new.hold }
         ensures line { IsLine self.new }
-        ensures sent { let v = line_view self.old in MatchResult result (λ _. line_view self.new ≡ port v.terms v.low (own_sent v ++ item ∷ []) v.taken) (λ x. (x ≡ item) × (line_view self.new ≡ v)) }
+        ensures sent { let v = line_view self.old in
+            MatchResult result
+            (λ _. line_view self.new ≡ port v.terms v.low (own_sent v ++ item ∷ []) v.taken)
+            (λ x. (x ≡ item) × (line_view self.new ≡ v)) }
     {
         if self.put >= MOST {
             return Err(item);
@@ -73,7 +77,10 @@ impl Line {
         requires owner { (line_view self.old).low ≡ (line_view self.old).terms.owner }
         ensures live { IsLiveOn lane.now.queue self.new.hold }
         ensures line { IsLine self.new }
-        ensures taken { let v = line_view self.old in MatchOption result ((line_view self.new ≡ v) × Owns v []) (λ x. (line_view self.new ≡ port v.terms v.low (own_sent v) (v.taken ++ x ∷ [])) × IsNext v x) }
+        ensures taken { let v = line_view self.old in
+            MatchOption result
+            ((line_view self.new ≡ v) × Owns v [])
+            (λ x. (line_view self.new ≡ port v.terms v.low (own_sent v) (v.taken ++ x ∷ [])) × IsNext v x) }
     {
         let Hold::Live(pass) = &mut self.hold else {
             unreachable!();
@@ -82,7 +89,8 @@ impl Line {
     }
 }
 
-/// One worker's end of all lanes.
+/// One worker's end of all lanes: all that it sends and takes goes through it. Contracts see what it sent on each lane
+/// and what it took.
 #[derive(Drop)]
 pub struct Port {
     number: u32,
@@ -139,7 +147,7 @@ impl Port {
         }
     }
 
-    /// The worker that it belongs to.
+    /// The worker that it belongs to: below the number of lanes, on each of which it has a list of what it sent.
     pub fn number(&self) -> u32
         ensures number { result ≡ self.now.number }
         ensures within { self.now.number < length self.now.lanes }
@@ -148,7 +156,7 @@ impl Port {
         self.number
     }
 
-    /// How many Ends it put on the lane.
+    /// How many Ends it put on the lane of the worker `to`, which is the level of the next.
     pub fn ends(&self, to: u32) -> u16
         requires { to < length self.now.sent }
         ensures { result ≡ ends (sent_to self.now to) }
@@ -156,13 +164,14 @@ impl Port {
         self.lines[to as usize].ends
     }
 
-    /// How many items it put on all lanes.
+    /// How many items it put on all lanes together.
     pub fn put(&self) -> u128
         ensures { result ≡ sum_by (λ xs. length xs) self.now.sent }
     {
         added(&self.lines)
     }
 
+    /// Puts an item on this lane, which is that of the worker `to`.
     pub fn send_on<R: Wait>(
         &mut self,
         rt: &R,
@@ -173,14 +182,20 @@ impl Port {
         requires lane { (to < length self.old.lanes) × (slice_index_or self.old.lanes to None ≡ Some lane.now.queue) }
         requires sender { from_of item ≡ self.old.number }
         requires may { MayFollow (port_scope self.old) (ends (sent_to self.old to)) item }
-        ensures { MatchResult result (λ _. self.new ≡ record self.old { sent = slice_set self.old.sent to (sent_to self.old to ++ item ∷ []) }) (λ x. (x ≡ item) × (self.new ≡ self.old)) }
+        ensures { MatchResult result
+            (λ _. self.new ≡ record self.old { sent = slice_set self.old.sent to (sent_to self.old to ++ item ∷ []) })
+            (λ x. (x ≡ item) × (self.new ≡ self.old)) }
     {
         self.lines[to].send(rt, lane, item)
     }
 
+    /// Takes the front of this lane, which is the port's own.
     pub fn take_on<R: Wait>(&mut self, rt: &R, lane: &Lane) -> Option<Item>
         requires { slice_index_or self.old.lanes self.old.number None ≡ Some lane.now.queue }
-        ensures { MatchOption result ((self.new ≡ self.old) × (sent_by self.old.number self.old.taken ≡ sent_to self.old self.old.number)) (λ x. (self.new ≡ record self.old { taken = self.old.taken ++ x ∷ [] }) × IsTaken self.old x) }
+        ensures { MatchOption result
+            ((self.new ≡ self.old)
+            × (sent_by self.old.number self.old.taken ≡ sent_to self.old self.old.number))
+            (λ x. (self.new ≡ record self.old { taken = self.old.taken ++ x ∷ [] }) × IsTaken self.old x) }
     {
         let own = self.number as usize;
         self.lines[own].take(rt, lane)
@@ -207,7 +222,8 @@ impl Port {
         requires lanes { self.old.lanes ≡ map (λ q. Some q) (map (λ (x : Lane). x.queue) lanes.now.items) }
         requires below { RootsBelow workers self.old lanes.now.items roots.old.items }
         ensures port { self.new ≡ retired self.old }
-        ensures roots { (length roots.new.items ≡ workers) × RootsWith workers self.old lanes.now.items roots.old.items roots.new.items }
+        ensures roots { (length roots.new.items ≡ workers)
+            × RootsWith workers self.old lanes.now.items roots.old.items roots.new.items }
     {
         join::join_lines(lanes, roots, &mut self.lines, workers);
     }

@@ -1,18 +1,20 @@
-//! The lanes' rule, and what each of its steps tells.
+//! The lanes' rule, and what each kind of step does to a pass.
 use crossbeam_queue::protocol::{Join, Lesson, Outcome, Protocol, Split};
 use crossbeam_queue::{RuledSegQueue, SegPass};
 use req_table::{Item, Sizes};
 use std::collections::LinkedList;
 use std::marker::{Brand, PhantomData};
 
-// What never changes of a lane: how many workers there are, which of them takes from this lane, and the store's sizes. No value of it is made.
+// What never changes of a lane: how many workers there are, which of them takes from this lane, and the store's sizes.
+// No value of it is made.
 pub struct Terms {
     pub workers: u32,
     pub owner: u32,
     pub sizes: Sizes,
 }
 
-// What a pass knows: it stands for the ports from `low` on and below `high`, and has what each of them sent, what the owner took if it is among them, and what was read out at the end. No value of it is made.
+// What a pass knows: it stands for the ports from `low` on and below `high`, and has what each of them sent, what the
+// owner took if it is among them, and what was read out at the end. No value of it is made.
 pub struct View {
     pub begun: bool,
     pub terms: Terms,
@@ -23,7 +25,7 @@ pub struct View {
     pub left: LinkedList<Item>,
 }
 
-/// The rule of a lane.
+// The rule of a lane: what was taken and then what waits is, of each port, what that port sent, which is fair.
 pub struct LaneRule;
 
 impl Protocol<Item, View> for LaneRule {
@@ -112,11 +114,13 @@ impl Lesson<Item, View> for Read {
     ghost fact = { Whole };
 }
 
+// One lane's queue.
 pub type Queue = RuledSegQueue<Item, View, LaneRule>;
 
+// What a port needs to step on one lane.
 pub type LanePass = SegPass<Item, View>;
 
-/// One worker's lane.
+// One worker's lane.
 pub struct Lane {
     pub queue: Queue,
 }

@@ -28,7 +28,8 @@ pub fn join_all(
 ) -> Result<Vec<Root>, AllocError>
     requires workers { (0 < workers) × (length lanes.now.items ≡ workers) }
     requires ports { ArePorts workers (sizes_of store.now.value) (map (λ (x : Lane). x.queue) lanes.now.items) ports.old.items }
-    ensures roots { IfOk result (λ r. RootsHave workers (sizes_of store.now.value) ports.old.items lanes.now.items r.items) }
+    ensures roots { IfOk result (λ r.
+        RootsHave workers (sizes_of store.now.value) ports.old.items lanes.now.items r.items) }
     ensures ports { OnOk result (AreRetired workers ports.old.items ports.new.items) }
 {
     let _store = store;
@@ -48,7 +49,10 @@ fn read_all<R: Wait>(
 ) -> Result<Vec<Item>, AllocError>
     requires queue { IsSegPassOf lane.now.queue root.old }
     requires whole { IsWhole root.old.me.view.client × (root.old.me.view.client.left ≡ []) }
-    ensures { let v = root.old.me.view.client in IfOk result (λ r. LaneLaw (scope v.terms) (λ s. slice_index_or v.sent s []) v.taken r.items × FairLane (scope v.terms) (λ s. slice_index_or v.sent s [])) }
+    ensures { let v = root.old.me.view.client in
+        IfOk result (λ r.
+        LaneLaw (scope v.terms) (λ s. slice_index_or v.sent s []) v.taken r.items
+        × FairLane (scope v.terms) (λ s. slice_index_or v.sent s [])) }
 {
     let mut left = Vec::new(alloc);
     for _ in rt.forever() {
@@ -73,7 +77,8 @@ pub fn read_lanes<R: Wait>(
     requires long { (length lanes.now.items ≡ workers) × (length ports.now.items ≡ workers) }
     requires roots { RootsHave workers (sizes_of store.now.value) ports.now.items lanes.now.items roots.items }
     ensures long { IfOk result (λ r. length r.items ≡ workers) }
-    ensures law { IfOk result (λ r. LawOfAll workers (sizes_of store.now.value) ports.now.items (map (λ v. v.items) r.items)) }
+    ensures law { IfOk result (λ r.
+        LawOfAll workers (sizes_of store.now.value) ports.now.items (map (λ v. v.items) r.items)) }
 {
     let _store = store;
     let _ports = ports;

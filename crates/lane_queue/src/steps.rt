@@ -1,8 +1,9 @@
-//! The seven kinds of step, each on one lane.
+//! The seven kinds of step, each on one lane. No other code steps on a queue.
 ghost use Rattle.std.specs.Prelude.{◌≡◌, ◌≢◌, ◌<◌, ◌+◌, [], ◌∷◌, ◌++◌, IfOk, MatchResult, MatchOption};
 ghost use Rattle.crossbeam_queue.specs.SegTies.{IsSegPassOf};
 ghost use Rattle.req_table.specs.Lanes.{from_of, ends, MayFollow};
-ghost use Rattle.lane_queue.specs.Rule.{scope, blank, issuer, joined, port, own_sent, IsPort, IsJoined, IsWhole, IsReady, IsNext, Owns, Whole};
+ghost use Rattle.lane_queue.specs.Rule.{scope, blank, issuer, joined, port, own_sent};
+ghost use Rattle.lane_queue.specs.Rule.{IsPort, IsJoined, IsWhole, IsReady, IsNext, Owns, Whole};
 
 use crate::rule::{Issue, Lane, LanePass, Merge, Naming, Put, Queue, Read, Take};
 use req_table::Item;
@@ -28,14 +29,17 @@ pub fn issue<J: Naming>(lane: &Lane, root: &mut LanePass) -> LanePass
     lane.queue.another::<Issue<J>>(root)
 }
 
-/// Puts an item at the back of the lane.
+/// Puts an item at the back of the lane. It comes back for want of memory or where the queue's numbers have run out.
 pub fn send<R: Wait>(rt: &R, lane: &Lane, pass: &mut LanePass, item: Item) -> Result<(), Item>
     requires queue { IsSegPassOf lane.now.queue pass.old }
     requires port { IsPort pass.old.me.view.client }
     requires sender { from_of item ≡ pass.old.me.view.client.low }
-    requires may { MayFollow (scope pass.old.me.view.client.terms) (ends (own_sent pass.old.me.view.client)) item }
+    requires may { let v = pass.old.me.view.client in MayFollow (scope v.terms) (ends (own_sent v)) item }
     ensures queue { IsSegPassOf lane.now.queue pass.new }
-    ensures sent { let v = pass.old.me.view.client in MatchResult result (λ _. pass.new.me.view.client ≡ port v.terms v.low (own_sent v ++ item ∷ []) v.taken) (λ x. (x ≡ item) × (pass.new.me.view.client ≡ v)) }
+    ensures sent { let v = pass.old.me.view.client in
+        MatchResult result
+        (λ _. pass.new.me.view.client ≡ port v.terms v.low (own_sent v ++ item ∷ []) v.taken)
+        (λ x. (x ≡ item) × (pass.new.me.view.client ≡ v)) }
 {
     lane.queue.push_as::<Put, R>(rt, pass, item)
 }
@@ -46,7 +50,10 @@ pub fn take<R: Wait>(rt: &R, lane: &Lane, pass: &mut LanePass) -> Option<Item>
     requires port { IsPort pass.old.me.view.client }
     requires owner { pass.old.me.view.client.low ≡ pass.old.me.view.client.terms.owner }
     ensures queue { IsSegPassOf lane.now.queue pass.new }
-    ensures taken { let v = pass.old.me.view.client in MatchOption result ((pass.new.me.view.client ≡ v) × Owns v []) (λ x. (pass.new.me.view.client ≡ port v.terms v.low (own_sent v) (v.taken ++ x ∷ [])) × IsNext v x) }
+    ensures taken { let v = pass.old.me.view.client in
+        MatchOption result
+        ((pass.new.me.view.client ≡ v) × Owns v [])
+        (λ x. (pass.new.me.view.client ≡ port v.terms v.low (own_sent v) (v.taken ++ x ∷ [])) × IsNext v x) }
 {
     lane.queue.pop_as::<Take, R>(rt, pass)
 }
@@ -55,11 +62,15 @@ pub fn take<R: Wait>(rt: &R, lane: &Lane, pass: &mut LanePass) -> Option<Item>
 pub fn join(lane: &Lane, root: &mut LanePass, next: LanePass)
     requires queue { IsSegPassOf lane.now.queue root.old × IsSegPassOf lane.now.queue next }
     requires root { IsJoined root.old.me.view.client × (root.old.me.view.client.left ≡ []) }
-    requires next { IsPort next.me.view.client × (next.me.view.client.terms ≡ root.old.me.view.client.terms) × (next.me.view.client.low ≡ root.old.me.view.client.high) }
+    requires next { IsPort next.me.view.client × (next.me.view.client.terms ≡ root.old.me.view.client.terms)
+        × (next.me.view.client.low ≡ root.old.me.view.client.high) }
     requires theirs { root.old.me.view.client.high ≢ root.old.me.view.client.terms.owner → next.me.view.client.taken ≡ [] }
-    requires mine { ¬ root.old.me.view.client.terms.owner < root.old.me.view.client.high → root.old.me.view.client.taken ≡ [] }
+    requires mine { ¬ root.old.me.view.client.terms.owner < root.old.me.view.client.high
+        → root.old.me.view.client.taken ≡ [] }
     ensures queue { IsSegPassOf lane.now.queue root.new }
-    ensures joined { let v = root.old.me.view.client in root.new.me.view.client ≡ joined v.terms (v.high + 1) (v.sent ++ own_sent next.me.view.client ∷ []) (v.taken ++ next.me.view.client.taken) [] }
+    ensures joined { let v = root.old.me.view.client in
+        let w = next.me.view.client in
+        root.new.me.view.client ≡ joined v.terms (v.high + 1) (v.sent ++ own_sent w ∷ []) (v.taken ++ w.taken) [] }
 {
     lane.queue.absorb::<Merge>(root, next)
 }
@@ -69,7 +80,10 @@ pub fn read<R: Wait>(rt: &R, lane: &Lane, root: &mut LanePass) -> Option<Item>
     requires queue { IsSegPassOf lane.now.queue root.old }
     requires root { IsWhole root.old.me.view.client }
     ensures queue { IsSegPassOf lane.now.queue root.new }
-    ensures left { let v = root.old.me.view.client in MatchOption result ((root.new.me.view.client ≡ v) × Whole v []) (λ x. root.new.me.view.client ≡ joined v.terms v.terms.workers v.sent v.taken (v.left ++ x ∷ [])) }
+    ensures left { let v = root.old.me.view.client in
+        MatchOption result
+        ((root.new.me.view.client ≡ v) × Whole v [])
+        (λ x. root.new.me.view.client ≡ joined v.terms v.terms.workers v.sent v.taken (v.left ++ x ∷ [])) }
 {
     lane.queue.pop_as::<Read, R>(rt, root)
 }

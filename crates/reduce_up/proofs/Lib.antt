@@ -8,5 +8,6 @@ pub mod Below
 pub mod Entries
 pub mod Rooted
 pub mod Waving
+pub mod Driven
 pub mod Applying
 pub mod Splits

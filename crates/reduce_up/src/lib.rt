@@ -8,6 +8,3 @@ pub mod wave;
 
 pub use levels::reduce;
 pub use results::Results;
-
-#[cfg(test)]
-mod tests;

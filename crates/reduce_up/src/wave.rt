@@ -16,9 +16,10 @@ use expand_work::WaveFault;
 use req_table::requests::{normal, short};
 use req_table::{Key, Op, Records};
 use std::alloc::{AllocError, Global};
+use wave_core::Core;
 
 /// The requests of the entries that have no short answer.
-fn requests_of(alloc: Global, entries: &[(Op, Ref, Ref)]) -> Result<Vec<Key>, AllocError>
+pub(crate) fn requests_of(alloc: Global, entries: &[(Op, Ref, Ref)]) -> Result<Vec<Key>, AllocError>
     ensures { IfOk result (λ keys. keys.items ≡ requests_of entries.now) }
 {
     let mut keys = Vec::new(alloc);
@@ -59,8 +60,27 @@ fn answers_of(
     Ok(answers)
 }
 
+/// The records of all requests that the roots ask for, by the state machine of the workers, which the choices drive.
+pub(crate) fn closure_of(
+    alloc: Global,
+    store: &Store,
+    workers: u32,
+    roots: &[Key],
+    choices: &[u8],
+) -> Result<Records, AllocError>
+    requires workers { (0 < workers) × (workers ≤ 16) }
+    requires roots { All (IsKey store.now) roots.now }
+    ensures { IfOk result (λ records. IsClosureOf store.now workers roots.now records) }
+{
+    let mut core = Core::new(alloc, store, workers, roots)?;
+    if core.drive(choices).is_err() {
+        return Err(AllocError);
+    }
+    core.into_records()
+}
+
 /// The diagram of each operation, by reduction of the records of all requests that they ask for.
-pub fn answer_closure(
+fn answer_closure(
     alloc: Global,
     store: &mut Store,
     entries: &[(Op, Ref, Ref)],
@@ -85,6 +105,38 @@ pub fn answer_closure(
         Ok(answers) => Ok(answers),
         Err(_) => Err(WaveFault::OutOfMemory),
     }
+}
+
+/// The diagram of each operation on its two operands.
+///
+/// The requests of all operations together are expanded by the state machine of the workers on the caller's thread, which the
+/// choices drive, and reduced from the last level up.
+pub fn wave_one<R>(
+    _rt: &R,
+    alloc: Global,
+    store: &mut Store,
+    entries: &[(Op, Ref, Ref)],
+    workers: u32,
+    choices: &[u8],
+) -> Result<Vec<Ref>, WaveFault>
+    requires operands { All (IsEntry store.old) entries.now }
+    requires workers { (0 < workers) × (workers ≤ 16) }
+    ensures sound { IsSound store.new }
+    ensures adds { AddsDescribed store.old store.new (IsWanted store.old entries.now) }
+    ensures answers { IfOk result (λ answers. AnswersEach store.old entries.now store.new answers.items) }
+    ensures no_others { IfOk result (λ answers. AddsBelow store.old store.new answers.items) }
+    ensures within { OnOk result (IsWithinLimit store.old entries.now store.new) }
+    ensures fault { IfErr result (λ e. IsWaveFault store.old entries.now store.new e) }
+    ensures served { IfErr result (λ e. e ≢ WaveFault.NoWorker) }
+{
+    let _ = store.levels();
+    let Ok(roots) = requests_of(alloc, entries) else {
+        return Err(WaveFault::OutOfMemory);
+    };
+    let Ok(records) = closure_of(alloc, store, workers, roots.as_slice(), choices) else {
+        return Err(WaveFault::OutOfMemory);
+    };
+    answer_closure(alloc, store, entries, &records)
 }
 
 /// The diagrams of a list of operations, one after the other, by recursion on their operands.

@@ -1,0 +1,125 @@
+-- One level of a worker, from what its calls say.
+use Rattle.std.proofs.Common.{◌≡◌, ℕ, zero, suc, ◌+◌, ◌-◌, ◌<◌, ◌≤◌, Bool, true, false, inl, inr, eqb, List, [], ◌∷◌, ◌++◌, Some, map, filter, length, get_or, All, refl, sym, ap, ◌∙◌, subst, arith, eqb-true, eq-eqb}
+use Rattle.std.proofs.lemmas.List.{length-map, length-append, get_or_append_left}
+use Rattle.std.proofs.Math.Seq.{get_or-append_seam}
+use Rattle.dd_store.specs.Nodes.{Nodes, IsSound}
+use Rattle.req_table.specs.declared.Key.{Key}
+use Rattle.req_table.specs.declared.Record.{Record}
+use Rattle.req_table.specs.declared.Item.{Item}
+use Rattle.req_table.specs.declared.Item.TheVariants.{Ask, End}
+use Rattle.req_table.specs.Wave.{Scope}
+use Rattle.req_table.specs.Keys.{IsKey, wave_of}
+use Rattle.req_table.specs.Sizes.{sizes_of, scope_of, IsKeyOf}
+use Rattle.req_table.specs.Lanes.{from_of, sent_by, ends, asks_at, MayFollow, IsFair, HasSenders, IsClosed}
+use Rattle.req_table.specs.Settled.{IsSplit, IsDistinctOf, key_of, asked_by, is_owned}
+use Rattle.req_table.proofs.Lists.{Has, each, all_of}
+use Rattle.req_table.proofs.Admits.{Admits-has}
+use Rattle.req_table.proofs.Items.{asks_at_has, sent_by_of, fair_ask}
+use Rattle.req_table.proofs.Fair.{ends-append}
+use Rattle.req_table.proofs.Sized.{key_of_sizes, sizes_of_key, fair_in_wave}
+use Rattle.req_table.proofs.Waved.{is_wave, bounded}
+use Rattle.level_close.specs.Counts.{Counts}
+use Rattle.lane_queue.specs.PortView.{LanesView, PortView, sent_to, IsPortOf, lanes_scope}
+use Rattle.expand_work.specs.declared.run.Worker.{Worker}
+use Rattle.expand_work.specs.Parts.{IsAt, IsLevelDone}
+use Rattle.expand_work.specs.Work.{at, item_of, HasSent, MaySend, IsHeard, StaysClosed}
+use Rattle.expand_work.specs.Working.{IsWorking}
+use Rattle.expand_work.proofs.Levels.{advances}
+use Rattle.expand_work.proofs.Sending.{ends-items}
+
+-- the keys of a table are of the store
+pub heard_held : (c : Scope) (taken : List Item) (clock : Counts) (tables : List (List Key)) (v : ℕ) → IsHeard c taken clock tables → v < c.levels → All c.Holds (at tables v)
+heard_held c taken clock tables v h vb =
+    all_of c.Holds (at tables v) (λ x i.
+    let j = elim (Admits-has [] (asks_at v taken) (at tables v) x (h.tabled v vb) i) as (λ q. Has (asks_at v taken) x) [ inl i ↦ absurd i | inr j ↦ j ] in
+    let (t, k) = asks_at_has v taken x j in
+    let tb = each (λ i. from_of i < c.workers) taken (Ask t v x) h.senders k in
+    (fair_ask c 0 (sent_by t taken) t v x (h.fair t tb) (sent_by_of t taken (Ask t v x) k refl)).2)
+
+pub table_held : (l : LanesView) (s : Nodes) (taken : List Item) (clock : Counts) (tables : List (List Key)) (v : ℕ) → l.sizes ≡ sizes_of s → v < s.levels → IsHeard (lanes_scope l) taken clock tables → All (IsKey s) (at tables v)
+table_held l s taken clock tables v e vb h =
+    let held = heard_held (lanes_scope l) taken clock tables v h (subst (λ z. v < z.levels) (sym e) vb) in
+    all_of (IsKey s) (at tables v) (λ x i. key_of_sizes s x (subst (λ z. IsKeyOf z x) e (each (IsKeyOf l.sizes) (at tables v) x held i)))
+
+-- what is due may be sent
+pub may_send_due : (l : LanesView) (s : Nodes) → IsSound s → (roots : List Key) (v : ℕ) (w : Worker) → IsWorking l s roots v w → (k : ℕ) → k < length l.lanes → MaySend l w.port k (at w.due k)
+may_send_due l s sound roots v w h k kb = record {
+  follow = all_of (λ x. MayFollow (lanes_scope l) (ends (sent_to w.port k)) (item_of l.sizes.levels w.port.number x)) (at w.due k) (λ x i.
+      let (held, low) = each (λ x. IsKey s x × (v ≤ (wave_of s (length l.lanes)).level x)) (at w.due k) x (h.level.due_held k kb) i in
+      let e = h.level.ended k kb in
+      let high = bounded s sound x held in
+      subst (λ z. MayFollow (scope_of (length l.lanes) z) (ends (sent_to w.port k)) (item_of z.levels w.port.number x)) (sym h.sizes) (omega (arith, e, low), high, refl, sizes_of_key s x held));
+  leave = λ z. let e = h.level.ended k kb in h.level.closed (ends (sent_to w.port k) - 1) (omega (arith, e, z));
+}
+
+pub ended_before : (l : LanesView) (s : Nodes) (roots : List Key) (v : ℕ) (w : Worker) (p : PortView) → IsWorking l s roots v w
+    → ((k : ℕ) → k < length l.lanes → sent_to p k ≡ sent_to w.port k ++ map (item_of l.sizes.levels w.port.number) (at w.due k)) → (k : ℕ) → k < length l.lanes → ends (sent_to p k) ≡ v
+ended_before l s roots v w p h g k kb =
+    ap ends (g k kb) ∙ ends-append (sent_to w.port k) (map (item_of l.sizes.levels w.port.number) (at w.due k))
+    ∙ (let a = h.level.ended k kb in let z = ends-items l.sizes.levels w.port.number (at w.due k) in omega (arith, a, z))
+
+module _ (l : LanesView) (s : Nodes) (roots : List Key) (v : ℕ) (w : Worker) (p1 p2 p3 : PortView) (clock : Counts) (tables : List (List Key)) (row : List Record) (due : List (List Key)) (rows : List (List Record))
+    (sound : IsSound s) (vb : v < s.levels) (h : IsWorking l s roots v w)
+    (s1 : HasSent w.port p1) (g1 : (k : ℕ) → k < length l.lanes → sent_to p1 k ≡ sent_to w.port k ++ map (item_of l.sizes.levels w.port.number) (at w.due k))
+    (s2 : HasSent p1 p2) (g2 : (k : ℕ) → k < length l.lanes → sent_to p2 k ≡ sent_to p1 k ++ End p1.number v ∷ [])
+    (s3 : p3 ≡ record p2 { taken = p3.taken })
+    (heard : IsHeard (lanes_scope l) p3.taken clock tables) (stays : StaysClosed (lanes_scope l) p2.taken p3.taken w.tables tables)
+    (closed : IsClosed (lanes_scope l) v p3.taken)
+    (keys : map key_of row ≡ at tables v) (split : All (IsSplit (wave_of s (length l.lanes))) row) (many : length due ≡ length l.lanes)
+    (owed : (k : ℕ) → k < length l.lanes → at due k ≡ filter (is_owned (wave_of s (length l.lanes)) k) (asked_by row)) (rows-is : rows ≡ w.rows ++ row ∷ []) where
+  n1 : p1.number ≡ w.port.number
+  n1 = ap (λ (q : PortView). q.number) s1.0
+
+  pub number_same : p3.number ≡ w.port.number
+  number_same = ap (λ (q : PortView). q.number) s3 ∙ ap (λ (q : PortView). q.number) s2.0 ∙ n1
+
+  taken_same : p2.taken ≡ w.port.taken
+  taken_same = ap (λ (q : PortView). q.taken) s2.0 ∙ ap (λ (q : PortView). q.taken) s1.0
+
+  row_here : at rows v ≡ row
+  row_here = ap (λ m. get_or m v []) rows-is ∙ ap (λ n. get_or (w.rows ++ row ∷ []) n []) (sym h.many_rows) ∙ get_or-append_seam w.rows row [] []
+
+  row_below : (u : ℕ) → u < v → at rows u ≡ at w.rows u
+  row_below u ub = ap (λ m. get_or m u []) rows-is ∙ get_or_append_left w.rows (row ∷ []) [] u (let z = h.many_rows in omega (arith, z, ub))
+
+  heard' : IsHeard (scope_of (length l.lanes) (sizes_of s)) p3.taken clock tables
+  heard' = subst (λ z. IsHeard (scope_of (length l.lanes) z) p3.taken clock tables) h.sizes heard
+
+  was_closed : (u : ℕ) → u < v → IsClosed (lanes_scope l) u p2.taken
+  was_closed u ub = subst (λ xs. IsClosed (lanes_scope l) u xs) (sym taken_same) (h.level.closed u ub)
+
+  done : IsLevelDone (wave_of s (length l.lanes)) w.port.number v (sent_to w.port) w.port.taken (at w.due) (at w.tables) (at w.rows) (sent_to p3) p3.taken (at due) (at tables) (at rows)
+  done = record {
+    sends = λ k kb. ap (λ (q : PortView). sent_to q k) s3 ∙ g2 k kb ∙ ap (λ xs. xs ++ End p1.number v ∷ []) (g1 k kb)
+        ∙ ap (λ n. (sent_to w.port k ++ map (item_of l.sizes.levels w.port.number) (at w.due k)) ++ End n v ∷ []) n1
+        ∙ ap (λ z. (sent_to w.port k ++ map (item_of z.levels w.port.number) (at w.due k)) ++ End w.port.number v ∷ []) h.sizes;
+    fair = λ t tb. fair_in_wave s (length l.lanes) 0 (sent_by t p3.taken) (heard'.fair t tb);
+    senders = heard'.senders;
+    closed = λ u ub. elim (eqb u v) as (λ b. eqb u v ≡ b → IsClosed (scope_of (length l.lanes) (sizes_of s)) u p3.taken) [
+      | true ↦ λ t. subst (λ m. IsClosed (scope_of (length l.lanes) (sizes_of s)) m p3.taken) (sym (eqb-true u v t)) closed
+      | false ↦ λ t. stays.closed u (was_closed u (grind (arith, ub, t)))
+    ] refl;
+    tabled = heard'.tabled;
+    tables_stay = λ u ub. stays.same u (was_closed u ub);
+    rows_stay = row_below;
+    rowed = ap (map key_of) row_here ∙ keys;
+    split = subst (All (IsSplit (wave_of s (length l.lanes)))) (sym row_here) split;
+    dues = λ k kb. owed k kb ∙ ap (λ rs. filter (is_owned (wave_of s (length l.lanes)) k) (asked_by rs)) (sym row_here);
+  }
+
+  pub level_next : IsWorking l s roots (v + 1) (record { port = p3; clock = clock; tables = tables; rows = rows; due = due })
+  level_next =
+      let some : 0 < length l.lanes = (let z = h.within in omega (arith, z)) in
+      let next = advances (wave_of s (length l.lanes)) (is_wave s sound (length l.lanes) some) roots w.port.number v (sent_to w.port) w.port.taken (at w.due) (at w.tables) (at w.rows) (sent_to p3) p3.taken (at due) (at tables) (at rows) vb h.level done in
+      let up : suc v ≡ v + 1 = omega arith in
+      record {
+        port = (ap (λ (q : PortView). q.lanes) s3 ∙ ap (λ (q : PortView). q.lanes) s2.0 ∙ ap (λ (q : PortView). q.lanes) s1.0 ∙ h.port.0, ap (λ (q : PortView). q.sizes) s3 ∙ ap (λ (q : PortView). q.sizes) s2.0 ∙ ap (λ (q : PortView). q.sizes) s1.0 ∙ h.port.1);
+        within = subst (λ n. n < length l.lanes) (sym number_same) h.within;
+        wide = ap (λ (q : PortView). length q.sent) s3 ∙ s2.1 ∙ s1.1 ∙ h.wide;
+        sizes = h.sizes;
+        heard = heard;
+        many_rows = ap (λ m. length m) rows-is ∙ length-append w.rows (row ∷ []) ∙ ap (λ n. n + 1) h.many_rows;
+        many_due = many;
+        level = subst (λ n. IsAt (wave_of s (length l.lanes)) roots n (v + 1) (sent_to p3) p3.taken (at due) (at tables) (at rows)) (sym number_same)
+            (subst (λ n. IsAt (wave_of s (length l.lanes)) roots w.port.number n (sent_to p3) p3.taken (at due) (at tables) (at rows)) up next);
+      }

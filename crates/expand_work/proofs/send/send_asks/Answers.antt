@@ -1,0 +1,20 @@
+use Rattle.std.proofs.Common.{◌<◌, ◌≡◌, ◌++◌, [], ◌∷◌, length, set, subst, sym, ap, ◌∙◌}
+use Rattle.expand_work.proofs.Sending.{fits, may_send, may_leave, sends_next}
+use Rattle.expand_work.proofs.send.send_asks.Goals as goal
+
+pub send-requires-clause-may : goal.send-requires-clause-may
+send-requires-clause-may g c =
+    may_send c.args.lanes.now c.args.store.now c.args.port.now c.loop-key.port c.args.to c.args.keys.now c.loop-key.key-index c.key-item.result c.number-from.result c.level_of.result
+    (fits c.args.lanes.now c.args.port.now c.args.to c.requires.port c.number-from.ensures.lists c.requires.to) c.loop-key-test.true c.key-item.is c.loop-key.invariant c.requires.may
+    c.requires.sizes c.level_of.ensures
+
+pub send-requires-clause-leave : goal.send-requires-clause-leave
+send-requires-clause-leave g c =
+    may_leave c.args.lanes.now c.args.port.now c.loop-key.port c.args.to c.args.keys.now c.loop-key.key-index
+    (fits c.args.lanes.now c.args.port.now c.args.to c.requires.port c.number-from.ensures.lists c.requires.to) c.loop-key.invariant c.requires.may
+
+pub loop-key-preserved : goal.loop-key-preserved
+loop-key-preserved g c =
+    sends_next c.args.lanes.now c.args.store.now c.args.port.now c.loop-key.port c.send.new.port c.args.to c.args.keys.now c.loop-key.key-index c.key-item.result c.number-from.result c.level_of.result
+    (fits c.args.lanes.now c.args.port.now c.args.to c.requires.port c.number-from.ensures.lists c.requires.to) c.loop-key-test.true c.key-item.is c.number-from.ensures.number
+    c.requires.sizes c.level_of.ensures c.loop-key.invariant c.in-Ok.ensures

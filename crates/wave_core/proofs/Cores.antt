@@ -1,0 +1,130 @@
+-- A machine that takes allowed steps alone keeps a core sound.
+use Rattle.std.proofs.Common.{◌≡◌, ℕ, ◌<◌, get_or, IsTrue, Bool, true, false, List, All, AllPairs, Contains, map, Result, Ok, Err, IfOk, OnErr, MatchBool, refl, sym, ap, ◌∙◌, subst}
+use Rattle.std.specs.declared.alloc.AllocError.{AllocError}
+use Rattle.dd_store.specs.Nodes.{Nodes, IsSound as IsSoundStore}
+use Rattle.req_table.specs.declared.Key.{Key}
+use Rattle.req_table.specs.declared.Record.{Record}
+use Rattle.req_table.specs.Lanes.{sent_by, IsFair}
+use Rattle.req_table.specs.Keys.{IsKey, wave_at, wave_of}
+use Rattle.req_table.specs.Settled.{IsClosure, IsSplit, key_of, level_of_rows}
+use Rattle.req_table.specs.Reached.{IsReached}
+use Rattle.req_table.specs.Tables.{row_at}
+use Rattle.req_table.proofs.Lists.{all_of}
+use Rattle.req_table.proofs.Fair.{taken_prefix, fair_front}
+use Rattle.req_table.proofs.Waved.{is_wave}
+use Rattle.wave_core.specs.declared.Event.{Event}
+use Rattle.wave_core.specs.Step.{IsStart, IsStep, IsAllowed, IsFinished, asks_here}
+use Rattle.wave_core.specs.View.{View, state_of, wave_of_view, list_of}
+use Rattle.wave_core.specs.Cores.{CoreView, core_wave, core_state, IsSoundCore, IsSettledCore, IsNew, IsSameWave}
+use Rattle.req_table.specs.Wave.{IsWave}
+use Rattle.wave_core.specs.Sound.{IsSound}
+use Rattle.wave_core.proofs.Runs.{step_sound, start_sound}
+use Rattle.wave_core.proofs.Expands.{taken_key}
+use Rattle.wave_core.proofs.Finished.{finished_settles, finished_closes}
+
+abbrev pub core_at : Nodes → View → List Key → CoreView
+core_at S v roots = record { store = S; roots = roots; machine = v }
+
+-- what the machine ensures of an event
+abbrev pub Does : Nodes → View → Event → Bool → View → Type 0
+Does S v e b u = MatchBool b (IsStep (wave_of_view S v) (state_of v) e (state_of u)) ((u ≡ v) × ¬ IsAllowed (wave_of_view S v) (state_of v) e)
+
+-- the same of the wave of a core
+abbrev pub Turns : Nodes → View → List Key → Event → Bool → View → Type 0
+Turns S v roots e b u = MatchBool b (IsStep (wave_of S v.workers) (state_of v) e (state_of u)) ((core_at S u roots ≡ core_at S v roots) × ¬ IsAllowed (wave_of S v.workers) (state_of v) e)
+
+-- the wave of a machine that has the levels of its store
+pub wave_is : (S : Nodes) (v : View) → v.levels ≡ S.levels → wave_of_view S v ≡ wave_of S v.workers
+wave_is S v e = ap (λ n. wave_at S n v.workers) e
+
+pub lifts_does : (S : Nodes) (v u : View) (roots : List Key) (e : Event) (b : Bool) → v.levels ≡ S.levels → Does S v e b u → Turns S v roots e b u
+lifts_does S v u roots e true l d = subst (λ w. IsStep w (state_of v) e (state_of u)) (wave_is S v l) d
+lifts_does S v u roots e false l d = (ap (λ (m : View). core_at S m roots) d.0, subst (λ w. ¬ IsAllowed w (state_of v) e) (wave_is S v l) d.1)
+
+pub lifts : (S : Nodes) (v u : View) (roots : List Key) (e : Event) (r : Result Bool AllocError) → v.levels ≡ S.levels → IfOk r (λ b. Does S v e b u) → IfOk r (λ b. Turns S v roots e b u)
+lifts S v u roots e (Ok b) l d = lifts_does S v u roots e b l d
+lifts S v u roots e (Err x) l d = d
+
+stepped : (S : Nodes) (v u : View) (roots : List Key) (e : Event) → (u.workers ≡ v.workers) × (u.levels ≡ v.levels) → IsStep (wave_of S v.workers) (state_of v) e (state_of u) → IsSoundCore (core_at S v roots) → IsSoundCore (core_at S u roots)
+stepped S v u roots e same step h =
+    let sound = step_sound (wave_of S v.workers) h.laws roots (state_of v) (state_of u) e step h.sound in
+    let workers-is = ap (λ n. wave_of S n) (sym same.0) in
+    record { levels = same.1 ∙ h.levels; laws = subst IsWave workers-is h.laws; sound = subst (λ w. IsSound w roots (state_of u)) workers-is sound }
+
+pub does_keeps : (S : Nodes) (v u : View) (roots : List Key) (e : Event) (b : Bool) → (u.workers ≡ v.workers) × (u.levels ≡ v.levels) → Does S v e b u → IsSoundCore (core_at S v roots) → IsSoundCore (core_at S u roots)
+does_keeps S v u roots e true same d h = stepped S v u roots e same (lifts_does S v u roots e true h.levels d) h
+does_keeps S v u roots e false same d h = subst (λ (x : View). IsSoundCore (core_at S x roots)) (sym d.0) h
+
+pub event_keeps : (S : Nodes) (v u : View) (roots : List Key) (e : Event) (r : Result Bool AllocError) → (u.workers ≡ v.workers) × (u.levels ≡ v.levels) → IfOk r (λ b. Does S v e b u) → OnErr r (u ≡ v)
+    → IsSoundCore (core_at S v roots) → IsSoundCore (core_at S u roots)
+event_keeps S v u roots e (Ok b) same ok err h = does_keeps S v u roots e b same ok h
+event_keeps S v u roots e (Err x) same ok err h = subst (λ (x : View). IsSoundCore (core_at S x roots)) (sym err) h
+
+-- what a worker took of a sender is fair, and what it took at its level is of the store
+pub taken_fair : (S : Nodes) (v : View) (roots : List Key) (by : ℕ) → IsSoundCore (core_at S v roots) → by < v.workers → (s : ℕ) → s < v.workers → IsFair (wave_of_view S v).scope (sent_by s (list_of v.taken by))
+taken_fair S v roots by h bb s sb =
+    let w = wave_of S v.workers in
+    let c = state_of v in
+    subst (λ x. IsFair x.scope (sent_by s (list_of v.taken by))) (sym (wave_is S v h.levels))
+    (fair_front w.scope 0 (sent_by s (c.taken by)) (sent_by s (c.waiting by))
+    (subst (λ l. IsFair w.scope l) (taken_prefix w.scope (λ k. c.sent k by) (c.taken by) (c.waiting by) s (h.sound.lane by bb) sb) (h.sound.fair s by sb bb)))
+
+pub taken_held : (S : Nodes) (v : View) (roots : List Key) (by : ℕ) → IsSoundCore (core_at S v roots) → by < v.workers → All (IsKey S) (asks_here (state_of v) by)
+taken_held S v roots by h bb = all_of (IsKey S) (asks_here (state_of v) by) (λ x i. (taken_key (wave_of S v.workers) roots (state_of v) by ((state_of v).at by) x h.sound bb i).1)
+
+pub settles_at : (x v : CoreView) → x ≡ v → IsSoundCore x → IsFinished (core_wave v) (core_state v) → IsSettledCore v
+settles_at x v e h = subst (λ (y : CoreView). IsFinished (core_wave y) (core_state y) → IsSettledCore y) e (λ done. finished_settles (core_wave x) h.laws x.roots (core_state x) h.sound done)
+
+-- what the machine says of its levels, of a core
+pub finish_says : (x v : CoreView) → x ≡ v → x.machine.levels ≡ x.store.levels → (b : Bool) → MatchBool b ((k : ℕ) → k < x.machine.workers → get_or x.machine.at k 0 ≡ x.machine.levels) ((k : ℕ) × (k < x.machine.workers) × ¬ (get_or x.machine.at k 0 ≡ x.machine.levels))
+    → MatchBool b (IsFinished (core_wave v) (core_state v)) (¬ IsFinished (core_wave v) (core_state v))
+finish_says x v e l true m = subst (λ (y : CoreView). IsFinished (core_wave y) (core_state y)) e (λ k kb. m k kb ∙ l)
+finish_says x v e l false m = subst (λ (y : CoreView). ¬ IsFinished (core_wave y) (core_state y)) e (λ f. m.2 (f m.0 m.1 ∙ sym l))
+
+pub finish_settles : (x v : CoreView) → x ≡ v → (b : Bool) → IsSoundCore x → MatchBool b (IsFinished (core_wave v) (core_state v)) (¬ IsFinished (core_wave v) (core_state v)) → IsTrue b → IsSettledCore v
+finish_settles x v e true h m t = settles_at x v e h m
+finish_settles x v e false h m t = absurd (cc)
+
+-- the start
+pub start_keeps : (S : Nodes) (m : View) (roots : List Key) (workers : ℕ) → IsSoundStore S → 0 < workers → All (IsKey S) roots → (m.workers ≡ workers) × (m.levels ≡ S.levels) × IsStart (wave_of S workers) roots (state_of m) → IsSoundCore (core_at S m roots)
+start_keeps S m roots workers o some held h =
+    let workers-is = ap (λ n. wave_of S n) (sym h.0) in
+    record {
+      levels = h.1;
+      laws = subst IsWave workers-is (is_wave S o workers some);
+      sound = start_sound (wave_of S m.workers) roots (state_of m) held (subst (λ w. IsStart w roots (state_of m)) workers-is h.2);
+    }
+
+pub start_is_new : (S : Nodes) (m : View) (roots : List Key) (workers' : ℕ) → (m.workers ≡ workers') × (m.levels ≡ S.levels) × IsStart (wave_of S workers') roots (state_of m) → IsNew S workers' roots (core_at S m roots)
+start_is_new S m roots workers' h = record { store = refl; roots = refl; workers = h.0; start = subst (λ w. IsStart w roots (state_of m)) (ap (λ n. wave_of S n) (sym h.0)) h.2 }
+
+-- ---- records by level that are the same rows
+closure_along : (v : CoreView) (rows records : ℕ → List Record) → ((l : ℕ) → l < v.store.levels → records l ≡ rows l) → IsClosure (core_wave v) v.roots rows → IsClosure (core_wave v) v.roots records
+closure_along v rows records e h = record {
+  split = λ l b. subst (All (IsSplit (core_wave v))) (sym (e l b)) (h.split l b);
+  placed = λ l b. subst (All (λ r. (core_wave v).level r.key ≡ l)) (sym (e l b)) (h.placed l b);
+  reached = λ l b. subst (All (λ r. IsReached (core_wave v) v.roots r.key)) (sym (e l b)) (h.reached l b);
+  recorded = λ x i. (let q = h.recorded x i in (q.0, subst (λ rs. Contains (map key_of rs) x) (sym (e ((core_wave v).level x) q.0)) q.1));
+  once = λ l b. subst (λ rs. AllPairs (λ (a b : Record). ¬ (a.key ≡ b.key)) rs) (sym (e l b)) (h.once l b);
+}
+
+pub records_close : (x v : CoreView) → x ≡ v → IsSoundCore x → (records : ℕ → List Record) → ((l : ℕ) → l < v.store.levels → records l ≡ level_of_rows v.machine.workers (core_state v).rows l)
+    → IsFinished (core_wave v) (core_state v) → IsClosure (core_wave v) v.roots records
+records_close x v e h records same = subst (λ (y : CoreView). ((l : ℕ) → l < y.store.levels → records l ≡ level_of_rows y.machine.workers (core_state y).rows l) → IsFinished (core_wave y) (core_state y) → IsClosure (core_wave y) y.roots records) e
+    (λ is done. closure_along x (level_of_rows x.machine.workers (core_state x).rows) records is (finished_closes (core_wave x) h.laws x.roots (core_state x) h.sound done)) same
+
+pub same_after : (x v : CoreView) (u : View) → x ≡ v → u.workers ≡ x.machine.workers → IsSameWave v (core_at x.store u x.roots)
+same_after x v u e w = subst (λ (y : CoreView). IsSameWave y (core_at x.store u x.roots)) e (record { store = refl; roots = refl; workers = w })
+
+pub records_close_ok : (x v : CoreView) → x ≡ v → IsSoundCore x → (r : Result (List (List Record)) AllocError)
+    → IfOk r (λ rows. (l : ℕ) → l < x.machine.levels → row_at rows l ≡ level_of_rows x.machine.workers (core_state x).rows l)
+    → IsFinished (core_wave v) (core_state v) → IfOk r (λ rows. IsClosure (core_wave v) v.roots (row_at rows))
+records_close_ok x v e h (Ok rows) same done =
+    records_close x v e h (row_at rows) (subst (λ (y : CoreView). (l : ℕ) → l < y.store.levels → row_at rows l ≡ level_of_rows y.machine.workers (core_state y).rows l) e (λ l b. same l (subst (λ n. l < n) (sym h.levels) b))) done
+records_close_ok x v e h (Err f) same done = same
+
+-- what the machine says of an event, of a core
+pub allows_at : (x v : CoreView) → x ≡ v → x.machine.levels ≡ x.store.levels → (f : Event) (b : Bool) → MatchBool b (IsAllowed (wave_of_view x.store x.machine) (core_state x) f) (¬ IsAllowed (wave_of_view x.store x.machine) (core_state x) f)
+    → MatchBool b (IsAllowed (core_wave v) (core_state v) f) (¬ IsAllowed (core_wave v) (core_state v) f)
+allows_at x v e l f b m = subst (λ (y : CoreView). MatchBool b (IsAllowed (core_wave y) (core_state y) f) (¬ IsAllowed (core_wave y) (core_state y) f)) e
+    (subst (λ w. MatchBool b (IsAllowed w (core_state x) f) (¬ IsAllowed w (core_state x) f)) (wave_is x.store x.machine l) m)

@@ -1,0 +1,51 @@
+-- Which events a driven core does: at each turn the allowed one of a chosen number, in one order of all events.
+use Rattle.std.specs.Prelude.{◌≡◌, ℕ, zero, suc, ◌%◌, List, [], ◌∷◌, ◌++◌, ◌⊎◌}
+use Rattle.req_table.specs.Wave.{Wave}
+use Rattle.wave_core.specs.declared.Event.{Event}
+use Rattle.wave_core.specs.declared.Event.TheVariants.{Send, End, Take, Expand, Advance}
+use Rattle.wave_core.specs.Step.{State, IsStep, IsAllowed, IsFinished}
+
+abbrev pub sends : ℕ → ℕ → List Event
+sends by zero = []
+sends by (suc n) = sends by n ++ Send by n ∷ []
+
+abbrev pub ends_of : ℕ → ℕ → List Event
+ends_of by zero = []
+ends_of by (suc n) = ends_of by n ++ End by n ∷ []
+
+-- the events of one worker among n, and of the first m workers
+abbrev pub events_of : ℕ → ℕ → List Event
+events_of n by = sends by n ++ ends_of by n ++ Take by ∷ Expand by ∷ Advance by ∷ []
+
+abbrev pub events_below : ℕ → ℕ → List Event
+events_below n zero = []
+events_below n (suc m) = events_below n m ++ events_of n m
+
+abbrev pub all_events : Wave → List Event
+all_events w = events_below w.workers w.workers
+
+-- m of the events are allowed
+abbrev pub AllowsOf : Wave → State → List Event → ℕ → Type 0
+AllowsOf w c [] m = m ≡ 0
+AllowsOf w c (x ∷ xs) m = (¬ IsAllowed w c x) × AllowsOf w c xs m ⊎ IsAllowed w c x × ((k : ℕ) × (m ≡ suc k) × AllowsOf w c xs k)
+
+-- e is the allowed one numbered n, from 0
+abbrev pub IsNumbered : Wave → State → List Event → ℕ → Event → Type 0
+IsNumbered w c [] n e = ⊥
+IsNumbered w c (x ∷ xs) n e = (¬ IsAllowed w c x) × IsNumbered w c xs n e ⊎ IsAllowed w c x × ((n ≡ 0) × (e ≡ x) ⊎ ((k : ℕ) × (n ≡ suc k) × IsNumbered w c xs k e))
+
+-- From c by these choices to d, which is finished: while c is not, the event numbered `choice modulo the number of
+-- allowed ones` for each choice, and then always the first.
+pub data IsDriven (w : Wave) : State → List ℕ → State → Type 0 where
+  stop : {c : State} {choices : List ℕ} → IsFinished w c → IsDriven w c choices c
+  turn : {c b d : State} {choice : ℕ} {choices : List ℕ} (m : ℕ) (e : Event) → ¬ IsFinished w c → AllowsOf w c (all_events w) (suc m) → IsNumbered w c (all_events w) (choice % suc m) e
+      → IsStep w c e b → IsDriven w b choices d → IsDriven w c (choice ∷ choices) d
+  first : {c b d : State} (e : Event) → ¬ IsFinished w c → IsNumbered w c (all_events w) 0 e → IsStep w c e b → IsDriven w b [] d → IsDriven w c [] d
+
+-- From c to d by the allowed event of a choice's number.
+pub record IsTurn (w : Wave) (c : State) (choice : ℕ) (d : State) : Type 0 where
+  pub others : ℕ
+  pub event : Event
+  pub count : AllowsOf w c (all_events w) (suc others)
+  pub numbered : IsNumbered w c (all_events w) (choice % suc others) event
+  pub step : IsStep w c event d

@@ -1,0 +1,7 @@
+pub mod Step
+pub mod Sound
+pub mod Measure
+pub mod Drive
+pub mod View
+pub mod Cores
+pub mod Fall

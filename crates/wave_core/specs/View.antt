@@ -1,0 +1,89 @@
+-- What contracts see of a machine: lists by place. The pair of s and k has the place s * workers + k; the level v of
+-- the worker k has the place k * levels + v.
+use Rattle.std.specs.Prelude.{◌≡◌, ℕ, ◌+◌, ◌*◌, ◌<◌, ◌≤◌, List, [], ◌∷◌, ◌++◌, length, map, filter, ◌==◌, slice_index_or, slice_set}
+use Rattle.dd_store.specs.Nodes.{Nodes}
+use Rattle.req_table.specs.declared.Key.{Key}
+use Rattle.req_table.specs.declared.Record.{Record}
+use Rattle.req_table.specs.declared.Child.{Child}
+use Rattle.req_table.specs.declared.Child.TheVariants.{Done, Ask}
+use Rattle.req_table.specs.Short.{owner_of}
+use Rattle.req_table.specs.declared.Item.{Item}
+use Rattle.req_table.specs.Wave.{Wave}
+use Rattle.req_table.specs.Lanes.{sent_by, ends, asks_at}
+use Rattle.req_table.specs.Settled.{IsDistinctOf, key_of, dealt_from}
+use Rattle.req_table.specs.Keys.{wave_at, owner}
+use Rattle.wave_core.specs.Step.{State}
+
+-- `ended` counts the Ends that s sent to k; `counted`, at the pair of k and s, those of s that k took; `tables` has
+-- the distinct keys that k took at each level.
+pub record View : Type 0 where
+  pub workers : ℕ
+  pub levels : ℕ
+  pub sent : List (List Item)
+  pub ended : List ℕ
+  pub due : List (List Key)
+  pub waiting : List (List Item)
+  pub taken : List (List Item)
+  pub counted : List ℕ
+  pub tables : List (List Key)
+  pub rows : List (List Record)
+  pub at : List ℕ
+
+abbrev pub by_place : {X : Type 0} → ℕ → List (List X) → ℕ → ℕ → List X
+by_place w xss s k = slice_index_or xss (s * w + k) []
+
+abbrev pub list_of : {X : Type 0} → List (List X) → ℕ → List X
+list_of xss k = slice_index_or xss k []
+
+abbrev pub number_of : ℕ → List ℕ → ℕ → ℕ → ℕ
+number_of w ns s k = slice_index_or ns (s * w + k) 0
+
+abbrev pub state_of : View → State
+state_of v = record {
+  sent = by_place v.workers v.sent;
+  due = by_place v.workers v.due;
+  taken = list_of v.taken;
+  waiting = list_of v.waiting;
+  rows = by_place v.levels v.rows;
+  at = λ k. slice_index_or v.at k 0;
+}
+
+abbrev pub wave_of_view : Nodes → View → Wave
+wave_of_view S v = wave_at S v.levels v.workers
+
+pub record IsShaped (v : View) : Type 0 where
+  pub few_workers : v.workers ≤ 16
+  pub few_levels : v.levels ≤ 4096
+  pub sent : length v.sent ≡ v.workers * v.workers
+  pub ended : length v.ended ≡ v.workers * v.workers
+  pub due : length v.due ≡ v.workers * v.workers
+  pub waiting : length v.waiting ≡ v.workers
+  pub taken : length v.taken ≡ v.workers
+  pub counted : length v.counted ≡ v.workers * v.workers
+  pub tables : length v.tables ≡ v.workers * v.levels
+  pub rows : length v.rows ≡ v.workers * v.levels
+  pub at : length v.at ≡ v.workers
+
+-- a table is the distinct keys asked for, and the row's keys are a front of it
+pub record IsTable (xs table : List Key) (row : List Record) : Type 0 where
+  pub distinct : IsDistinctOf xs table
+  pub rest : List Key
+  pub front : table ≡ map key_of row ++ rest
+
+pub record IsKept (v : View) : Type 0 where
+  pub shape : IsShaped v
+  pub ended : (s k : ℕ) → s < v.workers → k < v.workers → number_of v.workers v.ended s k ≡ ends (by_place v.workers v.sent s k)
+  pub counted : (k s : ℕ) → k < v.workers → s < v.workers → number_of v.workers v.counted k s ≡ ends (sent_by s (list_of v.taken k))
+  pub tables : (k l : ℕ) → k < v.workers → l < v.levels → IsTable (asks_at l (list_of v.taken k)) (by_place v.levels v.tables k l) (by_place v.levels v.rows k l)
+
+-- the due lists after the child of a record of `by` was added to them; after both children
+abbrev pub owe_of : ℕ → ℕ → Child → List (List Key) → List (List Key)
+owe_of w by (Done r) d = d
+owe_of w by (Ask l x) d = slice_set d (by * w + owner_of x.op x.f x.g w) (slice_index_or d (by * w + owner_of x.op x.f x.g w) [] ++ x ∷ [])
+
+abbrev pub owe_all : ℕ → ℕ → Record → List (List Key) → List (List Key)
+owe_all w by r d = owe_of w by r.high (owe_of w by r.low d)
+
+-- each root is due from the worker that it is dealt to, to its owner
+abbrev pub AreDealt : ℕ → List Key → List (List Key) → Type 0
+AreDealt w roots due = (s k : ℕ) → s < w → k < w → by_place w due s k ≡ filter (λ x. owner w x == k) (dealt_from w s 0 roots)

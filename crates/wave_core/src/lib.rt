@@ -1,0 +1,28 @@
+//! The workers of a wave as a state machine on one thread.
+#![tactic(auto)]
+
+mod events;
+mod lists;
+mod machine;
+mod start;
+mod waves;
+
+pub use waves::Core;
+
+/// A step of one worker: it sends the first request that is due to a worker, ends its next level on a worker's lane, takes
+/// the first item of its own lane, expands the next request of its level, or goes on to the next level.
+#[derive(Clone, Copy, Debug)]
+pub enum Event {
+    Send { by: u32, to: u32 },
+    End { by: u32, to: u32 },
+    Take { by: u32 },
+    Expand { by: u32 },
+    Advance { by: u32 },
+}
+
+/// Why an event was not done: it is not allowed in this state, after so many events of this core, or memory was refused.
+#[derive(Clone, Copy, Debug, PartialEq, Eq)]
+pub enum CoreFault {
+    NotAllowed { place: u128 },
+    OutOfMemory,
+}

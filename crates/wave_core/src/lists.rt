@@ -1,0 +1,266 @@
+// Lists that grow at the end; two of them also shrink at the front.
+ghost use Rattle.std.specs.Prelude.{◌≡◌, ℕ, List, [], ◌∷◌, ◌++◌, length, replicate, MatchOption, MatchBool, IfOk, OnOk, OnErr};
+ghost use Rattle.req_table.specs.declared.Item.{Item as ItemValue};
+ghost use Rattle.req_table.specs.declared.Key.{Key as KeyValue};
+ghost use Rattle.req_table.specs.declared.Record.{Record as RecordValue};
+
+use req_table::{Child, Item, Key, Record};
+use std::alloc::{AllocError, Global};
+use std::collections::VecDeque;
+use std::marker::Model;
+
+// Items that were sent or taken.
+#[derive(Drop)]
+pub struct Items {
+    items: Vec<Item>,
+}
+
+impl Model for Items {
+    ghost use Rattle.std.specs.Prelude.{List};
+    ghost use Rattle.req_table.specs.declared.Item.{Item as ItemValue};
+
+    ghost Value = { List ItemValue };
+
+    ghost view = { λ l. l.items.items };
+}
+
+impl Items {
+    pub fn new(alloc: Global) -> Items
+        ensures { result ≡ [] }
+    {
+        Items {
+            items: Vec::new(alloc),
+        }
+    }
+
+    /// So many empty lists.
+    pub fn many(alloc: Global, count: usize) -> Result<Vec<Items>, AllocError>
+        ensures { IfOk result (λ lists. lists.items ≡ replicate count []) }
+    {
+        let mut lists = Vec::new(alloc);
+        for made in 0..count {
+            lists.push(Items::new(alloc))?;
+        }
+        Ok(lists)
+    }
+
+    pub fn len(&self) -> usize
+        ensures { result ≡ length self.now }
+    {
+        self.items.len()
+    }
+
+    pub fn as_slice(&self) -> &[Item]
+        ensures { result.now ≡ self.now }
+    {
+        self.items.as_slice()
+    }
+
+    pub fn put(&mut self, item: &Item) -> Result<(), AllocError>
+        ensures ok { OnOk result (self.new ≡ self.old ++ item.now ∷ []) }
+        ensures err { OnErr result (self.new ≡ self.old) }
+    {
+        self.items.push(*item)?;
+        Ok(())
+    }
+
+    // Takes the last item back.
+    pub fn undo(&mut self)
+        ensures { (xs : List ItemValue) (x : ItemValue) → self.old ≡ xs ++ x ∷ [] → self.new ≡ xs }
+    {
+        let _ = self.items.pop();
+    }
+}
+
+// Records of one worker and level.
+#[derive(Drop)]
+pub struct Row {
+    records: Vec<Record>,
+}
+
+impl Model for Row {
+    ghost use Rattle.std.specs.Prelude.{List};
+    ghost use Rattle.req_table.specs.declared.Record.{Record as RecordValue};
+
+    ghost Value = { List RecordValue };
+
+    ghost view = { λ l. l.records.items };
+}
+
+impl Row {
+    pub fn new(alloc: Global) -> Row
+        ensures { result ≡ [] }
+    {
+        Row {
+            records: Vec::new(alloc),
+        }
+    }
+
+    /// So many empty lists.
+    pub fn many(alloc: Global, count: usize) -> Result<Vec<Row>, AllocError>
+        ensures { IfOk result (λ lists. lists.items ≡ replicate count []) }
+    {
+        let mut lists = Vec::new(alloc);
+        for made in 0..count {
+            lists.push(Row::new(alloc))?;
+        }
+        Ok(lists)
+    }
+
+    pub fn len(&self) -> usize
+        ensures { result ≡ length self.now }
+    {
+        self.records.len()
+    }
+
+    pub fn as_slice(&self) -> &[Record]
+        ensures { result.now ≡ self.now }
+    {
+        self.records.as_slice()
+    }
+
+    pub fn put(&mut self, added: &Record) -> Result<(), AllocError>
+        ensures ok { OnOk result (self.new ≡ self.old ++ added.now ∷ []) }
+        ensures err { OnErr result (self.new ≡ self.old) }
+    {
+        let _low: &Child = &added.low;
+        self.records.push(*added)?;
+        Ok(())
+    }
+}
+
+// Keys that are due.
+#[derive(Drop)]
+pub struct Keys {
+    keys: VecDeque<Key>,
+}
+
+impl Model for Keys {
+    ghost use Rattle.std.specs.Prelude.{List};
+    ghost use Rattle.req_table.specs.declared.Key.{Key as KeyValue};
+
+    ghost Value = { List KeyValue };
+
+    ghost view = { λ l. l.keys.items };
+}
+
+impl Keys {
+    pub fn new(alloc: Global) -> Keys
+        ensures { result ≡ [] }
+    {
+        Keys {
+            keys: VecDeque::new(alloc),
+        }
+    }
+
+    /// So many empty lists.
+    pub fn many(alloc: Global, count: usize) -> Result<Vec<Keys>, AllocError>
+        ensures { IfOk result (λ lists. lists.items ≡ replicate count []) }
+    {
+        let mut lists = Vec::new(alloc);
+        for made in 0..count {
+            lists.push(Keys::new(alloc))?;
+        }
+        Ok(lists)
+    }
+
+    pub fn first(&self) -> Option<Key>
+        ensures { MatchOption result (self.now ≡ []) (λ x. (rest : List KeyValue) × (self.now ≡ x ∷ rest)) }
+    {
+        self.keys.front().copied()
+    }
+
+    pub fn is_empty(&self) -> bool
+        ensures { MatchBool result (self.now ≡ []) (¬ (self.now ≡ [])) }
+    {
+        self.keys.is_empty()
+    }
+
+    pub fn pop(&mut self)
+        ensures { (xs : List KeyValue) (x : KeyValue) → self.old ≡ x ∷ xs → self.new ≡ xs }
+    {
+        let _ = self.keys.pop_front();
+    }
+
+    pub fn put(&mut self, key: Key) -> Result<(), AllocError>
+        ensures ok { OnOk result (self.new ≡ self.old ++ key ∷ []) }
+        ensures err { OnErr result (self.new ≡ self.old) }
+    {
+        self.keys.push_back(key)?;
+        Ok(())
+    }
+
+    // Takes the last key back.
+    pub fn undo(&mut self)
+        ensures { (xs : List KeyValue) (x : KeyValue) → self.old ≡ xs ++ x ∷ [] → self.new ≡ xs }
+    {
+        let _ = self.keys.pop_back();
+    }
+}
+
+// Items that wait.
+#[derive(Drop)]
+pub struct Lane {
+    items: VecDeque<Item>,
+}
+
+impl Model for Lane {
+    ghost use Rattle.std.specs.Prelude.{List};
+    ghost use Rattle.req_table.specs.declared.Item.{Item as ItemValue};
+
+    ghost Value = { List ItemValue };
+
+    ghost view = { λ l. l.items.items };
+}
+
+impl Lane {
+    pub fn new(alloc: Global) -> Lane
+        ensures { result ≡ [] }
+    {
+        Lane {
+            items: VecDeque::new(alloc),
+        }
+    }
+
+    /// So many empty lists.
+    pub fn many(alloc: Global, count: usize) -> Result<Vec<Lane>, AllocError>
+        ensures { IfOk result (λ lists. lists.items ≡ replicate count []) }
+    {
+        let mut lists = Vec::new(alloc);
+        for made in 0..count {
+            lists.push(Lane::new(alloc))?;
+        }
+        Ok(lists)
+    }
+
+    pub fn first(&self) -> Option<Item>
+        ensures { MatchOption result (self.now ≡ []) (λ x. (rest : List ItemValue) × (self.now ≡ x ∷ rest)) }
+    {
+        self.items.front().copied()
+    }
+
+    pub fn pop(&mut self)
+        ensures { (xs : List ItemValue) (x : ItemValue) → self.old ≡ x ∷ xs → self.new ≡ xs }
+    {
+        let _ = self.items.pop_front();
+    }
+
+    pub fn put(&mut self, item: &Item) -> Result<(), AllocError>
+        ensures ok { OnOk result (self.new ≡ self.old ++ item.now ∷ []) }
+        ensures err { OnErr result (self.new ≡ self.old) }
+    {
+        self.items.push_back(*item)?;
+        Ok(())
+    }
+}
+
+/// Puts records behind others.
+pub fn append(records: &mut Vec<Record>, row: &[Record]) -> Result<(), AllocError>
+    ensures { OnOk result (records.new.items ≡ records.old.items ++ row.now) }
+{
+    for added in row {
+        let _low: &Child = &added.low;
+        records.push(*added)?;
+    }
+    Ok(())
+}

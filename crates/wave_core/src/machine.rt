@@ -1,0 +1,532 @@
+// The lists of all workers, and the events on them.
+ghost use Rattle.std.specs.Prelude.{◌≡◌, ℕ, ◌+◌, ◌*◌, ◌<◌, ◌≤◌, List, [], ◌∷◌, ◌++◌, length, slice_index_or, slice_set, map, All, MatchOption, IfOk, OnOk, OnErr, MatchBool};
+ghost use Rattle.req_table.specs.Lanes.{sent_by, IsFair, asks_at};
+ghost use Rattle.req_table.specs.Keys.{IsKey, wave_at};
+ghost use Rattle.req_table.specs.declared.Key.{Key as KeyValue};
+ghost use Rattle.wave_core.specs.View.{View, IsKept, state_of, wave_of_view, number_of, owe_of, owe_all, list_of, by_place};
+ghost use Rattle.req_table.specs.Settled.{key_of, level_of_rows};
+ghost use Rattle.req_table.specs.Tables.{row_at};
+ghost use Rattle.wave_core.specs.Step.{IsStart, IsStep, IsAllowed, asks_here};
+ghost use Rattle.wave_core.specs.declared.Event.TheVariants.{Send, End, Take, Expand, Advance};
+
+use crate::lists::{Items, Keys, Lane, Row, append};
+use crate::start::{deal, tables};
+use dd_store::Store;
+use req_table::requests::{level_of, owner, split};
+use req_table::{Child, Item, Key, Record, Records, Table};
+use std::alloc::{AllocError, Global};
+use std::marker::Model;
+
+#[derive(Drop)]
+pub struct Machine {
+    workers: u32,
+    levels: u16,
+    sent: Vec<Items>,
+    ended: Vec<u16>,
+    due: Vec<Keys>,
+    waiting: Vec<Lane>,
+    taken: Vec<Items>,
+    counted: Vec<u64>,
+    tables: Vec<Table>,
+    rows: Vec<Row>,
+    at: Vec<u16>,
+}
+
+impl Model for Machine {
+    ghost use Rattle.wave_core.specs.View.{View, IsKept};
+
+    ghost Value = { View };
+
+    ghost view = { λ m. record {
+      workers = m.workers;
+      levels = m.levels;
+      sent = m.sent.items;
+      ended = m.ended.items;
+      due = m.due.items;
+      waiting = m.waiting.items;
+      taken = m.taken.items;
+      counted = m.counted.items;
+      tables = m.tables.items;
+      rows = m.rows.items;
+      at = m.at.items;
+    } };
+
+    ghost invariant = { λ m. IsKept (record {
+      workers = m.workers;
+      levels = m.levels;
+      sent = m.sent.items;
+      ended = m.ended.items;
+      due = m.due.items;
+      waiting = m.waiting.items;
+      taken = m.taken.items;
+      counted = m.counted.items;
+      tables = m.tables.items;
+      rows = m.rows.items;
+      at = m.at.items;
+    }) };
+}
+
+impl Machine {
+    // The start for these roots.
+    pub fn new(
+        alloc: Global,
+        store: &Store,
+        workers: u32,
+        roots: &[Key],
+    ) -> Result<Machine, AllocError>
+        requires some { 0 < workers }
+        requires few { workers ≤ 16 }
+        ensures { IfOk result (λ m. (m.workers ≡ workers) × (m.levels ≡ store.now.levels) × IsStart (wave_at store.now store.now.levels workers) roots.now (state_of m)) }
+    {
+        let levels = store.levels();
+        let wide = workers as usize;
+        let pairs = wide * wide;
+        let places = wide * levels as usize;
+        Ok(Machine {
+            workers,
+            levels,
+            sent: Items::many(alloc, pairs)?,
+            ended: vec![in alloc; 0; pairs]?,
+            due: deal(alloc, workers, roots)?,
+            waiting: Lane::many(alloc, wide)?,
+            taken: Items::many(alloc, wide)?,
+            counted: vec![in alloc; 0; pairs]?,
+            tables: tables(alloc, places)?,
+            rows: Row::many(alloc, places)?,
+            at: vec![in alloc; 0; wide]?,
+        })
+    }
+
+    // Sends the first item that is due from `by` to `to`.
+    pub fn send(&mut self, store: &Store, by: u32, to: u32) -> Result<bool, AllocError>
+        ensures same { (self.new.workers ≡ self.old.workers) × (self.new.levels ≡ self.old.levels) }
+        ensures ok { IfOk result (λ b. MatchBool b (IsStep (wave_of_view store.now self.old) (state_of self.old) (Send by to) (state_of self.new)) ((self.new ≡ self.old) × ¬ IsAllowed (wave_of_view store.now self.old) (state_of self.old) (Send by to))) }
+        ensures err { OnErr result (self.new ≡ self.old) }
+    {
+        if by >= self.workers || to >= self.workers {
+            return Ok(false);
+        }
+        let place = (by * self.workers + to) as usize;
+        let lane = to as usize;
+        let Some(key) = self.due[place].first() else {
+            return Ok(false);
+        };
+        let item = Item::Ask {
+            from: by,
+            level: level_of(store, key),
+            key,
+        };
+        self.sent[place].put(&item)?;
+        match self.waiting[lane].put(&item) {
+            Ok(()) => {
+                self.due[place].pop();
+                Ok(true)
+            }
+            Err(fault) => {
+                self.sent[place].undo();
+                Err(fault)
+            }
+        }
+    }
+
+    // Sends the next End from `by` to `to`.
+    pub fn end(&mut self, store: &Store, by: u32, to: u32) -> Result<bool, AllocError>
+        ensures same { (self.new.workers ≡ self.old.workers) × (self.new.levels ≡ self.old.levels) }
+        ensures ok { IfOk result (λ b. MatchBool b (IsStep (wave_of_view store.now self.old) (state_of self.old) (End by to) (state_of self.new)) ((self.new ≡ self.old) × ¬ IsAllowed (wave_of_view store.now self.old) (state_of self.old) (End by to))) }
+        ensures err { OnErr result (self.new ≡ self.old) }
+    {
+        if by >= self.workers || to >= self.workers {
+            return Ok(false);
+        }
+        let place = (by * self.workers + to) as usize;
+        let lane = to as usize;
+        let level = self.ended[place];
+        if !self.due[place].is_empty() {
+            return Ok(false);
+        }
+        let present = self.at[by as usize];
+        if level > present {
+            return Ok(false);
+        }
+        if level >= self.levels {
+            return Ok(false);
+        }
+        let item = Item::End { from: by, level };
+        self.sent[place].put(&item)?;
+        match self.waiting[lane].put(&item) {
+            Ok(()) => {
+                self.ended[place] = level + 1;
+                Ok(true)
+            }
+            Err(fault) => {
+                self.sent[place].undo();
+                Err(fault)
+            }
+        }
+    }
+
+    // Whether each worker has sent more Ends to `by` than the level, and `by` has taken them.
+    fn is_ended(&self, by: u32, level: u16) -> bool
+        requires { by < self.now.workers }
+        ensures { MatchBool result ((s : ℕ) → s < self.now.workers → level < number_of self.now.workers self.now.counted by s) ((s : ℕ) × (s < self.now.workers) × (number_of self.now.workers self.now.counted by s ≤ level)) }
+    {
+        for sender in 0..self.workers {
+            let place = (by * self.workers + sender) as usize;
+            if self.counted[place] <= level as u64 {
+                return false;
+            }
+        }
+        true
+    }
+
+    // Adds a child to what is due from `by`.
+    fn owe(&mut self, by: u32, child: &Child) -> Result<(), AllocError>
+        requires { by < self.old.workers }
+        ensures ok { OnOk result (let r : View = record self.old { due = owe_of self.old.workers by child.now self.old.due } in self.new ≡ r) }
+        ensures err { OnErr result (self.new ≡ self.old) }
+    {
+        match child {
+            Child::Done(_) => Ok(()),
+            Child::Ask { level: _, key } => {
+                let place = (by * self.workers + owner(*key, self.workers)) as usize;
+                self.due[place].put(*key)
+            }
+        }
+    }
+
+    // Takes such a child back.
+    fn forgive(&mut self, by: u32, child: &Child)
+        requires { by < self.old.workers }
+        ensures same { self.new.workers ≡ self.old.workers }
+        ensures back { (d : List (List KeyValue)) → self.old.due ≡ owe_of self.old.workers by child.now d → length d ≡ self.old.workers * self.old.workers → (let r : View = record self.old { due = d } in self.new ≡ r) }
+    {
+        match child {
+            Child::Done(_) => {}
+            Child::Ask { level: _, key } => {
+                let place = (by * self.workers + owner(*key, self.workers)) as usize;
+                self.due[place].undo();
+            }
+        }
+    }
+
+    // Adds both children of a record to what is due from `by`.
+    fn owe_both(&mut self, by: u32, added: &Record) -> Result<(), AllocError>
+        requires { by < self.old.workers }
+        ensures ok { OnOk result (let r : View = record self.old { due = owe_all self.old.workers by added.now self.old.due } in self.new ≡ r) }
+        ensures err { OnErr result (self.new ≡ self.old) }
+    {
+        let _ = &self.workers;
+        self.owe(by, &added.low)?;
+        match self.owe(by, &added.high) {
+            Ok(()) => Ok(()),
+            Err(fault) => {
+                self.forgive(by, &added.low);
+                Err(fault)
+            }
+        }
+    }
+
+    // The first key of a level that is not yet expanded.
+    fn next_key(&self, by: u32, level: u16) -> Option<Key>
+        requires by { by < self.now.workers }
+        requires level { level < self.now.levels }
+        ensures { MatchOption result (by_place self.now.levels self.now.tables by level ≡ map key_of (by_place self.now.levels self.now.rows by level)) (λ x. (more : List KeyValue) × (by_place self.now.levels self.now.tables by level ≡ map key_of (by_place self.now.levels self.now.rows by level) ++ x ∷ more)) }
+    {
+        let place = by as usize * self.levels as usize + level as usize;
+        let done = self.rows[place].len();
+        if done >= self.tables[place].len() {
+            return None;
+        }
+        Some(self.tables[place].key_at(done))
+    }
+
+    // Puts the record of the next key into its row.
+    fn note(&mut self, by: u32, level: u16, added: &Record) -> Result<(), AllocError>
+        requires by { by < self.old.workers }
+        requires level { level < self.old.levels }
+        requires next { (more : List KeyValue) × (by_place self.old.levels self.old.tables by level ≡ map key_of (by_place self.old.levels self.old.rows by level) ++ added.now.key ∷ more) }
+        ensures ok { OnOk result (let r : View = record self.old { rows = slice_set self.old.rows (by * self.old.levels + level) (by_place self.old.levels self.old.rows by level ++ added.now ∷ []) } in self.new ≡ r) }
+        ensures err { OnErr result (self.new ≡ self.old) }
+    {
+        let place = by as usize * self.levels as usize + level as usize;
+        self.rows[place].put(added)?;
+        Ok(())
+    }
+
+    // Takes both children of a record back.
+    fn forgive_both(&mut self, by: u32, added: &Record)
+        requires { by < self.old.workers }
+        ensures { (d : List (List KeyValue)) → self.old.due ≡ owe_all self.old.workers by added.now d → length d ≡ self.old.workers * self.old.workers → (let r : View = record self.old { due = d } in self.new ≡ r) }
+    {
+        self.forgive(by, &added.high);
+        self.forgive(by, &added.low);
+    }
+
+    // Expands the first key of the level of `by` that is not yet expanded.
+    pub fn expand(&mut self, store: &Store, by: u32) -> Result<bool, AllocError>
+        requires fair { by < self.old.workers → (s : ℕ) → s < self.old.workers → IsFair (wave_of_view store.now self.old).scope (sent_by s (list_of self.old.taken by)) }
+        requires held { by < self.old.workers → All (IsKey store.now) (asks_here (state_of self.old) by) }
+        ensures same { (self.new.workers ≡ self.old.workers) × (self.new.levels ≡ self.old.levels) }
+        ensures ok { IfOk result (λ b. MatchBool b (IsStep (wave_of_view store.now self.old) (state_of self.old) (Expand by) (state_of self.new)) ((self.new ≡ self.old) × ¬ IsAllowed (wave_of_view store.now self.old) (state_of self.old) (Expand by))) }
+        ensures err { OnErr result (self.new ≡ self.old) }
+    {
+        if by >= self.workers {
+            return Ok(false);
+        }
+        let level = self.at[by as usize];
+        if level >= self.levels {
+            return Ok(false);
+        }
+        if !self.is_ended(by, level) {
+            return Ok(false);
+        }
+        let Some(key) = self.next_key(by, level) else {
+            return Ok(false);
+        };
+        let record = split(store, key);
+        self.owe_both(by, &record)?;
+        match self.note(by, level, &record) {
+            Ok(()) => Ok(true),
+            Err(fault) => {
+                self.forgive_both(by, &record);
+                Err(fault)
+            }
+        }
+    }
+
+    // Whether nothing is due from `by`.
+    fn is_paid(&self, by: u32) -> bool
+        requires { by < self.now.workers }
+        ensures { MatchBool result ((to : ℕ) → to < self.now.workers → by_place self.now.workers self.now.due by to ≡ []) ((to : ℕ) × (to < self.now.workers) × ¬ (by_place self.now.workers self.now.due by to ≡ [])) }
+    {
+        for to in 0..self.workers {
+            let place = (by * self.workers + to) as usize;
+            if !self.due[place].is_empty() {
+                return false;
+            }
+        }
+        true
+    }
+
+    // Moves `by` to the next level.
+    pub fn advance(&mut self, store: &Store, by: u32) -> bool
+        requires fair { by < self.old.workers → (s : ℕ) → s < self.old.workers → IsFair (wave_of_view store.now self.old).scope (sent_by s (list_of self.old.taken by)) }
+        ensures same { (self.new.workers ≡ self.old.workers) × (self.new.levels ≡ self.old.levels) }
+        ensures done { MatchBool result (IsStep (wave_of_view store.now self.old) (state_of self.old) (Advance by) (state_of self.new)) ((self.new ≡ self.old) × ¬ IsAllowed (wave_of_view store.now self.old) (state_of self.old) (Advance by)) }
+    {
+        if by >= self.workers {
+            return false;
+        }
+        let level = self.at[by as usize];
+        if level >= self.levels {
+            return false;
+        }
+        if !self.is_ended(by, level) {
+            return false;
+        }
+        if let Some(_key) = self.next_key(by, level) {
+            return false;
+        }
+        if !self.is_paid(by) {
+            return false;
+        }
+        self.at[by as usize] = level + 1;
+        true
+    }
+
+    // Takes the first item that waits on the lane of `by`.
+    pub fn take(&mut self, store: &Store, by: u32) -> Result<bool, AllocError>
+        ensures same { (self.new.workers ≡ self.old.workers) × (self.new.levels ≡ self.old.levels) }
+        ensures ok { IfOk result (λ b. MatchBool b (IsStep (wave_of_view store.now self.old) (state_of self.old) (Take by) (state_of self.new)) ((self.new ≡ self.old) × ¬ IsAllowed (wave_of_view store.now self.old) (state_of self.old) (Take by))) }
+        ensures err { OnErr result (self.new ≡ self.old) }
+    {
+        if by >= self.workers {
+            return Ok(false);
+        }
+        let lane = by as usize;
+        let Some(item) = self.waiting[lane].first() else {
+            return Ok(false);
+        };
+        self.taken[lane].put(&item)?;
+        match item {
+            Item::Ask {
+                from: _,
+                level,
+                key,
+            } => {
+                if level >= self.levels {
+                    self.waiting[lane].pop();
+                    return Ok(true);
+                }
+                let place = lane * self.levels as usize + level as usize;
+                match self.tables[place].admit(key) {
+                    Ok(_) => {
+                        self.waiting[lane].pop();
+                        Ok(true)
+                    }
+                    Err(fault) => {
+                        self.taken[lane].undo();
+                        Err(fault)
+                    }
+                }
+            }
+            Item::End { from, level: _ } => {
+                if from >= self.workers {
+                    self.waiting[lane].pop();
+                    return Ok(true);
+                }
+                let _ = self.taken[lane].len();
+                let place = (by * self.workers + from) as usize;
+                self.counted[place] += 1;
+                self.waiting[lane].pop();
+                Ok(true)
+            }
+        }
+    }
+
+    // Whether each worker is past the last level.
+    pub fn is_finished(&self) -> bool
+        ensures { MatchBool result ((k : ℕ) → k < self.now.workers → slice_index_or self.now.at k 0 ≡ self.now.levels) ((k : ℕ) × (k < self.now.workers) × ¬ (slice_index_or self.now.at k 0 ≡ self.now.levels)) }
+    {
+        for worker in 0..self.workers {
+            if self.at[worker as usize] != self.levels {
+                return false;
+            }
+        }
+        true
+    }
+
+    // How many workers there are.
+    pub fn workers(&self) -> u32
+        ensures { result ≡ self.now.workers }
+    {
+        self.workers
+    }
+
+    // Whether an item is due from `by` to `to`.
+    pub fn can_send(&self, store: &Store, by: u32, to: u32) -> bool
+        ensures { MatchBool result (IsAllowed (wave_of_view store.now self.now) (state_of self.now) (Send by to)) (¬ IsAllowed (wave_of_view store.now self.now) (state_of self.now) (Send by to)) }
+    {
+        if by >= self.workers || to >= self.workers {
+            return false;
+        }
+        let place = (by * self.workers + to) as usize;
+        if self.due[place].is_empty() {
+            return false;
+        }
+        true
+    }
+
+    // Whether `by` may end its next level on the lane of `to`.
+    pub fn can_end(&self, store: &Store, by: u32, to: u32) -> bool
+        ensures { MatchBool result (IsAllowed (wave_of_view store.now self.now) (state_of self.now) (End by to)) (¬ IsAllowed (wave_of_view store.now self.now) (state_of self.now) (End by to)) }
+    {
+        if by >= self.workers || to >= self.workers {
+            return false;
+        }
+        let place = (by * self.workers + to) as usize;
+        let level = self.ended[place];
+        if !self.due[place].is_empty() {
+            return false;
+        }
+        let present = self.at[by as usize];
+        if level > present {
+            return false;
+        }
+        if level >= self.levels {
+            return false;
+        }
+        true
+    }
+
+    // Whether an item waits on the lane of `by`.
+    pub fn can_take(&self, store: &Store, by: u32) -> bool
+        ensures { MatchBool result (IsAllowed (wave_of_view store.now self.now) (state_of self.now) (Take by)) (¬ IsAllowed (wave_of_view store.now self.now) (state_of self.now) (Take by)) }
+    {
+        if by >= self.workers {
+            return false;
+        }
+        if self.waiting[by as usize].first().is_none() {
+            return false;
+        }
+        true
+    }
+
+    // Whether the level of `by` is closed and a key of it is not yet expanded.
+    pub fn can_expand(&self, store: &Store, by: u32) -> bool
+        requires fair { by < self.now.workers → (s : ℕ) → s < self.now.workers → IsFair (wave_of_view store.now self.now).scope (sent_by s (list_of self.now.taken by)) }
+        ensures { MatchBool result (IsAllowed (wave_of_view store.now self.now) (state_of self.now) (Expand by)) (¬ IsAllowed (wave_of_view store.now self.now) (state_of self.now) (Expand by)) }
+    {
+        if by >= self.workers {
+            return false;
+        }
+        let level = self.at[by as usize];
+        if level >= self.levels {
+            return false;
+        }
+        if !self.is_ended(by, level) {
+            return false;
+        }
+        if let Some(_key) = self.next_key(by, level) {
+            return true;
+        }
+        false
+    }
+
+    // Whether the level of `by` is closed, all its keys are expanded and nothing is due from `by`.
+    pub fn can_advance(&self, store: &Store, by: u32) -> bool
+        requires fair { by < self.now.workers → (s : ℕ) → s < self.now.workers → IsFair (wave_of_view store.now self.now).scope (sent_by s (list_of self.now.taken by)) }
+        ensures { MatchBool result (IsAllowed (wave_of_view store.now self.now) (state_of self.now) (Advance by)) (¬ IsAllowed (wave_of_view store.now self.now) (state_of self.now) (Advance by)) }
+    {
+        if by >= self.workers {
+            return false;
+        }
+        let level = self.at[by as usize];
+        if level >= self.levels {
+            return false;
+        }
+        if !self.is_ended(by, level) {
+            return false;
+        }
+        if let Some(_key) = self.next_key(by, level) {
+            return false;
+        }
+        if !self.is_paid(by) {
+            return false;
+        }
+        true
+    }
+
+    // The records of a level, worker by worker.
+    fn level_records(&self, alloc: Global, level: u16) -> Result<Vec<Record>, AllocError>
+        requires { level < self.now.levels }
+        ensures { IfOk result (λ records. records.items ≡ level_of_rows self.now.workers (by_place self.now.levels self.now.rows) level) }
+    {
+        let mut records = Vec::new(alloc);
+        for worker in 0..self.workers {
+            let place = worker as usize * self.levels as usize + level as usize;
+            append(&mut records, self.rows[place].as_slice())?;
+        }
+        Ok(records)
+    }
+
+    // The records of all levels.
+    pub fn records_by_level(&self, alloc: Global) -> Result<Records, AllocError>
+        ensures levels { IfOk result (λ r. length r ≡ self.now.levels) }
+        ensures rows { IfOk result (λ r. (v : ℕ) → v < self.now.levels → row_at r v ≡ level_of_rows self.now.workers (by_place self.now.levels self.now.rows) v) }
+    {
+        let mut rows = Vec::new(alloc);
+        for level in 0..self.levels {
+            rows.push(self.level_records(alloc, level)?)?;
+        }
+        Ok(Records::of(rows))
+    }
+
+    // What `by` has taken.
+    pub fn taken(&self, by: u32) -> &[Item]
+        requires { by < self.now.workers }
+        ensures { result.now ≡ list_of self.now.taken by }
+    {
+        self.taken[by as usize].as_slice()
+    }
+}

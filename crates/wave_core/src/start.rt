@@ -1,0 +1,36 @@
+//! What the lists of all workers are at the start.
+ghost use Rattle.std.specs.Prelude.{◌≡◌, ◌*◌, ◌<◌, ◌≤◌, [], length, replicate, IfOk};
+ghost use Rattle.wave_core.specs.View.{AreDealt};
+
+use crate::lists::Keys;
+use req_table::requests::owner;
+use req_table::{Key, Table};
+use std::alloc::{AllocError, Global};
+
+/// So many empty tables.
+pub fn tables(alloc: Global, count: usize) -> Result<Vec<Table>, AllocError>
+    ensures { IfOk result (λ tables. tables.items ≡ replicate count []) }
+{
+    let mut tables = Vec::new(alloc);
+    for made in 0..count {
+        tables.push(Table::new(alloc)?)?;
+    }
+    Ok(tables)
+}
+
+/// The roots: each is due from the worker that it is dealt to, to its owner.
+pub fn deal(alloc: Global, workers: u32, roots: &[Key]) -> Result<Vec<Keys>, AllocError>
+    requires some { 0 < workers }
+    requires few { workers ≤ 16 }
+    ensures size { IfOk result (λ due. length due.items ≡ workers * workers) }
+    ensures dealt { IfOk result (λ due. AreDealt workers roots.now due.items) }
+{
+    let mut due = Keys::many(alloc, (workers * workers) as usize)?;
+    for place in 0..roots.len() {
+        let root = roots[place];
+        let by = (place % workers as usize) as u32;
+        let to = owner(root, workers);
+        due[(by * workers + to) as usize].put(root)?;
+    }
+    Ok(due)
+}

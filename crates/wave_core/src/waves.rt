@@ -1,0 +1,202 @@
+//! A core: the workers of one wave on one thread.
+ghost use Rattle.std.specs.Prelude.{◌≡◌, ℕ, ◌<◌, ◌≤◌, List, [], All, length, IfOk, IfErr, OnOk, OnErr, MatchBool, IsTrue};
+ghost use Rattle.req_table.specs.Keys.{IsKey};
+ghost use Rattle.req_table.specs.Settled.{IsClosure, level_of_rows};
+ghost use Rattle.req_table.specs.Tables.{row_at};
+ghost use Rattle.wave_core.specs.Cores.{CoreView, core_wave, core_state, IsSettledCore, IsNew, IsSameWave};
+ghost use Rattle.wave_core.specs.Step.{State, IsStep, IsAllowed, IsFinished};
+ghost use Rattle.wave_core.specs.Drive.{all_events, AllowsOf, IsNumbered, IsDriven, IsTurn};
+ghost use Rattle.wave_core.specs.Fall.{core_measure};
+
+use crate::events::all_events;
+use crate::machine::Machine;
+use crate::{CoreFault, Event};
+use dd_store::Store;
+use req_table::{Key, Records};
+use std::alloc::{AllocError, Global};
+use std::marker::Model;
+
+/// The workers of one wave: what each has sent, taken and recorded, and what is due from it.
+#[derive(Drop)]
+pub struct Core<'a> {
+    alloc: Global,
+    store: &'a Store,
+    roots: &'a [Key],
+    machine: Machine,
+}
+
+impl<'a> Model for Core<'a> {
+    ghost use Rattle.wave_core.specs.Cores.{CoreView, IsSoundCore};
+
+    ghost Value = { CoreView };
+
+    ghost view = { λ c. record { store = c.store.now; roots = c.roots.now; machine = c.machine } };
+
+    ghost invariant = { λ c. IsSoundCore (record { store = c.store.now; roots = c.roots.now; machine = c.machine }) };
+}
+
+impl<'a> Core<'a> {
+    /// The start of a wave: each root is due from the worker that its place is dealt to, to its owner.
+    pub fn new(
+        alloc: Global,
+        store: &'a Store,
+        workers: u32,
+        roots: &'a [Key],
+    ) -> Result<Core<'a>, AllocError>
+        requires some { 0 < workers }
+        requires few { workers ≤ 16 }
+        requires roots { All (IsKey store.now) roots.now }
+        ensures { IfOk result (λ c. IsNew store.now workers roots.now c) }
+    {
+        let _ = store.levels();
+        let machine = Machine::new(alloc, store, workers, roots)?;
+        Ok(Core {
+            alloc,
+            store,
+            roots,
+            machine,
+        })
+    }
+
+    /// Does an event, and says whether it was allowed.
+    fn turn(&mut self, event: Event) -> Result<bool, AllocError>
+        ensures same { IsSameWave self.old self.new }
+        ensures ok { IfOk result (λ b. MatchBool b (IsStep (core_wave self.old) (core_state self.old) event (core_state self.new)) ((self.new ≡ self.old) × ¬ IsAllowed (core_wave self.old) (core_state self.old) event)) }
+        ensures err { OnErr result (self.new ≡ self.old) }
+    {
+        match event {
+            Event::Send { by, to } => self.machine.send(self.store, by, to),
+            Event::End { by, to } => self.machine.end(self.store, by, to),
+            Event::Take { by } => self.machine.take(self.store, by),
+            Event::Expand { by } => self.machine.expand(self.store, by),
+            Event::Advance { by } => Ok(self.machine.advance(self.store, by)),
+        }
+    }
+
+    /// Whether each worker is past the last level; the core is then settled for its roots.
+    pub fn finished(&self) -> bool
+        ensures value { MatchBool result (IsFinished (core_wave self.now) (core_state self.now)) (¬ IsFinished (core_wave self.now) (core_state self.now)) }
+        ensures settled { IsTrue result → IsSettledCore self.now }
+    {
+        self.machine.is_finished()
+    }
+
+    /// Whether an event is allowed.
+    fn allows(&self, event: Event) -> bool
+        ensures { MatchBool result (IsAllowed (core_wave self.now) (core_state self.now) event) (¬ IsAllowed (core_wave self.now) (core_state self.now) event) }
+    {
+        match event {
+            Event::Send { by, to } => self.machine.can_send(self.store, by, to),
+            Event::End { by, to } => self.machine.can_end(self.store, by, to),
+            Event::Take { by } => self.machine.can_take(self.store, by),
+            Event::Expand { by } => self.machine.can_expand(self.store, by),
+            Event::Advance { by } => self.machine.can_advance(self.store, by),
+        }
+    }
+
+    /// How many of the events are allowed.
+    fn count_allowed(&self, events: &[Event]) -> usize
+        ensures { AllowsOf (core_wave self.now) (core_state self.now) events.now result }
+    {
+        let mut count = 0;
+        for event in events {
+            if self.allows(*event) {
+                count += 1;
+            }
+        }
+        count
+    }
+
+    /// The allowed one of a number, from 0.
+    fn numbered(&self, events: &[Event], number: usize) -> Event
+        requires { (m : ℕ) × (number < m) × AllowsOf (core_wave self.now) (core_state self.now) events.now m }
+        ensures { IsNumbered (core_wave self.now) (core_state self.now) events.now number result }
+    {
+        let mut left = number;
+        for event in events {
+            if self.allows(*event) {
+                if left == 0 {
+                    return *event;
+                }
+                left -= 1;
+            }
+        }
+        unreachable!()
+    }
+
+    /// Does the allowed event that a choice numbers.
+    fn turn_by(&mut self, events: &[Event], choice: usize) -> Result<(), AllocError>
+        requires events { events.now ≡ all_events (core_wave self.old) }
+        requires more { ¬ IsFinished (core_wave self.old) (core_state self.old) }
+        ensures same { IsSameWave self.old self.new }
+        ensures ok { OnOk result (IsTurn (core_wave self.old) (core_state self.old) choice (core_state self.new)) }
+        ensures falls { OnOk result (core_measure self.new < core_measure self.old) }
+        ensures err { OnErr result (self.new ≡ self.old) }
+    {
+        let _ = &self.machine;
+        let count = self.count_allowed(events);
+        let event = self.numbered(events, choice % count);
+        match self.turn(event) {
+            Ok(true) => Ok(()),
+            Ok(false) => unreachable!(),
+            Err(fault) => Err(fault),
+        }
+    }
+
+    /// Does what each choice numbers, until the core is finished or no choice is left.
+    fn choose(&mut self, events: &[Event], choices: &[u8]) -> Result<(), AllocError>
+        requires { events.now ≡ all_events (core_wave self.old) }
+        ensures same { IsSameWave self.old self.new }
+        ensures ok { OnOk result ((d : State) → IsDriven (core_wave self.old) (core_state self.new) [] d → IsDriven (core_wave self.old) (core_state self.old) choices.now d) }
+    {
+        for choice in choices {
+            if self.finished() {
+                return Ok(());
+            }
+            self.turn_by(events, *choice as usize)?;
+        }
+        Ok(())
+    }
+
+    /// Does the first allowed event until the core is finished.
+    fn finish(&mut self, events: &[Event]) -> Result<(), AllocError>
+        requires { events.now ≡ all_events (core_wave self.old) }
+        ensures same { IsSameWave self.old self.new }
+        ensures ok { OnOk result (IsDriven (core_wave self.old) (core_state self.old) [] (core_state self.new)) }
+        ensures finished { OnOk result (IsFinished (core_wave self.new) (core_state self.new)) }
+    {
+        while !self.finished() {
+            self.turn_by(events, 0)?;
+        }
+        Ok(())
+    }
+
+    /// Does, for each choice, the allowed event that it numbers modulo their count, in the order by worker and then by kind
+    /// of event; then always the first allowed one, until the core is finished.
+    pub fn drive(&mut self, choices: &[u8]) -> Result<(), CoreFault>
+        ensures same { IsSameWave self.old self.new }
+        ensures driven { OnOk result (IsDriven (core_wave self.old) (core_state self.old) choices.now (core_state self.new)) }
+        ensures finished { OnOk result (IsFinished (core_wave self.new) (core_state self.new)) }
+        ensures fault { IfErr result (λ e. e ≡ CoreFault.OutOfMemory) }
+    {
+        let Ok(events) = all_events(self.alloc, self.machine.workers()) else {
+            return Err(CoreFault::OutOfMemory);
+        };
+        if self.choose(&events, choices).is_err() {
+            return Err(CoreFault::OutOfMemory);
+        }
+        match self.finish(&events) {
+            Ok(()) => Ok(()),
+            Err(_) => Err(CoreFault::OutOfMemory),
+        }
+    }
+
+    /// The records of all workers by level, as they stand; of a finished core those of exactly the reached requests.
+    pub fn into_records(self) -> Result<Records, AllocError>
+        ensures levels { IfOk result (λ r. length r ≡ self.entry.store.levels) }
+        ensures rows { IfOk result (λ r. (v : ℕ) → v < self.entry.store.levels → row_at r v ≡ level_of_rows self.entry.machine.workers (core_state self.entry).rows v) }
+        ensures closure { IsFinished (core_wave self.entry) (core_state self.entry) → IfOk result (λ r. IsClosure (core_wave self.entry) self.entry.roots (row_at r)) }
+    {
+        self.machine.records_by_level(self.alloc)
+    }
+}
