@@ -3,7 +3,7 @@ use Rattle.std.proofs.Common.{◌≡◌, ℕ, ◌+◌, ◌<◌, ◌≤◌, Bool,
 use Rattle.std.proofs.lemmas.List.{length-append, take-append-drop}
 use Rattle.std.proofs.Math.ListN.{length-take, length-drop}
 use Rattle.dd_store.specs.declared.reference.Ref.{Ref}
-use Rattle.dd_store.specs.Functions.{Agree, IsFixed, IsFixedSomehow, DependsOn}
+use Rattle.dd_store.specs.Functions.{Agree, IsFixedSomehow, DependsOn}
 use Rattle.dd_store.specs.Nodes.{Nodes, IsSound, den}
 use Rattle.dd_store.specs.Parts.{Met}
 use Rattle.dd_store.specs.Parts.Part.{node}

@@ -1,19 +1,17 @@
 -- The closure of a wave's requests is what reduction takes: each record is right, and what it asks for is recorded.
-use Rattle.std.proofs.Common.{◌≡◌, ℕ, suc, ◌+◌, ◌<◌, Bool, true, false, List, ◌∷◌, ◌++◌, length, map, refl, sym, ◌∙◌, ap, subst, arith, Contains, All}
+use Rattle.std.proofs.Common.{◌≡◌, ℕ, ◌<◌, Bool, true, false, List, ◌∷◌, ◌++◌, length, map, refl, sym, subst, Contains, All}
 use Rattle.std.proofs.lemmas.List.Elements.{All-contains}
-use Rattle.dd_store.specs.declared.reference.Ref.{Ref}
-use Rattle.dd_store.specs.Nodes.{Nodes, IsSound, den}
-use Rattle.dd_store.specs.View.{part, Has}
+use Rattle.dd_store.specs.Nodes.{Nodes, IsSound}
 use Rattle.req_table.specs.declared.Key.{Key}
 use Rattle.req_table.specs.declared.Child.{Child}
 use Rattle.req_table.specs.declared.Child.TheVariants.{Done, Ask}
 use Rattle.req_table.specs.declared.Record.{Record}
-use Rattle.req_table.specs.Keys.{IsKey, meaning, level_of, child_of, wave_of}
+use Rattle.req_table.specs.Keys.{IsKey, level_of, child_of, wave_of}
 use Rattle.req_table.specs.Reached.{IsReached, root, child}
 use Rattle.req_table.specs.Settled.{IsClosure, key_of}
 use Rattle.req_table.proofs.Lists as lists
 use Rattle.req_table.proofs.Waved.{told, deeper, held, bounded, asked_meaning, done_meaning, done_low, seam_bit}
-use Rattle.reduce_up.specs.Reducing.{IsKeyAt, IsAnswerAt, IsChild, IsRecordAt}
+use Rattle.reduce_up.specs.Reducing.{IsKeyAt, IsChild, IsRecordAt}
 use Rattle.req_table.specs.Tables.{row_at}
 use Rattle.reduce_up.specs.Levels.{IsAsked, AreRecords}
 

@@ -1,12 +1,12 @@
 -- The diagrams of a list of entries, one after the other.
-use Rattle.std.proofs.Common.{◌≡◌, ℕ, ◌+◌, ◌<◌, Bool, List, [], ◌∷◌, ◌++◌, length, take, get_or, refl, sym, ◌∙◌, ap, subst, arith, All}
+use Rattle.std.proofs.Common.{◌≡◌, ℕ, ◌+◌, ◌<◌, Bool, List, [], ◌∷◌, ◌++◌, length, take, get_or, ◌∙◌, ap}
 use Rattle.std.specs.List.{AllZip}
 use Rattle.std.proofs.lemmas.List.{take_more}
 use Rattle.std.proofs.lemmas.Slice.Zip.{all_zipped_more}
 use Rattle.dd_store.specs.declared.reference.Ref.{Ref}
-use Rattle.dd_store.specs.Nodes.{Nodes, IsSound, IsDiagram, den}
-use Rattle.dd_store.specs.View.{Has, Keeps}
-use Rattle.dd_store.proofs.View.{kept_den, keeps-trans, keeps-refl}
+use Rattle.dd_store.specs.Nodes.{Nodes, IsSound, IsDiagram}
+use Rattle.dd_store.specs.View.{Keeps}
+use Rattle.dd_store.proofs.View.{kept_den}
 use Rattle.req_table.specs.Keys.{key}
 use Rattle.reduce_up.specs.Reducing.{IsAnswer}
 use Rattle.reduce_up.specs.Waves.{Entry, entry_value, IsEntry, AnswersEach}

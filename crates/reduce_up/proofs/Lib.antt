@@ -1,4 +1,3 @@
-pub mod Keys
 pub mod Noting
 pub mod Reduction
 pub mod Levelling

@@ -1,15 +1,16 @@
 -- What a map's insertion leaves, and what its look-up finds, as membership among its entries.
-use Rattle.std.proofs.Common.{◌≡◌, ℕ, zero, suc, ◌<◌, ◌⊎◌, inl, inr, Bool, true, false, cond, List, [], ◌∷◌, length, Option, Some, None, refl, sym, ◌∙◌, ap, subst, arith, true≢false, Contains, if◌then◌else◌}
+use Rattle.std.proofs.Common.{◌≡◌, zero, suc, ◌⊎◌, inl, inr, Bool, true, false, cond, List, [], ◌∷◌, Option, Some, None, refl, sym, ◌∙◌, ap, subst, arith, true≢false, Contains, if◌then◌else◌}
 use Rattle.std.specs.Prelude.{IsSome}
 use Rattle.std.specs.Borrow.{Bor}
 use Rattle.std.specs.Option.{option_copied}
 use Rattle.std.specs.Map.{lookup}
+use Rattle.std.proofs.lemmas.Map.Views.{Contains-from_lookup}
 use Rattle.indexmap.specs.IndexMap.{insert_entry}
 use Rattle.dd_store.specs.declared.reference.Ref.{Ref}
 use Rattle.req_table.specs.declared.Key.{Key}
 use Rattle.req_table.specs.contracts.KeyPartialEq.TheImpl.{eq-value}
 use Rattle.reduce_up.specs.Reducing.{Notes, HasAnswer}
-use Rattle.reduce_up.proofs.Keys.{key_same, key_own}
+use Rattle.req_table.proofs.Keyed.{key_same, key_laws}
 
 pub nothing : {X : Type 0} (x : X) → Contains [] x → ⊥
 nothing x (i, lt, e) = omega arith
@@ -74,20 +75,7 @@ module _ {K V : Type 0} (eq : K → K → Bool) (same : (x y : K) → eq x y ≡
             | inr d ↦ let m = rest d in (m.0, subst (λ z. Contains {X = K × V} z (l, m.0)) (sym (put_later e es k v h)) (tail_in {X = K × V} e (l, m.0) (insert_entry eq es k v) m.1))
           ]
 
-  -- what a look-up finds is an entry
-  pub found_in : (es : List (K × V)) (k : K) (v : V) → lookup (eq k) es ≡ Some v → Contains {X = K × V} es (k, v)
-  found_in [] k v h = absurd (cc)
-  found_in (e ∷ es) k v h = by (eq k e.0) refl (found_in es k v)
-    where
-      by : (b : Bool) → eq k e.0 ≡ b → (lookup (eq k) es ≡ Some v → Contains {X = K × V} es (k, v)) → Contains {X = K × V} (e ∷ es) (k, v)
-      by true t rest =
-          let s : Some e.1 ≡ Some v = sym (ap (λ b. cond b (Some e.1) (lookup (eq k) es)) t) ∙ h in
-          let u : e.1 ≡ v = cc in
-          subst (λ q. Contains {X = K × V} (e ∷ es) q) (λ i. (sym (same k e.0 t) i, u i)) (head_in {X = K × V} e es)
-      by false t rest =
-          tail_in {X = K × V} e (k, v) es (rest (sym (ap (λ b. cond b (Some e.1) (lookup (eq k) es)) t) ∙ h))
-
-  -- and a key of an entry is found
+  -- a key of an entry is found
   pub in_found : (es : List (K × V)) (k : K) (v : V) → Contains {X = K × V} es (k, v) → IsSome (lookup (eq k) es)
   in_found [] k v (i, lt, e) = absurd (omega arith)
   in_found (e ∷ es) k v c = by (eq k e.0) refl (in_found es k v)
@@ -103,16 +91,16 @@ module _ {K V : Type 0} (eq : K → K → Bool) (same : (x y : K) → eq x y ≡
 -- an insertion notes its value, where the keys are those of requests
 pub put_notes : (old : List (Key × Ref)) (k : Key) (r : Ref) → Notes old k r (insert_entry eq-value.it old k r)
 put_notes old k r = record {
-  noted = put_there eq-value.it key_same key_own old k r;
-  only = λ l a c. elim (put_only eq-value.it key_same key_own old k r (l, a) c) [ inl d ↦ inl d | inr e ↦ inr (ap (λ p. p.0) (sym e), ap (λ p. p.1) (sym e)) ];
-  more = λ l h. put_more eq-value.it key_same key_own old k r l h.0 h.1;
+  noted = put_there eq-value.it key_same key_laws.refl old k r;
+  only = λ l a c. elim (put_only eq-value.it key_same key_laws.refl old k r (l, a) c) [ inl d ↦ inl d | inr e ↦ inr (ap (λ p. p.0) (sym e), ap (λ p. p.1) (sym e)) ];
+  more = λ l h. put_more eq-value.it key_same key_laws.refl old k r l h.0 h.1;
 }
 
 -- a look-up behind a reference finds the value of a key that has an answer
 pub found_some : (old : List (Key × Ref)) (k : Key) (found : Option (Bor Ref)) → HasAnswer old k → option_copied found ≡ lookup (eq-value.it k) old → IsSome found
-found_some old k None h e = absurd (true≢false (sym (subst IsSome (sym e) (in_found eq-value.it key_same key_own old k h.0 h.1))))
+found_some old k None h e = absurd (true≢false (sym (subst IsSome (sym e) (in_found eq-value.it key_same key_laws.refl old k h.0 h.1))))
 found_some old k (Some r) h e = refl
 
 -- and that value is the key's answer
 pub found_answer : (old : List (Key × Ref)) (k : Key) (found : Option (Bor Ref)) (r : Bor Ref) → option_copied found ≡ lookup (eq-value.it k) old → found ≡ Some r → Contains old (k, r.now)
-found_answer old k found r e f = found_in eq-value.it key_same key_own old k r.now (sym e ∙ ap option_copied f)
+found_answer old k found r e f = Contains-from_lookup key_same k r.now old (sym e ∙ ap option_copied f)

@@ -8,14 +8,11 @@ use Rattle.std.proofs.Math.Seq.{get_or-append_seam}
 use Rattle.std.proofs.lemmas.List.{length-append, take-append-drop, get_or_default}
 use Rattle.std.proofs.Math.ListN.{length-take, length-drop}
 use Rattle.dd_store.specs.declared.reference.Ref.{Ref}
-use Rattle.dd_store.specs.declared.reference.Ref.TheVariants.{False}
-use Rattle.req_table.specs.declared.Op.TheVariants.{And}
 use Rattle.req_table.specs.declared.Key.{Key}
 use Rattle.req_table.specs.declared.Child.{Child}
 use Rattle.req_table.specs.declared.Child.TheVariants.{Done, Ask}
 use Rattle.req_table.specs.declared.Record.{Record}
 use Rattle.dd_store.specs.Functions.{Agree}
-use Rattle.dd_store.specs.Parts.{top_of}
 use Rattle.dd_store.specs.Parts.Part.{node}
 use Rattle.dd_store.specs.Nodes.{Nodes, den, IsSound, count_of}
 use Rattle.dd_store.specs.View.{part, Has, top, Keeps, IsMade}
@@ -24,7 +21,6 @@ use Rattle.req_table.specs.Keys.{meaning}
 use Rattle.req_table.specs.Short.{op_value}
 use Rattle.std.specs.Prelude.{slice_index_or}
 use Rattle.std.proofs.Math.Nat.{eq-or-lt_of_le}
-use Rattle.std.proofs.lemmas.List.Elements.{Contains-append_left, Contains-append_right, Contains-append_cases}
 use Rattle.reduce_up.proofs.Noting.{head_in}
 use Rattle.dd_store.proofs.View.{by_bit, kept_den, kept_top, top-node, keeps-trans, keeps-refl}
 

@@ -1,19 +1,18 @@
 -- The requests of a list of entries.
-use Rattle.std.proofs.Common.{◌≡◌, ℕ, ◌+◌, ◌<◌, ◌⊎◌, inl, inr, Bool, true, false, not, cond, List, [], ◌∷◌, ◌++◌, length, take, get_or, Option, Some, None, refl, sym, ◌∙◌, ap, subst, arith, append_assoc, true≢false, is_some, Contains, All}
+use Rattle.std.proofs.Common.{◌≡◌, ℕ, ◌+◌, ◌<◌, inl, inr, Bool, true, false, not, cond, List, [], ◌∷◌, ◌++◌, length, take, get_or, Option, Some, None, refl, sym, ◌∙◌, ap, subst, append_assoc, true≢false, is_some, Contains, All}
 use Rattle.std.proofs.lemmas.List.{take_more, append-nil, get_or_default}
 use Rattle.std.proofs.lemmas.List.Elements.{Contains-append_left, Contains-append_right, Contains-append_cases, All-contains}
 use Rattle.dd_store.specs.declared.reference.Ref.{Ref}
-use Rattle.dd_store.specs.Nodes.{Nodes, IsSound, IsDiagram, den}
+use Rattle.dd_store.specs.Nodes.{Nodes, IsDiagram, den}
 use Rattle.dd_store.specs.View.{Has}
 use Rattle.dd_store.proofs.Laws.{den-false, den-true}
-use Rattle.req_table.specs.declared.Op.{Op}
 use Rattle.req_table.specs.declared.Key.{Key}
-use Rattle.req_table.specs.Short.{short_of, ref_lt, op_value}
+use Rattle.req_table.specs.Short.{short_of, ref_lt}
 use Rattle.req_table.specs.Keys.{key, normal_of, IsKey, meaning}
 use Rattle.req_table.proofs.Means.{Answers, short_means, op_comm}
 use Rattle.req_table.proofs.Shorts.{OnAnswer, short_is}
 use Rattle.req_table.proofs.Waved.{is_key}
-use Rattle.reduce_up.specs.Waves.{Entry, entry_value, IsEntry, HasRequest, request_of, requests_of}
+use Rattle.reduce_up.specs.Waves.{Entry, entry_value, IsEntry, request_of, requests_of}
 use Rattle.reduce_up.proofs.Noting.{nothing, head_in, tail_in, in_cases}
 
 -- one more entry

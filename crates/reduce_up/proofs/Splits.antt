@@ -1,22 +1,13 @@
 -- Records that are splits on this store, at their levels, and whose Ask children are keys of their levels, are what reduction takes.
-use Rattle.std.proofs.Common.{◌≡◌, ℕ, ◌<◌, Bool, true, false, List, [], length, sym, subst, Contains, All}
+use Rattle.std.proofs.Common.{◌≡◌, true, false, List, [], sym, subst}
 use Rattle.std.proofs.lemmas.List.Elements.{All-contains, All-nil}
 use Rattle.dd_store.specs.Nodes.{Nodes, IsSound}
 use Rattle.req_table.specs.declared.Record.{Record}
 use Rattle.req_table.specs.Keys.{IsKey, level_of, child_of}
 use Rattle.reduce_up.specs.Reducing.{IsRecordAt}
 use Rattle.req_table.specs.Tables.{row_at}
-use Rattle.reduce_up.specs.Levels.{IsAsked, AreRecords}
+use Rattle.reduce_up.specs.Levels.{IsAsked, AreRecords, AreSplits}
 use Rattle.reduce_up.proofs.Closed.{key_at, right}
-
-pub record AreSplits (S : Nodes) (rows : List (List Record)) : Type 0 where
-  pub levels : length rows ≡ S.levels
-  pub keys : (v : ℕ) → v < S.levels → All (λ r. IsKey S r.key) (row_at rows v)
-  pub placed : (v : ℕ) → v < S.levels → All (λ r. level_of S r.key ≡ v) (row_at rows v)
-  pub low : (v : ℕ) → v < S.levels → All (λ r. r.low ≡ child_of S r.key false) (row_at rows v)
-  pub high : (v : ℕ) → v < S.levels → All (λ r. r.high ≡ child_of S r.key true) (row_at rows v)
-  pub low_asked : (v : ℕ) → v < S.levels → All (λ r. IsAsked rows r.low) (row_at rows v)
-  pub high_asked : (v : ℕ) → v < S.levels → All (λ r. IsAsked rows r.high) (row_at rows v)
 
 pub records_of_splits : (S : Nodes) → IsSound S → (rows : List (List Record)) → AreSplits S rows → AreRecords S rows
 records_of_splits S w rows h = record {

@@ -1,5 +1,5 @@
 -- What a reduction of a wave's closure gives its entries, and which nodes it adds.
-use Rattle.std.proofs.Common.{◌≡◌, ℕ, suc, ◌+◌, ◌<◌, ◌≤◌, ◌⊎◌, inl, inr, Bool, List, [], ◌∷◌, ◌++◌, length, Option, Some, None, refl, sym, ◌∙◌, ap, subst, arith, Contains, All}
+use Rattle.std.proofs.Common.{◌≡◌, ℕ, suc, ◌<◌, ◌⊎◌, inl, inr, Bool, List, [], ◌∷◌, ◌++◌, length, Option, Some, None, refl, sym, ◌∙◌, ap, subst, arith, Contains, All}
 use Rattle.std.specs.List.{AllZip}
 use Rattle.std.proofs.lemmas.Bool.{cases_lt}
 use Rattle.std.proofs.lemmas.List.{length-append}
@@ -21,7 +21,7 @@ use Rattle.req_table.specs.Settled.{IsClosure}
 use Rattle.req_table.specs.Short.{short_of}
 use Rattle.req_table.specs.Tables.{row_at}
 use Rattle.req_table.proofs.AsksFor.{AsksFor, asks_for}
-use Rattle.req_table.proofs.Waved.{bounded, is_key, is_wave, are_requests}
+use Rattle.req_table.proofs.Waved.{is_key, is_wave, are_requests}
 use Rattle.reduce_up.specs.Reducing.{HasAnswer, IsAnswer, AddsDescribed}
 use Rattle.reduce_up.specs.Levels.{AreRecords, AskedInRows, AreReduced, IsWithinFrom, IsReduceFault}
 use Rattle.reduce_up.specs.Waves.{Entry, entry_value, IsEntry, AnswersEach, IsWanted, AddsBelow, HasRequest, IsWithinLimit, IsWaveFault, requests_of, IsTakenFrom, IsClosureOf}

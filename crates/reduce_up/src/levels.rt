@@ -107,7 +107,12 @@ fn reduce_level(
 /// The diagram of each record's request.
 ///
 /// The answer Full may also come at the first refused node, before all of a level are tried. NoWorker never comes.
-pub fn reduce(alloc: Global, store: &mut Store, records: &Records) -> Result<Results, WaveFault>
+pub fn reduce<R>(
+    _rt: &R,
+    alloc: Global,
+    store: &mut Store,
+    records: &Records,
+) -> Result<Results, WaveFault>
     requires { AreRecords store.old records.now }
     ensures sound { IsSound store.new }
     ensures adds { AddsDescribed store.old store.new (AskedInRows store.old records.now) }

@@ -1,10 +1,13 @@
 //! From the requests of a wave to their diagrams: reduction from the last level up, and waves over it.
 #![tactic(auto)]
 
+pub mod law;
 mod levels;
 pub mod recur;
 mod results;
 pub mod wave;
+mod waves;
 
 pub use levels::reduce;
 pub use results::Results;
+pub use waves::wave_one;

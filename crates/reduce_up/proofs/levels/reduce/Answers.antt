@@ -6,7 +6,7 @@ use Rattle.reduce_up.proofs.Levelling.{level_ready, level_adds, level_next, all_
 use Rattle.reduce_up.proofs.levels.reduce.Goals as goal
 
 pub reduce_level-requires-clause-row : goal.reduce_level-requires-clause-row
-reduce_level-requires-clause-row c =
+reduce_level-requires-clause-row g c =
     let v : ℕ = c.loop-level.level - 1 in
     let e : c.loop-level.level ≡ v + 1 = omega arith in
     let d : AreReducedFrom c.args.store.now c.args.records.now (v + 1) c.loop-level.store c.loop-level.results = subst (λ z. AreReducedFrom c.args.store.now c.args.records.now z c.loop-level.store c.loop-level.results) e c.loop-level.invariant.reduced in
@@ -14,7 +14,7 @@ reduce_level-requires-clause-row c =
     (level_ready c.args.store.now c.args.records.now v c.loop-level.store c.loop-level.results c.levels-level.ensures.sound c.requires (omega arith) d)
 
 pub loop-level-preserved : goal.loop-level-preserved
-loop-level-preserved c =
+loop-level-preserved g c =
     let v : ℕ = c.loop-level.level - 1 in
     let e : c.loop-level.level ≡ v + 1 = omega arith in
     let d : AreReducedFrom c.args.store.now c.args.records.now (v + 1) c.loop-level.store c.loop-level.results = subst (λ z. AreReducedFrom c.args.store.now c.args.records.now z c.loop-level.store c.loop-level.results) e c.loop-level.invariant.reduced in
@@ -26,19 +26,19 @@ loop-level-preserved c =
     }
 
 pub returns-in_err-reduce_level-clause-adds : goal.returns-in_err-reduce_level-clause-adds
-returns-in_err-reduce_level-clause-adds c =
+returns-in_err-reduce_level-clause-adds g c =
     let v : ℕ = c.loop-level.level - 1 in
     let so : IsRowReduced c.loop-level.store c.loop-level.results v (row_at c.args.records.now v) 0 c.reduce_level.new.store c.reduce_level.new.results =
     subst (λ z. IsRowReduced c.loop-level.store c.loop-level.results v z 0 c.reduce_level.new.store c.reduce_level.new.results) c.level.ensures c.reduce_level.ensures.left in
     level_adds c.args.store.now c.args.records.now v c.loop-level.store c.reduce_level.new.store c.levels-level.ensures.sound c.loop-level.invariant.reduced.held c.requires (omega arith) c.loop-level.invariant.reduced.adds so.adds
 
 pub returns-clause-answers : goal.returns-clause-answers
-returns-clause-answers c =
+returns-clause-answers g c =
     let e : c.loop-level.level ≡ 0 = omega arith in
     all_reduced c.args.store.now c.args.records.now c.loop-level.store c.loop-level.results c.requires
     (subst (λ z. AreReducedFrom c.args.store.now c.args.records.now z c.loop-level.store c.loop-level.results) e c.loop-level.invariant.reduced)
 
 pub returns-clause-within : goal.returns-clause-within
-returns-clause-within c =
+returns-clause-within g c =
     let e : c.loop-level.level ≡ 0 = omega arith in
     subst (λ z. IsWithinFrom c.args.store.now c.args.records.now z c.loop-level.store) e c.loop-level.invariant.reduced.within

@@ -5,7 +5,7 @@ use Rattle.dd_store.specs.View.{Has, top}
 use Rattle.req_table.specs.Keys.{key}
 use Rattle.reduce_up.specs.Reducing.{IsKeyAt, IsAnswer, IsAnswerAt}
 use Rattle.reduce_up.proofs.Applying.{bottom_answer, smaller, call_answer, key_in, apply_done}
-use Rattle.dd_store.proofs.View.{keeps-refl, keeps-trans, keeps}
+use Rattle.dd_store.proofs.View.{keeps-refl, keeps-trans}
 use Rattle.reduce_up.proofs.recur.+combine.Goals as goal
 
 pub returns-then-level-levels-clause-answer : goal.returns-then-level-levels-clause-answer

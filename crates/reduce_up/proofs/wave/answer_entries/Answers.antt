@@ -1,4 +1,4 @@
-use Rattle.std.proofs.Common.{rules, ◌≡◌, ℕ, [], ◌∷◌, ◌++◌, get_or, refl, sym, subst, take, ◌+◌, All, arith}
+use Rattle.std.proofs.Common.{rules, ◌≡◌, ℕ, [], ◌∷◌, ◌++◌, get_or, refl, sym, subst, take, ◌+◌}
 use Rattle.std.proofs.lemmas.List.Elements.{All-get_or}
 use Rattle.dd_store.specs.declared.reference.Ref.TheVariants.{False}
 use Rattle.dd_store.specs.Nodes.{IsDiagram}

@@ -1,7 +1,5 @@
-use Rattle.std.proofs.Common.{◌≡◌, ap, ◌∙◌, Bool, List, Contains, subst, sym}
+use Rattle.std.proofs.Common.{ap, ◌∙◌}
 use Rattle.std.specs.Map.{lookup}
-use Rattle.dd_store.specs.declared.reference.Ref.{Ref}
-use Rattle.req_table.specs.declared.Key.{Key}
 use Rattle.req_table.specs.contracts.KeyPartialEq.TheImpl.{eq-value}
 use Rattle.reduce_up.proofs.Noting.{found_some, found_answer}
 use Rattle.reduce_up.proofs.results.Results.get.Goals as goal

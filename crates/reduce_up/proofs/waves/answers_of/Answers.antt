@@ -1,4 +1,4 @@
-use Rattle.std.proofs.Common.{rules, ◌≡◌, ℕ, None, List, [], ◌∷◌, ◌++◌, get_or, take, refl, sym, ◌∙◌, ap, subst, All, Contains}
+use Rattle.std.proofs.Common.{rules, ◌≡◌, ℕ, [], ◌∷◌, ◌++◌, get_or, take, sym, subst}
 use Rattle.std.specs.List.{AllZip}
 use Rattle.std.proofs.lemmas.List.{take_more}
 use Rattle.std.proofs.lemmas.List.Elements.{All-contains}
@@ -11,7 +11,7 @@ use Rattle.req_table.specs.Short.{short_of}
 use Rattle.reduce_up.specs.Reducing.{HasAnswer}
 use Rattle.reduce_up.specs.Waves.{Entry, requests_of, IsTakenFrom}
 use Rattle.reduce_up.proofs.Rooted.{to_request, entry_at}
-use Rattle.reduce_up.proofs.wave.answers_of.Goals as goal
+use Rattle.reduce_up.proofs.waves.answers_of.Goals as goal
 
 pub answer_of-requires : goal.answer_of-requires
 answer_of-requires c long =

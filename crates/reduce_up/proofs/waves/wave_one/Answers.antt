@@ -1,9 +1,8 @@
-use Rattle.std.proofs.Common.{◌≡◌, ◌∙◌, List, All, sym, subst}
-use Rattle.req_table.specs.declared.Key.{Key}
+use Rattle.std.proofs.Common.{◌≡◌, ◌∙◌, All, sym, subst}
 use Rattle.req_table.specs.Keys.{IsKey}
 use Rattle.reduce_up.specs.Waves.{requests_of, IsClosureOf}
 use Rattle.reduce_up.proofs.Rooted.{requests_good}
-use Rattle.reduce_up.proofs.wave.wave_one.Goals as goal
+use Rattle.reduce_up.proofs.waves.wave_one.Goals as goal
 
 pub closure_of-requires-clause-roots : goal.closure_of-requires-clause-roots
 closure_of-requires-clause-roots g c =

@@ -2,7 +2,7 @@ use Rattle.std.proofs.Common.{rules}
 use Rattle.wave_core.specs.Cores.{core_wave, core_state}
 use Rattle.wave_core.specs.Step.{IsFinished}
 use Rattle.reduce_up.proofs.Driven.{driven_closure}
-use Rattle.reduce_up.proofs.wave.closure_of.Goals as goal
+use Rattle.reduce_up.proofs.waves.closure_of.Goals as goal
 
 pub returns : goal.returns
 returns c =

@@ -7,8 +7,8 @@ use Rattle.req_table.specs.Keys.{normal_of}
 use Rattle.req_table.specs.Short.{short_of}
 use Rattle.reduce_up.specs.Waves.{Entry}
 use Rattle.reduce_up.proofs.Rooted.{request_none, request_some, requests_next}
-use Rattle.reduce_up.proofs.wave.requests_of.Goals.{then-is_none+in_ok-push, else-is_none}
-use Rattle.reduce_up.proofs.wave.requests_of.Goals as goal
+use Rattle.reduce_up.proofs.waves.requests_of.Goals.{then-is_none+in_ok-push, else-is_none}
+use Rattle.reduce_up.proofs.waves.requests_of.Goals as goal
 
 pub loop-entry-preserved : goal.loop-entry-preserved
 loop-entry-preserved c =

@@ -1,0 +1,139 @@
+//! Waves: the diagrams of a list of operations (Ochi, Yasuoka and Yajima 1993).
+ghost use Rattle.std.specs.Prelude.{◌≡◌, ◌≢◌, ℕ, ◌<◌, ◌≤◌, All, IfOk, IfErr, OnOk, None};
+ghost use Rattle.std.specs.List.{AllZip};
+ghost use Rattle.dd_store.specs.Nodes.{IsSound};
+ghost use Rattle.req_table.specs.Short.{short_of};
+ghost use Rattle.req_table.specs.Keys.{normal_of, IsKey};
+ghost use Rattle.reduce_up.specs.Reducing.{HasAnswer, AddsDescribed};
+ghost use Rattle.reduce_up.specs.Waves.{IsEntry, AnswersEach, IsWanted, AddsBelow, IsWithinLimit, IsWaveFault, IsClosureOf, requests_of, IsTakenFrom};
+
+use crate::levels::reduce;
+use crate::results::Results;
+use dd_store::{Ref, Store};
+use expand_work::WaveFault;
+use req_table::requests::{normal, short};
+use req_table::{Key, Op, Records};
+use std::alloc::{AllocError, Global};
+use wave_core::Core;
+
+/// The requests of the entries that have no short answer.
+pub(crate) fn requests_of(alloc: Global, entries: &[(Op, Ref, Ref)]) -> Result<Vec<Key>, AllocError>
+    ensures { IfOk result (λ keys. keys.items ≡ requests_of entries.now) }
+{
+    let mut keys = Vec::new(alloc);
+    for entry in entries {
+        let (op, f, g) = *entry;
+        if short(op, f, g).is_none() {
+            keys.push(normal(op, f, g))?;
+        }
+    }
+    Ok(keys)
+}
+
+/// The diagram of an entry: its short answer, or that of its request.
+fn answer_of(op: Op, f: Ref, g: Ref, results: &Results) -> Ref
+    requires { short_of op f g ≡ None → HasAnswer results.now (normal_of op f g) }
+    ensures { IsTakenFrom results.now (short_of op f g) (op, f, g) result }
+{
+    match short(op, f, g) {
+        Some(answer) => answer,
+        None => results.get(&normal(op, f, g)),
+    }
+}
+
+/// The diagrams of the entries.
+fn answers_of(
+    alloc: Global,
+    entries: &[(Op, Ref, Ref)],
+    results: &Results,
+) -> Result<Vec<Ref>, AllocError>
+    requires { All (HasAnswer results.now) (requests_of entries.now) }
+    ensures { IfOk result (λ answers. AllZip (λ e r. IsTakenFrom results.now (short_of e.0 e.1 e.2) e r) entries.now answers.items) }
+{
+    let mut answers = Vec::new(alloc);
+    for entry in entries {
+        let (op, f, g) = *entry;
+        answers.push(answer_of(op, f, g, results))?;
+    }
+    Ok(answers)
+}
+
+/// The records of all requests that the roots ask for, by the state machine of the workers, which the choices drive.
+pub(crate) fn closure_of(
+    alloc: Global,
+    store: &Store,
+    workers: u32,
+    roots: &[Key],
+    choices: &[u8],
+) -> Result<Records, AllocError>
+    requires workers { (0 < workers) × (workers ≤ 16) }
+    requires roots { All (IsKey store.now) roots.now }
+    ensures { IfOk result (λ records. IsClosureOf store.now workers roots.now records) }
+{
+    let mut core = Core::new(alloc, store, workers, roots)?;
+    if core.drive(choices).is_err() {
+        return Err(AllocError);
+    }
+    core.into_records()
+}
+
+/// The diagram of each operation, by reduction of the records of all requests that they ask for.
+fn answer_closure<R>(
+    rt: &R,
+    alloc: Global,
+    store: &mut Store,
+    entries: &[(Op, Ref, Ref)],
+    records: &Records,
+) -> Result<Vec<Ref>, WaveFault>
+    requires operands { All (IsEntry store.old) entries.now }
+    requires closure { (workers : ℕ) × (0 < workers) × IsClosureOf store.old workers (requests_of entries.now) records.now }
+    ensures sound { IsSound store.new }
+    ensures adds { AddsDescribed store.old store.new (IsWanted store.old entries.now) }
+    ensures answers { IfOk result (λ answers. AnswersEach store.old entries.now store.new answers.items) }
+    ensures no_others { IfOk result (λ answers. AddsBelow store.old store.new answers.items) }
+    ensures within { OnOk result (IsWithinLimit store.old entries.now store.new) }
+    ensures fault { IfErr result (λ e. IsWaveFault store.old entries.now store.new e) }
+    ensures served { IfErr result (λ e. e ≢ WaveFault.NoWorker) }
+{
+    let _ = store.levels();
+    let results = match reduce(rt, alloc, store, records) {
+        Ok(results) => results,
+        Err(fault) => return Err(fault),
+    };
+    match answers_of(alloc, entries, &results) {
+        Ok(answers) => Ok(answers),
+        Err(_) => Err(WaveFault::OutOfMemory),
+    }
+}
+
+/// The diagram of each operation on its two operands.
+///
+/// The requests of all operations together are expanded by the state machine of the workers on the caller's thread, which the
+/// choices drive, and reduced from the last level up.
+pub fn wave_one<R>(
+    rt: &R,
+    alloc: Global,
+    store: &mut Store,
+    entries: &[(Op, Ref, Ref)],
+    workers: u32,
+    choices: &[u8],
+) -> Result<Vec<Ref>, WaveFault>
+    requires operands { All (IsEntry store.old) entries.now }
+    requires workers { (0 < workers) × (workers ≤ 16) }
+    ensures sound { IsSound store.new }
+    ensures adds { AddsDescribed store.old store.new (IsWanted store.old entries.now) }
+    ensures answers { IfOk result (λ answers. AnswersEach store.old entries.now store.new answers.items) }
+    ensures no_others { IfOk result (λ answers. AddsBelow store.old store.new answers.items) }
+    ensures within { OnOk result (IsWithinLimit store.old entries.now store.new) }
+    ensures fault { IfErr result (λ e. IsWaveFault store.old entries.now store.new e) }
+    ensures served { IfErr result (λ e. e ≢ WaveFault.NoWorker) }
+{
+    let _ = store.levels();
+    let Ok(roots) = requests_of(alloc, entries) else {
+        return Err(WaveFault::OutOfMemory);
+    };
+    let Ok(records) = closure_of(alloc, store, workers, roots.as_slice(), choices) else {
+        return Err(WaveFault::OutOfMemory);
+    };
+    answer_closure(rt, alloc, store, entries, &records)
+}
