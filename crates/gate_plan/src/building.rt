@@ -3,7 +3,6 @@ ghost use Rattle.std.specs.Prelude.{◌≡◌, ◌≢◌, ◌+◌, ◌<◌, ◌�
 ghost use Rattle.dd_store.specs.Nodes.{IsSound};
 ghost use Rattle.dd_store.specs.View.{Keeps};
 ghost use Rattle.net_bench.specs.Circuit.{circuit};
-ghost use Rattle.reduce_up.specs.Waves.{IsEntry, AnswersEach};
 ghost use Rattle.gate_plan.specs.Plans.{IsPlan, plan_steps, plan_copies, plan_folds};
 ghost use Rattle.gate_plan.specs.Building.{IsPaired, first_level, second_level, level_in, AreDiagrams, AreInputs, AreRight, AreFolded, IsStepBelow, entry_of};
 
@@ -15,7 +14,7 @@ use expand_work::{Gate, WaveFault};
 use net_bench::netlist::Signal;
 use net_bench::reader::Netlist;
 use net_order::pairing::Pairing;
-use reduce_up::wave::answer_entries;
+use reduce_up::wave::wave_one;
 use req_table::Op;
 use std::alloc::{AllocError, Global};
 use std::marker::Model;
@@ -139,27 +138,9 @@ fn fold_entries(
     Ok(entries)
 }
 
-/// The diagrams of a list of operations.
-fn answers_of(
-    alloc: Global,
-    store: &mut Store,
-    entries: &[(Op, Ref, Ref)],
-) -> Result<Vec<Ref>, WaveFault>
-    requires { All (IsEntry store.old) entries.now }
-    ensures sound { IsSound store.new }
-    ensures keeps { Keeps store.old store.new }
-    ensures answers { IfOk result (λ answers. AnswersEach store.old entries.now store.new answers.items) }
-    ensures fault { IfErr result (λ e. e ≢ WaveFault.NoWorker) }
-{
-    match answer_entries(alloc, store, entries) {
-        Ok(answers) => Ok(answers),
-        Err(WaveFault::Full) => Err(WaveFault::Full),
-        Err(_) => Err(WaveFault::OutOfMemory),
-    }
-}
-
 /// The wave of one fold number of a rank: the steps of both netlists are asked for together.
-fn build_fold(
+fn build_fold<R>(
+    rt: &R,
     alloc: Global,
     store: &mut Store,
     first: &Side<'_>,
@@ -167,7 +148,9 @@ fn build_fold(
     built: &mut Built,
     rank: usize,
     fold: usize,
+    workers: u32,
 ) -> Result<(), WaveFault>
+    requires workers { (0 < workers) × (workers ≤ 16) }
     requires rank { 1 ≤ rank }
     requires first_plan { IsPlan first.now.netlist.now first.now.plan }
     requires second_plan { IsPlan second.now.netlist.now second.now.plan }
@@ -186,7 +169,7 @@ fn build_fold(
         Ok(entries) => entries,
         Err(_) => return Err(WaveFault::OutOfMemory),
     };
-    let answers = answers_of(alloc, store, entries.as_slice())?;
+    let answers = wave_one(rt, alloc, store, entries.as_slice(), workers, &[])?;
     let (one, two) = answers.as_slice().split_at(ours.len());
     take_answers(&mut built.first, ours, one);
     take_answers(&mut built.second, theirs, two);
@@ -194,14 +177,17 @@ fn build_fold(
 }
 
 /// The copies and all folds of one rank.
-fn build_rank(
+fn build_rank<R>(
+    rt: &R,
     alloc: Global,
     store: &mut Store,
     first: &Side<'_>,
     second: &Side<'_>,
     built: &mut Built,
     rank: usize,
+    workers: u32,
 ) -> Result<(), WaveFault>
+    requires workers { (0 < workers) × (workers ≤ 16) }
     requires rank { 1 ≤ rank }
     requires first_plan { IsPlan first.now.netlist.now first.now.plan }
     requires second_plan { IsPlan second.now.netlist.now second.now.plan }
@@ -217,7 +203,7 @@ fn build_rank(
     copy_all(&mut built.first, first.copies(rank));
     copy_all(&mut built.second, second.copies(rank));
     for fold in 0..first.folds(rank).max(second.folds(rank)) {
-        build_fold(alloc, store, first, second, built, rank, fold)?;
+        build_fold(rt, alloc, store, first, second, built, rank, fold, workers)?;
     }
     Ok(())
 }
@@ -281,7 +267,16 @@ pub fn build<R, G: Gate>(
         return Err(WaveFault::OutOfMemory);
     };
     for below in 0..first.plan.ranks().max(second.plan.ranks()) {
-        build_rank(alloc, store, &first, &second, &mut built, below + 1)?;
+        build_rank(
+            rt,
+            alloc,
+            store,
+            &first,
+            &second,
+            &mut built,
+            below + 1,
+            workers,
+        )?;
     }
     Ok(built)
 }
