@@ -14,7 +14,7 @@ use expand_work::{Gate, WaveFault};
 use net_bench::netlist::Signal;
 use net_bench::reader::Netlist;
 use net_order::pairing::Pairing;
-use reduce_up::wave::wave_one;
+use reduce_up::wave_one;
 use req_table::Op;
 use std::alloc::{AllocError, Global};
 use std::marker::Model;
