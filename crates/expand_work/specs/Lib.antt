@@ -1,2 +1,5 @@
 pub mod Parts
 pub mod Fault
+pub mod Worked
+pub mod Work
+pub mod Working

@@ -1,7 +1,8 @@
-//! Why a wave has no answer.
+//! Why a wave, or a worker, has no answer.
 ghost use Rattle.std.specs.Prelude.{Some};
 ghost use Rattle.expand_work.specs.Fault.{wave_fault_text};
 
+use std::alloc::AllocError;
 use std::fmt;
 use thiserror::Error;
 
@@ -25,5 +26,20 @@ impl fmt::Display for WaveFault {
             WaveFault::NoWorker => write!(f, "a worker could not be started"),
             WaveFault::Full => write!(f, "more nodes than the limit"),
         }
+    }
+}
+
+/// Why a worker ended early.
+#[derive(Clone, Copy, Drop, Debug, PartialEq, Eq)]
+pub enum WorkFault {
+    /// A growth was refused. The worker has set the flag that stops the others.
+    OutOfMemory,
+    /// The flag was set.
+    Stopped,
+}
+
+impl From<AllocError> for WorkFault {
+    fn from(_fault: AllocError) -> WorkFault {
+        WorkFault::OutOfMemory
     }
 }

@@ -1,0 +1,92 @@
+-- A worker before its first level, and after its last.
+use Rattle.std.proofs.Common.{◌≡◌, ℕ, zero, suc, ◌+◌, ◌<◌, ◌≤◌, List, [], ◌∷◌, ◌++◌, Some, replicate, filter, length, get_or, All, refl, sym, ap, ◌∙◌, subst, arith}
+use Rattle.std.proofs.lemmas.List.{length-map, length-replicate, get_or-replicate}
+use Rattle.std.proofs.lemmas.List.Elements.{All-nil}
+use Rattle.req_table.specs.declared.Key.{Key}
+use Rattle.req_table.specs.declared.Record.{Record}
+use Rattle.req_table.specs.declared.Item.{Item}
+use Rattle.req_table.specs.Wave.{Scope, Wave, IsWave}
+use Rattle.req_table.specs.Lanes.{from_of, sent_by, ends, asks_at, IsFair, HasSenders}
+use Rattle.req_table.specs.Settled.{IsDistinctOf, dealt_from, is_owned}
+use Rattle.req_table.proofs.Lists.{each, all_of, filter_has}
+use Rattle.req_table.proofs.Rows.{dealt_has}
+use Rattle.level_close.specs.Counts.{Counts}
+use Rattle.dd_store.specs.Nodes.{Nodes, IsSound}
+use Rattle.req_table.specs.Keys.{IsKey, wave_of}
+use Rattle.req_table.specs.Sizes.{sizes_of, scope_of, IsKeyOf}
+use Rattle.req_table.specs.Tables.{row_at}
+use Rattle.req_table.proofs.Sized.{sizes_of_key}
+use Rattle.lane_queue.specs.PortView.{LanesView, PortView, sent_to, IsPortOf, lanes_scope}
+use Rattle.expand_work.specs.declared.worker.Worker.{Worker}
+use Rattle.expand_work.specs.declared.part.Part.{Part}
+use Rattle.expand_work.specs.Parts.{asks_behind, IsAt, IsPart}
+use Rattle.expand_work.specs.Work.{at, owned_by, lanes_wave, IsHeard}
+use Rattle.expand_work.specs.Working.{IsWorking}
+use Rattle.expand_work.specs.Worked.{IsFresh, IsWorked}
+use Rattle.expand_work.proofs.Waves.{lanes_laws, part_in_wave}
+use Rattle.expand_work.proofs.Levels.{ends_whole}
+
+pub starts_at : (w : Wave) (roots : List Key) (s : ℕ) (sent : ℕ → List Item) (taken : List Item) (due tables : ℕ → List Key) (rows : ℕ → List Record) → All w.Holds roots
+    → ((k : ℕ) → sent k ≡ []) → taken ≡ [] → ((u : ℕ) → u < w.levels → tables u ≡ []) → ((k : ℕ) → k < w.workers → due k ≡ filter (is_owned w k) (dealt_from w.workers s 0 roots))
+    → IsAt w roots s 0 sent taken due tables rows
+starts_at w roots s sent taken due tables rows held unsent nothing none e = record {
+  fair = λ t tb. subst (λ xs. IsFair w.scope (sent_by t xs)) (sym nothing) tt;
+  senders = subst (HasSenders w.scope) (sym nothing) (All-nil (λ i. from_of i < w.workers));
+  ended = λ k kb. ap ends (unsent k);
+  sent_in = λ k e kb l. absurd (omega (arith, l));
+  none_in = λ k kb. ap (asks_behind 0) (unsent k);
+  dues = e;
+  due_held = λ k kb. subst (All (λ x. w.Holds x × (0 ≤ w.level x))) (sym (e k kb)) (all_of (λ x. w.Holds x × (0 ≤ w.level x)) (filter (is_owned w k) (dealt_from w.workers s 0 roots)) (λ x h. (each w.Holds roots x held (dealt_has w.workers s 0 roots x (filter_has (is_owned w k) (dealt_from w.workers s 0 roots) x h).0), omega arith)));
+  closed = λ u l. absurd (omega (arith, l));
+  tabled = λ u l. subst (λ xs. IsDistinctOf (asks_at u xs) (tables u)) (sym nothing) (sym (none u l));
+  rowed = λ u l. absurd (omega (arith, l));
+  split = λ u l. absurd (omega (arith, l));
+}
+
+pub starts_heard : (c : Scope) (taken : List Item) (clock : Counts) (tables : List (List Key)) → taken ≡ [] → clock ≡ record { levels = c.levels; ended = replicate c.workers 0 } → tables ≡ replicate c.levels [] → IsHeard c taken clock tables
+starts_heard c taken clock tables nothing clock-is tables-is = record {
+  fair = λ t tb. subst (λ xs. IsFair c (sent_by t xs)) (sym nothing) tt;
+  senders = subst (HasSenders c) (sym nothing) (All-nil (λ i. from_of i < c.workers));
+  long = ap (λ (k : Counts). length k.ended) clock-is ∙ length-replicate c.workers 0;
+  levels = ap (λ (k : Counts). k.levels) clock-is;
+  many = ap (λ ts. length ts) tables-is ∙ length-replicate c.levels [];
+  counted = λ t tb. ap (λ (k : Counts). get_or k.ended t 0) clock-is ∙ get_or-replicate c.workers t 0 0 tb ∙ sym (ap (λ xs. ends (sent_by t xs)) nothing);
+  tabled = λ u ub. subst (λ xs. IsDistinctOf (asks_at u xs) (at tables u)) (sym nothing) (sym (ap (λ ts. get_or ts u []) tables-is ∙ get_or-replicate c.levels u [] [] ub));
+}
+
+pub starts_working : (l : LanesView) (S : Nodes) (roots : List Key) (p : PortView) (clock : Counts) (tables : List (List Key)) (rows : List (List Record)) (due : List (List Key))
+    → IsPortOf l p → p.number < length l.lanes → length p.sent ≡ length l.lanes → IsFresh p → l.sizes ≡ sizes_of S → IsSound S → All (IsKey S) roots
+    → clock ≡ record { levels = S.levels; ended = replicate (length l.lanes) 0 } → tables ≡ replicate S.levels [] → rows ≡ [] → length due ≡ length l.lanes
+    → ((k : ℕ) → k < length l.lanes → at due k ≡ filter (owned_by (length l.lanes) k) (dealt_from (length l.lanes) p.number 0 roots))
+    → IsWorking l S roots 0 (record { port = p; clock = clock; tables = tables; rows = rows; due = due })
+starts_working l S roots p clock tables rows due o b lists fresh sizes sound held clock-is tables-is rows-is many e = record {
+  port = o;
+  within = b;
+  lists = lists;
+  sizes = sizes;
+  sound = sound;
+  heard = subst (λ z. IsHeard (scope_of (length l.lanes) z) p.taken clock tables) (sym sizes) (starts_heard (scope_of (length l.lanes) (sizes_of S)) p.taken clock tables fresh.1 clock-is tables-is);
+  many_rows = ap (λ m. length m) rows-is;
+  many_due = many;
+  level = starts_at (lanes_wave S (length l.lanes)) roots p.number (sent_to p) p.taken (at due) (at tables) (at rows)
+      (all_of (IsKeyOf (sizes_of S)) roots (λ x h. sizes_of_key S x (each (IsKey S) roots x held h))) fresh.0 fresh.1
+      (λ u ub. ap (λ ts. get_or ts u []) tables-is ∙ get_or-replicate S.levels u [] [] ub) e;
+}
+
+pub ends_worked : (l : LanesView) (S : Nodes) (roots : List Key) (n : ℕ) (w : Worker) (p : Part) → IsWorking l S roots S.levels w → w.port.number ≡ n → p.port ≡ w.port → p.rows ≡ w.rows → IsWorked l S roots n p
+ends_worked l S roots n w p h num port-is rows-is =
+    let some : 0 < length l.lanes = (let z = h.within in omega (arith, z)) in
+    let q : Part = record { port = w.port; rows = w.rows } in
+    let same : p ≡ q = λ i. record { port = port-is i; rows = rows-is i } in
+    subst (IsWorked l S roots n) (sym same) (record {
+      ports = h.port;
+      number = num;
+      lists = h.lists;
+      levels = h.many_rows;
+      part = subst (λ m. IsPart (wave_of S (length l.lanes)) roots m (sent_to w.port) w.port.taken (row_at w.rows)) num
+          (part_in_wave S (length l.lanes) roots w.port.number (sent_to w.port) w.port.taken (row_at w.rows)
+          (ends_whole (lanes_wave S (length l.lanes)) (lanes_laws S h.sound (length l.lanes) some) roots w.port.number (sent_to w.port) w.port.taken (at w.due) (at w.tables) (at w.rows) h.level));
+    })
+
+pub width : (l : LanesView) (p : PortView) → IsPortOf l p → length p.lanes ≡ length l.lanes
+width l p o = ap (λ q. length q) o.0 ∙ length-map l.lanes (λ q. Some q)

@@ -1,0 +1,10 @@
+use Rattle.std.proofs.Common.{◌≡◌}
+use Rattle.lane_queue.specs.PortView.{lanes_scope}
+use Rattle.expand_work.specs.Work.{IsHeard, StaysClosed}
+use Rattle.expand_work.proofs.listen.take_until_closed.Given as goal
+
+abbrev pub invariant-loop-turn : goal.invariant-loop-turn
+invariant-loop-turn g l =
+    (l.port ≡ record l.initial.port { taken = l.port.taken })
+    × IsHeard (lanes_scope l.lanes) l.port.taken l.clock l.tables
+    × StaysClosed (lanes_scope l.lanes) l.initial.port.taken l.port.taken l.initial.tables l.tables

@@ -1,0 +1,140 @@
+//! Lists of keys by worker, tables and rows by level.
+ghost use Rattle.std.specs.Prelude.{◌≡◌, ℕ, ◌<◌, List, [], ◌∷◌, ◌++◌, length, replicate, slice_set, IfOk, OnOk};
+ghost use Rattle.req_table.specs.declared.Key.{Key};
+ghost use Rattle.req_table.specs.Tables.{Offers};
+ghost use Rattle.expand_work.specs.Work.{at};
+
+use req_table::{Key, Record, Records, Table};
+use std::alloc::{AllocError, Global};
+use std::marker::Model;
+
+/// One list of keys for each worker.
+#[derive(Drop)]
+pub struct KeyLists {
+    lists: Vec<Vec<Key>>,
+}
+
+impl Model for KeyLists {
+    ghost use Rattle.std.specs.Prelude.{List, map};
+    ghost use Rattle.req_table.specs.declared.Key.{Key};
+
+    ghost Value = { List (List Key) };
+
+    ghost view = { λ l. map (λ v. v.items) l.lists.items };
+}
+
+impl KeyLists {
+    /// So many empty lists.
+    pub fn new(alloc: Global, count: u32) -> Result<KeyLists, AllocError>
+        ensures { IfOk result (λ l. l ≡ replicate count []) }
+    {
+        let mut lists = Vec::new(alloc);
+        for made in 0..count {
+            lists.push(Vec::new(alloc))?;
+        }
+        Ok(KeyLists { lists })
+    }
+
+    /// Puts the key at the end of the worker's list.
+    pub fn push(&mut self, to: u32, key: Key) -> Result<(), AllocError>
+        requires { to < length self.old }
+        ensures { OnOk result (self.new ≡ slice_set self.old to (at self.old to ++ key ∷ [])) }
+    {
+        self.lists[to as usize].push(key)?;
+        Ok(())
+    }
+
+    /// The worker's list.
+    pub fn list(&self, to: u32) -> &[Key]
+        requires { to < length self.now }
+        ensures { result.now ≡ at self.now to }
+    {
+        &self.lists[to as usize]
+    }
+}
+
+/// One table for each level.
+#[derive(Drop)]
+pub struct Tables {
+    tables: Vec<Table>,
+}
+
+impl Model for Tables {
+    ghost use Rattle.std.specs.Prelude.{List};
+    ghost use Rattle.req_table.specs.declared.Key.{Key};
+
+    ghost Value = { List (List Key) };
+
+    ghost view = { λ t. t.tables.items };
+}
+
+impl Tables {
+    /// So many empty tables.
+    pub fn new(alloc: Global, count: u16) -> Result<Tables, AllocError>
+        ensures { IfOk result (λ t. t ≡ replicate count []) }
+    {
+        let mut tables = Vec::new(alloc);
+        for made in 0..count {
+            tables.push(Table::new(alloc)?)?;
+        }
+        Ok(Tables { tables })
+    }
+
+    /// Admits the key to the level's table if it is not there, and says whether it was new.
+    pub fn admit(&mut self, level: u16, key: Key) -> Result<bool, AllocError>
+        requires { level < length self.old }
+        ensures { IfOk result (λ new. (keys : List Key) × Offers (at self.old level) key new keys
+            × (self.new ≡ slice_set self.old level keys)) }
+    {
+        Ok(self.tables[level as usize].admit(key)?)
+    }
+
+    /// The keys of the level's table, in order of admission.
+    pub fn keys(&self, level: u16) -> &[Key]
+        requires { level < length self.now }
+        ensures { result.now ≡ at self.now level }
+    {
+        self.tables[level as usize].keys()
+    }
+}
+
+/// The records of the levels so far.
+#[derive(Drop)]
+pub struct Rows {
+    rows: Vec<Vec<Record>>,
+}
+
+impl Model for Rows {
+    ghost use Rattle.std.specs.Prelude.{List, map};
+    ghost use Rattle.req_table.specs.declared.Record.{Record};
+
+    ghost Value = { List (List Record) };
+
+    ghost view = { λ r. map (λ row. row.items) r.rows.items };
+}
+
+impl Rows {
+    /// No rows.
+    pub fn new(alloc: Global) -> Rows
+        ensures { result ≡ [] }
+    {
+        Rows {
+            rows: Vec::new(alloc),
+        }
+    }
+
+    /// Puts the row of the next level at the end.
+    pub fn push(&mut self, row: Vec<Record>) -> Result<(), AllocError>
+        ensures { OnOk result (self.new ≡ self.old ++ row.items ∷ []) }
+    {
+        self.rows.push(row)?;
+        Ok(())
+    }
+
+    /// The rows as records by level.
+    pub fn into_records(self) -> Records
+        ensures { result ≡ self }
+    {
+        Records::of(self.rows)
+    }
+}

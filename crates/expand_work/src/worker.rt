@@ -1,0 +1,148 @@
+//! One worker of a wave, level by level.
+ghost use Rattle.std.specs.Prelude.{◌≡◌, ◌+◌, ◌<◌, All, IfOk};
+ghost use Rattle.req_table.specs.Keys.{IsKey};
+ghost use Rattle.req_table.specs.Sizes.{sizes_of};
+ghost use Rattle.lane_queue.specs.PortView.{IsPortOf};
+ghost use Rattle.expand_work.specs.Working.{IsWorking};
+ghost use Rattle.expand_work.specs.Worked.{IsFresh, IsWorked};
+
+use crate::expand::{deal_roots, expand_row};
+use crate::listen::take_until_closed;
+use crate::lists::{KeyLists, Rows, Tables};
+use crate::say::{send_due, send_ends};
+use crate::{Gate, Part, WorkFault};
+use dd_store::Store;
+use lane_queue::{Lanes, Port};
+use level_close::Clock;
+use req_table::Key;
+use std::alloc::Global;
+use std::sync::Wait;
+use std::sync::atomic::{AtomicBool, Ordering};
+
+// What a worker has between two levels: its port, how many levels each sender has ended, the keys that it was asked
+// for and its records, by level, and the keys that it has to ask for next, by owner.
+#[derive(Drop)]
+pub struct Worker {
+    pub port: Port,
+    pub clock: Clock,
+    pub tables: Tables,
+    pub rows: Rows,
+    pub due: KeyLists,
+}
+
+// Sends what is due and ends the level, takes until the level is closed, tells the gate, and expands the level's keys.
+fn do_level<R: Wait, G: Gate>(
+    rt: &R,
+    alloc: Global,
+    lanes: &Lanes,
+    worker: Worker,
+    store: &Store,
+    roots: &[Key],
+    level: u16,
+    gate: &G,
+    stop: &AtomicBool,
+) -> Result<Worker, WorkFault>
+    requires level { level < store.now.levels }
+    requires working { IsWorking lanes.now store.now roots.now level worker }
+    ensures { IfOk result (λ w. IsWorking lanes.now store.now roots.now (level + 1) w
+        × (w.port.number ≡ worker.port.number)) }
+{
+    // The contract speaks of the roots.
+    let _roots = roots.len();
+    let Worker {
+        mut port,
+        mut clock,
+        mut tables,
+        mut rows,
+        due,
+    } = worker;
+    send_due(rt, lanes, &mut port, store, &due)?;
+    send_ends(rt, lanes, &mut port, level)?;
+    take_until_closed(rt, lanes, &mut port, &mut clock, &mut tables, level, stop)?;
+    gate.at_level(port.number(), level);
+    let Ok((row, due)) = expand_row(alloc, store, tables.keys(level), lanes.count()) else {
+        return Err(WorkFault::OutOfMemory);
+    };
+    let Ok(_) = rows.push(row) else {
+        return Err(WorkFault::OutOfMemory);
+    };
+    Ok(Worker {
+        port,
+        clock,
+        tables,
+        rows,
+        due,
+    })
+}
+
+// Goes through the levels.
+fn run_levels<R: Wait, G: Gate>(
+    rt: &R,
+    alloc: Global,
+    lanes: &Lanes,
+    port: Port,
+    store: &Store,
+    roots: &[Key],
+    gate: &G,
+    stop: &AtomicBool,
+) -> Result<Part, WorkFault>
+    requires port { IsPortOf lanes.now port }
+    requires fresh { IsFresh port }
+    requires sizes { lanes.now.sizes ≡ sizes_of store.now }
+    requires roots { All (IsKey store.now) roots.now }
+    ensures { IfOk result (λ p. IsWorked lanes.now store.now roots.now port.number p) }
+{
+    let workers = lanes.count();
+    let number = port.number();
+    let levels = store.levels();
+    let clock = Clock::new(alloc, workers, levels)?;
+    let tables = Tables::new(alloc, levels)?;
+    let rows = Rows::new(alloc);
+    let due = deal_roots(alloc, roots, number, workers)?;
+    let mut worker = Worker {
+        port,
+        clock,
+        tables,
+        rows,
+        due,
+    };
+    for level in 0..levels {
+        if stop.load(Ordering::SeqCst) {
+            return Err(WorkFault::Stopped);
+        }
+        worker = do_level(rt, alloc, lanes, worker, store, roots, level, gate, stop)?;
+    }
+    Ok(Part {
+        port: worker.port,
+        rows: worker.rows.into_records(),
+    })
+}
+
+/// Does one worker's part of a wave over the lanes' store. At each level it sends all that is due (its roots at level
+/// 0, the children of the level before at each other), ends the level on every lane, takes until every sender has
+/// ended it, tells the gate, and records the distinct keys that it was asked for at that level.
+///
+/// The flag is read when a level begins and whenever the lane is empty; once it is set the answer is Stopped. A worker
+/// that meets want of memory sets it before it answers. After a refusal the port is gone.
+pub fn work<R: Wait, G: Gate>(
+    rt: &R,
+    alloc: Global,
+    lanes: &Lanes,
+    port: Port,
+    store: &Store,
+    roots: &[Key],
+    gate: &G,
+    stop: &AtomicBool,
+) -> Result<Part, WorkFault>
+    requires port { IsPortOf lanes.now port }
+    requires fresh { IsFresh port }
+    requires sizes { lanes.now.sizes ≡ sizes_of store.now }
+    requires roots { All (IsKey store.now) roots.now }
+    ensures { IfOk result (λ p. IsWorked lanes.now store.now roots.now port.number p) }
+{
+    let result = run_levels(rt, alloc, lanes, port, store, roots, gate, stop);
+    if matches!(result, Err(WorkFault::OutOfMemory)) {
+        stop.store(true, Ordering::SeqCst);
+    }
+    result
+}
