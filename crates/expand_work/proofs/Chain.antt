@@ -1,6 +1,6 @@
 -- From what `settle` and all workers' parts say to the closure of the roots, over the store's own wave.
-use Rattle.std.proofs.Common.{◌≡◌, ℕ, ◌<◌, List, []}
-use Rattle.std.specs.Prelude.{slice_index_or, All}
+use Rattle.std.proofs.Common.{ℕ, ◌<◌, List, []}
+use Rattle.std.specs.Prelude.{slice_index_or}
 use Rattle.dd_store.specs.Nodes.{Nodes, IsSound}
 use Rattle.req_table.specs.declared.Key.{Key}
 use Rattle.req_table.specs.declared.Record.{Record}

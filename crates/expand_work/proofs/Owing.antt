@@ -1,10 +1,11 @@
 -- What becomes due goes to its owner.
-use Rattle.std.proofs.Common.{◌≡◌, ℕ, zero, suc, ◌+◌, ◌%◌, ◌<◌, ◌≤◌, Bool, true, false, cond, eqb, List, [], ◌∷◌, ◌++◌, length, get_or, set, map, filter, take, replicate, All, refl, sym, ap, ◌∙◌, subst, arith, append-nil, append_assoc, eqb-true, eq-eqb, get_or-set_same, get_or-set_other}
+use Rattle.std.proofs.Common.{◌≡◌, ℕ, ◌+◌, ◌%◌, ◌<◌, Bool, true, false, cond, eqb, List, [], ◌∷◌, ◌++◌, length, get_or, set, map, filter, take, All, refl, sym, ap, ◌∙◌, subst, arith, append-nil, append_assoc, eqb-true, eq-eqb, get_or-set_same, get_or-set_other, inl, inr}
 use Rattle.std.proofs.lemmas.List.{take_more, length-take}
 use Rattle.std.proofs.lemmas.List.Elements.{filter-append}
 use Rattle.req_table.specs.declared.Key.{Key}
 use Rattle.req_table.specs.declared.Record.{Record}
-use Rattle.req_table.specs.Keys.{owner}
+use Rattle.dd_store.specs.Nodes.{Nodes}
+use Rattle.req_table.specs.Keys.{owner, record_of, wave_of}
 use Rattle.req_table.specs.Wave.{Wave}
 use Rattle.req_table.specs.Settled.{IsSplit, key_of, asked, asked_by, dealt_from}
 use Rattle.req_table.proofs.Lists.{each, all_of, Has-append_cases}
@@ -33,17 +34,17 @@ asks_more p rs r xs e =
 pub split_more : (w : Wave) (rs : List Record) (r : Record) → All (IsSplit w) rs → IsSplit w r → All (IsSplit w) (rs ++ r ∷ [])
 split_more w rs r a s = all_of (IsSplit w) (rs ++ r ∷ []) (λ q h. elim (Has-append_cases rs (r ∷ []) q h) [ inl i ↦ each (IsSplit w) rs q a i | inr j ↦ elim j [ inl e ↦ subst (IsSplit w) e s | inr n ↦ absurd n ] ])
 
-pub keys_more : (rs rs' : List Record) (r : Record) (keys : List Key) (i : ℕ) (d : Key) → map key_of rs ≡ take i keys → rs' ≡ rs ++ r ∷ [] → r.key ≡ get_or keys i d → i < length keys → map key_of rs' ≡ take (i + 1) keys
-keys_more rs rs' r keys i d e g k l = ap (map key_of) g ∙ map-append_lem rs (r ∷ []) ∙ ap (λ m. m ++ r.key ∷ []) e ∙ ap (λ x. take i keys ++ x ∷ []) k ∙ sym (take_more keys i d l)
+pub keys_more : (rs rs' : List Record) (r : Record) (keys : List Key) (i : ℕ) → map key_of rs ≡ take i keys → rs' ≡ rs ++ r ∷ [] → r.key ≡ get_or keys i r.key → i < length keys → map key_of rs' ≡ take (i + 1) keys
+keys_more rs rs' r keys i e g k l = ap (map key_of) g ∙ map-append_lem rs (r ∷ []) ∙ ap (λ m. m ++ r.key ∷ []) e ∙ ap (λ x. take i keys ++ x ∷ []) k ∙ sym (take_more keys i r.key l)
 
-pub row_more : (w : Wave) (n : ℕ) (rs rs' : List Record) (r : Record) (keys : List Key) (i : ℕ) (d : Key) (xs ys zs : List (List Key)) → i < length keys
-    → (map key_of rs ≡ take i keys) × All (IsSplit w) rs × (length xs ≡ n) × ((k : ℕ) → k < n → at xs k ≡ filter (owned_by n k) (asked_by rs))
-    → r.key ≡ get_or keys i d → IsSplit w r → rs' ≡ rs ++ r ∷ []
+pub row_more : (S : Nodes) (n : ℕ) (rs rs' : List Record) (x : Key) (r : Record) (keys : List Key) (i : ℕ) (xs ys zs : List (List Key)) → i < length keys
+    → (map key_of rs ≡ take i keys) × All (IsSplit (wave_of S n)) rs × (length xs ≡ n) × ((k : ℕ) → k < n → at xs k ≡ filter (owned_by n k) (asked_by rs))
+    → x ≡ get_or keys i x → r ≡ record_of S x → rs' ≡ rs ++ r ∷ []
     → ((k : ℕ) → k < n → at ys k ≡ at xs k ++ filter (owned_by n k) (asked r.low)) → length zs ≡ n → ((k : ℕ) → k < n → at zs k ≡ at ys k ++ filter (owned_by n k) (asked r.high))
-    → (map key_of rs' ≡ take (i + 1) keys) × All (IsSplit w) rs' × (length zs ≡ n) × ((k : ℕ) → k < n → at zs k ≡ filter (owned_by n k) (asked_by rs'))
-row_more w n rs rs' r keys i d xs ys zs l h key-is s g low long high = (
-  keys_more rs rs' r keys i d h.0 g key-is l,
-  subst (All (IsSplit w)) (sym g) (split_more w rs r h.1 s),
+    → (map key_of rs' ≡ take (i + 1) keys) × All (IsSplit (wave_of S n)) rs' × (length zs ≡ n) × ((k : ℕ) → k < n → at zs k ≡ filter (owned_by n k) (asked_by rs'))
+row_more S n rs rs' x r keys i xs ys zs l h x-is r-is g low long high = (
+  keys_more rs rs' r keys i h.0 g (subst (λ k. k ≡ get_or keys i k) (ap (λ (q : Record). q.key) (sym r-is)) x-is) l,
+  subst (All (IsSplit (wave_of S n))) (sym g) (split_more (wave_of S n) rs r h.1 (subst (IsSplit (wave_of S n)) (sym r-is) (refl, refl))),
   long,
   (λ k kb. high k kb ∙ ap (λ m. m ++ filter (owned_by n k) (asked r.high)) (low k kb) ∙ asks_more (owned_by n k) rs r (at xs k) (h.3 k kb) ∙ ap (λ m. filter (owned_by n k) (asked_by m)) (sym g)),
 )
@@ -59,29 +60,30 @@ dealt-append m s i (y ∷ xs) x =
       | false ↦ h
     ]
 
-pub deal_more : (p : Key → Bool) (n s : ℕ) (roots : List Key) (i : ℕ) (d : Key) (xs ys : List Key) → i < length roots → xs ≡ filter p (dealt_from n s 0 (take i roots))
-    → ys ≡ xs ++ filter p (cond (eqb (i % n) s) (get_or roots i d ∷ []) []) → ys ≡ filter p (dealt_from n s 0 (take (i + 1) roots))
-deal_more p n s roots i d xs ys l e g =
+pub deal_more : (p : Key → Bool) (n s : ℕ) (roots : List Key) (i : ℕ) (x : Key) (xs ys : List Key) → i < length roots → x ≡ get_or roots i x → xs ≡ filter p (dealt_from n s 0 (take i roots))
+    → ys ≡ xs ++ filter p (cond (eqb (i % n) s) (x ∷ []) []) → ys ≡ filter p (dealt_from n s 0 (take (i + 1) roots))
+deal_more p n s roots i x xs ys l x-is e g =
     let z : 0 + length (take i roots) ≡ i = (let q = length-take i roots in omega (arith, q, l)) in
-    g ∙ ap (λ m. m ++ filter p (cond (eqb (i % n) s) (get_or roots i d ∷ []) [])) e
-    ∙ sym (filter-append p (dealt_from n s 0 (take i roots)) (cond (eqb (i % n) s) (get_or roots i d ∷ []) []))
-    ∙ ap (λ m. filter p (dealt_from n s 0 (take i roots) ++ cond (eqb (m % n) s) (get_or roots i d ∷ []) [])) (sym z)
-    ∙ ap (filter p) (sym (ap (dealt_from n s 0) (take_more roots i d l) ∙ dealt-append n s 0 (take i roots) (get_or roots i d)))
+    g ∙ ap (λ m. m ++ filter p (cond (eqb (i % n) s) (x ∷ []) [])) e
+    ∙ ap (λ k. filter p (dealt_from n s 0 (take i roots)) ++ filter p (cond (eqb (i % n) s) (k ∷ []) [])) x-is
+    ∙ sym (filter-append p (dealt_from n s 0 (take i roots)) (cond (eqb (i % n) s) (get_or roots i x ∷ []) []))
+    ∙ ap (λ m. filter p (dealt_from n s 0 (take i roots) ++ cond (eqb (m % n) s) (get_or roots i x ∷ []) [])) (sym z)
+    ∙ ap (filter p) (sym (ap (dealt_from n s 0) (take_more roots i x l) ∙ dealt-append n s 0 (take i roots) (get_or roots i x)))
 
-module _ (n s : ℕ) (roots : List Key) (i : ℕ) (d : Key) (xs ys zs : List (List Key)) (l : i < length roots)
+module _ (n s : ℕ) (roots : List Key) (i : ℕ) (x : Key) (xs ys zs : List (List Key)) (l : i < length roots) (x-is : x ≡ get_or roots i x)
     (h : (length xs ≡ n) × ((k : ℕ) → k < n → at xs k ≡ filter (owned_by n k) (dealt_from n s 0 (take i roots)))) where
-  pub deal_here : i % n ≡ s → length ys ≡ n → ((k : ℕ) → k < n → at ys k ≡ at xs k ++ filter (owned_by n k) (get_or roots i d ∷ [])) → zs ≡ ys
+  pub deal_here : i % n ≡ s → length ys ≡ n → ((k : ℕ) → k < n → at ys k ≡ at xs k ++ filter (owned_by n k) (x ∷ [])) → zs ≡ ys
       → (length zs ≡ n) × ((k : ℕ) → k < n → at zs k ≡ filter (owned_by n k) (dealt_from n s 0 (take (i + 1) roots)))
   deal_here q long g e = (
     ap (λ m. length m) e ∙ long,
-    (λ k kb. deal_more (owned_by n k) n s roots i d (at xs k) (at zs k) l (h.1 k kb) (ap (λ m. at m k) e ∙ g k kb ∙ ap (λ b. at xs k ++ filter (owned_by n k) (cond b (get_or roots i d ∷ []) [])) (sym (eq-eqb (i % n) s q)))),
+    (λ k kb. deal_more (owned_by n k) n s roots i x (at xs k) (at zs k) l x-is (h.1 k kb) (ap (λ m. at m k) e ∙ g k kb ∙ ap (λ b. at xs k ++ filter (owned_by n k) (cond b (x ∷ []) [])) (sym (eq-eqb (i % n) s q)))),
   )
 
   pub deal_past : (i % n ≡ s → ⊥) → zs ≡ xs → (length zs ≡ n) × ((k : ℕ) → k < n → at zs k ≡ filter (owned_by n k) (dealt_from n s 0 (take (i + 1) roots)))
   deal_past q e = (
     ap (λ m. length m) e ∙ h.0,
-    (λ k kb. deal_more (owned_by n k) n s roots i d (at xs k) (at zs k) l (h.1 k kb)
-        (elim (eqb (i % n) s) as (λ b. eqb (i % n) s ≡ b → at zs k ≡ at xs k ++ filter (owned_by n k) (cond b (get_or roots i d ∷ []) [])) [
+    (λ k kb. deal_more (owned_by n k) n s roots i x (at xs k) (at zs k) l x-is (h.1 k kb)
+        (elim (eqb (i % n) s) as (λ b. eqb (i % n) s ≡ b → at zs k ≡ at xs k ++ filter (owned_by n k) (cond b (x ∷ []) [])) [
           | true ↦ λ t. absurd (q (eqb-true (i % n) s t))
           | false ↦ λ t. ap (λ m. at m k) e ∙ sym (append-nil (at xs k))
         ] refl)),

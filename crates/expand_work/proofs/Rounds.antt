@@ -1,13 +1,13 @@
 -- One level of a worker, from what its calls say.
-use Rattle.std.proofs.Common.{◌≡◌, ℕ, zero, suc, ◌+◌, ◌-◌, ◌<◌, ◌≤◌, Bool, true, false, eqb, List, [], ◌∷◌, ◌++◌, Some, map, filter, length, get_or, All, refl, sym, ap, ◌∙◌, subst, arith, eqb-true, eq-eqb}
-use Rattle.std.proofs.lemmas.List.{length-map, length-append, get_or_append_left}
+use Rattle.std.proofs.Common.{◌≡◌, ℕ, suc, ◌+◌, ◌-◌, ◌<◌, ◌≤◌, true, false, eqb, List, [], ◌∷◌, ◌++◌, map, filter, length, get_or, All, refl, sym, ap, ◌∙◌, subst, arith, eqb-true}
+use Rattle.std.proofs.lemmas.List.{length-append, get_or_append_left}
 use Rattle.std.proofs.Math.Seq.{get_or-append_seam}
 use Rattle.req_table.specs.declared.Key.{Key}
 use Rattle.req_table.specs.declared.Record.{Record}
 use Rattle.req_table.specs.declared.Item.{Item}
 use Rattle.req_table.specs.declared.Item.TheVariants.{End}
 use Rattle.req_table.specs.Lanes.{ends, MayFollow, IsClosed}
-use Rattle.req_table.specs.Settled.{IsSplit, key_of, asked_by, is_owned}
+use Rattle.req_table.specs.Settled.{IsSplit, key_of, asked_by}
 use Rattle.req_table.proofs.Fair.{ends-append}
 use Rattle.level_close.specs.Counts.{Counts}
 use Rattle.dd_store.specs.Nodes.{Nodes}

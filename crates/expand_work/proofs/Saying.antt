@@ -33,31 +33,33 @@ module _ (S : Nodes) (p : PortView) (to : ℕ) (l : to < length p.sent) where
       ap (λ m. ends (sent_to m to)) e ∙ ap ends (get_or-set_same p.sent to (sent_to p to ++ map (item_of S p.number) keys) [] l)
       ∙ ends-append (sent_to p to) (map (item_of S p.number) keys) ∙ (let z = ends-items S p.number keys in omega (arith, z))
 
+  asked_as : (x y : Key) (n v : ℕ) → x ≡ y → n ≡ p.number → v ≡ level_of S x → Ask n v x ≡ item_of S p.number y
+  asked_as x y n v x-is n-is v-is = ap (λ k. Ask k v x) n-is ∙ ap (λ k. Ask p.number k x) v-is ∙ ap (item_of S p.number) x-is
+
   -- one more key
-  pub sends_next : (q r : PortView) (keys : List Key) (i : ℕ) (d : Key) (n v : ℕ) → i < length keys → n ≡ p.number → v ≡ level_of S (get_or keys i d)
+  pub sends_next : (q r : PortView) (keys : List Key) (i : ℕ) (x : Key) (n v : ℕ) → i < length keys → x ≡ get_or keys i x → n ≡ p.number → v ≡ level_of S x
       → q ≡ record p { sent = set p.sent to (sent_to p to ++ map (item_of S p.number) (take i keys)) }
-      → r ≡ record q { sent = set q.sent to (sent_to q to ++ Ask n v (get_or keys i d) ∷ []) }
+      → r ≡ record q { sent = set q.sent to (sent_to q to ++ Ask n v x ∷ []) }
       → r ≡ record p { sent = set p.sent to (sent_to p to ++ map (item_of S p.number) (take (i + 1) keys)) }
-  sends_next q r keys i d n v m n-is v-is e h =
-      let x = Ask n v (get_or keys i d) in
-      let x-is : x ≡ item_of S p.number (get_or keys i d) = ap (λ k. Ask k v (get_or keys i d)) n-is ∙ ap (λ k. Ask p.number k (get_or keys i d)) v-is in
+  sends_next q r keys i x n v m x-is n-is v-is e h =
+      let item = Ask n v x in
+      let item-is : item ≡ item_of S p.number (get_or keys i x) = asked_as x (get_or keys i x) n v x-is n-is v-is in
       let sofar = sent_to p to ++ map (item_of S p.number) (take i keys) in
       let now : sent_to q to ≡ sofar = ap (λ v. sent_to v to) e ∙ get_or-set_same p.sent to sofar [] l in
-      let long : set q.sent to (sent_to q to ++ x ∷ []) ≡ set p.sent to (sent_to p to ++ map (item_of S p.number) (take (i + 1) keys)) =
-      ap (λ xs. set q.sent to (xs ++ x ∷ [])) now
-      ∙ ap (λ xs. set xs to (sofar ++ x ∷ [])) (ap (λ v. v.sent) e)
-      ∙ set_twice p.sent to sofar (sofar ++ x ∷ [])
-      ∙ ap (λ y. set p.sent to (sofar ++ y ∷ [])) x-is
-      ∙ ap (set p.sent to) (append_assoc (sent_to p to) (map (item_of S p.number) (take i keys)) (item_of S p.number (get_or keys i d) ∷ []) ∙ ap (λ xs. sent_to p to ++ xs) (sym (map_more (item_of S p.number) keys i d m))) in
+      let long : set q.sent to (sent_to q to ++ item ∷ []) ≡ set p.sent to (sent_to p to ++ map (item_of S p.number) (take (i + 1) keys)) =
+      ap (λ xs. set q.sent to (xs ++ item ∷ [])) now
+      ∙ ap (λ xs. set xs to (sofar ++ item ∷ [])) (ap (λ v. v.sent) e)
+      ∙ set_twice p.sent to sofar (sofar ++ item ∷ [])
+      ∙ ap (λ y. set p.sent to (sofar ++ y ∷ [])) item-is
+      ∙ ap (set p.sent to) (append_assoc (sent_to p to) (map (item_of S p.number) (take i keys)) (item_of S p.number (get_or keys i x) ∷ []) ∙ ap (λ xs. sent_to p to ++ xs) (sym (map_more (item_of S p.number) keys i x m))) in
       h ∙ ap (with_sent q) long ∙ ap (λ y. with_sent y (set p.sent to (sent_to p to ++ map (item_of S p.number) (take (i + 1) keys)))) e
 
-  pub may_send : (c : LanesView) (q : PortView) (keys : List Key) (i : ℕ) (d : Key) (n v : ℕ) → i < length keys → n ≡ p.number → v ≡ level_of S (get_or keys i d)
+  pub may_send : (c : LanesView) (q : PortView) (keys : List Key) (i : ℕ) (x : Key) (n v : ℕ) → i < length keys → x ≡ get_or keys i x → n ≡ p.number → v ≡ level_of S x
       → q ≡ record p { sent = set p.sent to (sent_to p to ++ map (item_of S p.number) (take i keys)) } → MaySend c S p to keys
-      → MayFollow (lanes_scope c) (ends (sent_to q to)) (Ask n v (get_or keys i d))
-  may_send c q keys i d n v m n-is v-is e h =
-      let x-is : Ask n v (get_or keys i d) ≡ item_of S p.number (get_or keys i d) = ap (λ k. Ask k v (get_or keys i d)) n-is ∙ ap (λ k. Ask p.number k (get_or keys i d)) v-is in
-      subst (λ a. MayFollow (lanes_scope c) a (Ask n v (get_or keys i d))) (sym (ends_kept (take i keys) q e))
-      (subst (MayFollow (lanes_scope c) (ends (sent_to p to))) (sym x-is) (h.follow i d m))
+      → MayFollow (lanes_scope c) (ends (sent_to q to)) (Ask n v x)
+  may_send c q keys i x n v m x-is n-is v-is e h =
+      subst (λ a. MayFollow (lanes_scope c) a (Ask n v x)) (sym (ends_kept (take i keys) q e))
+      (subst (MayFollow (lanes_scope c) (ends (sent_to p to))) (sym (asked_as x (get_or keys i x) n v x-is n-is v-is)) (h.follow i x m))
 
   pub may_leave : (c : LanesView) (q : PortView) (keys : List Key) (i : ℕ)
       → q ≡ record p { sent = set p.sent to (sent_to p to ++ map (item_of S p.number) (take i keys)) } → MaySend c S p to keys
@@ -83,8 +85,7 @@ pub lane_next : (p q r : PortView) (to : ℕ) (more : ℕ → List Item) → to 
     → HasSent p r × ((k : ℕ) → k < to + 1 → sent_to r k ≡ sent_to p k ++ more k) × ((k : ℕ) → to + 1 ≤ k → sent_to r k ≡ sent_to p k)
 lane_next p q r to more b s low high e =
     let sent-is : r.sent ≡ set q.sent to (sent_to q to ++ more to) = ap (λ v. v.sent) e in
-    let far : (k : ℕ) → (k ≡ to → ⊥) → sent_to r k ≡ sent_to q k = λ k n. ap (λ v. sent_to v k) e ∙ get_or-set_other q.sent to k (sent_to q to ++ more to) [] n in
-    (
+    let far : (k : ℕ) → (k ≡ to → ⊥) → sent_to r k ≡ sent_to q k = λ k n. ap (λ v. sent_to v k) e ∙ get_or-set_other q.sent to k (sent_to q to ++ more to) [] n in (
       (e ∙ ap (λ xs. with_sent q xs) (sym sent-is) ∙ ap (λ v. with_sent v r.sent) s.0, ap (λ xs. length xs) sent-is ∙ length-set q.sent to (sent_to q to ++ more to) ∙ s.1),
       (λ k l. elim (eqb k to) as (λ t. eqb k to ≡ t → sent_to r k ≡ sent_to p k ++ more k) [
         | true ↦ λ t. subst (λ m. sent_to r m ≡ sent_to p m ++ more m) (sym (eqb-true k to t))

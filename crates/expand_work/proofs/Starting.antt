@@ -1,11 +1,11 @@
 -- A worker before its first level, and after its last.
-use Rattle.std.proofs.Common.{◌≡◌, ℕ, zero, suc, ◌+◌, ◌<◌, ◌≤◌, List, [], ◌∷◌, ◌++◌, Some, replicate, filter, length, get_or, All, refl, sym, ap, ◌∙◌, subst, arith}
+use Rattle.std.proofs.Common.{◌≡◌, ℕ, ◌<◌, ◌≤◌, List, [], Some, replicate, filter, length, get_or, All, sym, ap, ◌∙◌, subst, arith}
 use Rattle.std.proofs.lemmas.List.{length-map, length-replicate, get_or-replicate}
 use Rattle.std.proofs.lemmas.List.Elements.{All-nil}
 use Rattle.req_table.specs.declared.Key.{Key}
 use Rattle.req_table.specs.declared.Record.{Record}
 use Rattle.req_table.specs.declared.Item.{Item}
-use Rattle.req_table.specs.Wave.{Scope, Wave, IsWave}
+use Rattle.req_table.specs.Wave.{Scope, Wave}
 use Rattle.req_table.specs.Lanes.{from_of, sent_by, ends, asks_at, IsFair, HasSenders}
 use Rattle.req_table.specs.Settled.{IsDistinctOf, dealt_from, is_owned}
 use Rattle.req_table.proofs.Lists.{each, all_of, filter_has}
@@ -16,7 +16,7 @@ use Rattle.req_table.specs.Keys.{IsKey, wave_of}
 use Rattle.req_table.specs.Sizes.{sizes_of, scope_of, IsKeyOf}
 use Rattle.req_table.specs.Tables.{row_at}
 use Rattle.req_table.proofs.Sized.{sizes_of_key}
-use Rattle.lane_queue.specs.PortView.{LanesView, PortView, sent_to, IsPortOf, lanes_scope}
+use Rattle.lane_queue.specs.PortView.{LanesView, PortView, sent_to, IsPortOf}
 use Rattle.expand_work.specs.declared.worker.Worker.{Worker}
 use Rattle.expand_work.specs.declared.part.Part.{Part}
 use Rattle.expand_work.specs.Parts.{asks_behind, IsAt, IsPart}

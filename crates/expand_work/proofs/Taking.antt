@@ -1,10 +1,10 @@
 -- What a taken item tells a worker.
-use Rattle.std.proofs.Common.{◌≡◌, ℕ, ◌+◌, ◌<◌, Bool, true, false, inl, inr, List, [], ◌∷◌, ◌++◌, map, length, set, get_or, Some, refl, sym, ap, ◌∙◌, subst, arith}
+use Rattle.std.proofs.Common.{◌≡◌, ℕ, ◌+◌, ◌<◌, Bool, true, false, inl, inr, List, [], ◌∷◌, ◌++◌, length, set, get_or, Some, sym, ap, ◌∙◌, subst}
 use Rattle.std.proofs.lemmas.List.{length-map}
 use Rattle.req_table.specs.declared.Key.{Key}
 use Rattle.req_table.specs.declared.Item.{Item}
 use Rattle.req_table.specs.declared.Item.TheVariants.{Ask, End}
-use Rattle.req_table.specs.Lanes.{from_of, sent_by, ends, IsFair, IsClosed}
+use Rattle.req_table.specs.Lanes.{from_of, sent_by, IsFair, IsClosed}
 use Rattle.req_table.specs.Settled.{Admits}
 use Rattle.level_close.specs.Counts.{Counts}
 use Rattle.req_table.specs.Sizes.{scope_of}
@@ -37,39 +37,43 @@ told l p x o t =
       begins = t.3.1;
     }
 
+-- the port took the item
+abbrev pub Takes : PortView → PortView → Item → Type 0
+Takes p q x = (q ≡ record p { taken = p.taken ++ x ∷ [] }) × IsTaken p x
+
 module _ (l : LanesView) (p : PortView) (clock : Counts) (tables : List (List Key)) (o : IsPortOf l p) (h : IsHeard (lanes_scope l) p.taken clock tables) where
-  pub end_next : (s v : ℕ) → IsTaken p (End s v) → (s < length clock.ended) × (v ≡ get_or clock.ended s 0) × (v < clock.levels)
-  end_next s v t =
-      let d = told l p (End s v) o t in
-      let i = fair_item (lanes_scope l) p.taken (End s v) d.sent d.back d.sender d.fair d.begins in
-      (subst (λ n. s < n) (sym h.long) d.sender, i.0.0 ∙ sym (h.counted s d.sender), subst (λ n. v < n) (sym h.levels) i.0.1)
+  module _ (s v : ℕ) (q : PortView) (t : Takes p q (End s v)) where
+    pub end_next : (s < length clock.ended) × (v ≡ get_or clock.ended s 0) × (v < clock.levels)
+    end_next =
+        let d = told l p (End s v) o t.1 in
+        let i = fair_item (lanes_scope l) p.taken (End s v) d.sent d.back d.sender d.fair d.begins in
+        (subst (λ n. s < n) (sym h.long) d.sender, i.0.0 ∙ sym (h.counted s d.sender), subst (λ n. v < n) (sym h.levels) i.0.1)
 
-  pub ask_level : (s v : ℕ) (x : Key) → IsTaken p (Ask s v x) → v < length tables
-  ask_level s v x t =
-      let d = told l p (Ask s v x) o t in
-      let i = fair_item (lanes_scope l) p.taken (Ask s v x) d.sent d.back d.sender d.fair d.begins in
-      subst (λ n. v < n) (sym h.many) i.0.1
+    pub end_heard : IsHeard (lanes_scope l) q.taken (record clock { ended = set clock.ended s (v + 1) }) tables
+    end_heard =
+        let d = told l p (End s v) o t.1 in
+        subst (λ xs. IsHeard (lanes_scope l) xs (record clock { ended = set clock.ended s (v + 1) }) tables) (sym (ap (λ r. r.taken) t.0))
+        (hear_end (lanes_scope l) p.taken s v d.sent d.back clock tables d.sender d.fair d.begins h)
 
-  pub end_heard : (s v : ℕ) (p' : PortView) → IsTaken p (End s v) → p' ≡ record p { taken = p.taken ++ End s v ∷ [] } → IsHeard (lanes_scope l) p'.taken (record clock { ended = set clock.ended s (v + 1) }) tables
-  end_heard s v p' t e =
-      let d = told l p (End s v) o t in
-      subst (λ xs. IsHeard (lanes_scope l) xs (record clock { ended = set clock.ended s (v + 1) }) tables) (sym (ap (λ q. q.taken) e))
-      (hear_end (lanes_scope l) p.taken s v d.sent d.back clock tables d.sender d.fair d.begins h)
+    pub end_stays' : StaysClosed (lanes_scope l) p.taken q.taken tables tables
+    end_stays' = subst (λ xs. StaysClosed (lanes_scope l) p.taken xs tables tables) (sym (ap (λ r. r.taken) t.0)) (end_stays (lanes_scope l) p.taken s v tables)
 
-  pub end_stays' : (s v : ℕ) (p' : PortView) → p' ≡ record p { taken = p.taken ++ End s v ∷ [] } → StaysClosed (lanes_scope l) p.taken p'.taken tables tables
-  end_stays' s v p' e = subst (λ xs. StaysClosed (lanes_scope l) p.taken xs tables tables) (sym (ap (λ q. q.taken) e)) (end_stays (lanes_scope l) p.taken s v tables)
+  module _ (s v : ℕ) (x : Key) (q : PortView) (t : Takes p q (Ask s v x)) where
+    pub ask_level : v < length tables
+    ask_level =
+        let d = told l p (Ask s v x) o t.1 in
+        let i = fair_item (lanes_scope l) p.taken (Ask s v x) d.sent d.back d.sender d.fair d.begins in
+        subst (λ n. v < n) (sym h.many) i.0.1
 
-  pub ask_heard : (s v : ℕ) (x : Key) (p' : PortView) (tables' : List (List Key)) (b : Bool) → IsTaken p (Ask s v x) → p' ≡ record p { taken = p.taken ++ Ask s v x ∷ [] }
-      → (keys : List Key) × Offers (at tables v) x b keys × (tables' ≡ set tables v keys) → IsHeard (lanes_scope l) p'.taken clock tables'
-  ask_heard s v x p' tables' b t e (keys, ad, q) =
-      let d = told l p (Ask s v x) o t in
-      subst (λ xs. IsHeard (lanes_scope l) xs clock tables') (sym (ap (λ q. q.taken) e))
-      (subst (λ ts. IsHeard (lanes_scope l) (p.taken ++ Ask s v x ∷ []) clock ts) (sym q)
-      (hear_ask (lanes_scope l) p.taken s v x d.sent d.back clock tables keys d.sender d.fair d.begins (admits_one (at tables v) keys x b ad) h))
+    pub ask_heard : (tables' : List (List Key)) (b : Bool) → (keys : List Key) × Offers (at tables v) x b keys × (tables' ≡ set tables v keys) → IsHeard (lanes_scope l) q.taken clock tables'
+    ask_heard tables' b (keys, offers, e) =
+        let d = told l p (Ask s v x) o t.1 in
+        subst (λ xs. IsHeard (lanes_scope l) xs clock tables') (sym (ap (λ r. r.taken) t.0))
+        (subst (λ ts. IsHeard (lanes_scope l) (p.taken ++ Ask s v x ∷ []) clock ts) (sym e)
+        (hear_ask (lanes_scope l) p.taken s v x d.sent d.back clock tables keys d.sender d.fair d.begins (admits_one (at tables v) keys x b offers) h))
 
-  pub ask_stays' : (s v : ℕ) (x : Key) (p' : PortView) (tables' : List (List Key)) (b : Bool) → ¬ IsClosed (lanes_scope l) v p.taken → p' ≡ record p { taken = p.taken ++ Ask s v x ∷ [] }
-      → (keys : List Key) × Offers (at tables v) x b keys × (tables' ≡ set tables v keys) → StaysClosed (lanes_scope l) p.taken p'.taken tables tables'
-  ask_stays' s v x p' tables' b n e (keys, ad, q) =
-      subst (λ xs. StaysClosed (lanes_scope l) p.taken xs tables tables') (sym (ap (λ q. q.taken) e))
-      (subst (λ ts. StaysClosed (lanes_scope l) p.taken (p.taken ++ Ask s v x ∷ []) tables ts) (sym q)
-      (ask_stays (lanes_scope l) p.taken s v x tables keys n))
+    pub ask_stays' : (tables' : List (List Key)) (b : Bool) → ¬ IsClosed (lanes_scope l) v p.taken → (keys : List Key) × Offers (at tables v) x b keys × (tables' ≡ set tables v keys) → StaysClosed (lanes_scope l) p.taken q.taken tables tables'
+    ask_stays' tables' b n (keys, offers, e) =
+        subst (λ xs. StaysClosed (lanes_scope l) p.taken xs tables tables') (sym (ap (λ r. r.taken) t.0))
+        (subst (λ ts. StaysClosed (lanes_scope l) p.taken (p.taken ++ Ask s v x ∷ []) tables ts) (sym e)
+        (ask_stays (lanes_scope l) p.taken s v x tables keys n))

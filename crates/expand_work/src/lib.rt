@@ -4,8 +4,8 @@
 mod expand;
 mod fault;
 mod gate;
-mod lists;
 mod listen;
+mod lists;
 mod part;
 mod say;
 mod worker;

@@ -28,20 +28,17 @@ fn take_one<R: Wait>(
     ensures stays { OnOk result
         (StaysClosed (lanes_scope lanes.now) port.old.taken port.new.taken tables.old tables.new) }
 {
-    match lanes.take(rt, port) {
-        None => Ok(false),
-        Some(Item::End { from, level }) => {
-            clock.note(from, level);
-            Ok(true)
-        }
-        Some(Item::Ask { from, level, key }) => {
+    let Some(item) = lanes.take(rt, port) else {
+        return Ok(false);
+    };
+    match item {
+        Item::End { from, level } => clock.note(from, level),
+        Item::Ask { from, level, key } => {
             let _from = from;
-            let Ok(_) = tables.admit(level, key) else {
-                return Err(WorkFault::OutOfMemory);
-            };
-            Ok(true)
+            tables.admit(level, key)?;
         }
     }
+    Ok(true)
 }
 
 /// Takes until every sender has ended the level. Where the lane is empty it pauses, and gives up once the flag is set.

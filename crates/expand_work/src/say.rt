@@ -26,8 +26,9 @@ fn send_asks<R: Wait>(
     requires to { to < length lanes.now.lanes }
     requires may { MaySend lanes.now store.now port.old to keys.now }
     ensures { OnOk result (port.new ≡ record port.old {
-        sent = slice_set port.old.sent to
-            (sent_to port.old to ++ map (item_of store.now port.old.number) keys.now) }) }
+      sent = slice_set port.old.sent to
+          (sent_to port.old to ++ map (item_of store.now port.old.number) keys.now);
+    }) }
 {
     let from = port.number();
     for key in keys {

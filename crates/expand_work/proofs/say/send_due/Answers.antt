@@ -1,4 +1,4 @@
-use Rattle.std.proofs.Common.{◌≡◌, ◌<◌, ◌++◌, map, length, set, subst, sym, ap, ◌∙◌, le_refl}
+use Rattle.std.proofs.Common.{◌<◌, ◌++◌, map, set, subst, sym, ap, ◌∙◌, le_refl}
 use Rattle.lane_queue.specs.PortView.{PortView, sent_to}
 use Rattle.expand_work.specs.Work.{at, item_of, MaySend}
 use Rattle.expand_work.proofs.Saying.{may_still, lane_next, with_sent}

@@ -1,4 +1,4 @@
-use Rattle.std.proofs.Common.{◌≡◌, ℕ, ◌<◌, ◌≤◌, ◌++◌, map, length}
+use Rattle.std.proofs.Common.{◌≡◌, ℕ, ◌<◌, ◌≤◌, ◌++◌, map}
 use Rattle.lane_queue.specs.PortView.{sent_to}
 use Rattle.expand_work.specs.Work.{at, item_of, HasSent}
 use Rattle.expand_work.proofs.say.send_due.Given as goal
