@@ -1,0 +1,5 @@
+//! Tests of the crates of waves, by their public calls alone.
+#![tactic(auto)]
+
+#[cfg(test)]
+mod workers;
