@@ -1,18 +1,17 @@
 -- The rule gives the law between any two steps.
-use Rattle.std.proofs.Common.{◌≡◌, ℕ, ◌<◌, ◌⊎◌, List, [], ◌∷◌, ◌++◌, sym, refl, ap, ◌∙◌, subst, inl, inr, ⊎_elim}
-use mathlib.Core.Option.{some}
-use lib.ListN.{get_elem?}
+use Rattle.std.proofs.Common.{◌≡◌, ℕ, ◌<◌, List, [], ◌∷◌, ◌++◌, sym, refl, ◌∙◌, subst, inl, inr, ⊎_elim}
 use Rattle.req_table.specs.declared.Item.{Item}
 use Rattle.lane_queue.specs.declared.rule.View.{View}
-use Rattle.req_table.specs.Lanes.{IsFair, LaneLaw}
-use Rattle.lane_queue.specs.Lists.{FairLane}
-use Rattle.lane_queue.specs.Rule.{scope, blank, Has, Ruled, Kept}
-use Rattle.lane_queue.specs.Between.{HasSent, Lawful, Between}
+use Rattle.req_table.specs.Lanes.{IsFair}
+use Rattle.lane_queue.specs.Rule.{scope, blank, Ruled, Kept}
+use Rattle.lane_queue.specs.Between.{Lawful, Between}
 use Rattle.lane_queue.proofs.Facts.{law-along}
 
 lawful : (items : List Item) (views : List View) → Ruled items views → Lawful items views
 lawful items views r = (
   r.c,
+  r.owned,
+  (λ i p v at has. let f = r.fits i v p at has in (f.terms, f.within)),
   (λ p lt. let h = r.present p lt in (_, (r.seat p, h.0, h.1, h.2, refl))),
   λ sent i o all at has.
       let t = (r.fits i o r.c.owner at has).takes refl in

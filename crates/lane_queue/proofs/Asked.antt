@@ -1,17 +1,17 @@
 -- What the methods of the queue ask at each step, for a view of the kind that the step is for.
-use Rattle.std.proofs.Common.{◌≡◌, ◌≢◌, ℕ, ◌+◌, ◌<◌, ◌⊎◌, List, [], ◌∷◌, ◌++◌, length, sym, refl, ap, ◌∙◌, subst, ⊎_elim}
+use Rattle.std.proofs.Common.{◌≡◌, ◌≢◌, ℕ, ◌+◌, ◌<◌, List, [], ◌∷◌, ◌++◌, sym, ap, ◌∙◌, subst, ⊎_elim}
 use Rattle.crossbeam_queue.specs.Fifo.{Pushes, Pops, Forks, Merges, Learns}
 use Rattle.req_table.specs.declared.Item.{Item}
 use Rattle.lane_queue.specs.declared.rule.Terms.{Terms}
 use Rattle.lane_queue.specs.declared.rule.View.{View}
 use Rattle.req_table.specs.Lanes.{from_of, ends, MayFollow}
-use Rattle.lane_queue.specs.Rule.{scope, blank, spent, issuer, joined, port, Kept, Sends, Takes, Owns, Reads, Whole, IsNext, own_sent, IsPort, IsJoined, IsWhole, IsReady}
+use Rattle.lane_queue.specs.Rule.{scope, blank, spent, issuer, joined, port, Kept, Sends, Takes, Owns, Reads, Whole, own_sent, IsPort, IsJoined, IsWhole, IsReady}
 use Rattle.lane_queue.proofs.Moves.{pushes, pops, owns}
 use Rattle.lane_queue.proofs.Passes.{issues_first, issues, merges, reads, wholes}
 
 pub issuing : (i : ℕ) (c : Terms) (v : View) → IsReady c v → Forks Kept i v (issuer c (v.low + 1)) (port c v.low [] [])
 issuing i c v h = let P : View → Type 0 = λ u. Forks Kept i u (issuer c (u.low + 1)) (port c u.low [] []) in
-    ⊎_elim (λ (e : v ≡ blank). subst P (sym e) (issues_first i c (subst (λ (u : View). u.low < c.workers) e h.1)))
+    ⊎_elim (λ (e : v ≡ blank). subst P (sym e) (issues_first i c (subst (λ (u : View). u.low < c.workers) e h.1) h.2))
     (λ (e : v ≡ issuer c v.low). subst P (sym e) (issues i c v.low h.1)) h.0
 
 pub sending : (n i : ℕ) (v : View) (x : Item) → IsPort v → from_of x ≡ v.low → MayFollow (scope v.terms) (ends (own_sent v)) x → Pushes Kept n i v x (Sends v x)

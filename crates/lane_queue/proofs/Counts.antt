@@ -1,7 +1,6 @@
 -- The numbers that a line keeps are those of its list.
-use Rattle.std.proofs.Common.{◌≡◌, ℕ, ◌+◌, List, [], ◌∷◌, ◌++◌, length, sym, refl, ap, ◌∙◌, subst, arith, length-append}
+use Rattle.std.proofs.Common.{◌≡◌, ℕ, ◌+◌, List, [], ◌∷◌, ◌++◌, length, sym, refl, ◌∙◌, subst, arith, length-append}
 use Rattle.req_table.specs.declared.Item.{Item}
-use Rattle.lane_queue.specs.declared.rule.Terms.{Terms}
 use Rattle.lane_queue.specs.declared.rule.View.{View}
 use Rattle.req_table.specs.Lanes.{count_end, ends}
 use Rattle.lane_queue.specs.Rule.{port, own_sent, IsPort}

@@ -1,22 +1,22 @@
 -- All ports are joined, one after the other.
-use Rattle.std.proofs.Common.{◌≡◌, ◌≢◌, ℕ, zero, suc, ◌+◌, ◌<◌, ◌≤◌, List, [], ◌∷◌, ◌++◌, map, length, take, get_or, set, sym, refl, ap, ◌∙◌, subst, arith, Option, Some, None, cond, eqb, eq-eqb, ne_eqb}
+use Rattle.std.proofs.Common.{◌≡◌, ℕ, suc, ◌+◌, ◌<◌, ◌≤◌, List, [], ◌∷◌, ◌++◌, map, length, take, get_or, set, sym, refl, ap, ◌∙◌, subst, arith, cond, eq-eqb, ne_eqb}
 use Rattle.std.specs.Prelude.{slice_index_or}
-use Rattle.std.proofs.lemmas.List.{get_or-map, length-map, length-append, length-take, map-append, append-nil, get_or_append_left, get_or_default, get_or-set_same, get_or-set_other, length-set, take_all}
+use Rattle.std.proofs.lemmas.List.{length-map, length-append, length-take, map-append, append-nil, get_or_append_left, get_or_default, get_or-set_same, get_or-set_other, length-set, take_all}
 use Rattle.std.proofs.Math.Seq.{take-suc, get_or-append_seam}
 use Rattle.std.proofs.Math.ListN.{get_or-eq_default}
 use mathlib.Core.Logic.{dite}
 use native.Mathlib.Decide.{ℕ_discrete, dec_le}
-use Rattle.crossbeam_queue.specs.SegTies.{SegId, IsSegPassOf}
+use Rattle.crossbeam_queue.specs.SegTies.{SegId}
 use Rattle.std.specs.declared.alloc.Global.{Global}
 use Rattle.req_table.specs.declared.Item.{Item}
 use Rattle.req_table.specs.declared.Sizes.{Sizes}
 use Rattle.lane_queue.specs.declared.rule.View.{View}
 use Rattle.lane_queue.specs.declared.rule.Lane.{Lane}
 use Rattle.lane_queue.specs.declared.make.Root.{Root}
-use Rattle.lane_queue.specs.Rule.{port, joined, IsJoined}
+use Rattle.lane_queue.specs.Rule.{port, joined}
 use Rattle.lane_queue.specs.PortView.{PortView, sent_to}
 use Rattle.lane_queue.specs.Ports.{terms_of}
-use Rattle.lane_queue.specs.Joining.{root_view, taken_on, retired, RootsOf, IsBelow, RootsBelow, RootsWith, whole_view, RootsHave, ArePorts, AreRetired}
+use Rattle.lane_queue.specs.Joining.{taken_on, retired, RootsOf, IsBelow, RootsBelow, RootsWith, whole_view, RootsHave, ArePorts, AreRetired}
 
 -- ---- what the joined pass knows of one port more
 takens : (ports : List PortView) (p : PortView) (i : ℕ) → p.number ≡ length ports

@@ -1,9 +1,9 @@
 -- What a port is after one of its lines changed.
-use Rattle.std.proofs.Common.{◌≡◌, ◌≢◌, ℕ, ◌+◌, ◌<◌, List, [], ◌∷◌, ◌++◌, map, length, get_or, set, sym, refl, ap, ◌∙◌, subst, arith, Option, Some, None, Result, Ok, Err}
-use Rattle.std.specs.Prelude.{MatchResult, MatchOption, IfSome, slice_index_or, slice_set}
+use Rattle.std.proofs.Common.{◌≡◌, ℕ, ◌<◌, List, [], ◌∷◌, ◌++◌, map, length, get_or, set, sym, refl, ap, ◌∙◌, subst, Option, Some, None, Result, Ok, Err}
+use Rattle.std.specs.Prelude.{MatchResult, MatchOption, IfSome, slice_index_or}
 use Rattle.std.proofs.lemmas.List.{map-set, get_or-map, get_or-set_same, length-set, length-map, append-nil}
 use Rattle.std.proofs.Math.Seq.{map-set_same}
-use Rattle.crossbeam_queue.specs.SegTies.{SegId, IsSegPassOf}
+use Rattle.crossbeam_queue.specs.SegTies.{SegId}
 use Rattle.std.specs.declared.alloc.Global.{Global}
 use Rattle.req_table.specs.declared.Item.{Item}
 use Rattle.req_table.specs.declared.Sizes.{Sizes}
@@ -15,11 +15,11 @@ use Rattle.lane_queue.specs.declared.port.Line.{Line}
 use Rattle.lane_queue.specs.declared.rule.Lane.{Lane}
 use Rattle.req_table.specs.declared.Item.TheVariants.{Ask, End}
 use Rattle.lane_queue.proofs.Facts.{ask-open}
-use Rattle.lane_queue.specs.Rule.{scope, port, own_sent, IsPort, IsNext, Owns}
+use Rattle.lane_queue.specs.Rule.{scope, port, own_sent, IsNext, Owns}
 use Rattle.req_table.specs.Sizes.{scope_of}
 use Rattle.req_table.specs.Lanes.{from_of, sent_by, IsFair, IsClosed}
 use Rattle.lane_queue.specs.Lists.{Begins}
-use Rattle.lane_queue.specs.Line.{line_view, IsLine, IsLiveOn}
+use Rattle.lane_queue.specs.Line.{line_view, IsLiveOn}
 use Rattle.lane_queue.specs.PortView.{PortView, LanesView, IsTaken, IsPortOf, IsOpen, lanes_scope, port_scope}
 use Rattle.lane_queue.specs.Ports.{hold_on, IsAtHand, line_on, line_sent, line_taken, LineOk, PortOk, view_of}
 

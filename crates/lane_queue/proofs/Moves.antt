@@ -1,21 +1,20 @@
 -- Each step of a lane keeps the rule.
-use Rattle.std.proofs.Common.{◌≡◌, ◌≢◌, ℕ, zero, suc, ◌+◌, ◌-◌, ◌<◌, ◌≤◌, ◌⊎◌, Bool, true, false, true≢false, cond, eqb, List, [], ◌∷◌, ◌++◌, length, get_or, set, sym, refl, ap, ◌∙◌, subst, inl, inr, ⊎_elim, arith, append_assoc}
-use Rattle.std.specs.Prelude.{filter, All, slice_index_or, slice_set}
+use Rattle.std.proofs.Common.{◌≡◌, ◌≢◌, ℕ, zero, suc, ◌-◌, ◌<◌, ◌≤◌, true, true≢false, List, [], ◌∷◌, ◌++◌, length, set, sym, refl, ap, ◌∙◌, subst, inr, ⊎_elim, arith, append_assoc}
+use Rattle.std.specs.Prelude.{All, slice_index_or}
 use Rattle.std.proofs.lemmas.List.{append-nil}
 use Rattle.std.proofs.lemmas.List.Elements.{All-append}
 use mathlib.Core.Option.{some, some-injective, some-ne-none}
 use mathlib.Core.Logic.{dite}
 use native.Mathlib.Decide.{ℕ_discrete}
 use lib.ListN.{get_elem?}
-use Rattle.crossbeam_queue.specs.Fifo.{Pushes, Pops, Forks, Merges, Learns}
-use Rattle.crossbeam_queue.proofs.Lists.{at_set, at_snoc, set_here, set_else, at_longer, at_last}
+use Rattle.crossbeam_queue.specs.Fifo.{Pushes, Pops, Learns}
+use Rattle.crossbeam_queue.proofs.Lists.{at_set, set_here, set_else}
 use Rattle.req_table.specs.declared.Item.{Item}
-use Rattle.req_table.specs.declared.Sizes.{Sizes}
 use Rattle.lane_queue.specs.declared.rule.Terms.{Terms}
 use Rattle.lane_queue.specs.declared.rule.View.{View}
-use Rattle.req_table.specs.Lanes.{from_of, sent_by, ends, MayFollow, IsFairFrom, IsFair, LaneLaw}
-use Rattle.lane_queue.specs.Lists.{FairLane, Begins}
-use Rattle.lane_queue.specs.Rule.{scope, blank, spent, issuer, joined, port, Has, sent_of, Fits, Ruled, Kept, behind, Sends, IsNext, Takes, Owns, Reads, Whole}
+use Rattle.req_table.specs.Lanes.{from_of, sent_by, ends, MayFollow, IsFair, LaneLaw}
+use Rattle.lane_queue.specs.Lists.{FairLane}
+use Rattle.lane_queue.specs.Rule.{scope, blank, port, Has, sent_of, Fits, Ruled, Kept, Sends, IsNext, Takes, Owns}
 use Rattle.req_table.proofs.Fair.{sent_by-append}
 use Rattle.lane_queue.proofs.Facts.{fair-push, all-one, all-at, of-mine, of-other, law-along}
 
@@ -51,6 +50,7 @@ step items items' views i v w r at low high b sent' taken' left' law fair others
   sent = sent';
   taken = taken';
   left = left';
+  owned = r.owned;
   law = law;
   fair = fair;
   present = λ p in_range. let h = r.present p in_range in

@@ -1,6 +1,6 @@
 -- Passes are issued, joined and read out: each keeps the rule.
-use Rattle.std.proofs.Common.{◌≡◌, ◌≢◌, ℕ, zero, suc, ◌+◌, ◌-◌, ◌<◌, ◌≤◌, ◌⊎◌, Bool, true, false, true≢false, cond, eqb, List, [], ◌∷◌, ◌++◌, length, get_or, set, sym, refl, ap, ◌∙◌, subst, inl, inr, ⊎_elim, arith, append_assoc, eq-eqb, ne_eqb}
-use Rattle.std.specs.Prelude.{filter, All, slice_index_or, slice_set}
+use Rattle.std.proofs.Common.{◌≡◌, ◌≢◌, ℕ, zero, suc, ◌+◌, ◌-◌, ◌<◌, ◌⊎◌, true, true≢false, cond, eqb, List, [], ◌∷◌, ◌++◌, length, set, sym, refl, ap, ◌∙◌, subst, inl, inr, ⊎_elim, arith, append_assoc, eq-eqb, ne_eqb}
+use Rattle.std.specs.Prelude.{All, slice_index_or}
 use Rattle.std.proofs.lemmas.List.{append-nil, get_or_append_left}
 use Rattle.std.proofs.Math.Seq.{get_or-append_seam}
 use mathlib.Core.Option.{some, some-injective, some-ne-none}
@@ -10,14 +10,12 @@ use lib.ListN.{get_elem?}
 use Rattle.crossbeam_queue.specs.Fifo.{Forks, Merges, Pops, Learns}
 use Rattle.crossbeam_queue.proofs.Lists.{at_set, set_here, set_else, at_longer, at_last}
 use Rattle.req_table.specs.declared.Item.{Item}
-use Rattle.req_table.specs.declared.Sizes.{Sizes}
 use Rattle.lane_queue.specs.declared.rule.Terms.{Terms}
 use Rattle.lane_queue.specs.declared.rule.View.{View}
-use Rattle.req_table.specs.Lanes.{HasSenders, from_of, sent_by, IsFair, LaneLaw}
-use Rattle.lane_queue.specs.Lists.{FairLane}
+use Rattle.req_table.specs.Lanes.{HasSenders, from_of, IsFair, LaneLaw}
 use Rattle.lane_queue.specs.Rule.{scope, blank, spent, issuer, joined, port, Has, sent_of, Fits, Ruled, Kept, Reads, Whole}
 use Rattle.lane_queue.proofs.Facts.{law-along}
-use Rattle.lane_queue.proofs.Moves.{there, same_there, ruled, step, only, lone, own_list, own, along}
+use Rattle.lane_queue.proofs.Moves.{there, same_there, ruled, step, only, own_list, own}
 
 -- ---- a view at the end
 snoc_at : (l : List View) (a b : View) (j : ℕ) → get_elem? (l ++ a ∷ []) j ≡ some b → (get_elem? l j ≡ some b) ⊎ ((j ≡ length l) × (a ≡ b))
@@ -63,13 +61,14 @@ begins_present c (suc p) lt = (issuer c 1, ap (λ b. get_elem? (issuer c 1 ∷ p
 all-none : {X : Type 0} (P : X → Type 0) → All P []
 all-none P k d lt = absurd (omega arith)
 
-begins : (c : Terms) → 0 < c.workers → Ruled [] (issuer c 1 ∷ port c 0 [] [] ∷ [])
-begins c lt = record {
+begins : (c : Terms) → 0 < c.workers → c.owner < c.workers → Ruled [] (issuer c 1 ∷ port c 0 [] [] ∷ [])
+begins c lt owned = record {
   c = c;
   seat = first_seat;
   sent = λ _. [];
   taken = [];
   left = [];
+  owned = owned;
   law = record { senders = all-none (λ x. from_of x < c.workers); in_order = λ p _. refl };
   fair = λ p _. tt;
   present = begins_present c;
@@ -77,9 +76,9 @@ begins c lt = record {
   fits = begins_fits c lt;
 }
 
-pub issues_first : (i : ℕ) (c : Terms) → 0 < c.workers → Forks Kept i blank (issuer c 1) (port c 0 [] [])
-issues_first i c lt items views h at = ⊎_elim
-    (λ (x : (items ≡ []) × (views ≡ blank ∷ [])). inr (subst (λ (y : List Item × List View). Ruled y.0 y.1) (λ k. (sym x.0 k, sym (first_views i views (issuer c 1) (port c 0 [] []) x.1 at) k)) (begins c lt)))
+pub issues_first : (i : ℕ) (c : Terms) → 0 < c.workers → c.owner < c.workers → Forks Kept i blank (issuer c 1) (port c 0 [] [])
+issues_first i c lt owned items views h at = ⊎_elim
+    (λ (x : (items ≡ []) × (views ≡ blank ∷ [])). inr (subst (λ (y : List Item × List View). Ruled y.0 y.1) (λ k. (sym x.0 k, sym (first_views i views (issuer c 1) (port c 0 [] []) x.1 at) k)) (begins c lt owned)))
     (λ (r : Ruled items views). absurd (true≢false (sym (r.begun i blank at))))
     h
 
@@ -95,6 +94,7 @@ issue_step i c low items views lt r at = let l = issuer c (low + 1) in let w = p
       sent = r.sent;
       taken = r.taken;
       left = r.left;
+      owned = r.owned;
       law = r.law;
       fair = r.fair;
       present = λ p in_range. dite (ℕ_discrete p low)
@@ -175,6 +175,7 @@ merge_step i c j lists taken other sent more items views long theirs mine r at a
       sent = r.sent;
       taken = r.taken;
       left = r.left;
+      owned = r.owned;
       law = r.law;
       fair = r.fair;
       present = λ p in_range. dite (ℕ_discrete p j)

@@ -1,11 +1,11 @@
 -- What is left is read out, lane by lane.
-use Rattle.std.proofs.Common.{◌≡◌, ◌≢◌, ℕ, zero, suc, ◌+◌, ◌<◌, ◌≤◌, List, [], ◌∷◌, ◌++◌, map, length, get_or, set, sym, refl, ap, ◌∙◌, subst, arith, Option, None}
+use Rattle.std.proofs.Common.{◌≡◌, ℕ, ◌+◌, ◌<◌, List, [], ◌∷◌, ◌++◌, map, length, get_or, set, sym, refl, ap, ◌∙◌, subst, arith}
 use Rattle.std.specs.Prelude.{slice_index_or}
-use Rattle.std.proofs.lemmas.List.{get_or-map, length-map, length-append, map-append, get_or_append_left, get_or_default}
+use Rattle.std.proofs.lemmas.List.{length-map, length-append, map-append, get_or_append_left}
 use Rattle.std.proofs.Math.Seq.{get_or-append_seam}
 use mathlib.Core.Logic.{dite}
 use native.Mathlib.Decide.{ℕ_discrete}
-use Rattle.crossbeam_queue.specs.SegTies.{SegId, IsSegPassOf}
+use Rattle.crossbeam_queue.specs.SegTies.{IsSegPassOf}
 use Rattle.req_table.specs.declared.Item.{Item}
 use Rattle.req_table.specs.declared.Sizes.{Sizes}
 use Rattle.lane_queue.specs.declared.rule.View.{View}
@@ -16,7 +16,7 @@ use Rattle.req_table.specs.Lanes.{LaneLaw}
 use Rattle.lane_queue.specs.Lists.{FairLane}
 use Rattle.lane_queue.specs.Rule.{scope, joined, IsWhole}
 use Rattle.lane_queue.specs.PortView.{PortView, sent_to}
-use Rattle.lane_queue.specs.Joining.{root_view, retired, whole_view, RootsHave, AreRetired, sent_from, taken_by, LawOfAll}
+use Rattle.lane_queue.specs.Joining.{root_view, retired, whole_view, RootsHave, AreRetired, sent_from, taken_by}
 use Rattle.lane_queue.proofs.Rounds.{Turned, turned-none, turned-more, still}
 use Rattle.lane_queue.proofs.Settling.{map-alike}
 

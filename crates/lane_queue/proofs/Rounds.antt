@@ -1,5 +1,5 @@
 -- A round over all lanes, lane by lane.
-use Rattle.std.proofs.Common.{◌≡◌, ◌≢◌, ℕ, zero, suc, ◌+◌, ◌<◌, ◌≤◌, List, [], ◌∷◌, ◌++◌, length, get_or, set, sym, refl, ap, ◌∙◌, subst, arith}
+use Rattle.std.proofs.Common.{◌≡◌, ℕ, zero, suc, ◌+◌, ◌<◌, ◌≤◌, List, [], ◌∷◌, ◌++◌, length, get_or, set, sym, refl, ap, ◌∙◌, subst, arith}
 use Rattle.std.proofs.lemmas.List.{get_or-set_same, get_or-set_other, get_or_append_left, get_or_default, length-set, length-append}
 use Rattle.std.proofs.Math.Seq.{get_or-append_seam}
 use mathlib.Core.Logic.{dite}
@@ -9,7 +9,7 @@ use Rattle.lane_queue.specs.declared.rule.Lane.{Lane}
 use Rattle.lane_queue.specs.declared.make.Root.{Root}
 use Rattle.lane_queue.specs.declared.port.Line.{Line}
 use Rattle.lane_queue.specs.Line.{line_view, IsLiveOn}
-use Rattle.lane_queue.specs.Joining.{root_view, Retired, MayJoin, MayJoinAll, JoinedTo, HasJoined, HaveJoined, HaveBegun, AllLive}
+use Rattle.lane_queue.specs.Joining.{root_view, Retired, MayJoin, MayJoinAll, JoinedTo, HaveJoined, HaveBegun, AllLive}
 
 pub element : {X : Type 0} (xs : List X) (i : ℕ) → i < length xs → X
 element [] i lt = absurd (omega arith)

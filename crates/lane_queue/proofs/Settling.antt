@@ -1,12 +1,11 @@
 -- What a port is once it gave its passes away, and what its passes are.
-use Rattle.std.proofs.Common.{◌≡◌, ◌≢◌, ℕ, zero, suc, ◌+◌, ◌<◌, ◌≤◌, Bool, eqb, cond, List, [], ◌∷◌, ◌++◌, map, length, get_or, sym, refl, ap, ◌∙◌, subst, arith, Option, Some, None, Result, Ok, Err, eq-eqb, ne_eqb}
+use Rattle.std.proofs.Common.{◌≡◌, ℕ, suc, ◌<◌, cond, List, [], ◌∷◌, map, length, get_or, sym, refl, ap, ◌∙◌, subst, arith, Option, Some, None, Result, Ok, Err, eq-eqb, ne_eqb}
 use Rattle.std.specs.Prelude.{slice_index_or, IfOk, OnOk, OnErr}
 use Rattle.std.proofs.lemmas.List.{get_or-map, length-map}
 use mathlib.Core.Logic.{dite}
 use native.Mathlib.Decide.{ℕ_discrete}
-use Rattle.crossbeam_queue.specs.SegTies.{SegId, IsSegPassOf}
+use Rattle.crossbeam_queue.specs.SegTies.{SegId}
 use Rattle.std.specs.declared.alloc.Global.{Global}
-use Rattle.req_table.specs.declared.Item.{Item}
 use Rattle.req_table.specs.declared.Sizes.{Sizes}
 use Rattle.lane_queue.specs.declared.rule.Terms.{Terms}
 use Rattle.lane_queue.specs.declared.rule.View.{View}
@@ -16,11 +15,11 @@ use Rattle.lane_queue.specs.declared.port.Hold.{Hold}
 use Rattle.lane_queue.specs.declared.port.Hold.TheVariants.{Live, Joined}
 use Rattle.lane_queue.specs.declared.port.Line.{Line}
 use Rattle.req_table.specs.Lanes.{ends}
-use Rattle.lane_queue.specs.Rule.{port, joined, own_sent, IsPort, IsJoined}
-use Rattle.lane_queue.specs.Line.{line_view, IsLine, IsLiveOn}
+use Rattle.lane_queue.specs.Rule.{port, own_sent, IsPort}
+use Rattle.lane_queue.specs.Line.{line_view, IsLiveOn}
 use Rattle.lane_queue.specs.PortView.{PortView, sent_to}
 use Rattle.lane_queue.specs.Ports.{terms_of, hold_on, IsAtHand, line_on, line_sent, line_taken, LineOk, PortOk, view_of}
-use Rattle.lane_queue.specs.Joining.{root_view, Retired, MayJoin, MayJoinAll, JoinedTo, HasJoined, HaveJoined, HaveBegun, AllLive, taken_on, retired, RootsOf, IsBelow, RootsBelow, RootsWith}
+use Rattle.lane_queue.specs.Joining.{root_view, Retired, MayJoinAll, JoinedTo, HaveJoined, HaveBegun, AllLive, taken_on, retired, RootsOf, RootsBelow, RootsWith}
 use Rattle.lane_queue.proofs.Making.{map-twice}
 use Rattle.lane_queue.proofs.Rounds.{element}
 

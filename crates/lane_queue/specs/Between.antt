@@ -13,11 +13,16 @@ use Rattle.lane_queue.specs.Rule.{scope, blank, Has, sent_of}
 abbrev pub HasSent : List View → ℕ → List Item → Type 0
 HasSent views p xs = (i : ℕ) × (v : View) × (get_elem? views i ≡ some v) × Has v p × (xs ≡ sent_of v p)
 
--- Each port has a pass, and whatever the passes say that the ports sent obeys the law and is fair, with what the
--- owner's pass says that it took.
+-- The terms are those of each pass that stands for a port, which is a worker's.
+abbrev pub AreTerms : List View → Terms → Type 0
+AreTerms views c =
+    (i p : ℕ) (v : View) → get_elem? views i ≡ some v → Has v p → (v.terms ≡ c) × (p < c.workers)
+
+-- The passes have common terms, by which the lane's owner is a worker. Each worker's port has a pass, and whatever the
+-- passes say that the ports sent obeys the law and is fair, with what the owner's pass says that it took.
 abbrev pub Lawful : List Item → List View → Type 0
 Lawful items views =
-    (c : Terms)
+    (c : Terms) × (c.owner < c.workers) × AreTerms views c
     × ((p : ℕ) → p < c.workers → (xs : List Item) × HasSent views p xs)
     × ((sent : ℕ → List Item) (i : ℕ) (o : View) → ((p : ℕ) → p < c.workers → HasSent views p (sent p))
     → get_elem? views i ≡ some o → Has o c.owner

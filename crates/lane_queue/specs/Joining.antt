@@ -1,5 +1,5 @@
 -- How the ports' passes are joined.
-use Rattle.std.specs.Prelude.{◌≡◌, ◌≢◌, ℕ, ◌+◌, ◌<◌, Bool, eqb, cond, List, [], ◌∷◌, ◌++◌, map, length, Option, Some, None, slice_index_or}
+use Rattle.std.specs.Prelude.{◌≡◌, ◌≢◌, ℕ, ◌+◌, ◌<◌, eqb, cond, List, [], ◌∷◌, ◌++◌, map, length, Some, None, slice_index_or}
 use Rattle.crossbeam_queue.specs.SegTies.{SegId, IsSegPassOf}
 use Rattle.std.specs.declared.alloc.Global.{Global}
 use Rattle.req_table.specs.declared.Item.{Item}

@@ -1,5 +1,5 @@
 -- One port's end of one lane.
-use Rattle.std.specs.Prelude.{◌≡◌, ℕ, ◌<◌, length}
+use Rattle.std.specs.Prelude.{◌≡◌, length}
 use Rattle.crossbeam_queue.specs.SegTies.{SegId, IsSegPassOf}
 use Rattle.std.specs.declared.alloc.Global.{Global}
 use Rattle.lane_queue.specs.declared.rule.View.{View}

@@ -4,7 +4,6 @@ use Rattle.crossbeam_queue.specs.SegTies.{SegId}
 use Rattle.std.specs.declared.alloc.Global.{Global}
 use Rattle.req_table.specs.declared.Item.{Item}
 use Rattle.req_table.specs.declared.Item.TheVariants.{Ask, End}
-use Rattle.dd_store.specs.Nodes.{Nodes}
 use Rattle.req_table.specs.declared.Sizes.{Sizes}
 use Rattle.req_table.specs.Wave.{Scope}
 use Rattle.req_table.specs.Sizes.{scope_of}

@@ -1,14 +1,13 @@
 -- The lanes' rule: over what the queue of one lane holds, and over what each pass knows.
-use Rattle.std.specs.Prelude.{◌≡◌, ℕ, ◌+◌, ◌<◌, ◌≤◌, ◌-◌, ◌⊎◌, Bool, true, false, List, [], ◌∷◌, ◌++◌, length, slice_index_or}
+use Rattle.std.specs.Prelude.{◌≡◌, ℕ, ◌+◌, ◌<◌, ◌≤◌, ◌-◌, ◌⊎◌, true, false, List, [], ◌∷◌, ◌++◌, length, slice_index_or}
 use mathlib.Core.Option.{some}
 use lib.ListN.{get_elem?}
 use Rattle.req_table.specs.declared.Item.{Item}
-use Rattle.req_table.specs.declared.Sizes.{Sizes}
 use Rattle.lane_queue.specs.declared.rule.Terms.{Terms}
 use Rattle.lane_queue.specs.declared.rule.View.{View}
 use Rattle.req_table.specs.Wave.{Scope}
 use Rattle.req_table.specs.Sizes.{scope_of}
-use Rattle.req_table.specs.Lanes.{from_of, sent_by, MayFollow, IsFair, LaneLaw}
+use Rattle.req_table.specs.Lanes.{from_of, sent_by, IsFair, LaneLaw}
 use Rattle.lane_queue.specs.Lists.{FairLane, Begins}
 
 -- The terms where there are none.
@@ -58,13 +57,14 @@ pub record Fits (c : Terms) (seat : ℕ → ℕ) (sent : ℕ → List Item) (tak
   pub sends : sent_of v p ≡ sent p
   pub takes : p ≡ c.owner → (v.taken ≡ taken) × (v.left ≡ left)
 
--- Each port has one pass. Of each port, what was taken and then what waits is what it sent, and that list is fair.
+-- The owner is a worker, and each port has one pass. Of each port, what was taken and then what waits is what it sent, and that list is fair.
 pub record Ruled (items : List Item) (views : List View) : Type 0 where
   pub c : Terms
   pub seat : ℕ → ℕ
   pub sent : ℕ → List Item
   pub taken : List Item
   pub left : List Item
+  pub owned : c.owner < c.workers
   pub law : LaneLaw (scope c) sent taken (left ++ items)
   pub fair : FairLane (scope c) sent
   pub present : (p : ℕ) → p < c.workers → (v : View) × (get_elem? views (seat p) ≡ some v) × Has v p
@@ -129,6 +129,6 @@ IsJoined v = (v ≡ joined v.terms v.high v.sent v.taken v.left) × (length v.se
 abbrev pub IsWhole : View → Type 0
 IsWhole v = (v ≡ joined v.terms v.terms.workers v.sent v.taken v.left) × (v.terms.owner < v.terms.workers)
 
--- The next pass can be issued: the lane has no terms yet, or these.
+-- The next pass can be issued: the lane has no terms yet, or these, and its owner is one of the workers.
 abbrev pub IsReady : Terms → View → Type 0
-IsReady c v = ((v ≡ blank) ⊎ (v ≡ issuer c v.low)) × (v.low < c.workers)
+IsReady c v = ((v ≡ blank) ⊎ (v ≡ issuer c v.low)) × (v.low < c.workers) × (c.owner < c.workers)

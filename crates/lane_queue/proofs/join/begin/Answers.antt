@@ -1,4 +1,4 @@
-use Rattle.std.proofs.Common.{◌≡◌, ◌<◌, ◌≤◌, length, ap, ◌∙◌, arith}
+use Rattle.std.proofs.Common.{arith}
 use Rattle.lane_queue.proofs.Rounds.{live-now, beginning-more, begun-all}
 use Rattle.lane_queue.proofs.join.begin.Goals as goal
 

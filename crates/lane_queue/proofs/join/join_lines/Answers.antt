@@ -1,4 +1,4 @@
-use Rattle.std.proofs.Common.{◌≡◌, ◌<◌, ◌≤◌, length, ap, ◌∙◌, arith}
+use Rattle.std.proofs.Common.{ap, ◌∙◌, arith}
 use Rattle.lane_queue.specs.Joining.{root_view, JoinedTo}
 use Rattle.lane_queue.proofs.Rounds.{element, live-now, joining-more, joined-all}
 use Rattle.lane_queue.proofs.join.join_lines.Goals as goal

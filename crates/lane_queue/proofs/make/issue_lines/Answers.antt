@@ -1,4 +1,4 @@
-use Rattle.std.proofs.Common.{◌≡◌, ◌<◌, ◌≤◌, ℕ, length, refl, arith}
+use Rattle.std.proofs.Common.{refl, arith}
 use Rattle.lane_queue.proofs.Making.{issued-start, issued-step, issued-all}
 use Rattle.lane_queue.proofs.make.issue_lines.Goals as goal
 

@@ -1,4 +1,4 @@
-use Rattle.std.proofs.Common.{◌≡◌, ◌<◌, ◌≤◌, length, refl, ap, sym, arith}
+use Rattle.std.proofs.Common.{refl, arith}
 use Rattle.lane_queue.proofs.Gathering.{gathered-first, roots-below, gathered-more, gathered-all}
 use Rattle.lane_queue.proofs.settle.join_all.Goals as goal
 

@@ -1,5 +1,4 @@
-use Rattle.std.proofs.Common.{◌≡◌, ◌+◌, ℕ, length, true, false, true≢false, sym, subst, ap, ◌∙◌, refl, arith}
-use Rattle.req_table.specs.declared.Item.{Item}
+use Rattle.std.proofs.Common.{◌≡◌, ◌+◌, ℕ, length, true≢false, sym, subst, ap, ◌∙◌}
 use Rattle.lane_queue.specs.declared.rule.View.{View}
 use Rattle.lane_queue.specs.Line.{hold_view, line_view, IsLine}
 use Rattle.req_table.specs.Lanes.{ends, count_end}

@@ -1,0 +1,77 @@
+#!/usr/bin/env python3
+"""Times the reader on chains of NOT gates of doubling sizes, up to 1,000,000 signals.
+
+usage: bench/reader.py PROGRAM [--limit SECONDS] [--repeats N]
+
+Each chain is given to bddcheck as the first netlist, with a second one that is refused at its first line. So the
+first is read whole, and no gate is built. A reader that is linear in the text, or nearly so, takes about twice the
+time for twice the signals, whether each gate stands behind its operand or before it. It prints a table in Markdown.
+"""
+import argparse
+import pathlib
+import shutil
+import sys
+import tempfile
+
+import chains
+from measure import least, ratio, shown, table
+
+SIZES = [999999 >> shift for shift in range(7, -1, -1)]
+
+
+def measured(path, bad, settings):
+    run = least([settings.program, str(path), str(bad)], settings.limit, settings.repeats)
+    if run.seconds is not None and run.status != 2:
+        sys.exit(f"not refused at the second netlist: {run.output}")
+    return run
+
+
+def row(order, count, run, path, before):
+    megabytes = path.stat().st_size / 1e6
+    rate = None if run.seconds is None else run.seconds / megabytes
+    return [
+        f"{order} {count + 1}",
+        shown(megabytes),
+        shown(run.seconds, 3),
+        shown(ratio(run.seconds, before)),
+        shown(rate, 3),
+        shown(run.megabytes, 0),
+    ]
+
+
+def measure_order(order, folder, bad, settings):
+    rows, before = [], None
+    for count in SIZES:
+        lines = chains.gates(count)
+        chains.write_chain(folder, order, count, lines if order == "forward" else lines[::-1])
+        path = folder / f"{order}_{count}.bench"
+        run = measured(path, bad, settings)
+        rows.append(row(order, count, run, path, before))
+        before = run.seconds
+    return rows
+
+
+def read_words():
+    parser = argparse.ArgumentParser()
+    parser.add_argument("program")
+    parser.add_argument("--limit", type=int, default=60)
+    parser.add_argument("--repeats", type=int, default=3)
+    return parser.parse_args()
+
+
+def main():
+    settings = read_words()
+    folder = pathlib.Path(tempfile.mkdtemp())
+    try:
+        bad = folder / "bad.bench"
+        bad.write_text("INPUT\n")
+        rows = [r for order in ("forward", "backward") for r in measure_order(order, folder, bad, settings)]
+    finally:
+        shutil.rmtree(folder)
+    head = ["signals", "text MB", "s", "grew", "s / MB of text", "memory MB"]
+    print(f"Least of {settings.repeats} runs.\n")
+    print(table(head, rows))
+
+
+if __name__ == "__main__":
+    main()
