@@ -1,16 +1,12 @@
 -- The derived `==` of keys is equality, and what that makes of a set of keys.
-use Rattle.std.proofs.Common.{arith, if◌then◌else◌, ◌≡◌, ◌∙◌, ap, subst, sym, refl, true, false, true≢false, Bool, not, List, [], ◌∷◌, ◌++◌, IsTrue, Contains}
+use Rattle.std.proofs.Common.{arith, if◌then◌else◌, ◌≡◌, ◌∙◌, ap, subst, sym, refl, true, false, true≢false, Bool, not, List, [], ◌∷◌, ◌++◌, Contains}
 use Rattle.std.proofs.lemmas.Bool.Decides.{nat_tests}
 use Rattle.std.specs.List.{list_any}
 use Rattle.indexmap.specs.IndexSet.{insert_key}
 use Rattle.std.specs.Cmp.{IsEquivalence}
 use Rattle.std.specs.Bool.{Decides}
 use Rattle.std.proofs.lemmas.Map.Views.{Contains-from_any, list_any-from_Contains}
-use Rattle.dd_store.specs.declared.reference.Ref.{Ref}
-use Rattle.dd_store.specs.declared.reference.Ref.TheVariants.{False, True, Node}
-use Rattle.dd_store.specs.declared.reference.NodeId.{NodeId}
-use Rattle.dd_store.specs.contracts.reference.NodeIdPartialEq.TheImpl.{eq-value as node_eq}
-use Rattle.dd_store.specs.contracts.reference.RefPartialEq.TheImpl.{eq-value as ref_eq}
+use Rattle.dd_store.proofs.Equal.{ref_same}
 use Rattle.req_table.specs.declared.Op.{Op}
 use Rattle.req_table.specs.declared.Op.TheVariants.{And, Or, Xor, Nand, Nor, Xnor}
 use Rattle.req_table.specs.declared.Key.{Key}
@@ -28,19 +24,6 @@ op_same Nor Nor e = refl
 op_same Xnor Xnor e = refl
 op_same x y e = absurd (true≢false (sym e))
 
-pub node_same : (x y : NodeId) → node_eq.it x y ≡ true → x ≡ y
-node_same x y e =
-    let level : x.level ≡ y.level = grind (arith, nat_tests) in
-    let shard : x.shard ≡ y.shard = grind (arith, nat_tests) in
-    let index : x.index ≡ y.index = grind (arith, nat_tests) in
-    λ i. record { level = level i; shard = shard i; index = index i }
-
-pub ref_same : (x y : Ref) → ref_eq.it x y ≡ true → x ≡ y
-ref_same False False e = refl
-ref_same True True e = refl
-ref_same (Node x) (Node y) e = ap Node (node_same x y e)
-ref_same x y e = absurd (true≢false (sym e))
-
 pub key_same : (x y : Key) → eq-value.it x y ≡ true → x ≡ y
 key_same x y e =
     let op = op_same x.op y.op (grind (arith, nat_tests)) in
@@ -51,6 +34,9 @@ key_same x y e =
 -- the laws of that `==`, for look-ups by key
 pub key_laws : IsEquivalence eq-value.it
 key_laws = laws-law
+
+pub key_own : (x : Key) → eq-value.it x x ≡ true
+key_own x = key_laws.refl x
 
 pub key_decides : (x y : Key) → Decides (eq-value.it x y) (x ≡ y)
 key_decides x y = (key_same x y, λ e. ap (eq-value.it x) (sym e) ∙ key_laws.refl x)

@@ -1,7 +1,7 @@
 -- The keys of a store: their levels, their children, what they ask for, and the wave that they make.
 use Rattle.std.specs.Prelude.{◌≡◌, ℕ, ◌<◌, Bool, true, false, cond, min, List, Option, Some, None}
 use Rattle.dd_store.specs.declared.reference.Ref.{Ref}
-use Rattle.dd_store.specs.Graph.{top}
+use Rattle.dd_store.specs.Graph.{top, bit}
 use Rattle.dd_store.specs.Nodes.{Nodes, cofactor_of, den}
 use Rattle.dd_store.specs.View.{Has}
 use Rattle.req_table.specs.declared.Op.{Op}
@@ -12,6 +12,7 @@ use Rattle.req_table.specs.declared.Record.{Record}
 use Rattle.req_table.specs.Short.{short_of, ref_lt, owner_of, op_value}
 use Rattle.req_table.specs.Wave.{Wave}
 
+-- the request for an operation on two references
 abbrev pub key : Op → Ref → Ref → Key
 key op f g = record { op = op; f = f; g = g }
 
@@ -23,6 +24,7 @@ normal_of op f g = cond (ref_lt g f) (key op g f) (key op f g)
 abbrev pub level_at : ℕ → Key → ℕ
 level_at n k = min (top n k.f) (top n k.g)
 
+-- the level of a key in a store
 abbrev pub level_of : Nodes → Key → ℕ
 level_of S k = level_at S.levels k
 
@@ -37,6 +39,11 @@ pub record IsKey (S : Nodes) (k : Key) : Type 0 where
 abbrev pub meaning : Nodes → Key → List Bool → Bool
 meaning S k x = op_value k.op (den S k.f x) (den S k.g x)
 
+-- r denotes the operation's value on the functions of f and g
+abbrev pub Denotes : Nodes → Op → Ref → Ref → Ref → Type 0
+Denotes S op f g r = (x : List Bool) → den S r x ≡ op_value op (den S f x) (den S g x)
+
+-- a request at its level
 abbrev pub ask_of : Nodes → Key → Child
 ask_of S k = Ask (level_of S k) k
 
@@ -45,6 +52,7 @@ abbrev pub answer_of : Nodes → Op → Ref → Ref → Option Ref → Child
 answer_of S op f g None = ask_of S (normal_of op f g)
 answer_of S op f g (Some r) = Done r
 
+-- what an operation comes to
 abbrev pub child : Nodes → Op → Ref → Ref → Child
 child S op f g = answer_of S op f g (short_of op f g)
 
@@ -52,12 +60,32 @@ child S op f g = answer_of S op f g (short_of op f g)
 abbrev pub child_of : Nodes → Key → Bool → Child
 child_of S k b = child S k.op (cofactor_of S k.f (level_of S k) b) (cofactor_of S k.g (level_of S k) b)
 
+-- the worker, of so many, that owns a key
 abbrev pub owner : ℕ → Key → ℕ
 owner workers k = owner_of k.op k.f k.g workers
 
 -- a key with its children
 abbrev pub record_of : Nodes → Key → Record
 record_of S k = record { key = k; low = child_of S k false; high = child_of S k true }
+
+-- the value of a child: that of the answer, or of the function that is asked for
+abbrev pub child_value : Nodes → Child → List Bool → Bool
+child_value S (Done r) x = den S r x
+child_value S (Ask l k) x = meaning S k x
+
+-- a child of the store: an answer is one of its references, and a request one of its keys, told with its level
+abbrev pub IsChildIn : Nodes → Child → Type 0
+IsChildIn S (Done r) = Has S r
+IsChildIn S (Ask l k) = IsKey S k × (l ≡ level_of S k)
+
+-- a child that stands further down than a level
+abbrev pub IsDeeper : Nodes → ℕ → Child → Type 0
+IsDeeper S v (Done r) = v < top S.levels r
+IsDeeper S v (Ask l k) = v < l
+
+-- a child has the value that the key has where the bit of the key's level is b
+abbrev pub IsHalf : Nodes → Key → Bool → Child → Type 0
+IsHalf S k b c = (x : List Bool) → bit x (level_of S k) ≡ b → child_value S c x ≡ meaning S k x
 
 -- a wave over a store, of so many levels and workers
 abbrev pub wave_at : Nodes → ℕ → ℕ → Wave

@@ -1,8 +1,10 @@
-// Short answers, normal keys, children and owners.
-ghost use Rattle.std.specs.Prelude.{◌≡◌, ◌<◌, ◌≤◌, None, true, false};
+//! Short answers, normal keys, children and owners.
+ghost use Rattle.std.specs.Prelude.{◌≡◌, ◌<◌, Bool, List, None, IfSome, true, false};
+ghost use Rattle.dd_store.specs.Nodes.{Nodes, den};
+ghost use Rattle.dd_store.specs.Order.{node_lt, ref_lt};
 ghost use Rattle.dd_store.specs.View.{Has};
-ghost use Rattle.req_table.specs.Short.{node_eq, node_lt, ref_lt, short_of, short_with_false, short_with_true, op_number, owner_of};
-ghost use Rattle.req_table.specs.Keys.{normal_of, level_of, child as child_at, record_of, IsKey};
+ghost use Rattle.req_table.specs.Short.{node_eq, short_of, short_with_false, short_with_true, op_number, op_value, owner_of};
+ghost use Rattle.req_table.specs.Keys.{normal_of, level_of, child as child_at, record_of, meaning, child_value, Denotes, IsKey, IsChildIn, IsDeeper, IsHalf};
 
 use crate::{Child, Key, Op, Record};
 use dd_store::{NodeId, Ref, Store, code};
@@ -58,8 +60,10 @@ fn short_true(op: Op, g: Ref) -> Option<Ref>
     }
 }
 
+/// The answer of an operation that needs no request: a terminal or an operand.
 pub fn short(op: Op, f: Ref, g: Ref) -> Option<Ref>
-    ensures { result ≡ short_of op f g }
+    ensures value { result ≡ short_of op f g }
+    ensures means { (S : Nodes) → IfSome result (Denotes S op f g) }
 {
     match (f, g) {
         (Ref::False, _) => short_false(op, g),
@@ -93,6 +97,8 @@ fn number(op: Op) -> u64
     }
 }
 
+/// The worker that expands a request: the number of the operation, plus three times the code of the first operand, plus
+/// five times that of the second, modulo the number of workers.
 pub fn owner(key: Key, workers: u32) -> u32
     requires { 0 < workers }
     ensures { result ≡ owner_of key.op key.f key.g workers }
@@ -100,9 +106,11 @@ pub fn owner(key: Key, workers: u32) -> u32
     ((number(key.op()) + 3 * code(key.f()) + 5 * code(key.g())) % workers as u64) as u32
 }
 
+/// The request for an operation, with the operands in order: False, True, then nodes by level, shard and index.
 pub fn normal(op: Op, f: Ref, g: Ref) -> Key
     requires { short_of op f g ≡ None }
-    ensures { result ≡ normal_of op f g }
+    ensures key { result ≡ normal_of op f g }
+    ensures means { (S : Nodes) (x : List Bool) → meaning S result x ≡ op_value op (den S f x) (den S g x) }
 {
     if before(g, f) {
         Key::of(op, g, f)
@@ -111,6 +119,7 @@ pub fn normal(op: Op, f: Ref, g: Ref) -> Key
     }
 }
 
+/// The level of a request: the smaller level of its operands.
 pub fn level_of(store: &Store, key: Key) -> u16
     ensures { result ≡ level_of store.now key }
 {
@@ -119,10 +128,13 @@ pub fn level_of(store: &Store, key: Key) -> u16
     if first < second { first } else { second }
 }
 
+/// What an operation comes to: its short answer, or else its request.
 pub fn child(store: &Store, op: Op, f: Ref, g: Ref) -> Child
     requires first { Has store.now f }
     requires second { Has store.now g }
-    ensures { result ≡ child_at store.now op f g }
+    ensures value { result ≡ child_at store.now op f g }
+    ensures stands { IsChildIn store.now result }
+    ensures means { (x : List Bool) → child_value store.now result x ≡ op_value op (den store.now f x) (den store.now g x) }
 {
     match short(op, f, g) {
         Some(answer) => Child::Done(answer),
@@ -136,9 +148,14 @@ pub fn child(store: &Store, op: Op, f: Ref, g: Ref) -> Child
     }
 }
 
+/// The record of a request: its children are its operation on the cofactors of its operands at its level (Bryant, 1986).
 pub fn split(store: &Store, key: Key) -> Record
     requires { IsKey store.now key }
-    ensures { result ≡ record_of store.now key }
+    ensures value { result ≡ record_of store.now key }
+    ensures stands { IsChildIn store.now result.low × IsChildIn store.now result.high }
+    ensures deeper { IsDeeper store.now (level_of store.now key) result.low × IsDeeper store.now (level_of store.now key) result.high }
+    ensures low { IsHalf store.now key false result.low }
+    ensures high { IsHalf store.now key true result.high }
 {
     let level = level_of(store, key);
     let _ = store.levels();

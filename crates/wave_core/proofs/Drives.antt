@@ -1,5 +1,5 @@
 -- The scan of all events, and what a driven core does.
-use Rattle.std.proofs.Common.{◌≡◌, ℕ, zero, suc, ◌+◌, ◌-◌, ◌%◌, ◌<◌, ◌≤◌, List, [], ◌∷◌, ◌++◌, length, drop, get_or, Bool, true, false, MatchBool, inl, inr, refl, sym, ap, ◌∙◌, subst, arith, add-one}
+use Rattle.std.proofs.Common.{◌≡◌, ℕ, zero, suc, ◌+◌, ◌-◌, ◌%◌, ◌<◌, ◌≤◌, List, [], ◌∷◌, length, drop, get_or, Bool, true, false, MatchBool, inl, inr, refl, sym, ap, ◌∙◌, subst, arith}
 use Rattle.req_table.specs.Wave.{Wave}
 use Rattle.wave_core.specs.declared.Event.{Event}
 use Rattle.wave_core.specs.declared.Event.TheVariants.{Send}

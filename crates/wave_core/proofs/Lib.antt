@@ -19,3 +19,4 @@ pub mod Taking
 pub mod Starts
 pub mod Cores
 pub mod Drives
+pub mod Stepped

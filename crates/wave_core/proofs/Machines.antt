@@ -10,10 +10,10 @@ use Rattle.req_table.specs.Keys.{level_of}
 use Rattle.req_table.proofs.Fair.{ends-append}
 use Rattle.wave_core.specs.declared.machine.Machine.TheInside.{Inside}
 use Rattle.wave_core.specs.declared.Event.TheVariants.{Send, End}
-use Rattle.wave_core.specs.View.{View, IsKept, IsShaped, by_place, list_of, number_of, state_of, wave_of_view}
-use Rattle.wave_core.specs.Step.{IsStep, only, at_one, at_pair}
+use Rattle.wave_core.specs.View.{View, IsKept, by_place, list_of, number_of, state_of, wave_of_view}
+use Rattle.wave_core.specs.Step.{IsStep, only, at_pair}
 use Rattle.wave_core.proofs.Places.{at_pair_is, ends_only_ask}
-use Rattle.wave_core.proofs.Grid.{place, pair_set, pair_grows, pair_shrinks, pair_got, one_grows, got, read_back, set_same, set_twice}
+use Rattle.wave_core.proofs.Grid.{place, pair_set, pair_grows, pair_shrinks, one_grows, got, read_back, set_same, set_twice}
 
 abbrev pub view_in : Inside → View
 view_in m = record {

@@ -1,5 +1,5 @@
 -- The children of a record become due, and the next key of a table is expanded.
-use Rattle.std.proofs.Common.{◌≡◌, ℕ, zero, suc, inl, ◌+◌, ◌*◌, ◌<◌, ◌≤◌, Bool, true, false, cond, eqb, ◌&&◌, List, [], ◌∷◌, ◌++◌, length, get_or, set, map, filter, All, Contains, refl, sym, ap, ap₂, ◌∙◌, subst, arith, append-nil, append_assoc, mod-lt, le_of_suc-le-suc}
+use Rattle.std.proofs.Common.{◌≡◌, ℕ, inl, ◌+◌, ◌*◌, ◌<◌, ◌≤◌, Bool, true, false, cond, eqb, ◌&&◌, List, [], ◌∷◌, ◌++◌, length, get_or, set, map, filter, All, Contains, refl, sym, ap, ◌∙◌, subst, arith, append-nil, append_assoc, mod-lt, le_of_suc-le-suc}
 use Rattle.std.proofs.lemmas.List.{length-set, length-map}
 use Rattle.std.proofs.lemmas.List.Elements.{filter-append}
 use Rattle.dd_store.specs.Nodes.{Nodes}
@@ -8,8 +8,7 @@ use Rattle.req_table.specs.declared.Child.{Child}
 use Rattle.req_table.specs.declared.Child.TheVariants.{Done, Ask}
 use Rattle.req_table.specs.declared.Record.{Record}
 use Rattle.req_table.specs.Short.{owner_of}
-use Rattle.req_table.specs.Wave.{Wave}
-use Rattle.req_table.specs.Lanes.{sent_by, ends, IsFair, IsClosed, asks_at}
+use Rattle.req_table.specs.Lanes.{sent_by, IsFair, IsClosed, asks_at}
 use Rattle.req_table.specs.Settled.{IsDistinctOf, key_of, asked, asked_by, is_owned}
 use Rattle.req_table.specs.Keys.{record_of, wave_at}
 use Rattle.req_table.proofs.Lists.{Has, has_of, contains_of, all_of, Has-append_right}
@@ -18,7 +17,7 @@ use Rattle.req_table.proofs.Fair.{counted_of_closed, closed_of_counted}
 use Rattle.req_table.proofs.Closure.{map-append_lem}
 use Rattle.wave_core.specs.declared.Event.TheVariants.{Expand}
 use Rattle.wave_core.specs.View.{View, IsKept, IsTable, by_place, list_of, number_of, state_of, wave_of_view, owe_of, owe_all}
-use Rattle.wave_core.specs.Step.{IsStep, IsAtWork, only, at_pair, row_here, asks_here, IsNext}
+use Rattle.wave_core.specs.Step.{IsStep, only, row_here, asks_here, IsNext}
 use Rattle.wave_core.proofs.Places.{eqb_comm, at_pair_is}
 use Rattle.wave_core.proofs.Grid.{place, pair_grows, get_or-default, got, set_twice, read_back}
 use Rattle.wave_core.proofs.Machines.{still}

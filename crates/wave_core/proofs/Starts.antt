@@ -1,5 +1,5 @@
 -- The lists of all workers at the start.
-use Rattle.std.proofs.Common.{◌≡◌, ℕ, zero, suc, ◌+◌, ◌*◌, ◌<◌, ◌≤◌, ◌%◌, Bool, true, false, cond, eqb, nat_lt, ◌&&◌, List, [], ◌∷◌, ◌++◌, length, get_or, set, take, map, filter, replicate, refl, sym, ap, ◌∙◌, subst, arith, append-nil, add_assoc, mod-lt}
+use Rattle.std.proofs.Common.{◌≡◌, ℕ, ◌+◌, ◌*◌, ◌<◌, ◌≤◌, ◌%◌, Bool, true, false, cond, eqb, nat_lt, ◌&&◌, List, [], ◌∷◌, ◌++◌, length, get_or, set, take, map, filter, replicate, refl, sym, ap, ◌∙◌, subst, arith, mod-lt}
 use Rattle.std.proofs.lemmas.List.{get_or-replicate, get_or_past, length-replicate, length-set, length-take-le, take_more}
 use Rattle.std.proofs.lemmas.List.Elements.{filter-append}
 use Rattle.req_table.specs.declared.Key.{Key}
@@ -8,7 +8,7 @@ use Rattle.req_table.specs.declared.Item.{Item}
 use Rattle.req_table.specs.declared.Record.{Record}
 use Rattle.req_table.specs.Lanes.{ends, sent_by, asks_at}
 use Rattle.req_table.specs.Settled.{dealt_from, IsDistinctOf, key_of}
-use Rattle.wave_core.specs.View.{by_place, AreDealt, IsKept}
+use Rattle.wave_core.specs.View.{AreDealt, IsKept}
 use Rattle.wave_core.specs.Step.{only, at_pair}
 use Rattle.wave_core.proofs.Places.{eqb_comm}
 use Rattle.wave_core.proofs.Grid.{place, pair_grows}

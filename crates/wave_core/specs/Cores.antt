@@ -1,15 +1,19 @@
 -- What contracts see of a core: its store, its roots, and the lists of all workers.
-use Rattle.std.specs.Prelude.{◌≡◌, ℕ, ◌+◌, List, length, sum}
+use Rattle.std.specs.Prelude.{◌≡◌, ℕ, ◌+◌, List, ◌∷◌, ◌++◌, length, sum}
 use Rattle.std.specs.List.{sum_by}
 use Rattle.dd_store.specs.Nodes.{Nodes}
 use Rattle.req_table.specs.declared.Key.{Key}
+use Rattle.req_table.specs.declared.Item.{Item}
+use Rattle.req_table.specs.declared.Item.TheVariants.{Ask}
+use Rattle.req_table.specs.Lanes.{IsClosed}
 use Rattle.req_table.specs.Wave.{Wave, IsWave}
 use Rattle.req_table.specs.Keys.{wave_of}
 use Rattle.req_table.specs.Settled.{IsSettled}
 use Rattle.wave_core.specs.declared.Event.{Event}
+use Rattle.wave_core.specs.declared.Event.TheVariants.{Take}
 use Rattle.wave_core.specs.declared.CoreFault.{CoreFault}
 use Rattle.wave_core.specs.declared.CoreFault.TheVariants.{NotAllowed, OutOfMemory}
-use Rattle.wave_core.specs.Step.{State, IsStart, IsAllowed, IsFinished}
+use Rattle.wave_core.specs.Step.{State, IsStart, IsStep, IsRun}
 use Rattle.wave_core.specs.Sound.{IsSound}
 use Rattle.wave_core.specs.View.{View, state_of}
 
@@ -50,7 +54,30 @@ IsSettledCore v = IsSettled (core_wave v) v.roots (core_state v).sent (core_stat
 abbrev pub events_done : CoreView → ℕ
 events_done v = sum_by length v.machine.sent + sum_by length v.machine.taken + sum_by length v.machine.rows + sum v.machine.at
 
--- why an event was refused
+-- some state follows by the event
+abbrev pub HasStep : CoreView → Event → Type 0
+HasStep v e = (d : State) × IsStep (core_wave v) (core_state v) e d
+
+-- Why an event was refused: no state follows by it, after so many events of this core; or one does, and memory was
+-- refused.
 abbrev pub IsRefusal : CoreView → Event → CoreFault → Type 0
-IsRefusal v e (NotAllowed place) = (place ≡ events_done v) × ¬ IsAllowed (core_wave v) (core_state v) e
-IsRefusal v e OutOfMemory = Unit {0}
+IsRefusal v e (NotAllowed place) = (place ≡ events_done v) × ¬ HasStep v e
+IsRefusal v e OutOfMemory = HasStep v e
+
+-- an Ask that the event takes is of a level that is not closed
+abbrev pub TakesOpen : CoreView → Event → Type 0
+TakesOpen v (Take by) = (s l : ℕ) (x : Key) (rest : List Item) → (core_state v).waiting by ≡ Ask s l x ∷ rest → ¬ IsClosed (core_wave v).scope l ((core_state v).taken by)
+TakesOpen v e = Unit {0}
+
+-- some events lead from one core to another
+abbrev pub Reaches : CoreView → CoreView → Type 0
+Reaches v u = (es : List Event) × IsRun (core_wave v) (core_state v) es (core_state u)
+
+-- The events before one were done in turn, and that one was refused.
+pub record IsStopped (old : CoreView) (events : List Event) (new : CoreView) (fault : CoreFault) : Type 0 where
+  pub before : List Event
+  pub event : Event
+  pub after : List Event
+  pub split : events ≡ before ++ event ∷ after
+  pub run : IsRun (core_wave old) (core_state old) before (core_state new)
+  pub refused : IsRefusal new event fault

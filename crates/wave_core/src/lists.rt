@@ -1,5 +1,6 @@
 // Lists that grow at the end; two of them also shrink at the front.
-ghost use Rattle.std.specs.Prelude.{◌≡◌, ℕ, List, [], ◌∷◌, ◌++◌, length, replicate, MatchOption, MatchBool, IfOk, OnOk, OnErr};
+ghost use Rattle.std.specs.Prelude.{◌≡◌, ℕ, List, [], ◌∷◌, ◌++◌, length, replicate, sum, ◌≤◌, ◌*◌, ◌^◌, MatchOption, MatchBool, IfOk, OnOk, OnErr};
+ghost use Rattle.std.specs.List.{sum_by};
 ghost use Rattle.req_table.specs.declared.Item.{Item as ItemValue};
 ghost use Rattle.req_table.specs.declared.Key.{Key as KeyValue};
 ghost use Rattle.req_table.specs.declared.Record.{Record as RecordValue};
@@ -263,4 +264,40 @@ pub fn append(records: &mut Vec<Record>, row: &[Record]) -> Result<(), AllocErro
         records.push(*added)?;
     }
     Ok(())
+}
+
+/// How many items all lists have.
+pub fn count_items(lists: &[Items]) -> u128
+    ensures value { result ≡ sum_by length lists.now }
+    ensures bound { result ≤ length lists.now * 2 ^ 64 }
+{
+    let mut count = 0;
+    for list in lists {
+        count += list.len() as u128;
+    }
+    count
+}
+
+/// How many records all rows have.
+pub fn count_records(rows: &[Row]) -> u128
+    ensures value { result ≡ sum_by length rows.now }
+    ensures bound { result ≤ length rows.now * 2 ^ 64 }
+{
+    let mut count = 0;
+    for row in rows {
+        count += row.len() as u128;
+    }
+    count
+}
+
+/// How many levels all workers have passed.
+pub fn count_levels(levels: &[u16]) -> u128
+    ensures value { result ≡ sum levels.now }
+    ensures bound { result ≤ length levels.now * 2 ^ 64 }
+{
+    let mut count = 0;
+    for level in levels {
+        count += *level as u128;
+    }
+    count
 }

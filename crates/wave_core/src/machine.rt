@@ -1,6 +1,7 @@
 // The lists of all workers, and the events on them.
-ghost use Rattle.std.specs.Prelude.{◌≡◌, ℕ, ◌+◌, ◌*◌, ◌<◌, ◌≤◌, List, [], ◌∷◌, ◌++◌, length, slice_index_or, slice_set, map, All, MatchOption, IfOk, OnOk, OnErr, MatchBool};
-ghost use Rattle.req_table.specs.Lanes.{sent_by, IsFair, asks_at};
+ghost use Rattle.std.specs.Prelude.{◌≡◌, ℕ, ◌+◌, ◌*◌, ◌<◌, ◌≤◌, List, [], ◌∷◌, ◌++◌, length, slice_index_or, slice_set, sum, map, All, MatchOption, IfOk, OnOk, OnErr, MatchBool};
+ghost use Rattle.std.specs.List.{sum_by};
+ghost use Rattle.req_table.specs.Lanes.{sent_by, IsFair, IsClosed, asks_at};
 ghost use Rattle.req_table.specs.Keys.{IsKey, wave_at};
 ghost use Rattle.req_table.specs.declared.Key.{Key as KeyValue};
 ghost use Rattle.wave_core.specs.View.{View, IsKept, state_of, wave_of_view, number_of, owe_of, owe_all, list_of, by_place};
@@ -9,7 +10,7 @@ ghost use Rattle.req_table.specs.Tables.{row_at};
 ghost use Rattle.wave_core.specs.Step.{IsStart, IsStep, IsAllowed, asks_here};
 ghost use Rattle.wave_core.specs.declared.Event.TheVariants.{Send, End, Take, Expand, Advance};
 
-use crate::lists::{Items, Keys, Lane, Row, append};
+use crate::lists::{Items, Keys, Lane, Row, append, count_items, count_levels, count_records};
 use crate::start::{deal, tables};
 use dd_store::Store;
 use req_table::requests::{level_of, owner, split};
@@ -520,6 +521,46 @@ impl Machine {
             rows.push(self.level_records(alloc, level)?)?;
         }
         Ok(Records::of(rows))
+    }
+
+    // How many events were done: each sent an item, took one, made a record or passed a level.
+    pub fn events_done(&self) -> u128
+        ensures { result ≡ sum_by length self.now.sent + sum_by length self.now.taken + sum_by length self.now.rows + sum self.now.at }
+    {
+        let lanes = count_items(&self.sent) + count_items(&self.taken);
+        lanes + count_records(&self.rows) + count_levels(&self.at)
+    }
+
+    // Whether `by` has taken an End of the level from every worker.
+    pub fn is_closed(&self, store: &Store, by: u32, level: u16) -> bool
+        requires by { by < self.now.workers }
+        requires fair { (s : ℕ) → s < self.now.workers → IsFair (wave_of_view store.now self.now).scope (sent_by s (list_of self.now.taken by)) }
+        ensures { MatchBool result (IsClosed (wave_of_view store.now self.now).scope level (list_of self.now.taken by)) (¬ IsClosed (wave_of_view store.now self.now).scope level (list_of self.now.taken by)) }
+    {
+        let _ = &self.workers;
+        if !self.is_ended(by, level) {
+            return false;
+        }
+        true
+    }
+
+    // What `by` has sent to `to`.
+    pub fn sent(&self, by: u32, to: u32) -> &[Item]
+        requires by { by < self.now.workers }
+        requires to { to < self.now.workers }
+        ensures { result.now ≡ by_place self.now.workers self.now.sent by to }
+    {
+        self.sent[(by * self.workers + to) as usize].as_slice()
+    }
+
+    // The records of `by` at a level.
+    pub fn records(&self, by: u32, level: u16) -> &[Record]
+        requires by { by < self.now.workers }
+        requires level { level < self.now.levels }
+        ensures { result.now ≡ by_place self.now.levels self.now.rows by level }
+    {
+        let place = by as usize * self.levels as usize + level as usize;
+        self.rows[place].as_slice()
     }
 
     // What `by` has taken.

@@ -1,10 +1,13 @@
 //! A core: the workers of one wave on one thread.
-ghost use Rattle.std.specs.Prelude.{◌≡◌, ℕ, ◌<◌, ◌≤◌, List, [], All, length, IfOk, IfErr, OnOk, OnErr, MatchBool, IsTrue};
+ghost use Rattle.std.specs.Prelude.{◌≡◌, ℕ, ◌<◌, ◌≤◌, List, [], ◌++◌, All, AllPairs, length, IfOk, IfErr, OnOk, OnErr, MatchBool, IsTrue};
 ghost use Rattle.req_table.specs.Keys.{IsKey};
-ghost use Rattle.req_table.specs.Settled.{IsClosure, level_of_rows};
+ghost use Rattle.req_table.specs.declared.Item.{Item as ItemValue};
+ghost use Rattle.req_table.specs.declared.Record.{Record as RecordValue};
+ghost use Rattle.req_table.specs.Lanes.{sent_by, IsFair, IsClosed, LaneLaw};
+ghost use Rattle.req_table.specs.Settled.{IsClosure, IsSplit, level_of_rows};
 ghost use Rattle.req_table.specs.Tables.{row_at};
-ghost use Rattle.wave_core.specs.Cores.{CoreView, core_wave, core_state, IsSettledCore, IsNew, IsSameWave};
-ghost use Rattle.wave_core.specs.Step.{State, IsStep, IsAllowed, IsFinished};
+ghost use Rattle.wave_core.specs.Cores.{CoreView, core_wave, core_state, events_done, IsSettledCore, IsNew, IsSameWave, IsRefusal, IsStopped, Reaches, TakesOpen};
+ghost use Rattle.wave_core.specs.Step.{State, IsStep, IsRun, IsAllowed, IsFinished};
 ghost use Rattle.wave_core.specs.Drive.{all_events, AllowsOf, IsNumbered, IsDriven, IsTurn};
 ghost use Rattle.wave_core.specs.Fall.{core_measure};
 
@@ -12,7 +15,7 @@ use crate::events::all_events;
 use crate::machine::Machine;
 use crate::{CoreFault, Event};
 use dd_store::Store;
-use req_table::{Key, Records};
+use req_table::{Item, Key, Record, Records};
 use std::alloc::{AllocError, Global};
 use std::marker::Model;
 
@@ -71,6 +74,46 @@ impl<'a> Core<'a> {
             Event::Expand { by } => self.machine.expand(self.store, by),
             Event::Advance { by } => Ok(self.machine.advance(self.store, by)),
         }
+    }
+
+    /// The number of events that this core has done.
+    fn events_done(&self) -> u128
+        ensures { result ≡ events_done self.now }
+    {
+        self.machine.events_done()
+    }
+
+    /// Does an event. Where it is not allowed, the fault has the number of events that this core has done.
+    pub fn step(&mut self, event: Event) -> Result<(), CoreFault>
+        ensures same { IsSameWave self.old self.new }
+        ensures ok { OnOk result (IsStep (core_wave self.old) (core_state self.old) event (core_state self.new)) }
+        ensures open { OnOk result (TakesOpen self.old event) }
+        ensures refused { IfErr result (λ fault. IsRefusal self.old event fault) }
+        ensures unchanged { OnErr result (self.new ≡ self.old) }
+    {
+        let _ = &self.machine;
+        if !self.allows(event) {
+            let place = self.events_done();
+            return Err(CoreFault::NotAllowed { place });
+        }
+        match self.turn(event) {
+            Ok(true) => Ok(()),
+            Ok(false) => unreachable!(),
+            Err(_) => Err(CoreFault::OutOfMemory),
+        }
+    }
+
+    /// Does events in turn, up to the first that is refused, and says how many they were.
+    pub fn run(&mut self, events: &[Event]) -> Result<usize, CoreFault>
+        ensures same { IsSameWave self.old self.new }
+        ensures count { IfOk result (λ n. n ≡ length events.now) }
+        ensures ok { OnOk result (IsRun (core_wave self.old) (core_state self.old) events.now (core_state self.new)) }
+        ensures refused { IfErr result (λ fault. IsStopped self.old events.now self.new fault) }
+    {
+        for event in events {
+            self.step(*event)?;
+        }
+        Ok(events.len())
     }
 
     /// Whether each worker is past the last level; the core is then settled for its roots.
@@ -148,6 +191,7 @@ impl<'a> Core<'a> {
         requires { events.now ≡ all_events (core_wave self.old) }
         ensures same { IsSameWave self.old self.new }
         ensures ok { OnOk result ((d : State) → IsDriven (core_wave self.old) (core_state self.new) [] d → IsDriven (core_wave self.old) (core_state self.old) choices.now d) }
+        ensures reached { Reaches self.old self.new }
     {
         for choice in choices {
             if self.finished() {
@@ -164,6 +208,7 @@ impl<'a> Core<'a> {
         ensures same { IsSameWave self.old self.new }
         ensures ok { OnOk result (IsDriven (core_wave self.old) (core_state self.old) [] (core_state self.new)) }
         ensures finished { OnOk result (IsFinished (core_wave self.new) (core_state self.new)) }
+        ensures reached { Reaches self.old self.new }
     {
         while !self.finished() {
             self.turn_by(events, 0)?;
@@ -177,6 +222,7 @@ impl<'a> Core<'a> {
         ensures same { IsSameWave self.old self.new }
         ensures driven { OnOk result (IsDriven (core_wave self.old) (core_state self.old) choices.now (core_state self.new)) }
         ensures finished { OnOk result (IsFinished (core_wave self.new) (core_state self.new)) }
+        ensures reached { Reaches self.old self.new }
         ensures fault { IfErr result (λ e. e ≡ CoreFault.OutOfMemory) }
     {
         let Ok(events) = all_events(self.alloc, self.machine.workers()) else {
@@ -189,6 +235,46 @@ impl<'a> Core<'a> {
             Ok(()) => Ok(()),
             Err(_) => Err(CoreFault::OutOfMemory),
         }
+    }
+
+    /// What a worker has sent to another, in order.
+    pub fn sent(&self, by: u32, to: u32) -> &[Item]
+        requires by { by < self.now.machine.workers }
+        requires to { to < self.now.machine.workers }
+        ensures value { result.now ≡ (core_state self.now).sent by to }
+        ensures fair { IsFair (core_wave self.now).scope result.now }
+    {
+        self.machine.sent(by, to)
+    }
+
+    /// What a worker has taken from its lane, in order.
+    pub fn taken(&self, by: u32) -> &[Item]
+        requires { by < self.now.machine.workers }
+        ensures value { result.now ≡ (core_state self.now).taken by }
+        ensures lane { LaneLaw (core_wave self.now).scope (λ s. (core_state self.now).sent s by) result.now ((core_state self.now).waiting by) }
+        ensures prefix { (s : ℕ) → s < self.now.machine.workers → (rest : List ItemValue) × ((core_state self.now).sent s by ≡ sent_by s result.now ++ rest) }
+    {
+        self.machine.taken(by)
+    }
+
+    /// What a worker has recorded at a level, in order. A key has one level and one owner, so it has no second record.
+    pub fn records(&self, by: u32, level: u16) -> &[Record]
+        requires by { by < self.now.machine.workers }
+        requires level { level < self.now.store.levels }
+        ensures value { result.now ≡ (core_state self.now).rows by level }
+        ensures split { All (IsSplit (core_wave self.now)) result.now }
+        ensures placed { All (λ r. (level ≡ (core_wave self.now).level r.key) × ((core_wave self.now).owner r.key ≡ by)) result.now }
+        ensures once { AllPairs (λ (a b : RecordValue). ¬ (a.key ≡ b.key)) result.now }
+    {
+        self.machine.records(by, level)
+    }
+
+    /// Whether a worker has taken an End of the level from every worker.
+    pub fn closed(&self, by: u32, level: u16) -> bool
+        requires { by < self.now.machine.workers }
+        ensures { MatchBool result (IsClosed (core_wave self.now).scope level ((core_state self.now).taken by)) (¬ IsClosed (core_wave self.now).scope level ((core_state self.now).taken by)) }
+    {
+        self.machine.is_closed(self.store, by, level)
     }
 
     /// The records of all workers by level, as they stand; of a finished core those of exactly the reached requests.

@@ -1,5 +1,4 @@
-use Rattle.std.proofs.Common.{◌≡◌, OnErr, Ok, Err, subst, List, Contains}
-use Rattle.req_table.specs.declared.Key.{Key}
+use Rattle.std.proofs.Common.{OnErr, Ok, Err, subst, Contains}
 use Rattle.req_table.specs.Tables.{Offers}
 use Rattle.req_table.proofs.Keyed.{offered, absent_from}
 use Rattle.req_table.proofs.table.Table.admit.Goals as goal

@@ -1,4 +1,4 @@
-use Rattle.std.proofs.Common.{◌≡◌, ℕ, ◌<◌, ◌≤◌, ◌+◌, ◌*◌, List, [], ◌∷◌, ◌++◌, All, Contains, map, get_or, refl, sym, ap, subst, arith, ◌∙◌}
+use Rattle.std.proofs.Common.{◌≡◌, ◌<◌, ◌∷◌, ◌++◌, All, Contains, map, get_or, refl, sym, subst, arith}
 use Rattle.std.proofs.lemmas.List.Elements.{All-contains}
 use Rattle.req_table.specs.Settled.{key_of}
 use Rattle.req_table.specs.Lanes.{asks_at, IsClosed}
@@ -78,5 +78,5 @@ returns-in-Ok-clause-ok c =
     let (more, found) = c.in-Some.ensures in
     let front = subst (λ n. by_place v.levels v.tables c.args.by n ≡ map key_of (by_place v.levels v.rows c.args.by n) ++ key ∷ more) level-is found in
     let closed = subst (λ n. IsClosed (wave_of_view S v).scope n (list_of v.taken c.args.by)) level-is (closed_of_ended S v h c.args.by level bb (c.requires.fair bb) c.if-not-is_ended.ensures) in
-    let after = expanded v c.owe_both.new.self c.note.new.self c.args.by level (get_or v.at c.args.by 0) c.split-record.result (record_of S key) c.in_ok-owe_both.ensures.ok c.in-Ok.ensures.ok c.split-record.ensures level-is in
+    let after = expanded v c.owe_both.new.self c.note.new.self c.args.by level (get_or v.at c.args.by 0) c.split-record.result (record_of S key) c.in_ok-owe_both.ensures.ok c.in-Ok.ensures.ok c.split-record.ensures.value level-is in
     subst (λ (u : View). IsStep (wave_of_view S v) (state_of v) (Expand c.args.by) (state_of u)) (sym after) (expand_step S v h c.args.by bb lb0 key more front closed)

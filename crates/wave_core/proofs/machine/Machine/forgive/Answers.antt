@@ -1,5 +1,4 @@
-use Rattle.std.proofs.Common.{◌≡◌, ℕ, ◌+◌, ◌*◌, ◌<◌, List, [], ◌∷◌, ◌++◌, get_or, set, length, ap, sym, ◌∙◌, subst, mod-lt, arith}
-use Rattle.req_table.specs.declared.Key.{Key}
+use Rattle.std.proofs.Common.{◌≡◌, ◌+◌, ◌*◌, ◌<◌, [], ◌∷◌, ◌++◌, get_or, set, length, ap, sym, ◌∙◌, subst, mod-lt, arith}
 use Rattle.req_table.specs.Short.{owner_of}
 use Rattle.wave_core.specs.View.{View, owe_of}
 use Rattle.wave_core.proofs.Machines.{view_in}

@@ -1,4 +1,4 @@
-use Rattle.std.proofs.Common.{rules, ◌≡◌, ◌≤◌, ℕ, subst, sym}
+use Rattle.std.proofs.Common.{rules, ◌≤◌, ℕ, subst, sym}
 use Rattle.wave_core.proofs.Starts.{starts_kept}
 use Rattle.wave_core.proofs.machine.Machine.new.Goals as goal
 

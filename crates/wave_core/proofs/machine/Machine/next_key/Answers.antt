@@ -1,5 +1,5 @@
 use Rattle.std.proofs.lemmas.Option.{get_or_from_slice_get}
-use Rattle.std.proofs.Common.{◌≡◌, ◌<◌, ◌≤◌, List, ap, subst, arith}
+use Rattle.std.proofs.Common.{◌≡◌, ◌<◌, List, subst, arith}
 use Rattle.req_table.specs.declared.Key.{Key}
 use Rattle.req_table.specs.Settled.{key_of}
 use Rattle.std.proofs.Common.{map, ◌++◌, ◌∷◌, sym}

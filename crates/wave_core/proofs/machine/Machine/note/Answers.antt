@@ -7,7 +7,7 @@ use Rattle.wave_core.proofs.Owes.{noted}
 use Rattle.wave_core.proofs.Grid.{set_same}
 use Rattle.wave_core.specs.View.{IsKept}
 use Rattle.req_table.specs.declared.Record.{Record}
-use Rattle.std.proofs.Common.{ap, ◌+◌, ◌*◌}
+use Rattle.std.proofs.Common.{◌+◌, ◌*◌}
 use Rattle.wave_core.proofs.machine.Machine.note.Goals as goal
 
 pub invariant_of-self-2 : goal.invariant_of-self-2

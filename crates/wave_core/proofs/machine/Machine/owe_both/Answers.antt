@@ -1,4 +1,4 @@
-use Rattle.std.proofs.Common.{◌≡◌, ◌<◌, subst}
+use Rattle.std.proofs.Common.{subst}
 use Rattle.wave_core.specs.View.{View, IsKept}
 use Rattle.wave_core.proofs.Owes.{forgiven_one}
 use Rattle.wave_core.proofs.machine.Machine.owe_both.Goals as goal

@@ -1,12 +1,10 @@
-use Rattle.std.proofs.Common.{◌≡◌, ℕ, ◌+◌, ◌*◌, ◌<◌, ◌≤◌, List, [], ◌∷◌, ◌++◌, get_or, set, refl, ap, ap₂, sym, ◌∙◌, subst, arith, length}
-use Rattle.req_table.specs.declared.Item.{Item}
-use Rattle.req_table.specs.declared.Key.{Key}
-use Rattle.req_table.specs.declared.Item.TheVariants.{Ask, End as EndOf}
-use Rattle.wave_core.specs.declared.Event.TheVariants.{Send, End}
+use Rattle.std.proofs.Common.{◌≡◌, ◌+◌, ◌*◌, ◌<◌, [], ◌∷◌, ◌++◌, set, ap, sym, ◌∙◌, subst, arith}
+use Rattle.req_table.specs.declared.Item.TheVariants.{Ask}
+use Rattle.wave_core.specs.declared.Event.TheVariants.{Send}
 use Rattle.wave_core.specs.View.{View, IsKept, state_of, wave_of_view}
 use Rattle.wave_core.specs.Step.{IsStep}
-use Rattle.wave_core.proofs.Grid.{got, get_or-default, read_back, set_same, set_twice}
-use Rattle.wave_core.proofs.Machines.{view_in, in_sent, in_due, in_waiting, send_step, send_kept, end_step, end_kept, undone}
+use Rattle.wave_core.proofs.Grid.{get_or-default}
+use Rattle.wave_core.proofs.Machines.{view_in, in_due, send_step, send_kept, undone}
 use Rattle.wave_core.proofs.machine.Machine.send.Goals as goal
 
 pub invariant_of-self-in-Ok : goal.invariant_of-self-in-Ok

@@ -1,14 +1,13 @@
-use Rattle.std.proofs.Common.{◌≡◌, ℕ, ◌<◌, ◌≤◌, ◌+◌, ◌*◌, List, [], ◌∷◌, ◌++◌, get_or, set, length, refl, sym, ap, ap₂, subst, arith, ◌∙◌, length-append}
+use Rattle.std.proofs.Common.{◌≡◌, ◌<◌, ◌≤◌, ◌+◌, ◌*◌, List, [], ◌∷◌, ◌++◌, set, length, refl, sym, ap, ap₂, subst, arith, ◌∙◌, length-append}
 use Rattle.req_table.specs.declared.Key.{Key}
 use Rattle.req_table.specs.declared.Item.{Item}
-use Rattle.req_table.specs.declared.Item.TheVariants.{Ask, End as EndOf}
 use Rattle.req_table.specs.Lanes.{sent_by, ends, asks_at}
 use Rattle.wave_core.specs.declared.Event.TheVariants.{Take}
 use Rattle.wave_core.specs.View.{View, IsKept, IsTable, by_place, list_of, number_of, state_of, wave_of_view}
 use Rattle.wave_core.specs.Step.{IsStep, at_one}
 use Rattle.wave_core.proofs.Grid.{got, get_or-default, read_back, set_same, set_twice, place}
 use Rattle.wave_core.proofs.Machines.{view_in, still}
-use Rattle.wave_core.proofs.Taking.{in_taken, in_lane, take_step, take_kept, ask_counted, ask_beyond, ask_offered, end_tables, end_beyond, end_counted, ends_by_le}
+use Rattle.wave_core.proofs.Taking.{take_step, take_kept, ask_counted, ask_beyond, ask_offered, end_tables, end_beyond, end_counted, ends_by_le}
 use Rattle.wave_core.proofs.machine.Machine.take.Goals as goal
 
 pub invariant_of-self-then-level-self : goal.invariant_of-self-then-level-self

@@ -3,6 +3,7 @@ use Rattle.wave_core.specs.Step.{IsFinished}
 use Rattle.wave_core.specs.Cores.{core_wave, core_state}
 use Rattle.wave_core.proofs.Grid.{get_or-default}
 use Rattle.wave_core.proofs.Drives.{chosen, chosen_all, same_then, of_true, of_false}
+use Rattle.wave_core.proofs.Stepped.{reaches_more}
 use Rattle.wave_core.proofs.waves.Core.choose.Goals as goal
 
 pub returns-then-finished-clause-ok : goal.returns-then-finished-clause-ok
@@ -19,4 +20,5 @@ loop-choice-preserved c =
     record {
       same = same_then v x c.turn_by.new.self c.loop-choice.invariant.same c.turn_by.ensures.same;
       drives = chosen v x c.turn_by.new.self c.args.choices.now c.loop-choice.choice-index _ c.loop-choice-test.true (get_or-default c.args.choices.now c.loop-choice.choice-index 0 _ c.loop-choice-test.true) c.loop-choice.invariant.same open' c.in_ok-turn_by.ensures.ok c.loop-choice.invariant.drives;
+      runs = reaches_more v x c.turn_by.new.self _ c.loop-choice.invariant.same c.in_ok-turn_by.ensures.ok c.loop-choice.invariant.runs;
     }

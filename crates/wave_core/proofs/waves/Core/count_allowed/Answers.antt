@@ -1,4 +1,4 @@
-use Rattle.std.proofs.Common.{◌≡◌, ℕ, ◌+◌, ◌-◌, ◌≤◌, ◌<◌, List, get_or, drop, length, refl, sym, ap, ◌∙◌, subst, arith}
+use Rattle.std.proofs.Common.{◌+◌, get_or, drop, sym, subst, arith}
 use Rattle.wave_core.specs.declared.Event.TheVariants.{Send}
 use Rattle.wave_core.specs.Step.{IsAllowed}
 use Rattle.wave_core.specs.Cores.{core_wave, core_state}

@@ -1,6 +1,7 @@
 use Rattle.wave_core.specs.Step.{IsFinished}
 use Rattle.wave_core.specs.Cores.{core_wave, core_state}
 use Rattle.wave_core.proofs.Drives.{finishes, finished_now, same_then, of_true, of_false}
+use Rattle.wave_core.proofs.Stepped.{reaches_more}
 use Rattle.wave_core.proofs.waves.Core.finish.Goals as goal
 
 pub loop-self-preserved : goal.loop-self-preserved
@@ -11,6 +12,7 @@ loop-self-preserved c =
     record {
       same = same_then v x c.turn_by.new.self c.loop-self.invariant.same c.turn_by.ensures.same;
       drives = finishes v x c.turn_by.new.self c.loop-self.invariant.same open' c.in_ok-turn_by.ensures.ok c.loop-self.invariant.drives;
+      runs = reaches_more v x c.turn_by.new.self 0 c.loop-self.invariant.same c.in_ok-turn_by.ensures.ok c.loop-self.invariant.runs;
     }
 
 pub returns-clause-ok : goal.returns-clause-ok

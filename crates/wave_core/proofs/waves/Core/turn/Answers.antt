@@ -1,4 +1,4 @@
-use Rattle.std.proofs.Common.{◌≡◌, Bool, IfOk, MatchBool, sym, subst}
+use Rattle.std.proofs.Common.{◌≡◌, IfOk, MatchBool, sym, subst}
 use Rattle.wave_core.specs.declared.Event.{Event}
 use Rattle.wave_core.specs.declared.Event.TheVariants.{Send, End, Take, Expand, Advance}
 use Rattle.wave_core.specs.Step.{IsStep, IsAllowed}

@@ -1,6 +1,6 @@
-use Rattle.std.proofs.Common.{◌≡◌, ℕ, ◌<◌, ◌%◌, mod-lt, subst}
+use Rattle.std.proofs.Common.{◌≡◌, ◌%◌, mod-lt, subst}
 use Rattle.wave_core.specs.Step.{IsStep, IsAllowed}
-use Rattle.wave_core.specs.Drive.{AllowsOf, IsNumbered, all_events}
+use Rattle.wave_core.specs.Drive.{AllowsOf, IsNumbered}
 use Rattle.wave_core.specs.Cores.{CoreView, core_wave, core_state, IsSoundCore}
 use Rattle.wave_core.proofs.Drives.{some_allowed, turn_made, step_measure, is_allowed, of_true, of_false}
 use Rattle.wave_core.proofs.waves.Core.turn_by.Goals as goal

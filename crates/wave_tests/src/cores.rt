@@ -1,0 +1,163 @@
+//! The workers of a wave on one thread: single events, what is refused, and driven cores.
+ghost use Rattle.std.specs.Prelude.{◌≡◌, ◌≤◌, ◌<◌, All};
+ghost use Rattle.req_table.specs.Keys.{IsKey};
+
+use crate::requests::{request, store_of};
+use dd_store::Store;
+use req_table::{Item, Key, Op, Record, Records};
+use std::alloc::Global;
+use std::process::Abort;
+use std::test::Fail;
+use wave_core::{Core, CoreFault, Event};
+
+/// The roots of the walk: a conjunction of the variables of the levels 0 and 2, of worker 0 among two, and the complement
+/// of that of level 3, of worker 1.
+fn roots_of(rt: &impl Abort, store: &Store) -> [Key; 2]
+    requires { store.now.levels ≡ 4 }
+    ensures { All (IsKey store.now) result }
+{
+    [
+        request(rt, store, Op::And, 0, 2),
+        request(rt, store, Op::Nand, 3, 3),
+    ]
+}
+
+/// Does events that have to be allowed.
+fn does(rt: &impl Abort, core: &mut Core, events: &[Event])
+    ensures { core.new.machine.workers ≡ core.old.machine.workers }
+{
+    assert!(rt; core.run(events) == Ok(events.len()));
+}
+
+/// Does an event that has to be refused after so many events.
+fn refuses(rt: &impl Abort, core: &mut Core, event: Event, place: u128)
+    ensures { core.new.machine.workers ≡ core.old.machine.workers }
+{
+    assert!(rt; core.step(event) == Err(CoreFault::NotAllowed { place }));
+}
+
+/// Whether an item asks for this key, from a worker and at a level.
+fn is_ask(item: &Item, sender: u32, at: u16, wanted: Key) -> bool {
+    matches!(*item, Item::Ask { from, level, key } if from == sender && level == at && key == wanted)
+}
+
+/// Whether an item ends a level, from a worker.
+fn is_end(item: &Item, sender: u32, at: u16) -> bool {
+    matches!(*item, Item::End { from, level } if from == sender && level == at)
+}
+
+// A worker expands a request only behind the Ends of all, and goes on when all is expanded.
+#[test]
+fn core_walk(rt: HostRuntime) -> Result<(), Fail> {
+    let store = store_of(&rt, rt.alloc(), 4);
+    let roots = roots_of(&rt, &store);
+    let mut core = Core::new(rt.alloc(), &store, 2, &roots)?;
+    let start = [
+        Event::Send { by: 0, to: 0 },
+        Event::Take { by: 0 },
+        Event::End { by: 0, to: 0 },
+        Event::Take { by: 0 },
+    ];
+    does(&rt, &mut core, &start);
+    assert!(rt; !core.closed(0, 0));
+    refuses(&rt, &mut core, Event::Expand { by: 0 }, 4);
+    let ended = [
+        Event::End { by: 1, to: 0 },
+        Event::Take { by: 0 },
+        Event::Expand { by: 0 },
+    ];
+    does(&rt, &mut core, &ended);
+    assert!(rt; core.closed(0, 0) && !core.closed(0, 1));
+    refuses(&rt, &mut core, Event::Expand { by: 0 }, 7);
+    let sent = core.sent(0, 0);
+    assert!(rt; sent.len() == 2 && is_ask(&sent[0], 0, 0, roots[0]) && is_end(&sent[1], 0, 0));
+    let taken = core.taken(0);
+    assert!(rt; taken.len() == 3 && is_ask(&taken[0], 0, 0, roots[0]));
+    assert!(rt; is_end(&taken[1], 0, 0) && is_end(&taken[2], 1, 0));
+    let row = core.records(0, 0);
+    assert!(rt; row.len() == 1 && row[0].key == roots[0]);
+    does(&rt, &mut core, &[Event::Advance { by: 0 }]);
+    assert!(rt; !core.finished());
+    assert!(rt; core.drive(&[]).is_ok());
+    assert!(rt; core.finished());
+    assert!(rt; core.taken(0).len() == 9 && core.taken(1).len() == 9);
+    let records = core.into_records()?;
+    assert_eq!(rt; count(&records), 2);
+    Ok(())
+}
+
+/// How many records there are.
+fn count(records: &Records) -> usize {
+    let mut count: usize = 0;
+    for level in 0..records.levels() {
+        count = count.saturating_add(records.level(level as u16).len());
+    }
+    count
+}
+
+// What a fresh core refuses, and that it does its events as before.
+#[test]
+fn core_refusals(rt: HostRuntime) -> Result<(), Fail> {
+    let store = store_of(&rt, rt.alloc(), 4);
+    let roots = roots_of(&rt, &store);
+    let mut core = Core::new(rt.alloc(), &store, 2, &roots)?;
+    for event in [
+        Event::Take { by: 0 },
+        Event::End { by: 0, to: 0 },
+        Event::Send { by: 0, to: 1 },
+        Event::Take { by: 2 },
+        Event::Advance { by: 0 },
+    ] {
+        refuses(&rt, &mut core, event, 0);
+        assert!(rt; core.sent(0, 0).is_empty() && core.taken(0).is_empty());
+    }
+    let events = [Event::End { by: 0, to: 1 }, Event::Take { by: 1 }];
+    assert!(rt; core.run(&events) == Ok(2));
+    let stopped = [Event::Send { by: 0, to: 0 }, Event::Take { by: 1 }, Event::Take { by: 0 }];
+    assert!(rt; core.run(&stopped) == Err(CoreFault::NotAllowed { place: 3 }));
+    assert!(rt; core.sent(0, 0).len() == 1 && core.taken(0).is_empty());
+    Ok(())
+}
+
+/// The keys of the records of a level, as operations on the levels of their operands, in order.
+fn keys_of(alloc: Global, store: &Store, row: &[Record]) -> Result<Vec<(Op, u16, u16)>, Fail> {
+    let mut keys = Vec::new(alloc);
+    for record in row {
+        let key = record.key;
+        keys.push((key.op(), store.top(key.f()), store.top(key.g())))?;
+    }
+    keys.sort()?;
+    Ok(keys)
+}
+
+// A driven core records the same requests whatever is chosen, and by whatever number of workers.
+#[test]
+fn driven_cores(rt: HostRuntime) -> Result<(), Fail> {
+    let store = store_of(&rt, rt.alloc(), 4);
+    let roots = [
+        request(&rt, &store, Op::Xor, 0, 1),
+        request(&rt, &store, Op::And, 0, 2),
+        request(&rt, &store, Op::Nand, 1, 0),
+        request(&rt, &store, Op::Xor, 1, 0),
+        request(&rt, &store, Op::Nand, 3, 3),
+    ];
+    let wanted: [&[(Op, u16, u16)]; 4] = [
+        &[(Op::And, 0, 2), (Op::Xor, 0, 1), (Op::Nand, 0, 1)],
+        &[(Op::Xor, 4, 1), (Op::Nand, 4, 1)],
+        &[],
+        &[(Op::Nand, 3, 3)],
+    ];
+    for workers in [1, 2, 3, 16] {
+        for choices in [[].as_slice(), [0, 1, 2].as_slice(), [255; 200].as_slice()] {
+            let mut core = Core::new(rt.alloc(), &store, workers, &roots)?;
+            assert!(rt; core.drive(choices).is_ok());
+            let records = core.into_records()?;
+            assert_eq!(rt; records.levels(), 4);
+            for level in 0..4 {
+                let keys = keys_of(rt.alloc(), &store, records.level(level))?;
+                assert_eq!(rt; keys.as_slice(), wanted[level as usize]);
+            }
+        }
+    }
+    Ok(())
+}

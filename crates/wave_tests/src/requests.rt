@@ -1,0 +1,155 @@
+//! Requests: short answers, normal keys, children, owners, and the table of admitted keys.
+ghost use Rattle.std.specs.Prelude.{◌≡◌, ◌≤◌, ◌<◌, IfOk};
+ghost use Rattle.dd_store.specs.View.{Has};
+ghost use Rattle.req_table.specs.Keys.{IsKey};
+
+use dd_store::{Ref, Store};
+use req_table::requests::{child, level_of, normal, owner, short, split};
+use req_table::{Child, Key, Op, Records, Table};
+use std::alloc::Global;
+use std::process::Abort;
+use std::test::Fail;
+
+/// A store of so many levels that has all its variables.
+pub fn store_of(rt: &impl Abort, alloc: Global, levels: u16) -> Store
+    requires { levels ≤ 4 }
+    ensures { result.levels ≡ levels }
+{
+    let mut store = Store::new(alloc, levels, 100).expect(rt, "out of memory");
+    for level in 0..levels {
+        store.variable(level).expect(rt, "a variable is refused");
+    }
+    store
+}
+
+/// The variable of a level.
+pub fn variable(rt: &impl Abort, store: &Store, level: u16) -> Ref
+    requires { level < store.now.levels }
+    ensures { Has store.now result }
+{
+    store
+        .find(level, Ref::False, Ref::True)
+        .expect(rt, "no such variable")
+}
+
+/// The request for an operation on the variables of two levels.
+pub fn request(rt: &impl Abort, store: &Store, op: Op, first: u16, second: u16) -> Key
+    requires first { first < store.now.levels }
+    requires second { second < store.now.levels }
+    ensures { IsKey store.now result }
+{
+    let f = variable(rt, store, first);
+    let g = variable(rt, store, second);
+    assert!(rt; short(op, f, g).is_none());
+    normal(op, f, g)
+}
+
+// Each line of the table of short answers, both ways round, and requests that look as if they had one.
+#[test]
+fn short_answers(rt: HostRuntime) -> Result<(), Fail> {
+    let store = store_of(&rt, rt.alloc(), 2);
+    let a = variable(&rt, &store, 0);
+    let b = variable(&rt, &store, 1);
+    for (op, f, g, answer) in [
+        (Op::And, Ref::False, a, Some(Ref::False)),
+        (Op::And, Ref::True, a, Some(a)),
+        (Op::And, a, a, Some(a)),
+        (Op::Or, Ref::True, a, Some(Ref::True)),
+        (Op::Or, Ref::False, a, Some(a)),
+        (Op::Or, a, a, Some(a)),
+        (Op::Xor, a, a, Some(Ref::False)),
+        (Op::Xor, Ref::False, a, Some(a)),
+        (Op::Nand, Ref::False, a, Some(Ref::True)),
+        (Op::Nor, Ref::True, a, Some(Ref::False)),
+        (Op::Xnor, a, a, Some(Ref::True)),
+        (Op::Xnor, Ref::True, a, Some(a)),
+        (Op::Nand, Ref::True, Ref::True, Some(Ref::False)),
+        (Op::Xor, Ref::False, Ref::True, Some(Ref::True)),
+        (Op::Nor, Ref::False, Ref::False, Some(Ref::True)),
+        (Op::Nand, a, a, None),
+        (Op::Xor, Ref::True, a, None),
+        (Op::Nor, Ref::False, a, None),
+        (Op::And, a, b, None),
+    ] {
+        assert_eq!(rt; short(op, f, g), answer);
+        assert_eq!(rt; short(op, g, f), answer);
+    }
+    Ok(())
+}
+
+// The owners of three requests, by hand from the codes of the variables.
+#[test]
+fn owners(rt: HostRuntime) -> Result<(), Fail> {
+    let store = store_of(&rt, rt.alloc(), 4);
+    for (op, first, second, workers, wanted) in [
+        (Op::And, 0, 1, 4, 1),
+        (Op::And, 0, 2, 2, 0),
+        (Op::Nand, 3, 3, 2, 1),
+    ] {
+        assert!(rt; first < store.levels() && second < store.levels());
+        let key = request(&rt, &store, op, first, second);
+        assert_eq!(rt; request(&rt, &store, op, second, first), key);
+        assert_eq!(rt; level_of(&store, key), first);
+        assert!(rt; workers > 0);
+        assert_eq!(rt; owner(key, workers), wanted);
+    }
+    Ok(())
+}
+
+// The children of a request: a conjunction is the second operand where the first variable is true.
+#[test]
+fn children(rt: HostRuntime) -> Result<(), Fail> {
+    let store = store_of(&rt, rt.alloc(), 2);
+    let a = variable(&rt, &store, 0);
+    let b = variable(&rt, &store, 1);
+    let key = request(&rt, &store, Op::And, 1, 0);
+    assert!(rt; key.op() == Op::And && key.f() == a && key.g() == b);
+    let record = split(&store, key);
+    assert_eq!(rt; record.key, key);
+    assert!(rt; matches!(record.low, Child::Done(Ref::False)));
+    assert!(rt; matches!(record.high, Child::Done(answer) if answer == b));
+    let complement = split(&store, request(&rt, &store, Op::Nand, 1, 0));
+    assert!(rt; matches!(complement.low, Child::Done(Ref::True)));
+    match complement.high {
+        Child::Ask { level, key } => {
+            assert_eq!(rt; level, 1);
+            assert!(rt; key.op() == Op::Nand && key.f() == Ref::True && key.g() == b);
+        }
+        Child::Done(_) => assert!(rt; false, "NAND of True and b has no short answer"),
+    }
+    assert!(rt; matches!(child(&store, Op::Or, b, Ref::True), Child::Done(Ref::True)));
+    Ok(())
+}
+
+// A key is admitted once; the table has the keys in the order of admission.
+#[test]
+fn table_admits_once(rt: HostRuntime) -> Result<(), Fail> {
+    let store = store_of(&rt, rt.alloc(), 2);
+    let mut table = Table::new(rt.alloc())?;
+    let first = request(&rt, &store, Op::Nand, 0, 0);
+    let second = request(&rt, &store, Op::And, 0, 1);
+    assert!(rt; table.admit(first)?);
+    assert!(rt; !table.admit(first)?);
+    assert_eq!(rt; table.len(), 1);
+    assert!(rt; table.contains(first) && !table.contains(second));
+    assert!(rt; table.admit(second)?);
+    assert!(rt; table.len() == 2);
+    assert_eq!(rt; table.key_at(0), first);
+    assert_eq!(rt; table.key_at(1), second);
+    assert_eq!(rt; table.keys(), [first, second].as_slice());
+    Ok(())
+}
+
+// Records by level, as they are put in.
+#[test]
+fn rows_of_records(rt: HostRuntime) -> Result<(), Fail> {
+    let store = store_of(&rt, rt.alloc(), 2);
+    let record = split(&store, request(&rt, &store, Op::Or, 0, 1));
+    let rows = vec![in rt.alloc(); vec![in rt.alloc(); record]?, Vec::new(rt.alloc())]?;
+    let records = Records::of(rows);
+    assert!(rt; records.levels() == 2);
+    assert_eq!(rt; records.level(0).len(), 1);
+    assert_eq!(rt; records.level(1).len(), 0);
+    assert_eq!(rt; records.into_rows().len(), 2);
+    Ok(())
+}
