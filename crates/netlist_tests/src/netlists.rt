@@ -1,0 +1,499 @@
+// Of the reader, what no contract says: the worked texts, the printed faults, and that each call succeeds with ample memory.
+ghost use Rattle.std.specs.Prelude.{None, Some};
+
+use net_bench::device::{Failed, Sink, Source, Through};
+use net_bench::name_table::NameTable;
+use net_bench::netlist::{BenchFault, Kind, Signal};
+use net_bench::reader::{Netlist, parse_bench, read_bench};
+use std::alloc::{AllocError, Global};
+use std::test::Fail;
+
+const C17: &str =
+    "INPUT(1)\nINPUT(2)\nINPUT(3)\nINPUT(6)\nINPUT(7)\nOUTPUT(22)\nOUTPUT(23)\n10 = NAND(1, 3)\n11 = NAND(3, 6)\n16 = NAND(2, 11)\n19 = NAND(11, 7)\n22 = NAND(10, 16)\n23 = NAND(16, 19)\n";
+
+/// The fault of a text, or none where it is a netlist.
+fn fault_of(alloc: Global, text: &[u8]) -> Option<BenchFault> {
+    match parse_bench(alloc, text) {
+        Ok(_) => None,
+        Err(fault) => Some(fault),
+    }
+}
+
+#[test]
+fn refusals(rt: HostRuntime) -> Result<(), Fail> {
+    let table: [(&str, Option<BenchFault>); 36] = [
+        ("", None),
+        ("# only a comment", None),
+        ("OUTPUT(z)", Some(BenchFault::Undefined { line: 1 })),
+        (
+            "INPUT(c)\nOUTPUT(a)\na = AND(b, c)\nb = NOT(a)\n",
+            Some(BenchFault::Cycle { line: 3 }),
+        ),
+        (
+            "INPUT(c)\nOUTPUT(a)\na = AND(b, c)\nb = NOT(a)\nOUTPUT(z)\n",
+            Some(BenchFault::Undefined { line: 5 }),
+        ),
+        (
+            "INPUT(a)\nINPUT(b)\nx = NOT(a, b)",
+            Some(BenchFault::WrongOperands { line: 3 }),
+        ),
+        (
+            "INPUT(a)\nINPUT(b)\na = NOT(b)",
+            Some(BenchFault::Redefined { line: 3 }),
+        ),
+        (
+            "x = NOT(b)\nINPUT\n(x)",
+            Some(BenchFault::Redefined { line: 2 }),
+        ),
+        (
+            "x = NOT(b)\nx = NOT(c)",
+            Some(BenchFault::Redefined { line: 2 }),
+        ),
+        ("INPUT(a) INPUT(a) OUTPUT(a) OUTPUT(a)", None),
+        ("x = FOO(a)", Some(BenchFault::UnknownGate { line: 1 })),
+        ("x =\nFOO(", Some(BenchFault::UnknownGate { line: 1 })),
+        ("x = INPUT(a)", Some(BenchFault::UnknownGate { line: 1 })),
+        ("q = DFF(d)", Some(BenchFault::Sequential { line: 1 })),
+        ("q = dff(d, e)", Some(BenchFault::Sequential { line: 1 })),
+        (
+            "INPUT(a)\nOUTPUT(x)\n10 = NAND(1,",
+            Some(BenchFault::BadStatement { line: 3 }),
+        ),
+        ("INPUT(a)\nx", Some(BenchFault::BadStatement { line: 2 })),
+        (
+            "INPUT(a)\nx\n\n",
+            Some(BenchFault::BadStatement { line: 4 }),
+        ),
+        ("f ( a )", Some(BenchFault::BadStatement { line: 1 })),
+        (
+            "INPUT(a)\nx =\nAND (\n)",
+            Some(BenchFault::BadStatement { line: 4 }),
+        ),
+        ("x = AND(a,)", Some(BenchFault::BadStatement { line: 1 })),
+        ("x = AND(a b)", Some(BenchFault::BadStatement { line: 1 })),
+        ("INPUT(a) )", Some(BenchFault::BadStatement { line: 1 })),
+        ("INPUT()", Some(BenchFault::BadStatement { line: 1 })),
+        ("INPUT(a)\u{7f}", Some(BenchFault::BadByte { line: 1 })),
+        (
+            "# \u{e9}\r\nINPUT(\u{e9})",
+            Some(BenchFault::BadByte { line: 2 }),
+        ),
+        ("INPUT(a\u{1})", Some(BenchFault::BadByte { line: 1 })),
+        (
+            "# a # b\n\r\n) x",
+            Some(BenchFault::BadStatement { line: 3 }),
+        ),
+        ("x = FOO(a\u{1}", Some(BenchFault::UnknownGate { line: 1 })),
+        (")\nx = FOO(a)", Some(BenchFault::BadStatement { line: 1 })),
+        (
+            "x = NOT(a, b)\nx = FOO(a)",
+            Some(BenchFault::WrongOperands { line: 1 }),
+        ),
+        (
+            "OUTPUT(z)\nx = NOT(x)\n",
+            Some(BenchFault::Undefined { line: 1 }),
+        ),
+        ("x = NOT(\ny)", Some(BenchFault::Undefined { line: 2 })),
+        (
+            "a = NOT(b) b = NOT(c)\nc = NOT(c)",
+            Some(BenchFault::Cycle { line: 1 }),
+        ),
+        (
+            "INPUT(i) OUTPUT(o)\no = AND(i, i)\nx = OR(i, y)\ny = BUF(x)\nz = NOT(x)",
+            Some(BenchFault::Cycle { line: 3 }),
+        ),
+        ("INPUT = not(a) # b\r\nInput(a)oUTPUT(INPUT)", None),
+    ];
+    for (text, want) in table {
+        assert_eq!(rt; fault_of(rt.alloc(), text.as_bytes()), want, "at {text}");
+    }
+    let mut text = b"INPUT(a)".to_vec(rt.alloc())?;
+    text.push(0x80)?;
+    assert_eq!(rt;
+        fault_of(rt.alloc(), text.as_slice()),
+        Some(BenchFault::BadByte { line: 1 })
+    );
+    Ok(())
+}
+
+/// The bytes behind the last closing parenthesis.
+fn unclosed(text: &[u8]) -> &[u8] {
+    let mut rest = text;
+    let mut left = text;
+    for _ in 0..text.len() {
+        let Some((byte, after)) = rest.split_first() else {
+            break;
+        };
+        rest = after;
+        if *byte == b')' {
+            left = after;
+        }
+    }
+    left
+}
+
+/// The fault of the first bytes of C17: its statements end in parentheses, and each gate is a NAND.
+fn prefix_fault(text: &[u8]) -> Option<BenchFault> {
+    let line = 1 + text.iter().take(1000).filter(|b| **b == b'\n').count() as u32;
+    let left = unclosed(text);
+    if left.ends_with(b"= N") || left.ends_with(b"= NA") || left.ends_with(b"= NAN") {
+        return Some(BenchFault::UnknownGate { line });
+    }
+    if left.iter().any(|b| *b > b' ') {
+        return Some(BenchFault::BadStatement { line });
+    }
+    match text.iter().take(1000).filter(|b| **b == b')').count() {
+        6..=11 => Some(BenchFault::Undefined { line: 6 }),
+        12 => Some(BenchFault::Undefined { line: 7 }),
+        _ => None,
+    }
+}
+
+#[test]
+fn c17_prefixes(rt: HostRuntime) -> Result<(), Fail> {
+    let text = C17.as_bytes();
+    for n in 0..text.len() + 1 {
+        let (front, _) = text.split_at(n);
+        assert_eq!(rt;
+            fault_of(rt.alloc(), front),
+            prefix_fault(front),
+            "after {n} bytes"
+        );
+    }
+    Ok(())
+}
+
+#[test]
+fn printed_faults(rt: HostRuntime) -> Result<(), Fail> {
+    let table = [
+        (BenchFault::TooLong, "longer than 67108864 bytes"),
+        (
+            BenchFault::BadByte { line: 2 },
+            "line 2: a byte that no statement has",
+        ),
+        (
+            BenchFault::BadStatement { line: 3 },
+            "line 3: broken statement",
+        ),
+        (BenchFault::UnknownGate { line: 4 }, "line 4: unknown gate"),
+        (
+            BenchFault::WrongOperands { line: 5 },
+            "line 5: wrong number of operands",
+        ),
+        (
+            BenchFault::Redefined { line: 6 },
+            "line 6: signal defined twice",
+        ),
+        (
+            BenchFault::TooMany { line: 1000001 },
+            "line 1000001: too many signals or operands, or a name too long",
+        ),
+        (
+            BenchFault::Sequential { line: 8 },
+            "line 8: register in a combinational netlist",
+        ),
+        (
+            BenchFault::Undefined { line: 9 },
+            "line 9: signal without definition",
+        ),
+        (
+            BenchFault::Cycle { line: 10 },
+            "line 10: gate that depends on a cycle",
+        ),
+        (BenchFault::Read, "cannot be read"),
+        (BenchFault::OutOfMemory, "out of memory"),
+    ];
+    for (fault, want) in table {
+        assert_eq!(rt; format!(in rt.alloc(); "{fault}")?.as_str(), want);
+    }
+    Ok(())
+}
+
+/// The name of a signal of the netlist.
+fn name_of(net: &Netlist, signal: Signal) -> &[u8] {
+    if (signal.number() as usize) < net.count() {
+        return net.name(signal);
+    }
+    b"?"
+}
+
+/// The rank of a signal of the netlist.
+fn rank_of(net: &Netlist, signal: Signal) -> Option<u32> {
+    if (signal.number() as usize) < net.count() {
+        return Some(net.rank(signal));
+    }
+    None
+}
+
+/// The names of signals, each behind a blank.
+fn add_names(text: &mut Vec<u8>, net: &Netlist, signals: &[Signal]) -> Result<(), AllocError> {
+    for signal in signals {
+        text.push(b' ')?;
+        text.extend_from_slice(name_of(net, *signal))?;
+    }
+    Ok(())
+}
+
+/// Inputs, outputs, and each gate with its kind, operands and rank; and with its line, if that is asked for.
+fn described(alloc: Global, net: &Netlist, with_lines: bool) -> Result<Vec<u8>, AllocError> {
+    let mut text = b"in".to_vec(alloc)?;
+    add_names(&mut text, net, net.inputs())?;
+    text.extend_from_slice(b" out")?;
+    add_names(&mut text, net, net.outputs())?;
+    for gate in net.gates() {
+        text.extend_from_slice(b";")?;
+        add_names(&mut text, net, &[gate.out])?;
+        text.extend_from_slice(format!(in alloc; " {:?}", gate.kind)?.as_bytes())?;
+        add_names(&mut text, net, gate.operands.as_slice())?;
+        text.extend_from_slice(format!(in alloc;
+            " rank {:?}",
+            rank_of(net, gate.out)
+        )?.as_bytes())?;
+        if with_lines {
+            text.extend_from_slice(format!(in alloc; " line {}", gate.line)?.as_bytes())?;
+        }
+    }
+    Ok(text)
+}
+
+/// The netlist of a text, described.
+fn read_netlist(alloc: Global, text: &[u8], with_lines: bool) -> Result<Vec<u8>, BenchFault> {
+    let net = match parse_bench(alloc, text) {
+        Ok(net) => net,
+        Err(fault) => return Err(fault),
+    };
+    match described(alloc, &net, with_lines) {
+        Ok(text) => Ok(text),
+        Err(_) => Err(BenchFault::OutOfMemory),
+    }
+}
+
+const CHAIN: &str =
+    "OUTPUT(z) OUTPUT(y) OUTPUT(z)\nz = Not(y)\ny = XOR(x, x,w)\nINPUT(w) INPUT(x) INPUT(w)";
+
+const C17_OTHERWISE: &str =
+    "input(1)\r\nInput(2)\r\nINPUT(3)INPUT(6)\r\nINPUT(7)\r\nOUTPUT(22)\r\nOUTPUT\r\n(23)\r\n10=nand(1,3)\r\n11=nand(3,6)\r\n16=nand(2,11)\r\n19=nand(11,7)\r\n22=nand(10,16)#out\r\n23=nand(16,19)";
+
+const C17_GATES: &str =
+    "in 1 2 3 6 7 out 22 23; 10 Nand 1 3 rank Some(1); 11 Nand 3 6 rank Some(1); 16 Nand 2 11 rank Some(2); 19 Nand 11 7 rank Some(2); 22 Nand 10 16 rank Some(3); 23 Nand 16 19 rank Some(3)";
+
+#[test]
+fn netlists(rt: HostRuntime) -> Result<(), Fail> {
+    let table = [
+        (C17, false, C17_GATES),
+        (C17_OTHERWISE, false, C17_GATES),
+        (
+            CHAIN,
+            true,
+            "in w x out z y; z Not y rank Some(2) line 2; y Xor x x w rank Some(1) line 3",
+        ),
+    ];
+    for (text, with_lines, want) in table {
+        let text = read_netlist(rt.alloc(), text.as_bytes(), with_lines)?;
+        assert_eq!(rt; text.as_slice(), want.as_bytes());
+    }
+    Ok(())
+}
+
+#[test]
+fn numbers_of_signals(rt: HostRuntime) -> Result<(), Fail> {
+    let net = parse_bench(rt.alloc(), C17.as_bytes())?;
+    assert_eq!(rt; net.count(), 11);
+    let mut number = 0u32;
+    for name in ["1", "2", "3", "6", "7", "22", "23", "10", "11", "16", "19"] {
+        assert_eq!(rt;
+            net.find(name.as_bytes()),
+            Some(Signal::of(number)),
+            "at {name}"
+        );
+        assert_eq!(rt; name_of(&net, Signal::of(number)), name.as_bytes());
+        number = number.wrapping_add(1);
+    }
+    assert_eq!(rt; net.find(b"4"), None);
+    assert_eq!(rt; rank_of(&net, Signal::of(0)), Some(0));
+    Ok(())
+}
+
+#[test]
+fn gate_words(rt: HostRuntime) -> Result<(), Fail> {
+    let table = [
+        ("AND", Kind::And),
+        ("nand", Kind::Nand),
+        ("Or", Kind::Or),
+        ("nOR", Kind::Nor),
+        ("XOR", Kind::Xor),
+        ("xnor", Kind::Xnor),
+        ("NOT", Kind::Not),
+        ("BUFF", Kind::Buff),
+        ("buf", Kind::Buff),
+    ];
+    for (word, kind) in table {
+        let text = format!(in rt.alloc(); "INPUT(a) x = {word}(a)")?;
+        let want = format!(in rt.alloc(); "in a out; x {kind:?} a rank Some(1)")?;
+        let text = read_netlist(rt.alloc(), text.as_bytes(), false)?;
+        assert_eq!(rt; text.as_slice(), want.as_bytes());
+    }
+    Ok(())
+}
+
+/// A device that gives one byte a read, and fails when so many are left.
+#[derive(Drop)]
+struct OneByte<'a> {
+    left: &'a [u8],
+    fails_at: usize,
+    failed: bool,
+}
+
+impl<'a> Source for OneByte<'a> {
+    ghost remaining = { λ _. None };
+
+    ghost has_failed = { λ s. s.failed };
+
+    fn read(&mut self, buf: &mut [u8]) -> Result<usize, Failed> {
+        if self.left.len() == self.fails_at {
+            self.failed = true;
+            return Err(Failed);
+        }
+        let Some((byte, after)) = self.left.split_first() else {
+            return Ok(0);
+        };
+        let Some(first) = buf.first_mut() else {
+            return Ok(0);
+        };
+        *first = *byte;
+        self.left = after;
+        Ok(1)
+    }
+}
+
+#[test]
+fn devices(rt: HostRuntime) -> Result<(), Fail> {
+    let alloc = rt.alloc();
+    let mut whole = Through::new(C17.as_bytes());
+    assert_eq!(rt; read_bench(alloc, &mut whole)?.count(), 11);
+    let mut dripping = OneByte {
+        left: C17.as_bytes(),
+        fails_at: 1000,
+        failed: false,
+    };
+    assert_eq!(rt; read_bench(alloc, &mut dripping)?.count(), 11);
+    for fails_at in [100, 5, 0] {
+        let mut failing = OneByte {
+            left: C17.as_bytes(),
+            fails_at,
+            failed: false,
+        };
+        let answer = match read_bench(alloc, &mut failing) {
+            Ok(_) => None,
+            Err(fault) => Some(fault),
+        };
+        assert_eq!(rt;
+            answer,
+            Some(BenchFault::Read),
+            "with {fails_at} bytes left"
+        );
+    }
+    let mut sink = Through::new(Vec::new(alloc));
+    assert_eq!(rt; sink.write(b"ab"), Ok(2));
+    assert_eq!(rt; sink.flush(), Ok(()));
+    Ok(())
+}
+
+#[test]
+fn name_tables(rt: HostRuntime) -> Result<(), Fail> {
+    let alloc = rt.alloc();
+    let mut table = NameTable::new(alloc);
+    for (name, number) in [("b", 0), ("a", 1), ("b", 0), ("", 2)] {
+        assert_eq!(rt; table.count(alloc, name.as_bytes())?, number, "at {name}");
+    }
+    assert_eq!(rt; table.len(), 3);
+    assert_eq!(rt; table.find(b"a"), Some(1));
+    assert_eq!(rt; table.find(b"c"), None);
+    assert!(rt; table.has(b"b"));
+    let names = table.into_names();
+    assert_eq!(rt; names.len(), 3);
+    assert_eq!(rt; names[1].as_slice(), b"a".as_slice());
+    Ok(())
+}
+
+/// The text, and behind it a chain of so many gates: the one on line i + 1 defines `si` as the complement of the signal before.
+fn chain(alloc: Global, first: &str, gates: u32) -> Result<Vec<u8>, AllocError> {
+    let mut text = first.as_bytes().to_vec(alloc)?;
+    for before in 0..gates {
+        let gate = format!(in alloc; "s{} = NOT(s{})\n", u64::from(before) + 1, before)?;
+        text.extend_from_slice(gate.as_bytes())?;
+    }
+    Ok(text)
+}
+
+#[test]
+fn deep_chain(rt: HostRuntime) -> Result<(), Fail> {
+    let alloc = rt.alloc();
+    let net = parse_bench(alloc, chain(alloc, "INPUT(s0)\n", 999_999)?.as_slice())?;
+    assert_eq!(rt; net.count(), 1_000_000);
+    let last = net.find(b"s999999").ok_or("no last signal")?;
+    assert_eq!(rt; rank_of(&net, last), Some(999_999));
+    let longer = chain(alloc, "INPUT(s0)\n", 1_000_000)?;
+    assert_eq!(rt;
+        fault_of(alloc, longer.as_slice()),
+        Some(BenchFault::TooMany { line: 1_000_001 })
+    );
+    let round = chain(alloc, "s0 = NOT(s999999)\n", 999_999)?;
+    assert_eq!(rt;
+        fault_of(alloc, round.as_slice()),
+        Some(BenchFault::Cycle { line: 1 })
+    );
+    Ok(())
+}
+
+/// A gate with so many operands on line 2.
+fn wide_gate(alloc: Global, operands: u32) -> Result<Vec<u8>, AllocError> {
+    let mut text = b"INPUT(a)\nx = AND(a".to_vec(alloc)?;
+    for _ in 1..operands {
+        text.extend_from_slice(b",a")?;
+    }
+    text.push(b')')?;
+    Ok(text)
+}
+
+#[test]
+fn widths(rt: HostRuntime) -> Result<(), Fail> {
+    let alloc = rt.alloc();
+    let wide = wide_gate(alloc, 4_000_000)?;
+    assert_eq!(rt; fault_of(alloc, wide.as_slice()), None);
+    let wider = wide_gate(alloc, 4_000_001)?;
+    assert_eq!(rt;
+        fault_of(alloc, wider.as_slice()),
+        Some(BenchFault::TooMany { line: 2 })
+    );
+    for (length, want) in [(255, None), (256, Some(BenchFault::TooMany { line: 2 }))] {
+        let mut text = b"# name\nINPUT(".to_vec(alloc)?;
+        for _ in 0..length {
+            text.push(b'n')?;
+        }
+        text.push(b')')?;
+        assert_eq!(rt;
+            fault_of(alloc, text.as_slice()),
+            want,
+            "a name of {length} bytes"
+        );
+    }
+    Ok(())
+}
+
+/// So many blanks.
+fn blanks(alloc: Global, count: usize) -> Result<Vec<u8>, AllocError> {
+    vec![in alloc; b' '; count]
+}
+
+#[test]
+fn longest_text(rt: HostRuntime) -> Result<(), Fail> {
+    let mut text = blanks(rt.alloc(), 67_108_864)?;
+    assert_eq!(rt; fault_of(rt.alloc(), text.as_slice()), None);
+    text.push(b' ')?;
+    assert_eq!(rt;
+        fault_of(rt.alloc(), text.as_slice()),
+        Some(BenchFault::TooLong)
+    );
+    Ok(())
+}
