@@ -1,14 +1,13 @@
 -- What the judge's answer and the netlist say of the text.
-use Rattle.std.proofs.Common.{◌≡◌, ◌⊎◌, inl, inr, ℕ, ◌≤◌, List, [], refl, sym, ap, ◌∙◌, subst, length}
-use Rattle.std.specs.Prelude.{Result, Ok, Err}
+use Rattle.std.proofs.Common.{◌≡◌, ◌⊎◌, inl, inr, ℕ, ◌≤◌, List, [], refl, sym, subst, length}
+use Rattle.std.specs.Prelude.{Ok, Err}
 use Rattle.net_bench.specs.declared.netlist.BenchFault.{BenchFault}
-use Rattle.net_bench.specs.declared.netlist.BenchFault.TheVariants.{TooLong, OutOfMemory}
-use Rattle.net_bench.specs.Text.{Tokens, HasTokens}
+use Rattle.net_bench.specs.declared.netlist.BenchFault.TheVariants.{OutOfMemory}
 use Rattle.net_bench.specs.Pieces.{tokens_at}
-use Rattle.net_bench.specs.Statement.{Statement, Reads}
-use Rattle.net_bench.specs.Machine.{State, Between, Finished, run}
-use Rattle.net_bench.specs.Circuit.{Circuit, Net, IsNet, AreRanks, IsEndless, circuit, circuit_of}
-use Rattle.net_bench.specs.Fault.{Cause, StrayByte, LongName, Misplaced, NoGateWord, Register, OperandCount, SecondDefinition, Crowded, max_text, fault_of, IsFirst, IsFaultless, IsPlaced, IsRefused, ReadsWell, IsNetlistText, MakesNetlist}
+use Rattle.net_bench.specs.Statement.{Statement}
+use Rattle.net_bench.specs.Machine.{Between, Finished}
+use Rattle.net_bench.specs.Circuit.{Net, IsNet, AreRanks, circuit, circuit_of}
+use Rattle.net_bench.specs.Fault.{Cause, StrayByte, LongName, Misplaced, NoGateWord, Register, OperandCount, SecondDefinition, Crowded, max_text, fault_of, IsFaultless, IsPlaced, IsRefused, ReadsWell, MakesNetlist}
 use Rattle.net_bench.specs.Judge.{Found, told, judge}
 use Rattle.net_bench.specs.Sound.{IsLate, AreDefined}
 use Rattle.net_bench.proofs.PiecesOf.{one_reading, has_tokens}

@@ -8,7 +8,7 @@ use Rattle.net_bench.specs.Symbols.{IsTold, is_known}
 use Rattle.net_bench.specs.declared.netlist.GateLine.{GateLine}
 use Rattle.net_bench.specs.declared.netlist.BenchFault.TheVariants.{Undefined}
 use Rattle.net_bench.specs.Text.{Word}
-use Rattle.net_bench.specs.Statement.{Statement, counted, input_name, output_name, gate_name, defined, uses}
+use Rattle.net_bench.specs.Statement.{Statement, input_name, output_name, gate_name, defined, uses}
 use Rattle.net_bench.specs.Circuit.{Net, distinct, names_of, number_of, gate_line, is_name_in}
 use Rattle.net_bench.specs.Fault.{is_defined}
 use Rattle.net_bench.specs.Judge.{undefined_line}

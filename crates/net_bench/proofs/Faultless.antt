@@ -1,16 +1,16 @@
 -- The statements of a text without a faulty place are sound.
-use Rattle.std.proofs.Common.{◌≡◌, ◌⊎◌, inl, inr, ℕ, zero, suc, ◌+◌, ◌-◌, ◌<◌, ◌≤◌, List, [], ◌∷◌, ◌++◌, Bool, true, false, refl, sym, ap, ◌∙◌, subst, map, length, get_or, take, drop, arith, append_assoc, append-nil, length-append}
-use Rattle.std.specs.Prelude.{flat_map, slice_get, Option, Some, None, is_some, All}
+use Rattle.std.proofs.Common.{◌≡◌, inl, inr, ℕ, zero, suc, ◌+◌, ◌-◌, ◌<◌, ◌≤◌, List, [], ◌∷◌, ◌++◌, Bool, true, false, refl, sym, ap, ◌∙◌, subst, map, length, get_or, take, drop, arith, append_assoc, append-nil, length-append}
+use Rattle.std.specs.Prelude.{flat_map, Option, Some, None, is_some}
 use Rattle.std.proofs.lemmas.Bool.{cases_lt}
 use Rattle.std.proofs.lemmas.List.{take-map}
 use Rattle.std.proofs.lemmas.Option.{slice_get-get_or}
 use Rattle.std.proofs.Math.Seq.{take-append_seam}
 use Rattle.std.proofs.lemmas.Grind.{flat_map-append}
 use Rattle.net_bench.specs.declared.netlist.Kind.{Kind}
-use Rattle.net_bench.specs.Text.{Word, Token, Open, Close, Equals, Name, End, Tokens, HasTokens}
+use Rattle.net_bench.specs.Text.{Word, Token, Open, Close, Equals, Name, End, Tokens}
 use Rattle.net_bench.specs.Statement.{Statement, Input, Output, Gate, spelled, after_comma, spelling, token_of, kind_of, is_register_word, counted, line_of, IsSpelledRight, AreSpelledRight}
 use Rattle.net_bench.specs.Circuit.{distinct, names_of}
-use Rattle.net_bench.specs.Fault.{Cause, NoGateWord, Register, OperandCount, SecondDefinition, Crowded, max_signals, max_operands, counted_in, operands_in, has_wrong_operands, redefines, up_to, StandsAfter, IsFaulty, IsFaultless, ReadsWell}
+use Rattle.net_bench.specs.Fault.{NoGateWord, Register, OperandCount, SecondDefinition, Crowded, max_signals, counted_in, has_wrong_operands, redefines, up_to, IsFaultless, ReadsWell}
 use Rattle.net_bench.specs.Sound.{IsSound, has_kind}
 use Rattle.net_bench.proofs.Counting.{counted_all}
 

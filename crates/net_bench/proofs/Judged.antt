@@ -1,6 +1,6 @@
 -- The judge's walk, a token at a time.
 use Rattle.std.proofs.Common.{◌≡◌, ◌≢◌, ◌⊎◌, inl, inr, ℕ, ◌≤◌, List, [], ◌∷◌, ◌++◌, refl, sym, ap, ◌∙◌, subst, length}
-use Rattle.std.specs.Prelude.{Option, Some, None, Result, Ok, Err}
+use Rattle.std.specs.Prelude.{Option, Some, None, Ok, Err}
 use Rattle.net_bench.specs.declared.symbols.SymbolTable.{SymbolTable}
 use Rattle.net_bench.specs.declared.syntax.Part.{Part}
 use Rattle.net_bench.specs.declared.syntax.Part.TheVariants.{Nothing as nothing, First as first_name, Opened as opened, Named as named, Defining as defining, AtWord as at_word, Operands as operands_open, AfterOperand as after_operand, AfterComma as comma_behind}
@@ -13,11 +13,10 @@ use Rattle.net_bench.specs.Text.{Token, End, Tokens}
 use Rattle.net_bench.specs.Statement.{Statement}
 use Rattle.net_bench.specs.Machine.{State, Between, Finished, Failed, step, tokens_of}
 use Rattle.net_bench.specs.Said.{state_of}
-use Rattle.net_bench.specs.Circuit.{distinct}
 use Rattle.net_bench.specs.Fault.{max_signals, max_operands}
 use Rattle.net_bench.specs.Judge.{Found, told, lexical, syntactic, crowded, tests, first_of, unless, judge}
-use Rattle.net_bench.specs.Symbols.{counted_of, operands_of, IsTold, token_tests, Tells}
-use Rattle.net_bench.proofs.Machine.{Goes, go}
+use Rattle.net_bench.specs.Symbols.{IsTold, token_tests, Tells}
+use Rattle.net_bench.proofs.Machine.{go}
 use Rattle.net_bench.proofs.Telling.{skip, roomy, tells_misplaced}
 
 -- ---- one step

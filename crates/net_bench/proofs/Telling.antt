@@ -1,20 +1,19 @@
 -- The judge's tests of a token, by states and by the symbol table.
-use Rattle.std.proofs.Common.{◌≡◌, ◌≢◌, ◌⊎◌, inl, inr, ℕ, ◌+◌, ◌<◌, ◌≤◌, List, [], ◌∷◌, ◌++◌, Bool, true, false, refl, sym, ap, ◌∙◌, subst, map, length, arith}
-use Rattle.std.specs.Prelude.{◌||◌, if◌then◌else◌, cond, nat_lt, flat_map, fold, Option, Some, None, option_map, Result, Ok, Err}
+use Rattle.std.proofs.Common.{◌≡◌, ◌≢◌, ◌⊎◌, inl, inr, ℕ, ◌+◌, ◌<◌, ◌≤◌, List, [], ◌∷◌, ◌++◌, Bool, true, false, refl, sym, ap, ◌∙◌, subst, length, arith}
+use Rattle.std.specs.Prelude.{◌||◌, if◌then◌else◌, cond, nat_lt, flat_map, fold, Option, Some, None, option_map}
 use Rattle.std.specs.List.{list_any}
 use Rattle.std.proofs.lemmas.List.Sums.{fold-append}
 use Rattle.net_bench.specs.declared.symbols.SymbolTable.{SymbolTable}
 use Rattle.net_bench.specs.declared.syntax.Part.{Part}
-use Rattle.net_bench.specs.declared.syntax.Next.{Next}
 use Rattle.net_bench.specs.declared.netlist.BenchFault.{BenchFault}
 use Rattle.net_bench.specs.declared.netlist.BenchFault.TheVariants.{BadStatement, TooMany, OutOfMemory}
-use Rattle.net_bench.specs.Text.{Word, Token, Name, Unknown, End, Tokens}
+use Rattle.net_bench.specs.Text.{Token}
 use Rattle.net_bench.specs.Statement.{Statement, input_name, output_name, gate_name, defined, line_of}
-use Rattle.net_bench.specs.Machine.{State, Between, Finished, Failed, step, tokens_of, IsRight}
+use Rattle.net_bench.specs.Machine.{State, Between, Failed, step, tokens_of, IsRight}
 use Rattle.net_bench.specs.Said.{state_of}
 use Rattle.net_bench.specs.Circuit.{is_name_in, with_name, distinct}
 use Rattle.net_bench.specs.Fault.{Cause, Misplaced, OperandCount, SecondDefinition, Crowded, max_signals, max_operands, counted_in, operands_in, has_wrong_operands, redefines, is_among}
-use Rattle.net_bench.specs.Judge.{Found, told, lexical, syntactic, gate_word, closed, wrong_count, second, crowded, tests, first_of, unless, judge}
+use Rattle.net_bench.specs.Judge.{Found, told, lexical, syntactic, gate_word, closed, wrong_count, second, crowded, first_of}
 use Rattle.net_bench.specs.Symbols.{counted_of, operands_of, newest, newest_operands, IsTold, CountsMore, IsOver, IsCrowding, defining, redefines_by, statement_fault, token_tests, Tells}
 use Rattle.net_bench.proofs.Machine.{Goes, go}
 use Rattle.net_bench.proofs.Numbers.{in_distinct}

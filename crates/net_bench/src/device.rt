@@ -1,13 +1,25 @@
 //! What a text comes from, and what a report goes to.
-ghost use Rattle.std.specs.Prelude.{◌≡◌, ℕ, ◌<◌, ◌≤◌, ◌^◌, ◌||◌, Bool, false, List, length, Option, IfOk, IfSome, IsTrue, is_err, Err};
+ghost use Rattle.std.specs.Prelude.{◌≡◌, ℕ, ◌+◌, ◌<◌, ◌≤◌, ◌^◌, ◌||◌, Bool, false, List, length, Option, IfOk, IfSome, IsTrue, is_err, Err, Some};
 ghost use Rattle.std.specs.Io.KnownBytes.{ReadConsumes, WriteAppends, Keeps};
+ghost use Rattle.net_bench.specs.Devices.{TakesAtMost, failed_text, text_fault_text};
 
-use std::alloc::{AllocError, Global};
+use std::alloc::Global;
+use std::fmt;
 use std::io::{Read, Write};
+use std::marker::Model;
+use thiserror::Error;
 
 /// The device has failed.
-#[derive(Clone, Copy, Debug, PartialEq, Eq)]
+#[derive(Clone, Copy, Debug, PartialEq, Eq, Error)]
 pub struct Failed;
+
+impl fmt::Display for Failed {
+    ghost output = { λ _. Some failed_text };
+
+    fn fmt<W: fmt::Write>(&self, f: &mut fmt::Formatter<W>) -> fmt::Result {
+        write!(f, "the device has failed")
+    }
+}
 
 /// Something that bytes are read from. A read that answers `Failed` gives no bytes.
 pub trait Source {
@@ -49,11 +61,18 @@ pub struct Through<T> {
     failed: bool,
 }
 
+impl<T> Model for Through<T> {
+    ghost use Rattle.std.specs.Prelude.{Bool};
+
+    ghost Value = { T × Bool };
+
+    ghost view = { λ d. (d.inner, d.failed) };
+}
+
 impl<T> Through<T> {
-    /// It has not failed yet.
+    /// The device over this reader or writer. It has not failed yet.
     pub fn new(inner: T) -> Through<T>
-        ensures inner { result.inner ≡ inner }
-        ensures fresh { result.failed ≡ false }
+        ensures fresh { result ≡ (inner, false) }
     {
         Through {
             inner,
@@ -63,9 +82,9 @@ impl<T> Through<T> {
 }
 
 impl<T: Read> Source for Through<T> {
-    ghost remaining = { λ d. T.remaining d.inner };
+    ghost remaining = { λ d. T.remaining d.0 };
 
-    ghost has_failed = { λ d. d.failed };
+    ghost has_failed = { λ d. d.1 };
 
     fn read(&mut self, buf: &mut [u8]) -> Result<usize, Failed> {
         match self.inner.read(buf) {
@@ -79,9 +98,9 @@ impl<T: Read> Source for Through<T> {
 }
 
 impl<T: Write> Sink for Through<T> {
-    ghost contents = { λ d. T.contents d.inner };
+    ghost contents = { λ d. T.contents d.0 };
 
-    ghost has_failed = { λ d. d.failed };
+    ghost has_failed = { λ d. d.1 };
 
     fn write(&mut self, bytes: &[u8]) -> Result<usize, Failed> {
         match self.inner.write(bytes) {
@@ -105,7 +124,7 @@ impl<T: Write> Sink for Through<T> {
 }
 
 /// Why no text was read.
-#[derive(Clone, Copy, Debug, PartialEq, Eq)]
+#[derive(Clone, Copy, Debug, PartialEq, Eq, Error)]
 pub enum TextFault {
     /// The device failed.
     Read,
@@ -113,6 +132,18 @@ pub enum TextFault {
     TooLong,
     /// A growth was refused.
     OutOfMemory,
+}
+
+impl fmt::Display for TextFault {
+    ghost output = { λ f. Some (text_fault_text f) };
+
+    fn fmt<W: fmt::Write>(&self, f: &mut fmt::Formatter<W>) -> fmt::Result {
+        match self {
+            TextFault::Read => write!(f, "cannot be read"),
+            TextFault::TooLong => write!(f, "too long"),
+            TextFault::OutOfMemory => write!(f, "out of memory"),
+        }
+    }
 }
 
 /// The most bytes that are asked for at once.
@@ -128,6 +159,7 @@ pub fn read_text<R: Source>(
     ensures whole { IfOk result (λ v. IfSome (R.remaining device.old) (λ told. v.items ≡ told)) }
     ensures within { IfOk result (λ v. length v.items ≤ limit) }
     ensures long { result ≡ Err TextFault.TooLong → IfSome (R.remaining device.old) (λ told. limit < length told) }
+    ensures taken { TakesAtMost (limit + 1) (R.remaining device.old) (R.remaining device.new) }
     ensures read { result ≡ Err TextFault.Read → IsTrue (R.has_failed device.new) }
     ensures kept { (result ≡ Err TextFault.Read → ⊥) → R.has_failed device.new ≡ R.has_failed device.old }
 {

@@ -13,5 +13,3 @@ pub mod reader;
 pub mod scan;
 mod symbols;
 mod syntax;
-#[cfg(test)]
-mod tests;

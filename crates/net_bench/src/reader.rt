@@ -1,7 +1,8 @@
 //! The netlist of a text.
-ghost use Rattle.std.specs.Prelude.{◌≡◌, ◌<◌, ◌⊎◌, length, IfOk, IfErr, IfSome, IsTrue, slice_index, slice_get, Some, Err};
+ghost use Rattle.std.specs.Prelude.{◌≡◌, ◌+◌, ◌<◌, ◌⊎◌, length, IfOk, IfErr, IfSome, IsTrue, slice_index, slice_get, Some, Err};
 ghost use Rattle.net_bench.specs.Circuit.{circuit, circuit_of, find, IsNet, AreRanks};
-ghost use Rattle.net_bench.specs.Fault.{IsRefused, MakesNetlist};
+ghost use Rattle.net_bench.specs.Fault.{IsRefused, MakesNetlist, max_text};
+ghost use Rattle.net_bench.specs.Devices.{TakesAtMost};
 ghost use Rattle.net_bench.specs.Said.{statements_of};
 ghost use Rattle.net_bench.specs.Sound.{IsSound, AreDefined, IsLate};
 ghost use Rattle.net_bench.specs.Machine.{Between};
@@ -209,6 +210,8 @@ pub fn read_bench<R: Source>(alloc: Global, device: &mut R) -> Result<Netlist, B
     ensures accepted { IfOk result (λ net. IfSome (R.remaining device.old) (λ text. MakesNetlist text (circuit net))) }
     ensures refused { IfErr result (λ fault. (fault ≡ BenchFault.OutOfMemory) ⊎ (fault ≡ BenchFault.Read) ⊎
         IfSome (R.remaining device.old) (λ text. IsRefused text fault)) }
+    // At most one byte more than a text may have is taken.
+    ensures taken { TakesAtMost (max_text + 1) (R.remaining device.old) (R.remaining device.new) }
     // Read says that the device has failed, and nothing else does.
     ensures read { result ≡ Err BenchFault.Read → IsTrue (R.has_failed device.new) }
     ensures kept { (result ≡ Err BenchFault.Read → ⊥) → R.has_failed device.new ≡ R.has_failed device.old }

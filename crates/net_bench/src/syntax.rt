@@ -1,6 +1,6 @@
 // The statements of a text, as they are spelled, and the parts of a statement.
-ghost use Rattle.std.specs.Prelude.{◌≡◌, ◌≢◌, ◌⊎◌, List, IfOk, IfErr};
-ghost use Rattle.net_bench.specs.Text.{End};
+ghost use Rattle.std.specs.Prelude.{◌≡◌, ◌≢◌, ◌⊎◌, List, [], ◌∷◌, ◌++◌, None, IfOk, IfErr};
+ghost use Rattle.net_bench.specs.Text.{Name, End};
 ghost use Rattle.net_bench.specs.Said.{word_of, statement_of, state_of, next_state, closing};
 ghost use Rattle.net_bench.specs.Scan.{seen};
 ghost use Rattle.net_bench.specs.Statement.{Statement, line_of};
@@ -10,7 +10,7 @@ ghost use Rattle.net_bench.specs.declared.netlist.BenchFault.TheVariants.{BadSta
 
 use crate::netlist::BenchFault;
 use crate::scan::Token;
-use std::alloc::Global;
+use std::alloc::{AllocError, Global};
 
 /// A name of the text, and its line.
 #[derive(Clone, Copy)]
@@ -93,6 +93,50 @@ pub enum Next<'a> {
     Whole(Said<'a>),
 }
 
+/// The gate with one operand more.
+fn with_operand<'a>(gate: SaidGate<'a>, operand: Word<'a>) -> Result<SaidGate<'a>, AllocError>
+    ensures { IfOk result (λ g. (g.out ≡ gate.entry.out) × (g.word ≡ gate.entry.word) × (g.first ≡ gate.entry.first) × (g.others.items ≡ gate.entry.others.items ++ operand.entry ∷ [])) }
+{
+    let SaidGate {
+        out,
+        word,
+        first,
+        mut others,
+    } = gate;
+    others.push(operand)?;
+    Ok(SaidGate {
+        out,
+        word,
+        first,
+        others,
+    })
+}
+
+/// What a name makes of a part of a statement.
+fn next_name<'a>(alloc: Global, part: Part<'a>, name: Word<'a>) -> Result<Part<'a>, BenchFault>
+    ensures step { IfOk result (λ p. (done : List Statement) → state_of done p ≡ step (state_of done part.entry) (Name (word_of name.entry))) }
+    ensures closed { IfOk result (λ p. (done : List Statement) → closed (state_of done part.entry) (Name (word_of name.entry)) ≡ None) }
+    ensures broken { IfErr result (λ e. (e ≡ BenchFault.OutOfMemory) ⊎
+        ((e ≡ BadStatement name.entry.line) × ((done : List Statement) → step (state_of done part.entry) (Name (word_of name.entry)) ≡ Failed))) }
+{
+    match part {
+        Part::Nothing => Ok(Part::First { word: name }),
+        Part::Opened { word } => Ok(Part::Named { word, name }),
+        Part::Defining { out } => Ok(Part::AtWord { out, word: name }),
+        Part::Operands { out, word } => Ok(Part::AfterOperand(SaidGate {
+            out,
+            word,
+            first: name,
+            others: Vec::new(alloc),
+        })),
+        Part::AfterComma(gate) => match with_operand(gate, name) {
+            Ok(gate) => Ok(Part::AfterOperand(gate)),
+            Err(_) => Err(BenchFault::OutOfMemory),
+        },
+        _ => Err(BenchFault::BadStatement { line: name.line }),
+    }
+}
+
 /// What one more token, which is not the end, makes of a part of a statement.
 pub fn next_part<'a>(
     alloc: Global,
@@ -107,50 +151,18 @@ pub fn next_part<'a>(
         ((e ≡ BadStatement line) × ((done : List Statement) → step (state_of done part.entry) (seen line token.entry) ≡ Failed))) }
 {
     match (part, token) {
-        (Part::Nothing, Token::Name(text)) => Ok(Next::More(Part::First {
-            word: Word { line, text },
-        })),
+        (part, Token::Name(text)) => match next_name(alloc, part, Word { line, text }) {
+            Ok(part) => Ok(Next::More(part)),
+            Err(fault) => Err(fault),
+        },
         (Part::First { word }, Token::Equals) => Ok(Next::More(Part::Defining { out: word })),
         (Part::First { word }, Token::Open) if is_input(word) || is_output(word) => Ok(Next::More(
             Part::Opened { word },
         )),
-        (Part::Opened { word }, Token::Name(text)) => Ok(Next::More(Part::Named {
-            word,
-            name: Word { line, text },
-        })),
         (Part::Named { word, name }, Token::Close) => Ok(Next::Whole(port(word, name))),
-        (Part::Defining { out }, Token::Name(text)) => Ok(Next::More(Part::AtWord {
-            out,
-            word: Word { line, text },
-        })),
         (Part::AtWord { out, word }, Token::Open) => Ok(Next::More(Part::Operands { out, word })),
-        (Part::Operands { out, word }, Token::Name(text)) => Ok(Next::More(Part::AfterOperand(
-            SaidGate {
-                out,
-                word,
-                first: Word { line, text },
-                others: Vec::new(alloc),
-            },
-        ))),
         (Part::AfterOperand(gate), Token::Comma) => Ok(Next::More(Part::AfterComma(gate))),
         (Part::AfterOperand(gate), Token::Close) => Ok(Next::Whole(Said::Gate(gate))),
-        (Part::AfterComma(gate), Token::Name(text)) => {
-            let SaidGate {
-                out,
-                word,
-                first,
-                mut others,
-            } = gate;
-            match others.push(Word { line, text }) {
-                Ok(()) => Ok(Next::More(Part::AfterOperand(SaidGate {
-                    out,
-                    word,
-                    first,
-                    others,
-                }))),
-                Err(_) => Err(BenchFault::OutOfMemory),
-            }
-        }
         _ => Err(BenchFault::BadStatement { line }),
     }
 }

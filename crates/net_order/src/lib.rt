@@ -9,7 +9,5 @@ pub mod order_file;
 mod outputs;
 pub mod pairing;
 mod partners;
-#[cfg(test)]
-mod tests;
 mod variables;
 mod walk;

@@ -1,5 +1,7 @@
 //! Order files: the names of variables, from the top level down.
-ghost use Rattle.std.specs.Prelude.{◌≡◌, ◌≤◌, ◌⊎◌, ◌∷◌, ◌++◌, ℕ, [], length, map, IfOk, IfErr, IfSome, OnOk, IsTrue, MatchOption, Some, None, Err};
+ghost use Rattle.std.specs.Prelude.{◌≡◌, ◌+◌, ◌≤◌, ◌⊎◌, ◌∷◌, ◌++◌, ℕ, [], length, map, IfOk, IfErr, IfSome, OnOk, IsTrue, MatchOption, Some, None, Err};
+ghost use Rattle.net_bench.specs.Devices.{TakesAtMost};
+ghost use Rattle.net_bench.specs.Fault.{max_text};
 ghost use Rattle.net_bench.specs.Scan.{seen};
 ghost use Rattle.net_order.specs.OrderText.{IsBadText, IsOrderText, IsReadFault, listed_name};
 
@@ -9,8 +11,10 @@ use net_bench::device::{Source, TextFault, read_text};
 use net_bench::scan::{Scanner, Token};
 use std::alloc::{AllocError, Global};
 
+/// The most bytes of an order file.
 const MAX_TEXT: usize = 67_108_864;
 
+/// The most bytes of a name.
 const MAX_NAME: usize = 255;
 
 /// The name that a token of an order file is.
@@ -64,6 +68,8 @@ pub fn read_order<R: Source>(alloc: Global, device: &mut R) -> Result<Names, Ord
     ensures refused { IfErr result (λ fault. (fault ≡ OrderFault.OutOfMemory) ⊎ (fault ≡ OrderFault.Read) ⊎
         IfSome (R.remaining device.old) (λ text. IsBadText text fault)) }
     ensures reading { IfErr result IsReadFault }
+    // At most one byte more than an order file may have is taken.
+    ensures taken { TakesAtMost (max_text + 1) (R.remaining device.old) (R.remaining device.new) }
     // Read says that the device has failed, and nothing else does.
     ensures read { result ≡ Err OrderFault.Read → IsTrue (R.has_failed device.new) }
     ensures kept { (result ≡ Err OrderFault.Read → ⊥) → R.has_failed device.new ≡ R.has_failed device.old }

@@ -12,6 +12,7 @@ use net_bench::netlist::Signal;
 use net_bench::reader::Netlist;
 use std::alloc::Global;
 
+/// The most variables.
 const MAX_VARIABLES: usize = 4_096;
 
 /// Puts the signals' names into the table, each where it is not there yet.

@@ -1,4 +1,4 @@
-use Rattle.std.proofs.Common.{◌≡◌, [], sym, subst}
+use Rattle.std.proofs.Common.{◌≡◌, [], subst}
 use Rattle.net_bench.specs.Pieces.{tokens_at}
 use Rattle.net_bench.specs.Machine.{Between, tokens_of}
 use Rattle.net_bench.specs.Scan.{seen}

@@ -1,4 +1,4 @@
-use Rattle.std.proofs.Common.{◌≡◌, ◌∙◌, ◌⊎◌, inl, inr, sym, ap, subst}
+use Rattle.std.proofs.Common.{◌∙◌, inl, inr, sym, ap, subst}
 use Rattle.net_bench.specs.Scan.{seen}
 use Rattle.net_bench.specs.Said.{statement_of, statements_of, state_of, next_state, closing}
 use Rattle.net_bench.specs.Machine.{Between}

@@ -1,13 +1,13 @@
-//! Orders and pairings of small netlists, order files, and the texts of the faults.
+// Orders and pairings of small netlists, order files, and the texts of the faults.
 ghost use Rattle.std.specs.Prelude.{None};
 
-use super::names::Names;
-use super::order::{Match, Order, OrderFault};
-use super::order_file::read_order;
-use super::pairing::{Pairing, pair};
 use net_bench::device::{Failed, Source, Through};
 use net_bench::netlist::Signal;
 use net_bench::reader::{Netlist, parse_bench};
+use net_order::names::Names;
+use net_order::order::{Match, Order, OrderFault};
+use net_order::order_file::read_order;
+use net_order::pairing::{Pairing, pair};
 use std::alloc::{AllocError, Global};
 use std::test::Fail;
 

@@ -1,10 +1,10 @@
-// What no contract says: the worked texts, the printed faults, and that each call succeeds with ample memory.
+// Of the reader, what no contract says: the worked texts, the printed faults, and that each call succeeds with ample memory.
 ghost use Rattle.std.specs.Prelude.{None, Some};
 
-use crate::device::{Failed, Sink, Source, Through};
-use crate::name_table::NameTable;
-use crate::netlist::{BenchFault, Kind, Signal};
-use crate::reader::{Netlist, parse_bench, read_bench};
+use net_bench::device::{Failed, Sink, Source, Through};
+use net_bench::name_table::NameTable;
+use net_bench::netlist::{BenchFault, Kind, Signal};
+use net_bench::reader::{Netlist, parse_bench, read_bench};
 use std::alloc::{AllocError, Global};
 use std::test::Fail;
 

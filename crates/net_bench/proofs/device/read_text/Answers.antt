@@ -1,0 +1,12 @@
+use Rattle.std.proofs.Common.{◌++◌, take, arith}
+use Rattle.std.proofs.KnownBytes.{Consumes-trans}
+use Rattle.std.proofs.lemmas.Grind.{common_steps}
+use Rattle.net_bench.proofs.device.read_text.Goals as goal
+
+-- what came before, and what this read has given
+pub returns-then-is_err-clause-taken : goal.returns-then-is_err-clause-taken
+returns-then-is_err-clause-taken g c = (
+  c.loop-chunk.text.items ++ take c.in-Ok.taken c.read.new.buf,
+  Consumes-trans _ _ _ _ _ c.loop-chunk.invariant.bytes c.in-Ok.ensures.bytes.0,
+  grind (arith, common_steps),
+)

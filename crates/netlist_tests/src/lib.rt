@@ -1,0 +1,7 @@
+//! Tests of the reader and of the orders, by their public calls. They stand apart, since a crate with tests is proved twice.
+#![tactic(auto)]
+
+#[cfg(test)]
+mod netlists;
+#[cfg(test)]
+mod pairings;
