@@ -1,5 +1,7 @@
+pub mod Counted
 pub mod Folding
 pub mod Lists
+pub mod Needed
 pub mod Needs
 pub mod Pairs
 pub mod Picking

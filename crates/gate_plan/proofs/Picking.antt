@@ -11,7 +11,7 @@ use Rattle.net_bench.specs.Labels.{is_complemented}
 use Rattle.req_table.specs.declared.Op.TheVariants as ops
 use Rattle.gate_plan.specs.declared.steps.Step.{Step}
 use Rattle.gate_plan.specs.declared.steps.Copied.{Copied}
-use Rattle.gate_plan.specs.Plans.{RankSteps, IsPlan, rank_at, steps_at, rank_of, step_of, step_at, copy_of, folds_of, op_at, operand_at, plan_steps, plan_copies, plan_folds}
+use Rattle.gate_plan.specs.Plans.{RankSteps, IsPlan, rank_of, step_of, step_at, copy_of, folds_of, op_at, operand_at, plan_steps, plan_copies, plan_folds}
 use Rattle.gate_plan.specs.Building.{IsStepBelow, IsCopyBelow}
 use Rattle.gate_plan.proofs.Lists.{same_number, lt_or_le}
 use Rattle.gate_plan.proofs.Ranks.{any_default, out_below, operand_below, some_operand}

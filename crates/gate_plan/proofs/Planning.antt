@@ -1,5 +1,5 @@
 -- The plan of more and more gates.
-use Rattle.std.proofs.Common.{◌≡◌, ◌≢◌, ℕ, zero, suc, ◌+◌, ◌-◌, ◌<◌, ◌≤◌, ◌==◌, Bool, true, false, cond, List, [], ◌∷◌, ◌++◌, length, map, get_or, take, max, min, nat_lt, nat_le, Option, Some, None, ◌⊎◌, inl, inr, set, replicate, refl, sym, ◌∙◌, ap, subst, arith, eq-eqb, append_assoc}
+use Rattle.std.proofs.Common.{◌≡◌, ◌≢◌, ℕ, ◌+◌, ◌-◌, ◌<◌, ◌≤◌, ◌==◌, Bool, true, false, cond, List, [], ◌∷◌, ◌++◌, length, map, get_or, max, min, nat_lt, Option, Some, None, ◌⊎◌, inl, inr, set, replicate, refl, sym, ◌∙◌, ap, subst, arith, eq-eqb, append_assoc}
 use Rattle.std.specs.Prelude.{flat_map}
 use Rattle.std.specs.Option.{option_map_or}
 use Rattle.std.proofs.lemmas.List.{append-nil, map-append, get_or-set_same, get_or-set_other, get_or-replicate, get_or_past, length-set, length-replicate}
@@ -9,7 +9,6 @@ use Rattle.std.proofs.lemmas.Bool.Decides.{nat_tests}
 use Rattle.net_bench.specs.declared.netlist.GateLine.{GateLine}
 use Rattle.net_bench.specs.Circuit.{Net, greatest}
 use Rattle.gate_plan.specs.declared.steps.Step.{Step}
-use Rattle.gate_plan.specs.declared.steps.Copied.{Copied}
 use Rattle.gate_plan.specs.Plans.{RankSteps, AddsAt, AddsSteps, AddsGate, Plans, fold_at, rank_at, steps_at, no_steps, rank_of, step_of, step_at, steps_of, copies_of, folds_of, plan_steps, plan_copies, plan_folds}
 use Rattle.gate_plan.proofs.Lists.{same_number, lt_or_le}
 

@@ -1,13 +1,13 @@
 -- The gates of a netlist and their ranks.
-use Rattle.std.proofs.Common.{◌≡◌, ◌≢◌, ℕ, zero, suc, ◌+◌, ◌<◌, ◌≤◌, List, [], ◌∷◌, length, map, get_or, refl, sym, ◌∙◌, ap, subst, arith, ◌⊎◌, inl, inr}
-use Rattle.std.specs.Prelude.{Contains, All, slice_index, slice_index_or, IsTrue}
+use Rattle.std.proofs.Common.{◌≡◌, ℕ, zero, suc, ◌+◌, ◌<◌, ◌≤◌, List, [], ◌∷◌, length, map, get_or, refl, sym, ◌∙◌, ap, subst, arith, ◌⊎◌, inl, inr}
+use Rattle.std.specs.Prelude.{Contains, All, slice_index, IsTrue}
 use Rattle.net_bench.specs.declared.netlist.GateLine.{GateLine}
 use Rattle.net_bench.specs.Statement.{takes_one}
-use Rattle.net_bench.specs.Circuit.{Net, circuit, IsNet, greatest, IsDefined}
+use Rattle.net_bench.specs.Circuit.{Net, circuit, IsNet, greatest}
 use Rattle.net_bench.proofs.OneLabelling.{at_contained}
 use Rattle.net_bench.proofs.Chains.{greatest_above, lower}
 use Rattle.gate_plan.specs.Plans.{rank_of}
-use Rattle.gate_plan.proofs.Lists.{lt_or_le, same_number}
+use Rattle.gate_plan.proofs.Lists.{lt_or_le}
 
 -- within a list the default does not matter
 pub any_default : {X : Type 0} (xs : List X) (i : ℕ) (c d : X) → i < length xs → get_or xs i c ≡ get_or xs i d

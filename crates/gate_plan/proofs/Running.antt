@@ -1,7 +1,6 @@
 -- One fold of a rank takes each gate's value so far to the next, and the copies and folds of a rank make its gates right.
-use Rattle.std.proofs.Common.{◌≡◌, ◌≢◌, ℕ, zero, suc, ◌+◌, ◌-◌, ◌*◌, ◌<◌, ◌≤◌, ◌==◌, ◌&&◌, ◌⊎◌, inl, inr, Bool, true, false, not, cond, min, List, [], ◌∷◌, ◌++◌, length, map, take, drop, get_or, Option, Some, None, refl, sym, ◌∙◌, ap, subst, arith, eq-eqb}
+use Rattle.std.proofs.Common.{◌≡◌, ◌≢◌, ℕ, zero, suc, ◌+◌, ◌-◌, ◌<◌, ◌≤◌, ◌==◌, ◌&&◌, ◌⊎◌, inl, inr, Bool, true, false, not, cond, min, List, [], ◌∷◌, ◌++◌, length, map, take, drop, get_or, Some, None, refl, sym, ◌∙◌, ap, subst, arith, eq-eqb}
 use Rattle.std.specs.Prelude.{Contains, All, slice_index, unwrap_or}
-use Rattle.std.specs.List.{AllZip}
 use Rattle.std.proofs.lemmas.List.{length-map, length-append, get_or_past}
 use Rattle.std.proofs.lemmas.List.Elements.{Contains-append_cases}
 use Rattle.std.proofs.lemmas.Slice.Zip.{AllZip-long}
@@ -24,13 +23,14 @@ use Rattle.req_table.specs.Short.{op_value}
 use Rattle.reduce_up.specs.Waves.{entry_value, IsEntry, AnswersEach}
 use Rattle.gate_plan.specs.declared.steps.Step.{Step}
 use Rattle.gate_plan.specs.declared.steps.Copied.{Copied}
-use Rattle.gate_plan.specs.Folds.{value_so_far, plain_step, last_step, step_at as bit_step}
+use Rattle.gate_plan.specs.Folds.{IsFoldValue, plain_step, last_step, step_at as bit_step}
 use Rattle.gate_plan.specs.Plans.{plain_op, last_op, op_at, operand_at, folds_of, step_of, step_at, copy_of, rank_of, plan_steps, plan_copies, plan_folds}
-use Rattle.gate_plan.specs.Building.{reference_of, first_operand, entry_of, copied_all, answered_all, Denotes, value_after, AreRight, IsBegun, AreFolded, AreVariables, AreInputs, AreDiagrams, IsCopyBelow, IsStepBelow}
+use Rattle.gate_plan.specs.Building.{Placed, input_level, reference_of, first_operand, entry_of, copied_all, answered_all, Denotes, IsDenoted, value_after, AreRight, IsBegun, AreFolded, AreVariables, AreInputs, AreDiagrams, IsCopyBelow, IsStepBelow}
+use Rattle.gate_plan.specs.Needing.{IsPlacedValue}
 use Rattle.gate_plan.proofs.Folding.{fold_step, fold_start, one_operand, so_far_last}
 use Rattle.gate_plan.proofs.Lists.{same_number, lt_or_le, at_end, before_end}
-use Rattle.gate_plan.proofs.Ranks.{any_default, above_none, input_rank, operand_lower, out_below, some_operand, operand_below, one_gate, rank_top}
-use Rattle.gate_plan.proofs.Picking.{in_picks, has_pick, folds_within, step_is, has_step_of, no_step_of, nand_step, fold_step_of, step_one, step_many, folds_one, folds_many, copy_is, is_copy, among_operands, copies_below, steps_below, all_of}
+use Rattle.gate_plan.proofs.Ranks.{any_default, above_none, input_rank, operand_lower, some_operand, operand_below, one_gate, rank_top}
+use Rattle.gate_plan.proofs.Picking.{in_picks, has_pick, folds_within, step_is, has_step_of, nand_step, fold_step_of, step_one, step_many, folds_one, folds_many, copy_is, is_copy, among_operands, copies_below, steps_below, all_of}
 use Rattle.gate_plan.proofs.Writing.{IsCopiedTo, IsNotCopied, copied_at, length-copied_all, IsAnsweredTo, IsNoStep, answered_at, length-answered_all, zip_at, zip_length, zip_parts}
 
 -- ---- operations as functions of bits
@@ -99,6 +99,12 @@ after_first g bits lt =
     let n : length (map (bit_of bits) g.operands) ≡ length g.operands = length-map g.operands (bit_of bits) in
     fold_start g.kind (map (bit_of bits) g.operands) (omega arith) ∙ map_bit (bit_of bits) g.operands 0 (omega arith)
 
+-- an element of a list of images is an image
+of_map : {A B : Type 0} (f : A → B) (xs : List A) (y : B) → Contains (map f xs) y → (x : A) × Contains xs x × (f x ≡ y)
+of_map f [] y (k, lt, e) = absurd (omega arith)
+of_map f (x ∷ xs) y (zero, lt, e) = (x, (0, omega arith, refl), e)
+of_map f (x ∷ xs) y (suc k, lt, e) = let m = of_map f xs y (k, omega arith, e) in (m.0, (suc m.1.0, (let z = m.1.1 in omega arith), m.1.2), m.2)
+
 -- ---- one netlist
 
 module _ (net : Net) (h : IsNet net) (level : ℕ → ℕ) where
@@ -121,8 +127,10 @@ module _ (net : Net) (h : IsNet net) (level : ℕ → ℕ) where
       each = length-copied_all refs cs ∙ w.each;
       known = λ s. known s (at s);
       below = λ s lt low. below s lt low (at s);
+      values = w.values;
     };
     here = λ g among rank begun. here g among rank begun;
+    values = λ g among rank begun i pos le. values g among rank begun i pos le;
   }
     where
       cs : List Copied
@@ -168,6 +176,13 @@ module _ (net : Net) (h : IsNet net) (level : ℕ → ℕ) where
               ∙ ap (λ b. cond b (not (bit_of bits (operand_at g 0) && bit_of bits (operand_at g 0))) (bit_of bits (operand_at g 0))) (sym plain)
               ∙ sym (after_one g bits one)
               ∙ ap (λ k. value_after g k bits) (let k : 1 ≡ min (0 + 1) (length g.operands) = omega arith in k)
+
+      values : (g : GateLine) → Contains net.gates g → rank_of net g ≡ r → IsBegun g 0 → (i : ℕ) → 0 < i → i ≤ min (0 + 1) (length g.operands) → IsDenoted (circuit net) level S (value_after g i)
+      values g among rank begun i pos le = (
+        reference_of (copied_all refs cs) g.out,
+        known g.out (at g.out),
+        λ x bits hx l. here g among rank begun x bits hx l ∙ ap (λ k. value_after g k bits) (let k : min (0 + 1) (length g.operands) ≡ i = omega arith in k),
+      )
 
   -- what the step of a gate asks for
   step_value : (S : Nodes) (refs : List Ref) (r j : ℕ) → AreFolded net level S refs r j → (g : GateLine) → Contains net.gates g → rank_of net g ≡ r → j < folds_of g →
@@ -218,6 +233,23 @@ module _ (net : Net) (h : IsNet net) (level : ℕ → ℕ) where
               ap (λ b. den S (reference_of refs (unwrap_or (cond b (Some (operand_at g 0)) None) g.out)) x) (ne_eqb j 0 nz)
               ∙ w.here g among rank (inl (omega arith)) x bits hx l ∙ ap (λ k. value_after g k bits) (let k : min (j + 1) (length g.operands) ≡ j + 1 = (let m = n' in omega arith) in k)
 
+  -- a gate whose folds are done has a value
+  begun_after : (g : GateLine) → Contains net.gates g → (j : ℕ) → folds_of g ≤ j → IsBegun g j
+  begun_after g among j le = by (same_number (length g.operands) 1) (is_complemented g.kind) refl
+    where
+      by : Dec (length g.operands ≡ 1) → (b : Bool) → is_complemented g.kind ≡ b → IsBegun g j
+      by (yes e) false c = inr (e, c)
+      by (yes e) true c = inl (let n : folds_of g ≡ 1 = folds_one g e ∙ ap (λ b. cond b 1 0) c in omega arith)
+      by (no ne) b c = inl (let n : folds_of g ≡ length g.operands - 1 = folds_many g ne in let m = some_operand net h g among in omega arith)
+
+  -- and it is the value after all operands
+  all_taken : (g : GateLine) → Contains net.gates g → (j : ℕ) → folds_of g ≤ j → min (j + 1) (length g.operands) ≡ length g.operands
+  all_taken g among j le = by (same_number (length g.operands) 1)
+    where
+      by : Dec (length g.operands ≡ 1) → min (j + 1) (length g.operands) ≡ length g.operands
+      by (yes e) = omega arith
+      by (no ne) = let n : folds_of g ≡ length g.operands - 1 = folds_many g ne in let m = some_operand net h g among in omega arith
+
   pub fold_right : (S T : Nodes) (refs : List Ref) (r j : ℕ) (answers : List Ref) → IsSound S → Keeps S T → AreFolded net level S refs r j →
       AnswersEach S (map (entry_of refs) (plan_steps net net.gates r j)) T answers →
       AreFolded net level T (answered_all refs (plan_steps net net.gates r j) answers) r (j + 1)
@@ -226,8 +258,10 @@ module _ (net : Net) (h : IsNet net) (level : ℕ → ℕ) where
       each = length-answered_all refs ss answers ∙ w.right.each;
       known = λ s. known s (at s);
       below = λ s lt low. below s lt low (at s);
+      values = λ g among low i pos le. still (value_after g i) (w.right.values g among low i pos le);
     };
     here = λ g among rank begun. here g among rank (at g.out) (lt_or_le j (folds_of g));
+    values = λ g among rank begun i pos le. values g among rank i pos le (same_number i (min (j + 1 + 1) (length g.operands))) (lt_or_le 0 j);
   }
     where
       ss : List Step
@@ -290,17 +324,31 @@ module _ (net : Net) (h : IsNet net) (level : ℕ → ℕ) where
           out_of true = refl
           out_of false = refl
       here g among rank (inr u) (inr le) = λ x bits hx l.
-          same_den g.out u.1 x ∙ w.here g among rank (begun (same_number (length g.operands) 1) (is_complemented g.kind) refl) x bits (hx ∙ kept.levels) l
-          ∙ ap (λ k. value_after g k bits) (enough (same_number (length g.operands) 1))
-        where
-          begun : Dec (length g.operands ≡ 1) → (b : Bool) → is_complemented g.kind ≡ b → IsBegun g j
-          begun (yes e) false c = inr (e, c)
-          begun (yes e) true c = inl (let n : folds_of g ≡ 1 = folds_one g e ∙ ap (λ b. cond b 1 0) c in omega arith)
-          begun (no ne) b c = inl (let n : folds_of g ≡ length g.operands - 1 = folds_many g ne in let m = some_operand net h g among in omega arith)
+          same_den g.out u.1 x ∙ w.here g among rank (begun_after g among j le) x bits (hx ∙ kept.levels) l
+          ∙ ap (λ k. value_after g k bits) (let k : min (j + 1) (length g.operands) ≡ min (j + 1 + 1) (length g.operands) = (let e = all_taken g among j le in omega arith) in k)
 
-          enough : Dec (length g.operands ≡ 1) → min (j + 1) (length g.operands) ≡ min (j + 1 + 1) (length g.operands)
-          enough (yes e) = omega arith
-          enough (no ne) = let n : folds_of g ≡ length g.operands - 1 = folds_many g ne in let m = some_operand net h g among in omega arith
+      -- what the store has, the next one has too
+      still : (value : List Bool → Bool) → IsDenoted (circuit net) level S value → IsDenoted (circuit net) level T value
+      still value d = (d.0, kept.has d.0 d.1, λ x bits hx l. kept_den S T sound kept d.0 d.1 x ∙ d.2 x bits (hx ∙ kept.levels) l)
+
+      values : (g : GateLine) → Contains net.gates g → rank_of net g ≡ r → (i : ℕ) → 0 < i → i ≤ min (j + 1 + 1) (length g.operands) → Dec (i ≡ min (j + 1 + 1) (length g.operands)) → (0 < j) ⊎ (j ≤ 0) →
+          IsDenoted (circuit net) level T (value_after g i)
+      values g among rank i pos le (yes e) first = (
+        reference_of new g.out,
+        known g.out (at g.out),
+        λ x bits hx l. here g among rank (at g.out) (lt_or_le j (folds_of g)) x bits hx l ∙ ap (λ k. value_after g k bits) (sym e),
+      )
+      values g among rank i pos le (no ne) (inl lt) = still (value_after g i) (w.values g among rank (inl lt) i pos (omega arith))
+      values g among rank i pos le (no ne) (inr none) =
+          still (value_after g i) (
+            reference_of refs (operand_at g 0),
+            w.right.known (operand_at g 0),
+            λ x bits hx l.
+                let operand = among_operands g 0 (some_operand net h g among) in
+                let lower : slice_index net.ranks (operand_at g 0) < rank_of net g = operand_lower net h g (operand_at g 0) among operand in
+                w.right.below (operand_at g 0) (operand_below net h g (operand_at g 0) among operand) (omega arith) x bits hx l
+                ∙ sym (after_first g bits (omega arith)) ∙ ap (λ k. value_after g k bits) (let k : 1 ≡ i = omega arith in k),
+          )
 
   -- after all folds of a rank its gates denote their labels
   pub rank_right : (S : Nodes) (refs : List Ref) (r j : ℕ) → 0 < r → plan_folds net net.gates r ≤ j → AreFolded net level S refs r j → AreRight net level S refs (r + 1)
@@ -308,6 +356,7 @@ module _ (net : Net) (h : IsNet net) (level : ℕ → ℕ) where
     each = w.right.each;
     known = w.right.known;
     below = λ s lt low. below s lt low (lt_or_le (slice_index net.ranks s) r);
+    values = λ g among low i pos all. values g among low (lt_or_le (rank_of net g) r) i pos all;
   }
     where
       below : (s : ℕ) → s < length net.names → slice_index net.ranks s < r + 1 → (slice_index net.ranks s < r) ⊎ (r ≤ slice_index net.ranks s) → Denotes (circuit net) level S (reference_of refs s) (λ bits. bit_of bits s)
@@ -318,22 +367,21 @@ module _ (net : Net) (h : IsNet net) (level : ℕ → ℕ) where
           by (inl input) = absurd (let e = input_rank net h s input in omega arith)
           by (inr (g, among, out)) = λ x bits hx l.
               let rank : rank_of net g ≡ r = (let e : rank_of net g ≡ slice_index net.ranks s = ap (slice_index net.ranks) out in omega arith) in
-              let few : folds_of g ≤ plan_folds net net.gates r = folds_within net r net.gates g among rank in
+              let few : folds_of g ≤ j = (let f : folds_of g ≤ plan_folds net net.gates r = folds_within net r net.gates g among rank in omega arith) in
               ap (λ z. den S (reference_of refs z) x) (sym out)
-              ∙ w.here g among rank (begun (same_number (length g.operands) 1) (is_complemented g.kind) refl few) x bits hx l
-              ∙ ap (λ k. value_after g k bits) (enough (same_number (length g.operands) 1) few)
+              ∙ w.here g among rank (begun_after g among j few) x bits hx l
+              ∙ ap (λ k. value_after g k bits) (all_taken g among j few)
               ∙ so_far_last g.kind (map (bit_of bits) g.operands) (length g.operands) (sym (length-map g.operands (bit_of bits)))
               ∙ sym (at_contained (λ g. bit_of bits g.out ≡ value_of g.kind (map (bit_of bits) g.operands)) net.gates g l.gates among)
               ∙ ap (bit_of bits) out
-            where
-              begun : Dec (length g.operands ≡ 1) → (b : Bool) → is_complemented g.kind ≡ b → folds_of g ≤ plan_folds net net.gates r → IsBegun g j
-              begun (yes e) false c few = inr (e, c)
-              begun (yes e) true c few = inl (let n : folds_of g ≡ 1 = folds_one g e ∙ ap (λ b. cond b 1 0) c in omega arith)
-              begun (no ne) b c few = inl (let n : folds_of g ≡ length g.operands - 1 = folds_many g ne in let m = some_operand net h g among in omega arith)
 
-              enough : Dec (length g.operands ≡ 1) → folds_of g ≤ plan_folds net net.gates r → min (j + 1) (length g.operands) ≡ length g.operands
-              enough (yes e) few = omega arith
-              enough (no ne) few = let n : folds_of g ≡ length g.operands - 1 = folds_many g ne in let m = some_operand net h g among in omega arith
+      values : (g : GateLine) → Contains net.gates g → rank_of net g < r + 1 → (rank_of net g < r) ⊎ (r ≤ rank_of net g) → (i : ℕ) → 0 < i → i ≤ length g.operands → IsDenoted (circuit net) level S (value_after g i)
+      values g among low (inl deep) i pos all = w.right.values g among deep i pos all
+      values g among low (inr here) i pos all =
+          let rank : rank_of net g ≡ r = omega arith in
+          let few : folds_of g ≤ j = (let f : folds_of g ≤ plan_folds net net.gates r = folds_within net r net.gates g among rank in omega arith) in
+          let most : min (j + 1) (length g.operands) ≡ length g.operands = all_taken g among j few in
+          w.values g among rank (begun_after g among j few) i pos (omega arith)
 
   -- the inputs denote their labels
   pub inputs_right : (S : Nodes) (variables refs : List Ref) → AreVariables S variables → AreInputs net level variables refs → ((s : ℕ) → Contains net.inputs s → level s < length variables) → AreRight net level S refs 1
@@ -341,6 +389,7 @@ module _ (net : Net) (h : IsNet net) (level : ℕ → ℕ) where
     each = w.each;
     known = λ s. known s;
     below = λ s lt low. below s lt low (h.defined s lt);
+    values = λ g among low i pos all. absurd (let p = above_none net h g among in omega arith);
   }
     where
       input : (s : ℕ) → Contains net.inputs s → level s < S.levels
@@ -377,6 +426,32 @@ module _ (net : Net) (h : IsNet net) (level : ℕ → ℕ) where
       low s (inl among) = let e = input_rank net h s among in omega arith
       low s (inr (g, among, out)) = let t = rank_top net g among in let e : rank_of net g ≡ slice_index net.ranks s = ap (slice_index net.ranks) out in omega arith
 
+  -- and the store has all values of all folds
+  pub all_values : (S : Nodes) (refs : List Ref) (r : ℕ) → greatest (map (rank_of net) net.gates) < r → AreRight net level S refs r →
+      (g : GateLine) → Contains net.gates g → (i : ℕ) → 0 < i → i ≤ length g.operands → IsDenoted (circuit net) level S (value_after g i)
+  all_values S refs r past w g among i pos all = w.values g among (let t = rank_top net g among in omega arith) i pos all
+
+  -- what a step asks for is a value of its gate's fold
+  pub asked_value : (S : Nodes) (refs : List Ref) (r j : ℕ) → AreFolded net level S refs r j → (e : Op × Ref × Ref) → Contains (map (entry_of refs) (plan_steps net net.gates r j)) e →
+      IsFoldValue (circuit net) level S.levels (entry_value S e)
+  asked_value S refs r j w e among =
+      let m = of_map (entry_of refs) (plan_steps net net.gates r j) e among in
+      let p = in_picks net r (λ g. step_of g j) net.gates m.0 m.1 in
+      let q = step_is p.0 j m.0 p.3 in
+      let same : entry_of refs (step_at p.0 j) ≡ e = ap (entry_of refs) (sym q.1) ∙ m.2 in
+      let some = some_operand net h p.0 p.1 in (
+        p.0,
+        p.1,
+        (
+          min (j + 1 + 1) (length p.0.operands),
+          omega arith,
+          omega arith,
+          λ x hx.
+              let bits = has_labelling net h level x in
+              (bits.0, bits.1, ap (λ z. entry_value S z x) (sym same) ∙ step_value S refs r j w p.0 p.1 p.2 q.0 x bits.0 hx bits.1),
+        ),
+      )
+
   -- ---- the same, as the code calls them
 
   pub steps_fit : (S : Nodes) (refs given : List Ref) (r j : ℕ) (steps : List Step) → AreFolded net level S refs r j → given ≡ refs → steps ≡ plan_steps net net.gates r j → All (IsStepBelow (length given)) steps
@@ -410,6 +485,17 @@ all_entries S one two ours theirs entries a b e = all_of (IsEntry S) entries (λ
     by : (x : Op × Ref × Ref) → Contains (map (entry_of one) ours) x ⊎ Contains (map (entry_of two) theirs) x → IsEntry S x
     by x (inl c) = known_entries S one ours a x c
     by x (inr c) = known_entries S two theirs b x c
+
+-- and asks for values of the folds of either
+pub all_asked : (one two : Placed) → IsNet one.net → IsNet two.net → (S : Nodes) (first second : List Ref) (r j : ℕ) (ours theirs : List Step) (entries : List (Op × Ref × Ref)) →
+    AreFolded one.net (input_level one) S first r j → AreFolded two.net (input_level two) S second r j → ours ≡ plan_steps one.net one.net.gates r j → theirs ≡ plan_steps two.net two.net.gates r j →
+    entries ≡ map (entry_of first) ours ++ map (entry_of second) theirs → (e : Op × Ref × Ref) → Contains entries e → IsPlacedValue S.levels one two (entry_value S e)
+all_asked one two h k S first second r j ours theirs entries w z a b e x among =
+    by (Contains-append_cases (map (entry_of first) ours) (map (entry_of second) theirs) x (subst (λ z. Contains z x) e among))
+  where
+    by : Contains (map (entry_of first) ours) x ⊎ Contains (map (entry_of second) theirs) x → IsPlacedValue S.levels one two (entry_value S x)
+    by (inl c) = inr (inl (asked_value one.net h (input_level one) S first r j w x (subst (λ ss. Contains (map (entry_of first) ss) x) a c)))
+    by (inr c) = inr (inr (asked_value two.net k (input_level two) S second r j z x (subst (λ ss. Contains (map (entry_of second) ss) x) b c)))
 
 module _ (S T : Nodes) (one two : List Ref) (ours theirs : List Step) (entries : List (Op × Ref × Ref)) (answers : List Ref) (e : entries ≡ map (entry_of one) ours ++ map (entry_of two) theirs) (h : AnswersEach S entries T answers) where
   both : AnswersEach S (map (entry_of one) ours ++ map (entry_of two) theirs) T answers
@@ -449,6 +535,14 @@ variable_next S T vs new level r sound kept n e has value had bits v lt = by (lt
         let same : v ≡ level = omega arith in
         let at : reference_of new v ≡ r = ap (λ z. get_or z v False) e ∙ ap (λ z. get_or (vs ++ r ∷ []) z False) (same ∙ sym n) ∙ at_end vs r False in
         (subst (Has T) (sym at) has, λ x. ap (λ z. den T z x) at ∙ value x ∙ ap (bit x) (sym same))
+
+-- a store that keeps the variables has them
+pub variables_kept : (S T : Nodes) (vs : List Ref) → IsSound S → Keeps S T → AreVariables S vs → AreVariables T vs
+variables_kept S T vs sound kept v = record {
+  each = v.each ∙ sym kept.levels;
+  has = λ w lt. kept.has (reference_of vs w) (v.has w (let e = kept.levels in omega arith));
+  bits = λ w lt x. let low : w < S.levels = (let e = kept.levels in omega arith) in kept_den S T sound kept (reference_of vs w) (v.has w low) x ∙ v.bits w low x;
+}
 
 pub inputs_all : (net : Net) (level : ℕ → ℕ) (variables refs : List Ref) (items : List ℕ) (i : ℕ) → items ≡ net.inputs → length items ≤ i → i ≤ length items → length refs ≡ length net.names →
     ((k : ℕ) → k < i → reference_of refs (get_or items k 0) ≡ reference_of variables (level (get_or items k 0))) →

@@ -1,5 +1,5 @@
 -- What is built of two netlists: for each signal a reference that denotes its function.
-use Rattle.std.specs.Prelude.{◌≡◌, ℕ, ◌+◌, ◌<◌, ◌⊎◌, Bool, false, List, [], ◌∷◌, map, length, min, unwrap_or, slice_index, slice_index_or, slice_set, Contains}
+use Rattle.std.specs.Prelude.{◌≡◌, ℕ, ◌+◌, ◌<◌, ◌≤◌, ◌⊎◌, Bool, false, List, [], ◌∷◌, map, length, min, unwrap_or, slice_index, slice_index_or, slice_set, Contains}
 use Rattle.dd_store.specs.declared.StoreFault.{StoreFault}
 use Rattle.dd_store.specs.declared.StoreFault.TheVariants as store_faults
 use Rattle.dd_store.specs.declared.reference.Ref.{Ref}
@@ -21,12 +21,19 @@ use Rattle.gate_plan.specs.declared.inputs.Which.TheVariants.{First, Second}
 use Rattle.gate_plan.specs.declared.steps.Step.{Step}
 use Rattle.gate_plan.specs.declared.steps.Copied.{Copied}
 use Rattle.gate_plan.specs.Folds.{value_so_far}
-use Rattle.gate_plan.specs.Plans.{rank_of}
+use Rattle.gate_plan.specs.Plans.{rank_of, RankSteps}
 
 -- a reference for each signal of the first and of the second netlist
 pub record References : Type 0 where
   pub first : List Ref
   pub second : List Ref
+
+-- one of the two netlists of a pairing, with the plan of its gates
+pub record Placed : Type 0 where
+  pub net : Net
+  pub which : Which
+  pub pairing : Paired
+  pub plan : List RankSteps
 
 -- p is the pairing of the two netlists for some way of matching and some order
 abbrev pub IsPaired : Circuit → Circuit → Paired → Type 0
@@ -44,6 +51,10 @@ second_level p s = slice_index p.second s
 abbrev pub level_in : Which → Paired → ℕ → ℕ
 level_in First p s = first_level p s
 level_in Second p s = second_level p s
+
+-- the level of an input of a netlist of a pairing
+abbrev pub input_level : Placed → ℕ → ℕ
+input_level one s = level_in one.which one.pairing s
 
 -- the reference of a signal
 abbrev pub reference_of : List Ref → ℕ → Ref
@@ -104,22 +115,29 @@ pub record AreInputs (net : Net) (level : ℕ → ℕ) (variables refs : List Re
 abbrev pub Denotes : Circuit → (ℕ → ℕ) → Nodes → Ref → (List Bool → Bool) → Type 0
 Denotes c level S r value = (x bits : List Bool) → length x ≡ S.levels → IsLabelling c level x bits → den S r x ≡ value bits
 
+-- some reference denotes at each assignment what `value` says of the labels
+abbrev pub IsDenoted : Circuit → (ℕ → ℕ) → Nodes → (List Bool → Bool) → Type 0
+IsDenoted c level S value = (r : Ref) × Has S r × Denotes c level S r value
+
 -- the value of a gate after its first i operands, by the labels of the operands
 abbrev pub value_after : GateLine → ℕ → List Bool → Bool
 value_after g i bits = value_so_far g.kind (map (bit_of bits) g.operands) i
 
--- the signals of the ranks below this one denote their labels
+-- the signals of the ranks below this one denote their labels, and the store has all values of their gates' folds
 pub record AreRight (net : Net) (level : ℕ → ℕ) (S : Nodes) (refs : List Ref) (rank : ℕ) : Type 0 where
   pub each : length refs ≡ length net.names
   pub known : (s : ℕ) → Has S (reference_of refs s)
   pub below : (s : ℕ) → s < length net.names → slice_index net.ranks s < rank → Denotes (circuit net) level S (reference_of refs s) (λ bits. bit_of bits s)
+  pub values : (g : GateLine) → Contains net.gates g → rank_of net g < rank → (i : ℕ) → 0 < i → i ≤ length g.operands → IsDenoted (circuit net) level S (value_after g i)
 
 -- a gate has a value after so many folds: after none only if it is a copy
 abbrev pub IsBegun : GateLine → ℕ → Type 0
 IsBegun g fold = (0 < fold) ⊎ ((length g.operands ≡ 1) × (is_complemented g.kind ≡ false))
 
--- and each gate of this rank denotes its value after so many folds
+-- and each gate of this rank denotes its value after so many folds, and the store has all values up to that one
 pub record AreFolded (net : Net) (level : ℕ → ℕ) (S : Nodes) (refs : List Ref) (rank fold : ℕ) : Type 0 where
   pub right : AreRight net level S refs rank
   pub here : (g : GateLine) → Contains net.gates g → rank_of net g ≡ rank → IsBegun g fold →
       Denotes (circuit net) level S (reference_of refs g.out) (value_after g (min (fold + 1) (length g.operands)))
+  pub values : (g : GateLine) → Contains net.gates g → rank_of net g ≡ rank → IsBegun g fold →
+      (i : ℕ) → 0 < i → i ≤ min (fold + 1) (length g.operands) → IsDenoted (circuit net) level S (value_after g i)

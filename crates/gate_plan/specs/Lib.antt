@@ -1,4 +1,5 @@
 pub mod Building
 pub mod Folds
 pub mod Need
+pub mod Needing
 pub mod Plans

@@ -1,10 +1,13 @@
 //! The building of two netlists' diagrams in one store, rank by rank.
 ghost use Rattle.std.specs.Prelude.{◌≡◌, ◌≢◌, ◌+◌, ◌<◌, ◌≤◌, ℕ, Contains, length, IfOk, IfErr, OnOk, All, map, ◌++◌, slice_get, Some};
-ghost use Rattle.dd_store.specs.Nodes.{IsSound};
+ghost use Rattle.dd_store.specs.Nodes.{IsSound, count_of};
 ghost use Rattle.dd_store.specs.View.{Keeps};
 ghost use Rattle.net_bench.specs.Circuit.{circuit};
+ghost use Rattle.reduce_up.specs.Reducing.{AddsDescribed};
+ghost use Rattle.gate_plan.specs.Need.{IsCounted};
+ghost use Rattle.gate_plan.specs.Needing.{IsNeeded, IsNeededValue, HasNeed, IsBuildFault, IsStillWithin, IsPlacedValue};
 ghost use Rattle.gate_plan.specs.Plans.{IsPlan, plan_steps, plan_copies, plan_folds};
-ghost use Rattle.gate_plan.specs.Building.{IsPaired, first_level, second_level, level_in, AreDiagrams, AreInputs, AreRight, AreFolded, IsStepBelow, entry_of};
+ghost use Rattle.gate_plan.specs.Building.{IsPaired, first_level, second_level, input_level, AreDiagrams, AreInputs, AreRight, AreFolded, IsStepBelow, entry_of};
 
 use crate::folds::{add_entries, copy_all, take_answers};
 use crate::inputs::{Which, input_references, make_variables};
@@ -58,36 +61,32 @@ struct Side<'a> {
     netlist: &'a Netlist,
     pairing: &'a Pairing,
     which: Which,
-    plan: Plan,
+    plan: &'a Plan,
+}
+
+impl<'a> Model for Side<'a> {
+    ghost use Rattle.gate_plan.specs.Building.{Placed};
+
+    ghost Value = { Placed };
+
+    ghost view = { λ s. record { net = s.netlist.now; which = s.which; pairing = s.pairing.now; plan = s.plan.now } };
 }
 
 impl<'a> Side<'a> {
-    fn new(
-        alloc: Global,
-        netlist: &'a Netlist,
-        pairing: &'a Pairing,
-        which: Which,
-    ) -> Result<Side<'a>, AllocError>
-        ensures netlist { IfOk result (λ s. s.netlist.now ≡ netlist.now) }
-        ensures pairing { IfOk result (λ s. s.pairing.now ≡ pairing.now) }
-        ensures which { IfOk result (λ s. s.which ≡ which) }
-        ensures plan { IfOk result (λ s. IsPlan s.netlist.now s.plan) }
+    /// The last rank.
+    fn ranks(&self) -> usize
+        ensures { result ≡ length self.now.plan }
     {
-        Ok(Side {
-            netlist,
-            pairing,
-            which,
-            plan: Plan::new(alloc, netlist)?,
-        })
+        self.plan.ranks()
     }
 
     /// The copies of a rank, none above the last rank.
     fn copies(&self, rank: usize) -> &[Copied]
         requires first { 1 ≤ rank }
-        requires plan { IsPlan self.now.netlist.now self.now.plan }
-        ensures { result.now ≡ plan_copies self.now.netlist.now self.now.netlist.now.gates rank }
+        requires plan { IsPlan self.now.net self.now.plan }
+        ensures { result.now ≡ plan_copies self.now.net self.now.net.gates rank }
     {
-        if rank <= self.plan.ranks() {
+        if rank <= self.ranks() {
             self.plan.copies(rank)
         } else {
             &[]
@@ -97,10 +96,10 @@ impl<'a> Side<'a> {
     /// The number of folds of a rank, 0 above the last rank.
     fn folds(&self, rank: usize) -> usize
         requires first { 1 ≤ rank }
-        requires plan { IsPlan self.now.netlist.now self.now.plan }
-        ensures { result ≡ plan_folds self.now.netlist.now self.now.netlist.now.gates rank }
+        requires plan { IsPlan self.now.net self.now.plan }
+        ensures { result ≡ plan_folds self.now.net self.now.net.gates rank }
     {
-        if rank <= self.plan.ranks() {
+        if rank <= self.ranks() {
             self.plan.folds(rank)
         } else {
             0
@@ -110,8 +109,8 @@ impl<'a> Side<'a> {
     /// The steps of a rank and a fold number, none past the last fold.
     fn steps(&self, rank: usize, fold: usize) -> &[Step]
         requires first { 1 ≤ rank }
-        requires plan { IsPlan self.now.netlist.now self.now.plan }
-        ensures { result.now ≡ plan_steps self.now.netlist.now self.now.netlist.now.gates rank fold }
+        requires plan { IsPlan self.now.net self.now.plan }
+        ensures { result.now ≡ plan_steps self.now.net self.now.net.gates rank fold }
     {
         if fold < self.folds(rank) {
             self.plan.steps(rank, fold)
@@ -152,15 +151,17 @@ fn build_fold<R>(
 ) -> Result<(), WaveFault>
     requires workers { (0 < workers) × (workers ≤ 16) }
     requires rank { 1 ≤ rank }
-    requires first_plan { IsPlan first.now.netlist.now first.now.plan }
-    requires second_plan { IsPlan second.now.netlist.now second.now.plan }
-    requires first_folded { AreFolded first.now.netlist.now (level_in first.now.which first.now.pairing.now) store.old built.old.first rank fold }
-    requires second_folded { AreFolded second.now.netlist.now (level_in second.now.which second.now.pairing.now) store.old built.old.second rank fold }
+    requires first_plan { IsPlan first.now.net first.now.plan }
+    requires second_plan { IsPlan second.now.net second.now.plan }
+    requires first_folded { AreFolded first.now.net (input_level first.now) store.old built.old.first rank fold }
+    requires second_folded { AreFolded second.now.net (input_level second.now) store.old built.old.second rank fold }
     ensures sound { IsSound store.new }
-    ensures keeps { Keeps store.old store.new }
-    ensures first_next { OnOk result (AreFolded first.now.netlist.now (level_in first.now.which first.now.pairing.now) store.new built.new.first rank (fold + 1)) }
-    ensures second_next { OnOk result (AreFolded second.now.netlist.now (level_in second.now.which second.now.pairing.now) store.new built.new.second rank (fold + 1)) }
-    ensures fault { IfErr result (λ e. e ≢ WaveFault.NoWorker) }
+    ensures adds { AddsDescribed store.old store.new (IsCounted store.old.levels (IsPlacedValue store.old.levels first.now second.now)) }
+    ensures first_next { OnOk result (AreFolded first.now.net (input_level first.now) store.new built.new.first rank (fold + 1)) }
+    ensures second_next { OnOk result (AreFolded second.now.net (input_level second.now) store.new built.new.second rank (fold + 1)) }
+    ensures within { OnOk result (IsStillWithin store.old store.new) }
+    ensures fault { IfErr result (IsBuildFault store.old.levels (IsPlacedValue store.old.levels first.now second.now) store.new) }
+    ensures served { IfErr result (λ e. e ≢ WaveFault.NoWorker) }
 {
     let ours = first.steps(rank, fold);
     let theirs = second.steps(rank, fold);
@@ -189,15 +190,17 @@ fn build_rank<R>(
 ) -> Result<(), WaveFault>
     requires workers { (0 < workers) × (workers ≤ 16) }
     requires rank { 1 ≤ rank }
-    requires first_plan { IsPlan first.now.netlist.now first.now.plan }
-    requires second_plan { IsPlan second.now.netlist.now second.now.plan }
-    requires first_right { AreRight first.now.netlist.now (level_in first.now.which first.now.pairing.now) store.old built.old.first rank }
-    requires second_right { AreRight second.now.netlist.now (level_in second.now.which second.now.pairing.now) store.old built.old.second rank }
+    requires first_plan { IsPlan first.now.net first.now.plan }
+    requires second_plan { IsPlan second.now.net second.now.plan }
+    requires first_right { AreRight first.now.net (input_level first.now) store.old built.old.first rank }
+    requires second_right { AreRight second.now.net (input_level second.now) store.old built.old.second rank }
     ensures sound { IsSound store.new }
-    ensures keeps { Keeps store.old store.new }
-    ensures first_next { OnOk result (AreRight first.now.netlist.now (level_in first.now.which first.now.pairing.now) store.new built.new.first (rank + 1)) }
-    ensures second_next { OnOk result (AreRight second.now.netlist.now (level_in second.now.which second.now.pairing.now) store.new built.new.second (rank + 1)) }
-    ensures fault { IfErr result (λ e. e ≢ WaveFault.NoWorker) }
+    ensures adds { AddsDescribed store.old store.new (IsCounted store.old.levels (IsPlacedValue store.old.levels first.now second.now)) }
+    ensures first_next { OnOk result (AreRight first.now.net (input_level first.now) store.new built.new.first (rank + 1)) }
+    ensures second_next { OnOk result (AreRight second.now.net (input_level second.now) store.new built.new.second (rank + 1)) }
+    ensures within { OnOk result (IsStillWithin store.old store.new) }
+    ensures fault { IfErr result (IsBuildFault store.old.levels (IsPlacedValue store.old.levels first.now second.now) store.new) }
+    ensures served { IfErr result (λ e. e ≢ WaveFault.NoWorker) }
 {
     let _ = store.levels();
     copy_all(&mut built.first, first.copies(rank));
@@ -215,10 +218,10 @@ fn start(
     second: &Side<'_>,
     variables: &[Ref],
 ) -> Result<Built, AllocError>
-    requires first { (s : ℕ) → Contains first.now.netlist.now.inputs s → level_in first.now.which first.now.pairing.now s < length variables.now }
-    requires second { (s : ℕ) → Contains second.now.netlist.now.inputs s → level_in second.now.which second.now.pairing.now s < length variables.now }
-    ensures first { IfOk result (λ b. AreInputs first.now.netlist.now (level_in first.now.which first.now.pairing.now) variables.now b.first) }
-    ensures second { IfOk result (λ b. AreInputs second.now.netlist.now (level_in second.now.which second.now.pairing.now) variables.now b.second) }
+    requires first { (s : ℕ) → Contains first.now.net.inputs s → input_level first.now s < length variables.now }
+    requires second { (s : ℕ) → Contains second.now.net.inputs s → input_level second.now s < length variables.now }
+    ensures first { IfOk result (λ b. AreInputs first.now.net (input_level first.now) variables.now b.first) }
+    ensures second { IfOk result (λ b. AreInputs second.now.net (input_level second.now) variables.now b.second) }
 {
     Ok(Built {
         first: input_references(alloc, first.netlist, first.pairing, first.which, variables)?,
@@ -253,26 +256,45 @@ pub fn build<R, G: Gate>(
     // Each signal of both netlists has the diagram of its function.
     ensures first { IfOk result (λ b. AreDiagrams (circuit first.now) (first_level pairing.now) store.new b.first) }
     ensures second { IfOk result (λ b. AreDiagrams (circuit second.now) (second_level pairing.now) store.new b.second) }
+    // Each node that is added is needed, also where the build is refused.
+    ensures adds { AddsDescribed store.old store.new (IsNeeded (circuit first.now) (circuit second.now) pairing.now) }
+    ensures within { OnOk result (IsStillWithin store.old store.new) }
+    // A store without nodes gets the nodes that are needed and no others, within its limit.
+    ensures need { count_of store.old ≡ 0 → OnOk result (HasNeed (circuit first.now) (circuit second.now) pairing.now store.new) }
+    // Full is answered only where the store has more nodes than its limit, or as many and lacks one that is needed.
+    ensures fault { IfErr result (IsBuildFault (length pairing.now.names) (IsNeededValue (circuit first.now) (circuit second.now) pairing.now) store.new) }
     // No thread is started.
-    ensures fault { IfErr result (λ e. e ≢ WaveFault.NoWorker) }
+    ensures served { IfErr result (λ e. e ≢ WaveFault.NoWorker) }
 {
     let variables = make_variables(alloc, store)?;
-    let Ok(first) = Side::new(alloc, first, pairing, Which::First) else {
+    let Ok(first_plan) = Plan::new(alloc, first) else {
         return Err(WaveFault::OutOfMemory);
     };
-    let Ok(second) = Side::new(alloc, second, pairing, Which::Second) else {
+    let Ok(second_plan) = Plan::new(alloc, second) else {
         return Err(WaveFault::OutOfMemory);
     };
-    let Ok(mut built) = start(alloc, &first, &second, variables.as_slice()) else {
+    let first_side = Side {
+        netlist: first,
+        pairing,
+        which: Which::First,
+        plan: &first_plan,
+    };
+    let second_side = Side {
+        netlist: second,
+        pairing,
+        which: Which::Second,
+        plan: &second_plan,
+    };
+    let Ok(mut built) = start(alloc, &first_side, &second_side, variables.as_slice()) else {
         return Err(WaveFault::OutOfMemory);
     };
-    for below in 0..first.plan.ranks().max(second.plan.ranks()) {
+    for below in 0..first_side.ranks().max(second_side.ranks()) {
         build_rank(
             rt,
             alloc,
             store,
-            &first,
-            &second,
+            &first_side,
+            &second_side,
             &mut built,
             below + 1,
             workers,

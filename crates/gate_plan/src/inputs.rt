@@ -1,7 +1,10 @@
 //! The diagrams of the variables, and of the inputs of a netlist.
 ghost use Rattle.std.specs.Prelude.{◌≡◌, ◌≢◌, ℕ, ◌<◌, Contains, IfOk, IfErr, length};
 ghost use Rattle.dd_store.specs.Nodes.{IsSound};
-ghost use Rattle.dd_store.specs.View.{Keeps};
+ghost use Rattle.reduce_up.specs.Reducing.{AddsDescribed};
+ghost use Rattle.gate_plan.specs.Folds.{IsVariable};
+ghost use Rattle.gate_plan.specs.Need.{IsCounted};
+ghost use Rattle.gate_plan.specs.Needing.{IsBuildFault, IsStillWithin};
 ghost use Rattle.gate_plan.specs.Building.{level_in, AreVariables, AreInputs, wave_fault_of};
 
 use dd_store::{Ref, Store, StoreFault};
@@ -40,9 +43,11 @@ fn wave_fault(fault: StoreFault) -> WaveFault
 /// Makes the diagrams of all variables, in the order of their levels.
 pub fn make_variables(alloc: Global, store: &mut Store) -> Result<Vec<Ref>, WaveFault>
     ensures sound { IsSound store.new }
-    ensures keeps { Keeps store.old store.new }
+    ensures adds { AddsDescribed store.old store.new (IsCounted store.old.levels (IsVariable store.old.levels)) }
     ensures made { IfOk result (λ v. AreVariables store.new v.items) }
-    ensures fault { IfErr result (λ e. e ≢ WaveFault.NoWorker) }
+    ensures within { IsStillWithin store.old store.new }
+    ensures fault { IfErr result (IsBuildFault store.old.levels (IsVariable store.old.levels) store.new) }
+    ensures served { IfErr result (λ e. e ≢ WaveFault.NoWorker) }
 {
     let mut variables = Vec::new(alloc);
     for level in 0..store.levels() {

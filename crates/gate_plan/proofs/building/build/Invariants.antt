@@ -1,13 +1,20 @@
 use Rattle.std.proofs.Common.{◌+◌}
 use Rattle.dd_store.specs.Nodes.{IsSound}
-use Rattle.dd_store.specs.View.{Keeps}
-use Rattle.gate_plan.specs.Building.{level_in, AreRight}
+use Rattle.reduce_up.specs.Reducing.{AddsDescribed}
+use Rattle.gate_plan.specs.Building.{Placed, input_level, AreRight, AreVariables}
+use Rattle.gate_plan.specs.Need.{IsCounted}
+use Rattle.gate_plan.specs.Needing.{IsStillWithin, IsPlacedValue}
 use Rattle.gate_plan.proofs.building.build.Given as goal
 
 abbrev pub invariant-loop-below : goal.invariant-loop-below
-invariant-loop-below g l = record {
-  sound : IsSound l.store;
-  keeps : Keeps l.fn.store l.store;
-  first : AreRight l.first.netlist.now (level_in l.first.which l.first.pairing.now) l.store l.built.first (l.below + 1);
-  second : AreRight l.second.netlist.now (level_in l.second.which l.second.pairing.now) l.store l.built.second (l.below + 1);
-}
+invariant-loop-below g l =
+    let one : Placed = l.first_side in
+    let two : Placed = l.second_side in
+    record {
+      sound : IsSound l.store;
+      adds : AddsDescribed l.fn.store l.store (IsCounted l.fn.store.levels (IsPlacedValue l.fn.store.levels one two));
+      within : IsStillWithin l.fn.store l.store;
+      variables : AreVariables l.store l.variables.items;
+      first : AreRight one.net (input_level one) l.store l.built.first (l.below + 1);
+      second : AreRight two.net (input_level two) l.store l.built.second (l.below + 1);
+    }

@@ -1,4 +1,4 @@
-use Rattle.std.proofs.Common.{List, [], ap, ◌∙◌, subst, sym, ◌≡◌, ◌<◌, ◌∷◌, ◌++◌, length, map, arith, set, Vec, Global, length-append}
+use Rattle.std.proofs.Common.{List, [], ap, ◌∙◌, subst, sym, ◌<◌, ◌∷◌, ◌++◌, length, map, arith, set, Vec, Global, length-append}
 use Rattle.gate_plan.specs.Plans.{AddsAt}
 use Rattle.gate_plan.proofs.Lists.{added_in, added_next}
 use Rattle.gate_plan.proofs.steps.add_at.Goals as goal

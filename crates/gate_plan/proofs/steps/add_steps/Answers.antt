@@ -1,4 +1,4 @@
-use Rattle.std.proofs.Common.{◌+◌, List, map, length, ◌≡◌, ◌<◌, ◌≤◌, ap, sym, ◌∙◌, subst, arith, Vec, Global, Some, None}
+use Rattle.std.proofs.Common.{◌+◌, List, map, length, ◌≡◌, ◌≤◌, ap, sym, ◌∙◌, subst, arith, Vec, Global, Some}
 use Rattle.std.proofs.lemmas.List.{length-map}
 use Rattle.gate_plan.specs.declared.steps.Step.{Step}
 use Rattle.gate_plan.specs.Plans.{step_of}

@@ -1,10 +1,9 @@
-use Rattle.std.proofs.Common.{arith, ◌≡◌, ◌+◌, ◌-◌, ◌<◌, ◌≤◌, ◌∷◌, ◌++◌, [], List, length, ℕ, map, take, get_or, set, sym, ap, ◌∙◌, subst}
+use Rattle.std.proofs.Common.{arith, ◌≡◌, ◌-◌, ◌<◌, ◌≤◌, ◌∷◌, ◌++◌, [], length, map, take, get_or, set, sym, ap, ◌∙◌, subst}
 use Rattle.std.specs.Prelude.{Contains}
-use Rattle.std.proofs.lemmas.List.{take_more, take_all, length-set, length-replicate}
-use Rattle.net_bench.specs.declared.netlist.GateLine.{GateLine}
+use Rattle.std.proofs.lemmas.List.{take_more, take_all, length-set}
 use Rattle.net_bench.specs.Circuit.{greatest}
-use Rattle.gate_plan.specs.Plans.{rank_of, RankSteps, AddsGate, Plans, rank_at, no_steps}
-use Rattle.gate_plan.proofs.Planning.{plans_none, plans_next}
+use Rattle.gate_plan.specs.Plans.{rank_of, AddsGate, Plans, rank_at, no_steps}
+use Rattle.gate_plan.proofs.Planning.{plans_next}
 use Rattle.gate_plan.proofs.Ranks.{above_none, rank_top, any_default}
 use Rattle.gate_plan.proofs.steps.Plan.new.Goals as goal
 

@@ -1,4 +1,4 @@
-use Rattle.std.proofs.Common.{◌≡◌, ◌<◌, ◌≤◌, length, map, take}
+use Rattle.std.proofs.Common.{◌≡◌, length, map, take}
 use Rattle.net_bench.specs.Circuit.{greatest}
 use Rattle.gate_plan.specs.Plans.{rank_of, Plans}
 use Rattle.gate_plan.proofs.steps.Plan.new.Given as goal
