@@ -7,5 +7,5 @@ use Rattle.wave_tests.proofs.waves.request.Goals as goal
 pub returns : goal.returns
 returns g c =
     let long : short_of c.args.step.0 c.known_at-f.result c.known_at-g.result ≡ None = search rules in
-    subst (IsKey c.args.store.now) (sym c.normal.ensures)
+    subst (IsKey c.args.store.now) (sym c.normal.ensures.key)
     (is_key c.args.store.now c.args.step.0 c.known_at-f.result c.known_at-g.result c.known_at-f.ensures c.known_at-g.ensures long)
