@@ -4,9 +4,7 @@ pub mod Levelling
 pub mod Closed
 pub mod Missing
 pub mod Below
-pub mod Entries
 pub mod Rooted
 pub mod Waving
 pub mod Driven
-pub mod Applying
 pub mod Splits

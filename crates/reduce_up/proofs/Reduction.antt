@@ -14,7 +14,7 @@ use Rattle.req_table.specs.declared.Child.TheVariants.{Done, Ask}
 use Rattle.req_table.specs.declared.Record.{Record}
 use Rattle.dd_store.specs.Functions.{Agree}
 use Rattle.dd_store.specs.Parts.Part.{node}
-use Rattle.dd_store.specs.Nodes.{Nodes, den, IsSound, count_of}
+use Rattle.dd_store.specs.Nodes.{Nodes, den, IsSound, IsDiagram, count_of}
 use Rattle.dd_store.specs.View.{part, Has, top, Keeps, IsMade}
 use Rattle.reduce_up.specs.Reducing.{IsKeyAt, IsAnswer, IsAnswerAt, IsChild, IsRecordAt, AreAnswers, HasAnswer, IsReady, IsResolved, AddsDescribed, AskedBy, IsRow, IsRowReduced, Notes, IsRecordFault, IsRowFault, wave_fault}
 use Rattle.req_table.specs.Keys.{meaning}
@@ -40,6 +40,10 @@ resolved s v k b (Ask l c) pairs r i a e =
 
 pub kept_meaning : (old new : Nodes) → IsSound old → Keeps old new → (k : Key) → Has old k.f → Has old k.g → (x : List Bool) → meaning new k x ≡ meaning old k x
 kept_meaning old new S i k hf hg x = ap (λ b. op_value k.op b (den new k.g x)) (kept_den old new S i k.f hf x) ∙ ap (op_value k.op (den old k.f x)) (kept_den old new S i k.g hg x)
+
+-- a diagram stays one
+pub diagram_kept : (s u : Nodes) → IsSound s → Keeps s u → (f : List Bool → Bool) (r : Ref) → IsDiagram s r f → IsDiagram u r f
+diagram_kept s u S K f r d = (K.has r d.0, λ x hx. kept_den s u S K r d.0 x ∙ d.1 x (hx ∙ K.levels))
 
 -- functions that agree at both values of a bit agree
 either : (n v : ℕ) (f g : List Bool → Bool) → v < n → ((b : Bool) (q x : List Bool) → length q ≡ v → v + suc (length x) ≡ n → f (q ++ b ∷ x) ≡ g (q ++ b ∷ x)) → Agree n f g

@@ -27,10 +27,9 @@ use Rattle.reduce_up.specs.Levels.{AreRecords, AskedInRows, AreReduced, IsWithin
 use Rattle.reduce_up.specs.Waves.{Entry, entry_value, IsEntry, AnswersEach, IsWanted, AddsBelow, HasRequest, IsWithinLimit, IsWaveFault, requests_of, IsTakenFrom, IsClosureOf}
 use Rattle.reduce_up.proofs.Below.{fixed_of, fixed_as, node_reads, lies_below}
 use Rattle.reduce_up.proofs.Closed.{recorded, reached_at, placed_at, records_of_closure}
-use Rattle.reduce_up.proofs.Entries.{diagram_kept}
 use Rattle.reduce_up.proofs.Levelling.{past_rows}
 use Rattle.reduce_up.proofs.Noting.{nothing, head_in, tail_in, in_cases}
-use Rattle.reduce_up.proofs.Reduction.{kept_meaning}
+use Rattle.reduce_up.proofs.Reduction.{kept_meaning, diagram_kept}
 use Rattle.reduce_up.proofs.Rooted.{all_of, of_entry, to_request, requests_good, normal_means, short_diagram}
 
 module _ (S : Nodes) (w : IsSound S) (workers : ℕ) (some : 0 < workers) (roots : List Key) (good : All (IsKey S) roots) (rows : List (List Record)) (closed : IsClosure (wave_of S workers) roots (row_at rows)) where

@@ -1,4 +1,3 @@
 pub mod Reducing
 pub mod Levels
-pub mod Recurring
 pub mod Waves

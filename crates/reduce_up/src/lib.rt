@@ -3,9 +3,7 @@
 
 pub mod law;
 mod levels;
-pub mod recur;
 mod results;
-pub mod wave;
 mod waves;
 
 pub use levels::reduce;

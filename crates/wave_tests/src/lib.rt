@@ -6,4 +6,6 @@ mod cores;
 #[cfg(test)]
 mod requests;
 #[cfg(test)]
+mod waves;
+#[cfg(test)]
 mod workers;

@@ -1,0 +1,324 @@
+//! Waves on one thread, and the reduction of a core's records.
+ghost use Rattle.std.specs.Prelude.{ℕ, ◌<◌, ◌≤◌, ◌≡◌, All, Contains};
+ghost use Rattle.dd_store.specs.View.{Has};
+ghost use Rattle.req_table.specs.declared.Record.{Record};
+ghost use Rattle.req_table.specs.Keys.{IsKey};
+ghost use Rattle.req_table.specs.Tables.{row_at};
+ghost use Rattle.reduce_up.specs.Reducing.{HasAnswer};
+ghost use Rattle.reduce_up.specs.Waves.{IsEntry, IsClosureOf};
+
+use dd_store::{Ref, Store};
+use expand_work::WaveFault;
+use reduce_up::law::closures_are_records;
+use reduce_up::{Results, reduce, wave_one};
+use req_table::requests::{normal, short};
+use req_table::{Key, Op, Records};
+use std::alloc::Global;
+use std::process::Abort;
+use std::test::Fail;
+use wave_core::Core;
+
+// Operands are places in a list of known references: the constants, the variables by level, and the answers so far.
+const ZERO: usize = 0;
+
+const ONE: usize = 1;
+
+const A: usize = 2;
+
+const B: usize = 3;
+
+const C: usize = 4;
+
+const D: usize = 5;
+
+/// An operation on two known references.
+type Step = (Op, usize, usize);
+
+/// Choices of a driven core: none, few, and more than a small wave has events.
+const CHOICES: [&[u8]; 3] = [&[], &[0, 1, 2], &[255; 200]];
+
+/// The constants and all variables of a store.
+fn start<R: Abort>(rt: &R, alloc: Global, store: &mut Store) -> Vec<Ref>
+    ensures { All (Has store.new) result.items }
+{
+    let mut known = Vec::new(alloc);
+    known.push(Ref::False).expect(rt, "memory");
+    known.push(Ref::True).expect(rt, "memory");
+    for level in 0..store.levels() {
+        let variable = store.variable(level).expect(rt, "a variable");
+        known.push(variable).expect(rt, "memory");
+    }
+    known
+}
+
+/// A known reference.
+fn known_at<R: Abort>(rt: &R, store: &Store, known: &[Ref], place: usize) -> Ref
+    requires { All (Has store.now) known.now }
+    ensures { Has store.now result }
+{
+    *known.get(place).expect(rt, "a known reference")
+}
+
+/// The entries of steps.
+fn entries_of<R: Abort>(
+    rt: &R,
+    alloc: Global,
+    store: &Store,
+    known: &[Ref],
+    steps: &[Step],
+) -> Vec<(Op, Ref, Ref)>
+    requires { All (Has store.now) known.now }
+    ensures { All (IsEntry store.now) result.items }
+{
+    let mut entries = Vec::new(alloc);
+    for (op, first, second) in steps {
+        let f = known_at(rt, store, known, *first);
+        let g = known_at(rt, store, known, *second);
+        entries.push((*op, f, g)).expect(rt, "memory");
+    }
+    entries
+}
+
+/// Runs a wave of steps, and adds its answers to the known references.
+fn run<R: Abort>(
+    rt: &R,
+    alloc: Global,
+    store: &mut Store,
+    known: &mut Vec<Ref>,
+    steps: &[Step],
+    workers: u32,
+    choices: &[u8],
+) -> Result<(), WaveFault>
+    requires known { All (Has store.old) known.old.items }
+    requires workers { (0 < workers) × (workers ≤ 16) }
+    ensures { All (Has store.new) known.new.items }
+{
+    let entries = entries_of(rt, alloc, store, known.as_slice(), steps);
+    let answers = wave_one(rt, alloc, store, entries.as_slice(), workers, choices)?;
+    known
+        .extend_from_slice(answers.as_slice())
+        .expect(rt, "memory");
+    Ok(())
+}
+
+/// The request of a step, which has no short answer.
+fn request<R: Abort>(rt: &R, store: &Store, known: &[Ref], step: Step) -> Key
+    requires { All (Has store.now) known.now }
+    ensures { IsKey store.now result }
+{
+    let (op, first, second) = step;
+    let f = known_at(rt, store, known, first);
+    let g = known_at(rt, store, known, second);
+    assert!(rt; short(op, f, g).is_none());
+    normal(op, f, g)
+}
+
+/// The records of all that the roots ask for, by a core of two workers.
+fn closure_of<R: Abort>(
+    rt: &R,
+    alloc: Global,
+    store: &Store,
+    roots: &[Key],
+    choices: &[u8],
+) -> Records
+    requires { All (IsKey store.now) roots.now }
+    ensures { IsClosureOf store.now 2 roots.now result }
+{
+    let mut core = Core::new(alloc, store, 2, roots).expect(rt, "memory");
+    assert!(rt; core.drive(choices).is_ok());
+    core.into_records().expect(rt, "memory")
+}
+
+/// The diagram of the only record of a level, which has this key.
+fn only<R: Abort>(rt: &R, records: &Records, results: &Results, level: u16, key: Key) -> Ref
+    requires { (v : ℕ) (r : Record) → Contains (row_at records.now v) r → HasAnswer results.now r.key }
+{
+    assert!(rt; (level as usize) < records.levels());
+    let row = records.level(level);
+    assert_eq!(rt; row.len(), 1);
+    let record = row[0];
+    assert_eq!(rt; record.key, key);
+    results.get(&record.key)
+}
+
+/// The node of a level with two children, which has to be there.
+fn node<R: Abort>(rt: &R, store: &Store, level: u16, low: Ref, high: Ref) -> Ref {
+    assert!(rt; level < store.levels());
+    store.find(level, low, high).expect(rt, "no such node")
+}
+
+// Two entries that ask for one request, and two that have a short answer.
+#[test]
+fn wave_entries(rt: HostRuntime) -> Result<(), Fail> {
+    let steps = [
+        (Op::And, A, B),
+        (Op::And, B, A),
+        (Op::And, A, ZERO),
+        (Op::Xor, A, A),
+    ];
+    for workers in [1, 2, 3, 16] {
+        for choices in CHOICES {
+            let mut store = Store::new(rt.alloc(), 2, 4)?;
+            let mut known = start(&rt, rt.alloc(), &mut store);
+            let a = known_at(&rt, &store, known.as_slice(), A);
+            let b = known_at(&rt, &store, known.as_slice(), B);
+            let answer = run(
+                &rt,
+                rt.alloc(),
+                &mut store,
+                &mut known,
+                &steps,
+                workers,
+                choices,
+            );
+            assert!(rt; answer.is_ok());
+            let both = node(&rt, &store, 0, Ref::False, b);
+            let wanted = [
+                Ref::False,
+                Ref::True,
+                a,
+                b,
+                both,
+                both,
+                Ref::False,
+                Ref::False,
+            ];
+            assert_eq!(rt; known.as_slice(), wanted.as_slice());
+            assert_eq!(rt; store.count(), 3);
+        }
+    }
+    Ok(())
+}
+
+// Each operation on two variables. They share the complement of b, so nine nodes are just enough.
+#[test]
+fn limit_of_a_wave(rt: HostRuntime) -> Result<(), Fail> {
+    let steps = [
+        (Op::And, A, B),
+        (Op::Or, A, B),
+        (Op::Xor, A, B),
+        (Op::Nand, A, B),
+        (Op::Nor, A, B),
+        (Op::Xnor, A, B),
+    ];
+    for (limit, fits) in [(9, true), (8, false), (3, false), (2, false)] {
+        for choices in CHOICES {
+            let mut store = Store::new(rt.alloc(), 2, limit)?;
+            let mut known = start(&rt, rt.alloc(), &mut store);
+            let b = known_at(&rt, &store, known.as_slice(), B);
+            let answer = run(&rt, rt.alloc(), &mut store, &mut known, &steps, 2, choices);
+            if fits {
+                assert!(rt; answer.is_ok());
+                let not_b = node(&rt, &store, 1, Ref::True, Ref::False);
+                let wanted = [
+                    node(&rt, &store, 0, Ref::False, b),
+                    node(&rt, &store, 0, b, Ref::True),
+                    node(&rt, &store, 0, b, not_b),
+                    node(&rt, &store, 0, Ref::True, not_b),
+                    node(&rt, &store, 0, not_b, Ref::False),
+                    node(&rt, &store, 0, not_b, b),
+                ];
+                assert_eq!(rt; known.get(6 - 2..), Some(wanted.as_slice()));
+                assert_eq!(rt; store.count(), 9);
+            } else {
+                assert!(rt; answer == Err(WaveFault::Full));
+                assert!(rt; store.count() <= limit);
+                assert!(rt; store.levels() == 2);
+                assert!(rt; store.variable(1) == Ok(b));
+            }
+        }
+    }
+    Ok(())
+}
+
+// On a full store a wave is Ok as long as no node is missing, also where there are requests.
+#[test]
+fn full_store(rt: HostRuntime) -> Result<(), Fail> {
+    let mut store = Store::new(rt.alloc(), 2, 3)?;
+    let mut known = start(&rt, rt.alloc(), &mut store);
+    for (step, fits) in [
+        ((Op::And, A, B), true),
+        ((Op::Or, A, ONE), true),
+        ((Op::And, B, A), true),
+        ((Op::Or, A, B), false),
+        ((Op::Nand, A, A), false),
+    ] {
+        let answer = run(&rt, rt.alloc(), &mut store, &mut known, &[step], 2, &[]);
+        assert!(rt; answer.is_ok() == fits);
+        assert_eq!(rt; store.count(), 3);
+    }
+    let both = node(
+        &rt,
+        &store,
+        0,
+        Ref::False,
+        known_at(&rt, &store, known.as_slice(), B),
+    );
+    assert_eq!(rt; known.get(4..), Some([both, Ref::True, both].as_slice()));
+    Ok(())
+}
+
+// (a + b)(a + c) = a + bc, in a second wave whose request asks for another one.
+#[test]
+fn second_wave(rt: HostRuntime) -> Result<(), Fail> {
+    for workers in [1, 2, 3, 16] {
+        for choices in CHOICES {
+            let mut store = Store::new(rt.alloc(), 3, 100)?;
+            let mut known = start(&rt, rt.alloc(), &mut store);
+            let alloc = rt.alloc();
+            let sums = [(Op::Or, A, B), (Op::Or, A, C)];
+            assert!(rt; run(&rt, alloc, &mut store, &mut known, &sums, workers, choices).is_ok());
+            assert_eq!(rt; store.count(), 5);
+            let product = [(Op::And, 5, 6)];
+            assert!(rt;
+                run(
+                    &rt, alloc, &mut store, &mut known, &product, workers, choices
+                )
+                .is_ok()
+            );
+            let c = known_at(&rt, &store, known.as_slice(), C);
+            let both = node(&rt, &store, 1, Ref::False, c);
+            assert_eq!(rt;
+                known.get(7).copied(),
+                Some(node(&rt, &store, 0, both, Ref::True))
+            );
+            assert_eq!(rt; store.count(), 7);
+        }
+    }
+    Ok(())
+}
+
+// The records of a driven core, reduced: at the first and at the last level a node, and six nodes are just enough.
+#[test]
+fn core_reduced(rt: HostRuntime) -> Result<(), Fail> {
+    let alloc = rt.alloc();
+    for (limit, fits) in [(6, true), (5, false)] {
+        for choices in CHOICES {
+            let mut store = Store::new(alloc, 4, limit)?;
+            let known = start(&rt, alloc, &mut store);
+            let c = known_at(&rt, &store, known.as_slice(), C);
+            let roots = [
+                request(&rt, &store, known.as_slice(), (Op::And, A, C)),
+                request(&rt, &store, known.as_slice(), (Op::Nand, D, D)),
+            ];
+            let records = closure_of(&rt, alloc, &store, &roots, choices);
+            closures_are_records(&store, &roots, &records);
+            assert_eq!(rt; store.count(), 4);
+            match reduce(&rt, alloc, &mut store, &records) {
+                Ok(results) => {
+                    assert!(rt; fits);
+                    let first = node(&rt, &store, 0, Ref::False, c);
+                    let last = node(&rt, &store, 3, Ref::True, Ref::False);
+                    assert_eq!(rt; only(&rt, &records, &results, 0, roots[0]), first);
+                    assert_eq!(rt; only(&rt, &records, &results, 3, roots[1]), last);
+                    assert_eq!(rt; store.count(), 6);
+                }
+                Err(fault) => {
+                    assert!(rt; !fits);
+                    assert_eq!(rt; fault, WaveFault::Full);
+                }
+            }
+        }
+    }
+    Ok(())
+}
