@@ -3,4 +3,5 @@ pub mod Lines
 pub mod Report
 pub mod Comparing
 pub mod Check
+pub mod Limits
 pub mod Texts

@@ -1,11 +1,12 @@
 //! From two readers to a report.
 ghost use Rattle.std.specs.Prelude.{◌≡◌, ◌≢◌, ℕ, List, IfOk, IfErr, OnOk, OnErr, IsTrue};
 ghost use Rattle.std.specs.Io.KnownBytes.{Appends};
-ghost use Rattle.net_bench.specs.Circuit.{circuit};
-ghost use Rattle.net_order.specs.Order.{IsPairing};
+ghost use Rattle.net_bench.specs.Circuit.{Circuit, circuit};
+ghost use Rattle.net_order.specs.Order.{Paired, IsPairing};
 ghost use Rattle.check_report.specs.declared.outcome.Outcome.{Outcome};
 ghost use Rattle.check_report.specs.Report.{IsReport};
-ghost use Rattle.check_report.specs.Check.{IsChecked, IsCheckFault, IsLate};
+ghost use Rattle.check_report.specs.Check.{ArePaired, IsChecked, IsCheckFault, IsLate};
+ghost use Rattle.check_report.specs.Limits.{FitsWithin, Exceeds};
 ghost use Rattle.check_report.specs.Writing.{AppendsFront};
 
 use crate::compare::{Comparison, Report, report_of};
@@ -14,7 +15,7 @@ use crate::outcome::Outcome;
 use crate::settings::Settings;
 use crate::write::write_whole;
 use dd_store::Store;
-use expand_work::Gate;
+use expand_work::{Gate, WaveFault};
 use gate_plan::build;
 use net_bench::device::{Sink, Source};
 use net_bench::netlist::BenchFault;
@@ -35,6 +36,8 @@ fn compare<'a, H, G: Gate>(
     requires { IsPairing settings.now.matching (circuit first.now) (circuit second.now) settings.now.order pairing.now }
     ensures ok { IfOk result (λ r. IsReport settings.now.sizes (circuit first.now) (circuit second.now) pairing.now r.outcome r.text.items) }
     ensures err { IfErr result IsLate }
+    ensures within { OnOk result (FitsWithin settings.now.limit (circuit first.now) (circuit second.now) pairing.now) }
+    ensures full { result ≡ Err (CheckFault.Wave WaveFault.Full) → Exceeds settings.now.limit (circuit first.now) (circuit second.now) pairing.now }
 {
     let _ = first.inputs();
     let _ = second.inputs();
@@ -82,6 +85,9 @@ pub fn check<H, R1: Source, R2: Source, G: Gate, W: Sink>(
     // What was written is the report of what was read, and nothing else. In it two outputs are called equal exactly
     // where their functions are equal.
     ensures report { IfOk result (λ o. (bytes : List ℕ) × IsChecked (R1.remaining first.old) (R2.remaining second.old) settings.now.matching settings.now.order settings.now.sizes o bytes × Appends (W.contents out.old) (W.contents out.new) bytes) }
+    // The nodes that the two netlists need are within the limit where there is a report, and Full comes only where they are not.
+    ensures within { OnOk result ((a b : Circuit) × (p : Paired) × ArePaired (R1.remaining first.old) (R2.remaining second.old) settings.now.matching settings.now.order a b p × FitsWithin settings.now.limit a b p) }
+    ensures full { result ≡ Err (CheckFault.Wave WaveFault.Full) → (a b : Circuit) × (p : Paired) × ArePaired (R1.remaining first.old) (R2.remaining second.old) settings.now.matching settings.now.order a b p × Exceeds settings.now.limit a b p }
     // A fault has its cause, and what comes before it was accepted.
     ensures fault { IfErr result (IsCheckFault (R1.remaining first.old) (R2.remaining second.old) settings.now.matching settings.now.order) }
     // Where the writing failed, a front part of the report was written; the whole only where the device has failed.

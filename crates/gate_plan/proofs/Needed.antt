@@ -14,7 +14,7 @@ use Rattle.reduce_up.specs.Reducing.{AddsDescribed}
 use Rattle.gate_plan.specs.Building.{Placed, input_level, first_level, second_level, reference_of, IsDenoted, value_after, AreVariables, AreRight}
 use Rattle.gate_plan.specs.Folds.{IsVariable, IsFoldValue, IsValueOf}
 use Rattle.gate_plan.specs.Need.{IsCounted, IsComplete}
-use Rattle.gate_plan.specs.Needing.{IsNeeded, IsNeededValue, IsPlacedValue, IsCompleteFor, HasNeed, IsBuildFault, IsStillWithin}
+use Rattle.gate_plan.specs.Needing.{IsNeeded, IsNeededValue, IsPlacedValue, IsLeanFor, IsCompleteFor, HasNeed, IsBuildFault, IsStillWithin}
 use Rattle.gate_plan.specs.Plans.{rank_of}
 use Rattle.gate_plan.proofs.Counted.{adds_more, fault_more, lean_from}
 use Rattle.gate_plan.proofs.Needs.{complete}
@@ -93,3 +93,7 @@ need_left a b p one two placed old new variables first second r e sound adds wit
     small : IsStillWithin old new → count_of new ≤ new.limit
     small (inl le) = le
     small (inr same) = let c : count_of new ≡ count_of old = ap count_of same in omega arith
+
+-- what is added to a store without nodes is lean
+pub lean_left : (a b : Circuit) (p : Paired) (S T : Nodes) → count_of S ≡ 0 → AddsDescribed S T (IsNeeded a b p) → IsLeanFor a b p T
+lean_left a b p S T none adds = lean_from S T (length p.names) (IsNeededValue a b p) none adds

@@ -1,5 +1,9 @@
-use Rattle.std.proofs.Common.{◌∙◌, ap, length}
-use Rattle.dd_store.specs.Nodes.{Nodes}
+use Rattle.std.proofs.Common.{◌∙◌, ◌≡◌, ap, length}
+use Rattle.dd_store.specs.Nodes.{Nodes, count_of}
+use Rattle.net_bench.specs.Circuit.{circuit}
+use Rattle.expand_work.specs.declared.fault.WaveFault.TheVariants.{Full}
+use Rattle.gate_plan.proofs.Needed.{lean_left}
+use Rattle.check_report.proofs.Limiting.{none_before, exceeds}
 use Rattle.net_order.proofs.OutputPairs.{pairs_inside, only_first_inside, only_second_inside}
 use Rattle.check_report.proofs.checking.compare.Goals as goal
 
@@ -14,3 +18,16 @@ report_of-requires g c = record {
     only_second = only_second_inside _ c.args.first.now c.args.second.now _ _ c.inputs.ensures.sound c.inputs-2.ensures.sound c.requires;
   };
 }
+
+pub returns-in-Err-clause-full : goal.returns-in-Err-clause-full
+returns-in-Err-clause-full g c = λ e.
+    let T : Nodes = c.build.new.store in
+    let a = circuit c.args.first.now in
+    let b = circuit c.args.second.now in
+    let p = c.args.pairing.now in
+    let levels : T.levels ≡ c.len-levels.result = c.build.ensures.keeps.levels ∙ ap (λ (S : Nodes). S.levels) c.in-Ok.ensures in
+    let limit : T.limit ≡ c.args.settings.now.limit = c.build.ensures.keeps.limit ∙ ap (λ (S : Nodes). S.limit) c.in-Ok.ensures in
+    let none : count_of c.in-Ok.store ≡ 0 = ap count_of c.in-Ok.ensures ∙ none_before c.len-levels.result c.args.settings.now.limit T c.build.ensures.sound levels limit in
+    let full : c.in-Err.fault ≡ Full = cc in
+    exceeds c.args.settings.now.limit a b p T c.in-Err.fault c.build.ensures.sound (levels ∙ c.len-levels.ensures.value ∙ ap length c.names.ensures.value) limit
+    (lean_left a b p c.in-Ok.store T none c.build.ensures.adds) full c.in-Err.ensures.fault
