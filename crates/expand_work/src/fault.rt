@@ -43,3 +43,9 @@ impl From<AllocError> for WorkFault {
         WorkFault::OutOfMemory
     }
 }
+
+impl From<AllocError> for WaveFault {
+    fn from(_fault: AllocError) -> WaveFault {
+        WaveFault::OutOfMemory
+    }
+}
