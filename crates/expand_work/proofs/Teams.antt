@@ -1,5 +1,5 @@
 -- The threads of a wave, by the ports that they work for.
-use Rattle.std.proofs.Common.{◌≡◌, ℕ, ◌<◌, List, length, slice_index_or, [], ◌∷◌, refl, sym, ap, ◌∙◌, subst, arith, Bor}
+use Rattle.std.proofs.Common.{◌≡◌, ℕ, ◌<◌, Bool, true, false, if◌then◌else◌, IfOk, Err, List, length, slice_index_or, [], ◌∷◌, refl, sym, ap, ◌∙◌, subst, arith, Bor}
 use Rattle.std.specs.declared.thread.PromisedHandle.{PromisedHandle}
 use Rattle.std.specs.declared.result.Result.{Result}
 use Rattle.std.specs.List.{AllZip}
@@ -8,6 +8,8 @@ use Rattle.req_table.specs.declared.Key.{Key}
 use Rattle.lane_queue.specs.PortView.{LanesView, PortView}
 use Rattle.expand_work.specs.declared.part.Part.{Part}
 use Rattle.expand_work.specs.declared.fault.WorkFault.{WorkFault}
+use Rattle.expand_work.specs.declared.fault.WaveFault.{WaveFault}
+use Rattle.expand_work.specs.declared.fault.WaveFault.TheVariants.{NoWorker}
 use Rattle.expand_work.specs.declared.team.PartOf.{PartOf}
 use Rattle.expand_work.specs.Worked.{IsWorked}
 use Rattle.expand_work.specs.Team.{AreNew, AreWorked, IsPromised, WorksFor}
@@ -32,7 +34,7 @@ part_of l s roots i h q p at w k =
     (subst (λ (m : LanesView). IsWorked m h.promise.store.now h.promise.roots.now h.promise.number p) w.lanes k)))
 
 -- the first element of a list that is not empty
-first_of : {A : Type 0} (xs : List A) → 0 < length xs → A
+pub first_of : {A : Type 0} (xs : List A) → 0 < length xs → A
 first_of [] l = absurd (omega (arith, l))
 first_of (x ∷ xs) l = x
 
@@ -55,3 +57,8 @@ all_worked l s roots ports children parts new works kept =
         let q = first_of ports (omega (arith, b, k)) in
         part_of l s roots i (slice_index_or children i h) (slice_index_or ports i q) (slice_index_or parts i d) (new.numbered i q b) (zip_at (WorksFor l s roots) children ports i h q works within) (zip_at IsPromised children parts i h d kept within));
     }
+
+-- where a thread was not started there are no parts, and else what the threads answered
+pub judged : {T : Type 0} (P : T → Type 0) (started : Bool) (joined result : Result T WaveFault) → result ≡ (if started then joined else Err NoWorker) → (started ≡ true → IfOk joined P) → IfOk result P
+judged P true joined result is h = subst (λ r. IfOk r P) (sym is) (h refl)
+judged P false joined result is h = subst (λ r. IfOk r P) (sym is) tt

@@ -1,8 +1,7 @@
 //! The workers of a wave, each in a thread of its own.
-ghost use Rattle.std.specs.Prelude.{◌≡◌, ℕ, ◌<◌, ◌≤◌, List, [], length, All, IfOk, slice_index_or, vec_capacity};
+ghost use Rattle.std.specs.Prelude.{◌≡◌, ◌≢◌, ◌≤◌, [], length, All, IfOk, IfErr, Err, if◌then◌else◌, vec_capacity};
 ghost use Rattle.std.specs.List.{AllZip};
 ghost use Rattle.std.specs.Thread.{IsSync};
-ghost use Rattle.req_table.specs.declared.Key.{Key};
 ghost use Rattle.req_table.specs.Keys.{IsKey};
 ghost use Rattle.req_table.specs.Sizes.{sizes_of};
 ghost use Rattle.lane_queue.specs.PortView.{IsPortOf};
@@ -44,7 +43,8 @@ fn join_all<'a, R: Threads>(
 ) -> Result<Vec<Part>, WaveFault>
     requires empty { parts.items ≡ [] }
     requires room { length children.items ≤ vec_capacity parts }
-    ensures { IfOk result (λ v. AllZip IsPromised children.entry.items v.items) }
+    ensures parts { IfOk result (λ v. AllZip IsPromised children.entry.items v.items) }
+    ensures fault { IfErr result (λ f. f ≡ WaveFault.OutOfMemory) }
 {
     let mut parts = parts;
     let mut refused = false;
@@ -61,6 +61,17 @@ fn join_all<'a, R: Threads>(
     }
 }
 
+// What the threads come to, once all of them were joined: where one was not started that comes first.
+fn judge(started: bool, joined: Result<Vec<Part>, WaveFault>) -> Result<Vec<Part>, WaveFault>
+    ensures { result ≡ (if started then joined else Err WaveFault.NoWorker) }
+{
+    if started {
+        joined
+    } else {
+        Err(WaveFault::NoWorker)
+    }
+}
+
 /// The parts of all workers by number, each from a thread of its own, once all threads were joined.
 pub fn run_workers<R: Threads + Wait + Sync, G: Gate>(
     rt: &R,
@@ -74,7 +85,8 @@ pub fn run_workers<R: Threads + Wait + Sync, G: Gate>(
     requires ports { AreNew lanes.now ports.items }
     requires sizes { lanes.now.sizes ≡ sizes_of store.now }
     requires roots { All (IsKey store.now) roots.now }
-    ensures { IfOk result (λ v. AreWorked lanes.now store.now roots.now v.items) }
+    ensures parts { IfOk result (λ v. AreWorked lanes.now store.now roots.now v.items) }
+    ensures fault { IfErr result (λ f. f ≢ WaveFault.Full) }
 {
     let stop = AtomicBool::new(false);
     let flag = &stop;
@@ -86,7 +98,8 @@ pub fn run_workers<R: Threads + Wait + Sync, G: Gate>(
             requires ports { AreNew lanes.now ports.items }
             requires sizes { lanes.now.sizes ≡ sizes_of store.now }
             requires roots { All (IsKey store.now) roots.now }
-            ensures { IfOk result (λ v. AreWorked lanes.entry.now store.entry.now roots.entry.now v.items) }
+            ensures parts { IfOk result (λ v. AreWorked lanes.entry.now store.entry.now roots.entry.now v.items) }
+            ensures fault { IfErr result (λ f. f ≢ WaveFault.Full) }
         {
             let count = ports.len();
             let mut children = Vec::with_capacity(alloc, count)?;
@@ -112,7 +125,7 @@ pub fn run_workers<R: Threads + Wait + Sync, G: Gate>(
             }
             let started = children.len() == count;
             let joined = join_all(rt, children, parts);
-            if started { joined } else { Err(WaveFault::NoWorker) }
+            judge(started, joined)
         },
     )
 }
