@@ -3,7 +3,6 @@ use mathlib.Core.List.{[], ◌∷◌}
 use base.Fml.{Lft}
 use mir.Syntax.{Lifetime}
 use denote.RattleType.{RattleType}
-use denote.Param.{param}
 use denote.Ref.{ShrRef}
 use denote.Slice.{ShrSlice}
 use denote.Struct.Tuple.{TupleAt}

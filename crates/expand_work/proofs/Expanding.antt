@@ -23,7 +23,7 @@ use Rattle.expand_work.specs.declared.part.Part.{Part}
 use Rattle.expand_work.specs.Parts.{IsPart, sum_below, items_of, asked_of_all}
 use Rattle.expand_work.specs.Worked.{IsFresh, IsWorked}
 use Rattle.expand_work.specs.Team.{AreNew, AreWorked}
-use Rattle.expand_work.specs.Expanded.{ExpandedView, IsSettledFor, AreByNumber, put_by, row_of}
+use Rattle.expand_work.specs.Expanded.{IsSettledFor, AreByNumber, put_by, row_of}
 use Rattle.expand_work.proofs.Parting.{parts_settle}
 use Rattle.expand_work.proofs.Counting.{sum_same, items_count}
 use Rattle.expand_work.proofs.Chain.{lanes_close}

@@ -52,10 +52,10 @@ all_worked l s roots ports children parts new works kept =
     record {
       long = sym m ∙ n ∙ k;
       each = λ i d b. (
-        let within : i < length children = omega (arith, b, n, k) in
-        let h = first_of children (omega (arith, within)) in
-        let q = first_of ports (omega (arith, b, k)) in
-        part_of l s roots i (slice_index_or children i h) (slice_index_or ports i q) (slice_index_or parts i d) (new.numbered i q b) (zip_at (WorksFor l s roots) children ports i h q works within) (zip_at IsPromised children parts i h d kept within));
+          let within : i < length children = omega (arith, b, n, k) in
+          let h = first_of children (omega (arith, within)) in
+          let q = first_of ports (omega (arith, b, k)) in
+          part_of l s roots i (slice_index_or children i h) (slice_index_or ports i q) (slice_index_or parts i d) (new.numbered i q b) (zip_at (WorksFor l s roots) children ports i h q works within) (zip_at IsPromised children parts i h d kept within));
     }
 
 -- where a thread was not started there are no parts, and else what the threads answered

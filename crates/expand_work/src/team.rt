@@ -107,7 +107,12 @@ pub fn run_workers<R: Threads + Wait + Sync, G: Gate>(
             for port in ports {
                 let number = port.number();
                 match scope.spawn_with(
-                    PartOf { lanes, store, roots, number },
+                    PartOf {
+                        lanes,
+                        store,
+                        roots,
+                        number,
+                    },
                     move || -> Result<Part, WorkFault>
                         requires port { IsPortOf lanes.now port }
                         requires fresh { IsFresh port }

@@ -1,8 +1,5 @@
-use Rattle.std.proofs.Common.{rules, ◌≡◌, ◌≢◌, ◌+◌, ◌*◌, ◌<◌, ◌≤◌, ℕ, map, length, sym, ap, ◌∙◌, subst, arith}
-use Rattle.std.proofs.lemmas.List.{length-map}
-use Rattle.lane_queue.specs.PortView.{PortView}
+use Rattle.std.proofs.Common.{map, length, sym, ◌∙◌, subst, arith}
 use Rattle.lane_queue.specs.Joining.{ArePorts, AreRetired}
-use Rattle.expand_work.specs.declared.part.Part.{Part}
 use Rattle.expand_work.proofs.Expanding.{new_ports, parts_ports, parts_levels, settled_for, closes, counts, by_number, merged_as}
 use Rattle.expand_work.proofs.expanded.expand_all.Goals as goal
 

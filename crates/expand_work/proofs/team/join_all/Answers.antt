@@ -1,4 +1,4 @@
-use Rattle.std.proofs.Common.{rules, ◌≡◌, ◌++◌, [], ◌∷◌, length, refl, ap, ◌∙◌, arith, length-append}
+use Rattle.std.proofs.Common.{rules, ◌++◌, [], ◌∷◌, length, refl, ap, ◌∙◌, arith, length-append}
 use Rattle.expand_work.specs.Team.{IsPromised}
 use Rattle.expand_work.proofs.Zips.{zip_grown, turned}
 use Rattle.expand_work.proofs.team.join_all.Goals as goal

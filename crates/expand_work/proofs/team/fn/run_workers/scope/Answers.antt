@@ -1,9 +1,8 @@
-use denote.Param.Send.{sendable, param_send, arg_send, struct_send, shr_send, shr_slice_send}
-use Rattle.std.proofs.Common.{rules, ◌≡◌, ◌++◌, [], ◌∷◌, ℕ, ◌<◌, length, refl, ap, subst, sym, ◌∙◌, arith, length-append, append_assoc, append-nil, eqb-true}
+use denote.Param.Send.{sendable, param_send, arg_send}
+use Rattle.std.proofs.Common.{rules, ◌≡◌, ◌++◌, [], ◌∷◌, length, refl, ap, subst, sym, ◌∙◌, arith, length-append, append-nil, eqb-true}
 use Rattle.std.specs.List.{AllZip}
 use Rattle.std.proofs.lemmas.Result.{IfOk-weaker}
-use Rattle.std.proofs.Crossing.{crosses, frees, send as heap_send}
-use Rattle.lane_queue.proofs.Sent.{port_send, lanes_sync}
+use Rattle.std.proofs.Crossing.{crosses, frees}
 use Rattle.expand_work.specs.Team.{WorksFor}
 use Rattle.expand_work.proofs.Zips.{zip_grown, zip_long, turned}
 use Rattle.expand_work.proofs.Teams.{worker_started, all_worked, no_more, judged}
@@ -38,7 +37,7 @@ loop-port-preserved g c =
       turned c.loop-port.yielded c.loop-port.port-iterator.rest.items c.next.new.self.rest.items c.into_iter-port-iterator.result.rest.items c.in-Some.port c.in-Some.ensures.steps.0 i.0,
       (let a = c.push_reserved.ensures.capacity in let b = i.1 in omega (arith, a, b)),
       zip_grown R c.loop-port.children.items c.push_reserved.new.self.items c.loop-port.yielded (c.loop-port.yielded ++ c.in-Some.port ∷ []) c.in-Ok.child c.in-Some.port c.push_reserved.ensures.items refl i.2
-      (worker_started c.captures.lanes c.captures.store c.captures.roots c.in-Ok.child c.in-Some.port c.number-number.result c.number-number.ensures.number c.in-Ok.ensures.ok),
+          (worker_started c.captures.lanes c.captures.store c.captures.roots c.in-Ok.child c.in-Some.port c.number-number.result c.number-number.ensures.number c.in-Ok.ensures.ok),
     )
 
 pub join_all-joined-requires : goal.join_all-joined-requires
@@ -63,8 +62,8 @@ returns g c =
     let m = c.len-count.ensures in
     let k = c.len.ensures in
     let parts = judged _ _ c.join_all-joined.result c.judge.result c.judge.ensures (λ t.
-        let e = eqb-true c.len.result c.len-count.result t in
-        let none : c.loop-port.port-iterator.rest.items ≡ [] = no_more c.loop-port.port-iterator.rest.items (search rules) in
-        let all : c.loop-port.yielded ≡ c.captures.ports.items = sym (append-nil c.loop-port.yielded) ∙ ap (λ xs. c.loop-port.yielded ++ xs) (sym none) ∙ i.0 ∙ o in
-        IfOk-weaker c.join_all-joined.result _ _ (λ v. all_worked c.captures.lanes.now c.captures.store.now c.captures.roots.now c.captures.ports.items c.loop-port.children.items v.items c.requires.ports (subst (AllZip (WorksFor c.captures.lanes.now c.captures.store.now c.captures.roots.now) c.loop-port.children.items) all i.2)) c.join_all-joined.ensures.parts) in
+    let e = eqb-true c.len.result c.len-count.result t in
+    let none : c.loop-port.port-iterator.rest.items ≡ [] = no_more c.loop-port.port-iterator.rest.items (search rules) in
+    let all : c.loop-port.yielded ≡ c.captures.ports.items = sym (append-nil c.loop-port.yielded) ∙ ap (λ xs. c.loop-port.yielded ++ xs) (sym none) ∙ i.0 ∙ o in
+    IfOk-weaker c.join_all-joined.result _ _ (λ v. all_worked c.captures.lanes.now c.captures.store.now c.captures.roots.now c.captures.ports.items c.loop-port.children.items v.items c.requires.ports (subst (AllZip (WorksFor c.captures.lanes.now c.captures.store.now c.captures.roots.now) c.loop-port.children.items) all i.2)) c.join_all-joined.ensures.parts) in
     record { parts = parts; fault = search rules }
