@@ -3,3 +3,5 @@ pub mod Fault
 pub mod Worked
 pub mod Work
 pub mod Working
+pub mod Team
+pub mod Expanded

@@ -1,6 +1,7 @@
 //! Why a wave, or a worker, has no answer.
-ghost use Rattle.std.specs.Prelude.{Some};
+ghost use Rattle.std.specs.Prelude.{◌≡◌, Some};
 ghost use Rattle.expand_work.specs.Fault.{wave_fault_text};
+ghost use Rattle.expand_work.specs.declared.fault.WaveFault.TheVariants.{OutOfMemory};
 
 use std::alloc::AllocError;
 use std::fmt;
@@ -41,5 +42,13 @@ pub enum WorkFault {
 impl From<AllocError> for WorkFault {
     fn from(_fault: AllocError) -> WorkFault {
         WorkFault::OutOfMemory
+    }
+}
+
+impl From<AllocError> for WaveFault {
+    ghost from_gives = { λ _ fault. fault ≡ OutOfMemory };
+
+    fn from(_fault: AllocError) -> WaveFault {
+        WaveFault::OutOfMemory
     }
 }

@@ -1,0 +1,189 @@
+-- From the lanes' new ports, and from the parts of all workers, to the expanded wave.
+use Rattle.std.proofs.Common.{◌≡◌, ℕ, zero, suc, ◌+◌, ◌*◌, ◌<◌, List, [], ◌∷◌, map, length, slice_index_or, All, Contains, AllPairs, refl, sym, ap, ◌∙◌, subst, arith}
+use Rattle.std.specs.List.{sum_by}
+use Rattle.std.proofs.lemmas.List.Sums.{sum_by-cons}
+use Rattle.std.proofs.lemmas.List.{get_or-map, length-map}
+use Rattle.dd_store.specs.Nodes.{Nodes, IsSound}
+use Rattle.req_table.specs.declared.Key.{Key}
+use Rattle.req_table.specs.declared.Record.{Record}
+use Rattle.req_table.specs.declared.Item.{Item}
+use Rattle.req_table.specs.declared.Sizes.{Sizes}
+use Rattle.req_table.specs.Wave.{Wave}
+use Rattle.req_table.specs.Keys.{wave_of}
+use Rattle.req_table.specs.Sizes.{sizes_of}
+use Rattle.req_table.specs.Reached.{IsReached}
+use Rattle.req_table.specs.Settled.{IsSettled, IsSplit, IsClosure, level_of_rows, key_of, asked_by}
+use Rattle.req_table.specs.Tables.{row_at}
+use Rattle.req_table.proofs.Waved.{is_wave}
+use Rattle.req_table.proofs.Sized.{fair_in_wave, law_in_wave}
+use Rattle.lane_queue.specs.PortView.{LanesView, PortView, sent_to}
+use Rattle.lane_queue.specs.Make.{new_port}
+use Rattle.lane_queue.specs.Joining.{ArePorts, AreRetired, LawOfAll, retired, sent_from, taken_by}
+use Rattle.expand_work.specs.declared.part.Part.{Part}
+use Rattle.expand_work.specs.Parts.{IsPart, sum_below, items_of, asked_of_all}
+use Rattle.expand_work.specs.Worked.{IsFresh, IsWorked}
+use Rattle.expand_work.specs.Team.{AreNew, AreWorked}
+use Rattle.expand_work.specs.Expanded.{IsSettledFor, AreByNumber, put_by, row_of}
+use Rattle.expand_work.proofs.Parting.{parts_settle}
+use Rattle.expand_work.proofs.Counting.{sum_same, items_count}
+use Rattle.expand_work.proofs.Chain.{lanes_close}
+use Rattle.expand_work.proofs.Teams.{first_of}
+
+-- ---- new ports
+none_at : {A : Type 0} (xs : List A) (k : ℕ) → slice_index_or (map {B = List Item} (λ (x : A). []) xs) k [] ≡ []
+none_at [] zero = refl
+none_at [] (suc k) = refl
+none_at (x ∷ xs) zero = refl
+none_at (x ∷ xs) (suc k) = none_at xs k
+
+pub new_ports : (l : LanesView) (workers : ℕ) (ports : List PortView) → length l.lanes ≡ workers → length ports ≡ workers
+    → ((i : ℕ) (d : PortView) → i < workers → slice_index_or ports i d ≡ new_port i l.sizes l.lanes) → AreNew l ports
+new_ports l workers ports wide long is = record {
+  long = long ∙ sym wide;
+  made = λ i d b. (let e = is i d (subst (λ n. i < n) wide b) in (ap (λ (p : PortView). p.lanes) e, ap (λ (p : PortView). p.sizes) e));
+  fresh = λ i d b. subst IsFresh (sym (is i d (subst (λ n. i < n) wide b))) ((λ k. none_at l.lanes k), refl);
+  numbered = λ i d b. ap (λ (p : PortView). p.number) (is i d (subst (λ n. i < n) wide b));
+}
+
+-- ---- sums
+sum_front : (n : ℕ) (f : ℕ → ℕ) → sum_below (suc n) f ≡ f 0 + sum_below n (λ i. f (suc i))
+sum_front zero f = omega arith
+sum_front (suc n) f = let a = sum_front n f in omega (arith, a)
+
+sum_by_below : {A : Type 0} (f : A → ℕ) (xs : List A) (g : ℕ → ℕ) → ((i : ℕ) (d : A) → i < length xs → f (slice_index_or xs i d) ≡ g i) → sum_by f xs ≡ sum_below (length xs) g
+sum_by_below f [] g h = refl
+sum_by_below f (x ∷ xs) g h =
+    let a = h 0 x (omega arith) in
+    let b = sum_by_below f xs (λ i. g (suc i)) (λ i d l. h (suc i) d (omega (arith, l))) in
+    let k = sum_by-cons f x xs in
+    let e = sum_front (length xs) g in
+    omega (arith, a, b, k, e)
+
+sent_at : (xs : List (List Item)) (k : ℕ) (d : List Item) → k < length xs → slice_index_or xs k d ≡ slice_index_or xs k []
+sent_at [] k d b = absurd (omega (arith, b))
+sent_at (x ∷ xs) zero d b = refl
+sent_at (x ∷ xs) (suc k) d b = sent_at xs k d (omega (arith, b))
+
+-- ---- records by level that are the same level by level
+module _ (w : Wave) (rows records : ℕ → List Record) (same : (v : ℕ) → v < w.levels → records v ≡ rows v) where
+  closure_same : (roots : List Key) → IsClosure w roots rows → IsClosure w roots records
+  closure_same roots c = record {
+    split = λ v vb. subst (All (IsSplit w)) (sym (same v vb)) (c.split v vb);
+    placed = λ v vb. subst (All (λ (r : Record). w.level r.key ≡ v)) (sym (same v vb)) (c.placed v vb);
+    reached = λ v vb. subst (All (λ (r : Record). IsReached w roots r.key)) (sym (same v vb)) (c.reached v vb);
+    recorded = λ x h. (let (b, k) = c.recorded x h in (b, subst (λ (rs : List Record). Contains (map key_of rs) x) (sym (same (w.level x) b)) k));
+    once = λ v vb. subst (AllPairs (λ (a b : Record). ¬ (a.key ≡ b.key))) (sym (same v vb)) (c.once v vb);
+  }
+
+  asked_same : asked_of_all w.levels records ≡ asked_of_all w.levels rows
+  asked_same = sum_same w.levels (λ v. length (asked_by (records v))) (λ v. length (asked_by (rows v))) (λ v vb. ap (λ (rs : List Record). length (asked_by rs)) (same v vb))
+
+-- ---- the parts of all workers
+module _ (S : Nodes) (l : LanesView) (roots : List Key) (parts : List Part) (worked : AreWorked l S roots parts) where
+  -- each port is the port of its worker
+  pub parts_ports : ArePorts (length l.lanes) l.sizes l.lanes (map (λ (p : Part). p.port) parts)
+  parts_ports = (
+    length-map parts (λ (p : Part). p.port) ∙ worked.long,
+    (λ i d b.
+        let long : i < length parts = (let n = worked.long in omega (arith, b, n)) in
+        let e = first_of parts (omega (arith, long)) in
+        let at = get_or-map (λ (p : Part). p.port) parts i e d long in
+        let w = worked.each i e b in (
+          ap (λ (q : PortView). q.lanes) at ∙ w.ports.0,
+          ap (λ (q : PortView). q.sizes) at ∙ w.ports.1,
+          ap (λ (q : PortView). q.number) at ∙ w.number,
+        )),
+  )
+
+  -- each worker has a row for each level
+  pub parts_levels : (n : ℕ) (rows : List (List (List Record))) → n ≡ S.levels → rows ≡ map (λ (p : Part). p.rows) parts → All (λ (r : List (List Record)). length r ≡ n) rows
+  parts_levels n rows n-is is = subst (All (λ (r : List (List Record)). length r ≡ n)) (sym is) (λ i d b.
+      let long : i < length parts = (let k = length-map parts (λ (p : Part). p.rows) in omega (arith, b, k)) in
+      let e = first_of parts (omega (arith, long)) in
+      let w = worked.each i e (let k = worked.long in omega (arith, long, k)) in
+      ap (λ (r : List (List Record)). length r) (get_or-map (λ (p : Part). p.rows) parts i e d long) ∙ w.levels ∙ sym n-is)
+
+-- the merged records, told of the parts
+pub merged_as : (S : Nodes) (parts : List Part) (rows : List (List (List Record))) (n : ℕ) (records : List (List Record)) → n ≡ S.levels → rows ≡ map (λ (p : Part). p.rows) parts
+    → ((v : ℕ) → v < n → row_at records v ≡ level_of_rows (length rows) (row_of rows) v) → (v : ℕ) → v < S.levels
+    → row_at records v ≡ level_of_rows (length (map (λ (p : Part). p.rows) parts)) (row_of (map (λ (p : Part). p.rows) parts)) v
+merged_as S parts rows n records n-is is h v b = subst (λ (xs : List (List (List Record))). row_at records v ≡ level_of_rows (length xs) (row_of xs) v) is (h v (omega (arith, b, n-is)))
+
+module _ (S : Nodes) (sound : IsSound S) (l : LanesView) (sizes : l.sizes ≡ sizes_of S) (some : 0 < length l.lanes) (roots : List Key) (parts : List Part) (worked : AreWorked l S roots parts)
+    (ports : List PortView) (gone : AreRetired (length l.lanes) (map (λ (p : Part). p.port) parts) ports) (left : List (List Item)) (law : LawOfAll (length l.lanes) l.sizes ports left) where
+  abbrev pub w : Wave
+  w = wave_of S (length l.lanes)
+
+  -- the rows by worker
+  abbrev pub rows : List (List (List Record))
+  rows = map (λ (p : Part). p.rows) parts
+
+  laws : LawOfAll (length l.lanes) (sizes_of S) ports left
+  laws = subst (λ (c : Sizes). LawOfAll (length l.lanes) c ports left) sizes law
+
+  abbrev part_at : (s : ℕ) → s < length l.lanes → Part
+  part_at s b = slice_index_or parts s (first_of parts (let k = worked.long in omega (arith, b, k)))
+
+  port_at : (s : ℕ) (b : s < length l.lanes) (d : PortView) → slice_index_or ports s d ≡ retired (part_at s b).port
+  port_at s b d = gone.1 s d b ∙ ap retired (get_or-map (λ (p : Part). p.port) parts s (first_of parts (let k = worked.long in omega (arith, b, k))) d (let k = worked.long in omega (arith, b, k)))
+
+  sends : (s : ℕ) (b : s < length l.lanes) (k : ℕ) → sent_to (part_at s b).port k ≡ sent_from ports k s
+  sends s b k =
+      let m : s < length ports = (let n = gone.0 in omega (arith, b, n)) in
+      let d = first_of ports (omega (arith, m)) in
+      sym (get_or-map (λ (p : PortView). sent_to p k) ports s d [] m ∙ ap (λ (p : PortView). sent_to p k) (port_at s b d))
+
+  takes : (s : ℕ) (b : s < length l.lanes) → (part_at s b).port.taken ≡ taken_by ports s
+  takes s b =
+      let m : s < length ports = (let n = gone.0 in omega (arith, b, n)) in
+      let d = first_of ports (omega (arith, m)) in
+      sym (get_or-map (λ (p : PortView). p.taken) ports s d [] m ∙ ap (λ (p : PortView). p.taken) (port_at s b d))
+
+  records_at : (s : ℕ) (b : s < length l.lanes) → (part_at s b).rows ≡ slice_index_or rows s []
+  records_at s b = sym (get_or-map (λ (p : Part). p.rows) parts s (first_of parts (let k = worked.long in omega (arith, b, k))) [] (let k = worked.long in omega (arith, b, k)))
+
+  worked_at : (s : ℕ) (b : s < length l.lanes) → IsWorked l S roots s (part_at s b)
+  worked_at s b = worked.each s (first_of parts (let k = worked.long in omega (arith, b, k))) b
+
+  part_in : (s : ℕ) → s < length l.lanes → IsPart w roots s (λ k. sent_from ports k s) (taken_by ports s) (row_of rows s)
+  part_in s b =
+      subst (λ (r : List (List Record)). IsPart w roots s (λ k. sent_from ports k s) (taken_by ports s) (row_at r)) (records_at s b)
+      (subst (λ (t : List Item). IsPart w roots s (λ k. sent_from ports k s) t (row_at (part_at s b).rows)) (takes s b)
+      (subst (λ (f : ℕ → List Item). IsPart w roots s f (part_at s b).port.taken (row_at (part_at s b).rows)) (λ i k. sends s b k i) (worked_at s b).part))
+
+  settles : IsSettled w roots (λ s k. sent_from ports k s) (λ k. taken_by ports k) (row_of rows)
+  settles =
+      parts_settle w roots (λ s k. sent_from ports k s) (λ k. taken_by ports k) (λ k. slice_index_or left k []) (row_of rows) part_in
+      (λ k b. law_in_wave S (length l.lanes) (sent_from ports k) (taken_by ports k) (slice_index_or left k []) (laws k b).0)
+      (λ s k ls lk. fair_in_wave S (length l.lanes) 0 (sent_from ports k s) ((laws k lk).1 s ls))
+
+  puts_from : (s : ℕ) (d : PortView) → s < length ports → sum_by (λ (xs : List Item). length xs) (slice_index_or ports s d).sent ≡ sum_below (length l.lanes) (λ k. length (sent_from ports k s))
+  puts_from s d m =
+      let b : s < length l.lanes = (let n = gone.0 in omega (arith, m, n)) in
+      let p = (part_at s b).port in
+      ap (λ (q : PortView). sum_by (λ (xs : List Item). length xs) q.sent) (port_at s b d)
+      ∙ sum_by_below (λ (xs : List Item). length xs) p.sent (λ k. length (sent_from ports k s)) (λ k e kb. ap (λ (xs : List Item). length xs) (sent_at p.sent k e kb ∙ sends s b k))
+      ∙ ap (λ n. sum_below n (λ k. length (sent_from ports k s))) (worked_at s b).lists
+
+  puts : put_by ports ≡ items_of (length l.lanes) (λ s k. sent_from ports k s)
+  puts = sum_by_below (λ (p : PortView). sum_by (λ (xs : List Item). length xs) p.sent) ports (λ s. sum_below (length l.lanes) (λ k. length (sent_from ports k s))) puts_from
+      ∙ ap (λ n. sum_below n (λ s. sum_below (length l.lanes) (λ k. length (sent_from ports k s)))) gone.0
+
+  module _ (records : List (List Record)) (merged : (v : ℕ) → v < S.levels → row_at records v ≡ level_of_rows (length rows) (row_of rows) v) where
+    same : (v : ℕ) → v < S.levels → row_at records v ≡ level_of_rows (length l.lanes) (row_of rows) v
+    same v b = merged v b ∙ ap (λ n. level_of_rows n (row_of rows) v) (length-map parts (λ (p : Part). p.rows) ∙ worked.long)
+
+    pub settled_for : (workers : ℕ) → length l.lanes ≡ workers → IsSettledFor (wave_of S workers) roots (record { records = records; ports = ports })
+    settled_for workers wide = subst (λ n. IsSettledFor (wave_of S n) roots (record { records = records; ports = ports })) wide (record { rows = row_of rows; settled = settles; merged = same })
+
+    pub closes : (workers : ℕ) → length l.lanes ≡ workers → IsClosure (wave_of S workers) roots (row_at records)
+    closes workers wide = subst (λ n. IsClosure (wave_of S n) roots (row_at records)) wide
+        (closure_same w (level_of_rows (length l.lanes) (row_of rows)) (row_at records) same roots (lanes_close S sound (length l.lanes) some roots ports left (row_of rows) laws part_in))
+
+    pub counts : (workers : ℕ) → length l.lanes ≡ workers → put_by ports ≡ (length roots + asked_of_all S.levels (row_at records)) + workers * (workers * S.levels)
+    counts workers wide = subst (λ n. put_by ports ≡ (length roots + asked_of_all S.levels (row_at records)) + n * (n * S.levels)) wide
+        (puts ∙ items_count w (is_wave S sound (length l.lanes) some) roots (λ s k. sent_from ports k s) (λ k. taken_by ports k) (row_of rows) settles
+        ∙ ap (λ a. (length roots + a) + length l.lanes * (length l.lanes * S.levels)) (sym (asked_same w (level_of_rows (length l.lanes) (row_of rows)) (row_at records) same)))
+
+  pub by_number : (workers : ℕ) → length l.lanes ≡ workers → AreByNumber workers ports
+  by_number workers wide = subst (λ n. AreByNumber n ports) wide (record { long = gone.0; numbered = λ s d b. ap (λ (q : PortView). q.number) (port_at s b d) ∙ (worked_at s b).number })

@@ -1,0 +1,64 @@
+-- The threads of a wave, by the ports that they work for.
+use Rattle.std.proofs.Common.{◌≡◌, ℕ, ◌<◌, Bool, true, false, if◌then◌else◌, IfOk, Err, List, length, slice_index_or, [], ◌∷◌, refl, sym, ap, ◌∙◌, subst, arith, Bor}
+use Rattle.std.specs.declared.thread.PromisedHandle.{PromisedHandle}
+use Rattle.std.specs.declared.result.Result.{Result}
+use Rattle.std.specs.List.{AllZip}
+use Rattle.dd_store.specs.Nodes.{Nodes}
+use Rattle.req_table.specs.declared.Key.{Key}
+use Rattle.lane_queue.specs.PortView.{LanesView, PortView}
+use Rattle.expand_work.specs.declared.part.Part.{Part}
+use Rattle.expand_work.specs.declared.fault.WorkFault.{WorkFault}
+use Rattle.expand_work.specs.declared.fault.WaveFault.{WaveFault}
+use Rattle.expand_work.specs.declared.fault.WaveFault.TheVariants.{NoWorker}
+use Rattle.expand_work.specs.declared.team.PartOf.{PartOf}
+use Rattle.expand_work.specs.Worked.{IsWorked}
+use Rattle.expand_work.specs.Team.{AreNew, AreWorked, IsPromised, WorksFor}
+use Rattle.expand_work.proofs.Zips.{zip_at, zip_long}
+
+-- the handle of a thread that was started with this promise
+pub worker_started : (l : Bor LanesView) (s : Bor Nodes) (roots : Bor (List Key)) (h : PromisedHandle (Result Part WorkFault) PartOf) (p : PortView) (n : ℕ) → n ≡ p.number
+    → h.promise ≡ record { lanes = l; store = s; roots = roots; number = n } → WorksFor l.now s.now roots.now h p
+worker_started l s roots h p n number is = record {
+  lanes = ap (λ (q : PartOf). q.lanes.now) is;
+  store = ap (λ (q : PartOf). q.store.now) is;
+  keys = ap (λ (q : PartOf). q.roots.now) is;
+  number = ap (λ (q : PartOf). q.number) is ∙ number;
+}
+
+-- the part of the thread that works for port i
+part_of : (l : LanesView) (s : Nodes) (roots : List Key) (i : ℕ) (h : PromisedHandle (Result Part WorkFault) PartOf) (q : PortView) (p : Part) → q.number ≡ i → WorksFor l s roots h q → IsPromised h p → IsWorked l s roots i p
+part_of l s roots i h q p at w k =
+    subst (λ (n : ℕ). IsWorked l s roots n p) (w.number ∙ at)
+    (subst (λ (r : List Key). IsWorked l s r h.promise.number p) w.keys
+    (subst (λ (t : Nodes). IsWorked l t h.promise.roots.now h.promise.number p) w.store
+    (subst (λ (m : LanesView). IsWorked m h.promise.store.now h.promise.roots.now h.promise.number p) w.lanes k)))
+
+-- the first element of a list that is not empty
+pub first_of : {A : Type 0} (xs : List A) → 0 < length xs → A
+first_of [] l = absurd (omega (arith, l))
+first_of (x ∷ xs) l = x
+
+pub no_more : {A : Type 0} (xs : List A) → length xs ≡ 0 → xs ≡ []
+no_more [] e = refl
+no_more (x ∷ xs) e = absurd (omega (arith, e))
+
+-- where each port has its thread, and each thread its part, the parts are all workers' by number
+pub all_worked : (l : LanesView) (s : Nodes) (roots : List Key) (ports : List PortView) (children : List (PromisedHandle (Result Part WorkFault) PartOf)) (parts : List Part)
+    → AreNew l ports → AllZip (WorksFor l s roots) children ports → AllZip IsPromised children parts → AreWorked l s roots parts
+all_worked l s roots ports children parts new works kept =
+    let n = zip_long (WorksFor l s roots) children ports works in
+    let m = zip_long IsPromised children parts kept in
+    let k = new.long in
+    record {
+      long = sym m ∙ n ∙ k;
+      each = λ i d b. (
+          let within : i < length children = omega (arith, b, n, k) in
+          let h = first_of children (omega (arith, within)) in
+          let q = first_of ports (omega (arith, b, k)) in
+          part_of l s roots i (slice_index_or children i h) (slice_index_or ports i q) (slice_index_or parts i d) (new.numbered i q b) (zip_at (WorksFor l s roots) children ports i h q works within) (zip_at IsPromised children parts i h d kept within));
+    }
+
+-- where a thread was not started there are no parts, and else what the threads answered
+pub judged : {T : Type 0} (P : T → Type 0) (started : Bool) (joined result : Result T WaveFault) → result ≡ (if started then joined else Err NoWorker) → (started ≡ true → IfOk joined P) → IfOk result P
+judged P true joined result is h = subst (λ r. IfOk r P) (sym is) (h refl)
+judged P false joined result is h = subst (λ r. IfOk r P) (sym is) tt

@@ -1,0 +1,35 @@
+-- What contracts see of an expanded wave.
+use Rattle.std.specs.Prelude.{◌≡◌, ℕ, ◌<◌, List, [], length, slice_index_or}
+use Rattle.std.specs.List.{sum_by}
+use Rattle.req_table.specs.declared.Key.{Key}
+use Rattle.req_table.specs.declared.Record.{Record}
+use Rattle.req_table.specs.Wave.{Wave}
+use Rattle.req_table.specs.Settled.{IsSettled, level_of_rows}
+use Rattle.req_table.specs.Tables.{row_at}
+use Rattle.lane_queue.specs.PortView.{PortView}
+use Rattle.lane_queue.specs.Joining.{sent_from, taken_by}
+
+-- The records by level, and the workers' ports by number.
+pub record ExpandedView : Type 0 where
+  pub records : List (List Record)
+  pub ports : List PortView
+
+-- What the ports sent and took is a settled wave with some rows of the workers, and the records of each level are these
+-- rows', worker by worker.
+pub record IsSettledFor (w : Wave) (roots : List Key) (e : ExpandedView) : Type 0 where
+  pub rows : ℕ → ℕ → List Record
+  pub settled : IsSettled w roots (λ s k. sent_from e.ports k s) (taken_by e.ports) rows
+  pub merged : (v : ℕ) → v < w.levels → row_at e.records v ≡ level_of_rows w.workers rows v
+
+-- One port for each of so many workers, by number.
+pub record AreByNumber (workers : ℕ) (ports : List PortView) : Type 0 where
+  pub long : length ports ≡ workers
+  pub numbered : (i : ℕ) (d : PortView) → i < workers → (slice_index_or ports i d).number ≡ i
+
+-- How many items the ports put on all lanes together.
+abbrev pub put_by : List PortView → ℕ
+put_by ports = sum_by (λ (p : PortView). sum_by (λ xs. length xs) p.sent) ports
+
+-- The records of worker k at level v, where each worker has its rows by level.
+abbrev pub row_of : List (List (List Record)) → ℕ → ℕ → List Record
+row_of rows k v = row_at (slice_index_or rows k []) v

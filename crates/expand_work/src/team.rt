@@ -1,0 +1,136 @@
+//! The workers of a wave, each in a thread of its own.
+ghost use Rattle.std.specs.Prelude.{◌≡◌, ◌≢◌, ◌≤◌, [], length, All, IfOk, IfErr, Err, if◌then◌else◌, vec_capacity};
+ghost use Rattle.std.specs.List.{AllZip};
+ghost use Rattle.std.specs.Thread.{IsSync};
+ghost use Rattle.req_table.specs.Keys.{IsKey};
+ghost use Rattle.req_table.specs.Sizes.{sizes_of};
+ghost use Rattle.lane_queue.specs.PortView.{IsPortOf};
+ghost use Rattle.expand_work.specs.Worked.{IsFresh, IsWorked};
+ghost use Rattle.expand_work.specs.Team.{AreNew, AreWorked, IsPromised};
+
+use crate::worker::work;
+use crate::{Gate, Part, WaveFault, WorkFault};
+use dd_store::Store;
+use lane_queue::{Lanes, Port};
+use req_table::Key;
+use std::alloc::Global;
+use std::sync::Wait;
+use std::sync::atomic::{AtomicBool, Ordering};
+use std::thread;
+use std::thread::{Promise, PromisedHandle, Threads};
+
+// What a worker's thread promises: the worker's part of the wave.
+#[derive(Clone, Copy)]
+pub struct PartOf<'a> {
+    lanes: &'a Lanes,
+    store: &'a Store,
+    roots: &'a [Key],
+    number: u32,
+}
+
+impl<'a> Promise<Result<Part, WorkFault>> for PartOf<'a> {
+    ghost use Rattle.std.specs.Prelude.{IfOk};
+    ghost use Rattle.expand_work.specs.Worked.{IsWorked};
+
+    ghost kept_by = { λ p r. IfOk r (λ part. IsWorked p.lanes.now p.store.now p.roots.now p.number part) };
+}
+
+// Joins all these threads: their parts in order, if each answered one.
+fn join_all<'a, R: Threads>(
+    rt: &R,
+    children: Vec<PromisedHandle<Result<Part, WorkFault>, PartOf<'a>>>,
+    parts: Vec<Part>,
+) -> Result<Vec<Part>, WaveFault>
+    requires empty { parts.items ≡ [] }
+    requires room { length children.items ≤ vec_capacity parts }
+    ensures parts { IfOk result (λ v. AllZip IsPromised children.entry.items v.items) }
+    ensures fault { IfErr result (λ f. f ≡ WaveFault.OutOfMemory) }
+{
+    let mut parts = parts;
+    let mut refused = false;
+    for child in children {
+        match child.join(rt) {
+            Ok(part) => parts.push_reserved(part),
+            Err(_) => refused = true,
+        }
+    }
+    if refused {
+        Err(WaveFault::OutOfMemory)
+    } else {
+        Ok(parts)
+    }
+}
+
+// What the threads come to, once all of them were joined: where one was not started that comes first.
+fn judge(started: bool, joined: Result<Vec<Part>, WaveFault>) -> Result<Vec<Part>, WaveFault>
+    ensures { result ≡ (if started then joined else Err WaveFault.NoWorker) }
+{
+    if started {
+        joined
+    } else {
+        Err(WaveFault::NoWorker)
+    }
+}
+
+/// The parts of all workers by number, each from a thread of its own, once all threads were joined.
+pub fn run_workers<R: Threads + Wait + Sync, G: Gate>(
+    rt: &R,
+    alloc: Global,
+    lanes: &Lanes,
+    ports: Vec<Port>,
+    store: &Store,
+    roots: &[Key],
+    gate: &G,
+) -> Result<Vec<Part>, WaveFault>
+    requires ports { AreNew lanes.now ports.items }
+    requires sizes { lanes.now.sizes ≡ sizes_of store.now }
+    requires roots { All (IsKey store.now) roots.now }
+    ensures parts { IfOk result (λ v. AreWorked lanes.now store.now roots.now v.items) }
+    ensures fault { IfErr result (λ f. f ≢ WaveFault.Full) }
+{
+    let stop = AtomicBool::new(false);
+    let flag = &stop;
+    thread::scope(
+        thread::scope_env(),
+        rt,
+        |scope| -> Result<Vec<Part>, WaveFault>
+            requires shared { IsSync R.row × IsSync G.row }
+            requires ports { AreNew lanes.now ports.items }
+            requires sizes { lanes.now.sizes ≡ sizes_of store.now }
+            requires roots { All (IsKey store.now) roots.now }
+            ensures parts { IfOk result (λ v. AreWorked lanes.entry.now store.entry.now roots.entry.now v.items) }
+            ensures fault { IfErr result (λ f. f ≢ WaveFault.Full) }
+        {
+            let count = ports.len();
+            let mut children = Vec::with_capacity(alloc, count)?;
+            let parts = Vec::with_capacity(alloc, count)?;
+            for port in ports {
+                let number = port.number();
+                match scope.spawn_with(
+                    PartOf {
+                        lanes,
+                        store,
+                        roots,
+                        number,
+                    },
+                    move || -> Result<Part, WorkFault>
+                        requires port { IsPortOf lanes.now port }
+                        requires fresh { IsFresh port }
+                        requires sizes { lanes.now.sizes ≡ sizes_of store.now }
+                        requires roots { All (IsKey store.now) roots.now }
+                        ensures { IfOk result (λ p. IsWorked lanes.entry.now store.entry.now roots.entry.now port.number p) }
+                    { work(rt, alloc, lanes, port, store, roots, gate, flag) },
+                ) {
+                    Ok(child) => children.push_reserved(child),
+                    Err(_) => {
+                        flag.store(true, Ordering::SeqCst);
+                        break;
+                    }
+                }
+            }
+            let started = children.len() == count;
+            let joined = join_all(rt, children, parts);
+            judge(started, joined)
+        },
+    )
+}
