@@ -1,5 +1,5 @@
 -- What a reduction of a wave's closure gives its entries, and which nodes it adds.
-use Rattle.std.proofs.Common.{◌≡◌, ℕ, suc, ◌<◌, ◌⊎◌, inl, inr, Bool, List, [], ◌∷◌, ◌++◌, length, Option, Some, None, refl, sym, ◌∙◌, ap, subst, arith, Contains, All}
+use Rattle.std.proofs.Common.{◌≡◌, ◌≢◌, ℕ, suc, ◌<◌, ◌⊎◌, inl, inr, Bool, List, [], ◌∷◌, ◌++◌, length, Option, Some, None, refl, sym, ◌∙◌, ap, subst, arith, Contains, All}
 use Rattle.std.specs.List.{AllZip}
 use Rattle.std.proofs.lemmas.Bool.{cases_lt}
 use Rattle.std.proofs.lemmas.List.{length-append}
@@ -183,3 +183,9 @@ module _ (S : Nodes) (w : IsSound S) (workers : ℕ) (some : 0 < workers) (entri
             )
           ],
         )
+
+-- a refusal of another cause than Full needs none
+pub not_full : (S : Nodes) (entries : List Entry) (T : Nodes) (e : WaveFault) → e ≢ Full → IsWaveFault S entries T e
+not_full S entries T OutOfMemory differ = tt
+not_full S entries T NoWorker differ = tt
+not_full S entries T Full differ = absurd (differ refl)

@@ -8,4 +8,4 @@ mod waves;
 
 pub use levels::reduce;
 pub use results::Results;
-pub use waves::wave_one;
+pub use waves::{wave, wave_one};

@@ -10,10 +10,12 @@ ghost use Rattle.reduce_up.specs.Waves.{IsEntry, AnswersEach, IsWanted, AddsBelo
 use crate::levels::reduce;
 use crate::results::Results;
 use dd_store::{Ref, Store};
-use expand_work::WaveFault;
+use expand_work::{Gate, WaveFault, expand_all};
 use req_table::requests::{normal, short};
 use req_table::{Key, Op, Records};
 use std::alloc::{AllocError, Global};
+use std::sync::Wait;
+use std::thread::Threads;
 use wave_core::Core;
 
 /// The requests of the entries that have no short answer.
@@ -136,4 +138,36 @@ pub fn wave_one<R>(
         return Err(WaveFault::OutOfMemory);
     };
     answer_closure(rt, alloc, store, entries, &records)
+}
+
+/// The diagram of each operation on its two operands.
+///
+/// The requests of all operations together are expanded by workers in threads, and reduced from the last level up (Ochi,
+/// Yasuoka and Yajima 1993). NoWorker is answered where a thread could not be started.
+pub fn wave<R: Threads + Wait + Sync, G: Gate>(
+    rt: &R,
+    alloc: Global,
+    store: &mut Store,
+    entries: &[(Op, Ref, Ref)],
+    workers: u32,
+    gate: &G,
+) -> Result<Vec<Ref>, WaveFault>
+    requires operands { All (IsEntry store.old) entries.now }
+    requires workers { (0 < workers) × (workers ≤ 16) }
+    ensures sound { IsSound store.new }
+    ensures adds { AddsDescribed store.old store.new (IsWanted store.old entries.now) }
+    ensures answers { IfOk result (λ answers. AnswersEach store.old entries.now store.new answers.items) }
+    ensures no_others { IfOk result (λ answers. AddsBelow store.old store.new answers.items) }
+    ensures within { OnOk result (IsWithinLimit store.old entries.now store.new) }
+    ensures fault { IfErr result (λ e. IsWaveFault store.old entries.now store.new e) }
+{
+    let _ = store.levels();
+    let Ok(roots) = requests_of(alloc, entries) else {
+        return Err(WaveFault::OutOfMemory);
+    };
+    let expanded = match expand_all(rt, alloc, store, roots.as_slice(), workers, gate) {
+        Ok(expanded) => expanded,
+        Err(fault) => return Err(fault),
+    };
+    answer_closure(rt, alloc, store, entries, expanded.records())
 }

@@ -1,5 +1,6 @@
 -- Known references stay known, and a wave's answers become known.
 use Rattle.std.proofs.Common.{◌≡◌, ℕ, suc, ◌<◌, List, [], ◌∷◌, All, arith}
+use Rattle.std.specs.Prelude.{Result, Ok, Err, IfOk}
 use Rattle.std.proofs.lemmas.List.Elements.{All-nil, All-cons}
 use Rattle.dd_store.specs.declared.reference.Ref.{Ref}
 use Rattle.dd_store.specs.Nodes.{Nodes}
@@ -14,3 +15,7 @@ answers_known S T [] [] z = All-nil (Has T)
 answers_known S T [] (r ∷ answers) z = absurd z
 answers_known S T (e ∷ entries) [] z = absurd z
 answers_known S T (e ∷ entries) (r ∷ answers) z = All-cons (Has T) r answers z.0.0 (answers_known S T entries answers z.1)
+
+pub if_answers_known : (S T : Nodes) (entries : List Entry) {A E : Type 0} (items : A → List Ref) (result : Result A E) → IfOk result (λ a. AnswersEach S entries T (items a)) → IfOk result (λ a. All (Has T) (items a))
+if_answers_known S T entries items (Ok a) h = answers_known S T entries (items a) h
+if_answers_known S T entries items (Err e) h = h

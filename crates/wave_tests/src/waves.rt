@@ -1,6 +1,6 @@
 //! Waves on one thread, and the reduction of a core's records.
-ghost use Rattle.std.specs.Prelude.{ℕ, ◌<◌, ◌≤◌, ◌≡◌, All, Contains};
-ghost use Rattle.dd_store.specs.View.{Has};
+ghost use Rattle.std.specs.Prelude.{ℕ, ◌<◌, ◌≤◌, ◌≡◌, All, Contains, IfOk};
+ghost use Rattle.dd_store.specs.View.{Has, Keeps};
 ghost use Rattle.req_table.specs.declared.Record.{Record};
 ghost use Rattle.req_table.specs.Keys.{IsKey};
 ghost use Rattle.req_table.specs.Tables.{row_at};
@@ -8,14 +8,16 @@ ghost use Rattle.reduce_up.specs.Reducing.{HasAnswer};
 ghost use Rattle.reduce_up.specs.Waves.{IsEntry, IsClosureOf};
 
 use dd_store::{Ref, Store};
-use expand_work::WaveFault;
+use expand_work::{Free, WaveFault};
 use reduce_up::law::closures_are_records;
-use reduce_up::{Results, reduce, wave_one};
+use reduce_up::{Results, reduce, wave, wave_one};
 use req_table::requests::{normal, short};
 use req_table::{Key, Op, Records};
 use std::alloc::Global;
 use std::process::Abort;
+use std::sync::Wait;
 use std::test::Fail;
+use std::thread::Threads;
 use wave_core::Core;
 
 // Operands are places in a list of known references: the constants, the variables by level, and the answers so far.
@@ -36,6 +38,20 @@ type Step = (Op, usize, usize);
 
 /// Choices of a driven core: none, few, and more than a small wave has events.
 const CHOICES: [&[u8]; 3] = [&[], &[0, 1, 2], &[255; 200]];
+
+/// How a wave is run: on the test's thread by these choices, or by workers in threads.
+#[derive(Clone, Copy)]
+enum Way {
+    Alone(&'static [u8]),
+    Threads,
+}
+
+const WAYS: [Way; 4] = [
+    Way::Alone(CHOICES[0]),
+    Way::Alone(CHOICES[1]),
+    Way::Alone(CHOICES[2]),
+    Way::Threads,
+];
 
 /// The constants and all variables of a store.
 fn start<R: Abort>(rt: &R, alloc: Global, store: &mut Store) -> Vec<Ref>
@@ -79,22 +95,42 @@ fn entries_of<R: Abort>(
     entries
 }
 
+/// The answers of a wave.
+fn answers_of<R: Threads + Wait + Sync>(
+    rt: &R,
+    alloc: Global,
+    store: &mut Store,
+    entries: &[(Op, Ref, Ref)],
+    workers: u32,
+    way: Way,
+) -> Result<Vec<Ref>, WaveFault>
+    requires operands { All (IsEntry store.old) entries.now }
+    requires workers { (0 < workers) × (workers ≤ 16) }
+    ensures keeps { Keeps store.old store.new }
+    ensures known { IfOk result (λ answers. All (Has store.new) answers.items) }
+{
+    match way {
+        Way::Alone(choices) => wave_one(rt, alloc, store, entries, workers, choices),
+        Way::Threads => wave(rt, alloc, store, entries, workers, &Free),
+    }
+}
+
 /// Runs a wave of steps, and adds its answers to the known references.
-fn run<R: Abort>(
+fn run<R: Abort + Threads + Wait + Sync>(
     rt: &R,
     alloc: Global,
     store: &mut Store,
     known: &mut Vec<Ref>,
     steps: &[Step],
     workers: u32,
-    choices: &[u8],
+    way: Way,
 ) -> Result<(), WaveFault>
     requires known { All (Has store.old) known.old.items }
     requires workers { (0 < workers) × (workers ≤ 16) }
     ensures { All (Has store.new) known.new.items }
 {
     let entries = entries_of(rt, alloc, store, known.as_slice(), steps);
-    let answers = wave_one(rt, alloc, store, entries.as_slice(), workers, choices)?;
+    let answers = answers_of(rt, alloc, store, entries.as_slice(), workers, way)?;
     known
         .extend_from_slice(answers.as_slice())
         .expect(rt, "memory");
@@ -157,7 +193,7 @@ fn wave_entries(rt: HostRuntime) -> Result<(), Fail> {
         (Op::Xor, A, A),
     ];
     for workers in [1, 2, 3, 16] {
-        for choices in CHOICES {
+        for way in WAYS {
             let mut store = Store::new(rt.alloc(), 2, 4)?;
             let mut known = start(&rt, rt.alloc(), &mut store);
             let a = known_at(&rt, &store, known.as_slice(), A);
@@ -169,7 +205,7 @@ fn wave_entries(rt: HostRuntime) -> Result<(), Fail> {
                 &mut known,
                 &steps,
                 workers,
-                choices,
+                way,
             );
             assert!(rt; answer.is_ok());
             let both = node(&rt, &store, 0, Ref::False, b);
@@ -202,11 +238,11 @@ fn limit_of_a_wave(rt: HostRuntime) -> Result<(), Fail> {
         (Op::Xnor, A, B),
     ];
     for (limit, fits) in [(9, true), (8, false), (3, false), (2, false)] {
-        for choices in CHOICES {
+        for way in WAYS {
             let mut store = Store::new(rt.alloc(), 2, limit)?;
             let mut known = start(&rt, rt.alloc(), &mut store);
             let b = known_at(&rt, &store, known.as_slice(), B);
-            let answer = run(&rt, rt.alloc(), &mut store, &mut known, &steps, 2, choices);
+            let answer = run(&rt, rt.alloc(), &mut store, &mut known, &steps, 2, way);
             if fits {
                 assert!(rt; answer.is_ok());
                 let not_b = node(&rt, &store, 1, Ref::True, Ref::False);
@@ -243,7 +279,15 @@ fn full_store(rt: HostRuntime) -> Result<(), Fail> {
         ((Op::Or, A, B), false),
         ((Op::Nand, A, A), false),
     ] {
-        let answer = run(&rt, rt.alloc(), &mut store, &mut known, &[step], 2, &[]);
+        let answer = run(
+            &rt,
+            rt.alloc(),
+            &mut store,
+            &mut known,
+            &[step],
+            2,
+            Way::Threads,
+        );
         assert!(rt; answer.is_ok() == fits);
         assert_eq!(rt; store.count(), 3);
     }
@@ -262,20 +306,15 @@ fn full_store(rt: HostRuntime) -> Result<(), Fail> {
 #[test]
 fn second_wave(rt: HostRuntime) -> Result<(), Fail> {
     for workers in [1, 2, 3, 16] {
-        for choices in CHOICES {
+        for way in WAYS {
             let mut store = Store::new(rt.alloc(), 3, 100)?;
             let mut known = start(&rt, rt.alloc(), &mut store);
             let alloc = rt.alloc();
             let sums = [(Op::Or, A, B), (Op::Or, A, C)];
-            assert!(rt; run(&rt, alloc, &mut store, &mut known, &sums, workers, choices).is_ok());
+            assert!(rt; run(&rt, alloc, &mut store, &mut known, &sums, workers, way).is_ok());
             assert_eq!(rt; store.count(), 5);
             let product = [(Op::And, 5, 6)];
-            assert!(rt;
-                run(
-                    &rt, alloc, &mut store, &mut known, &product, workers, choices
-                )
-                .is_ok()
-            );
+            assert!(rt; run(&rt, alloc, &mut store, &mut known, &product, workers, way).is_ok());
             let c = known_at(&rt, &store, known.as_slice(), C);
             let both = node(&rt, &store, 1, Ref::False, c);
             assert_eq!(rt;
