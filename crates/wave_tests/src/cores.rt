@@ -4,7 +4,7 @@ ghost use Rattle.req_table.specs.Keys.{IsKey};
 
 use crate::requests::{request, store_of};
 use dd_store::Store;
-use req_table::{Item, Key, Op, Record, Records};
+use req_table::{Item, Key, Op, Record};
 use std::alloc::Global;
 use std::process::Abort;
 use std::test::Fail;
@@ -51,6 +51,7 @@ fn is_end(item: &Item, sender: u32, at: u16) -> bool {
 fn core_walk(rt: HostRuntime) -> Result<(), Fail> {
     let store = store_of(&rt, rt.alloc(), 4);
     let roots = roots_of(&rt, &store);
+    let first = roots[0];
     let mut core = Core::new(rt.alloc(), &store, 2, &roots)?;
     let start = [
         Event::Send { by: 0, to: 0 },
@@ -70,29 +71,26 @@ fn core_walk(rt: HostRuntime) -> Result<(), Fail> {
     assert!(rt; core.closed(0, 0) && !core.closed(0, 1));
     refuses(&rt, &mut core, Event::Expand { by: 0 }, 7);
     let sent = core.sent(0, 0);
-    assert!(rt; sent.len() == 2 && is_ask(&sent[0], 0, 0, roots[0]) && is_end(&sent[1], 0, 0));
+    assert!(rt; sent.len() == 2);
+    assert!(rt; is_ask(&sent[0], 0, 0, first) && is_end(&sent[1], 0, 0));
     let taken = core.taken(0);
-    assert!(rt; taken.len() == 3 && is_ask(&taken[0], 0, 0, roots[0]));
+    assert!(rt; taken.len() == 3);
+    assert!(rt; is_ask(&taken[0], 0, 0, first));
     assert!(rt; is_end(&taken[1], 0, 0) && is_end(&taken[2], 1, 0));
     let row = core.records(0, 0);
-    assert!(rt; row.len() == 1 && row[0].key == roots[0]);
+    assert!(rt; row.len() == 1);
+    assert!(rt; row[0].key == first);
     does(&rt, &mut core, &[Event::Advance { by: 0 }]);
     assert!(rt; !core.finished());
     assert!(rt; core.drive(&[]).is_ok());
     assert!(rt; core.finished());
     assert!(rt; core.taken(0).len() == 9 && core.taken(1).len() == 9);
     let records = core.into_records()?;
-    assert_eq!(rt; count(&records), 2);
-    Ok(())
-}
-
-/// How many records there are.
-fn count(records: &Records) -> usize {
-    let mut count: usize = 0;
-    for level in 0..records.levels() {
-        count = count.saturating_add(records.level(level as u16).len());
+    assert!(rt; records.levels() == 4);
+    for (level, wanted) in [(0, 1), (1, 0), (2, 0), (3, 1)] {
+        assert_eq!(rt; records.level(level).len(), wanted);
     }
-    count
+    Ok(())
 }
 
 // What a fresh core refuses, and that it does its events as before.
@@ -113,7 +111,11 @@ fn core_refusals(rt: HostRuntime) -> Result<(), Fail> {
     }
     let events = [Event::End { by: 0, to: 1 }, Event::Take { by: 1 }];
     assert!(rt; core.run(&events) == Ok(2));
-    let stopped = [Event::Send { by: 0, to: 0 }, Event::Take { by: 1 }, Event::Take { by: 0 }];
+    let stopped = [
+        Event::Send { by: 0, to: 0 },
+        Event::Take { by: 1 },
+        Event::Take { by: 0 },
+    ];
     assert!(rt; core.run(&stopped) == Err(CoreFault::NotAllowed { place: 3 }));
     assert!(rt; core.sent(0, 0).len() == 1 && core.taken(0).is_empty());
     Ok(())
@@ -148,6 +150,7 @@ fn driven_cores(rt: HostRuntime) -> Result<(), Fail> {
         &[(Op::Nand, 3, 3)],
     ];
     for workers in [1, 2, 3, 16] {
+        assert!(rt; 0 < workers && workers <= 16);
         for choices in [[].as_slice(), [0, 1, 2].as_slice(), [255; 200].as_slice()] {
             let mut core = Core::new(rt.alloc(), &store, workers, &roots)?;
             assert!(rt; core.drive(choices).is_ok());

@@ -96,28 +96,38 @@ fn owners(rt: HostRuntime) -> Result<(), Fail> {
     Ok(())
 }
 
-// The children of a request: a conjunction is the second operand where the first variable is true.
+/// What a child says, to be compared: its answer, or its level and key.
+fn tell(child: Child) -> Result<Ref, (u16, Key)> {
+    match child {
+        Child::Done(answer) => Ok(answer),
+        Child::Ask { level, key } => Err((level, key)),
+    }
+}
+
+// The children of two requests: a conjunction is its second operand where the first variable is true, and the complement
+// of a conjunction is the complement of its second operand there.
 #[test]
 fn children(rt: HostRuntime) -> Result<(), Fail> {
     let store = store_of(&rt, rt.alloc(), 2);
     let a = variable(&rt, &store, 0);
     let b = variable(&rt, &store, 1);
     let key = request(&rt, &store, Op::And, 1, 0);
-    assert!(rt; key.op() == Op::And && key.f() == a && key.g() == b);
-    let record = split(&store, key);
-    assert_eq!(rt; record.key, key);
-    assert!(rt; matches!(record.low, Child::Done(Ref::False)));
-    assert!(rt; matches!(record.high, Child::Done(answer) if answer == b));
-    let complement = split(&store, request(&rt, &store, Op::Nand, 1, 0));
-    assert!(rt; matches!(complement.low, Child::Done(Ref::True)));
-    match complement.high {
-        Child::Ask { level, key } => {
-            assert_eq!(rt; level, 1);
-            assert!(rt; key.op() == Op::Nand && key.f() == Ref::True && key.g() == b);
-        }
-        Child::Done(_) => assert!(rt; false, "NAND of True and b has no short answer"),
-    }
-    assert!(rt; matches!(child(&store, Op::Or, b, Ref::True), Child::Done(Ref::True)));
+    assert_eq!(rt; key.op(), Op::And);
+    assert_eq!(rt; key.f(), a);
+    assert_eq!(rt; key.g(), b);
+    let both = split(&store, key);
+    assert_eq!(rt; both.key, key);
+    assert_eq!(rt; tell(both.low), Ok(Ref::False));
+    assert_eq!(rt; tell(both.high), Ok(b));
+    assert!(rt; short(Op::Nand, b, Ref::True).is_none());
+    let complement = normal(Op::Nand, b, Ref::True);
+    assert_eq!(rt; complement.op(), Op::Nand);
+    assert_eq!(rt; complement.f(), Ref::True);
+    assert_eq!(rt; complement.g(), b);
+    let not_both = split(&store, request(&rt, &store, Op::Nand, 1, 0));
+    assert_eq!(rt; tell(not_both.low), Ok(Ref::True));
+    assert_eq!(rt; tell(not_both.high), Err((1, complement)));
+    assert_eq!(rt; tell(child(&store, Op::Or, b, Ref::True)), Ok(Ref::True));
     Ok(())
 }
 
