@@ -16,8 +16,6 @@ use std::process::Abort;
 use std::sync::Wait;
 use std::sync::atomic::{AtomicBool, AtomicU64, Ordering};
 use std::test::Fail;
-use std::thread;
-use std::thread::Threads;
 
 /// A gate that sets the flag at one level, and remembers who told it what: of each call two digits, the worker's number
 /// and one more than the level.
@@ -32,8 +30,7 @@ impl<'a> Gate for Watcher<'a> {
     fn at_level(&self, worker: u32, level: u16) {
         let seen = self.seen.load(Ordering::SeqCst);
         let call = worker as u64 * 10 + level as u64 + 1;
-        self.seen
-            .store(seen.wrapping_mul(100).wrapping_add(call), Ordering::SeqCst);
+        self.seen.store(seen.wrapping_mul(100).wrapping_add(call), Ordering::SeqCst);
         if level == self.last {
             self.stop.store(true, Ordering::SeqCst);
         }
@@ -76,7 +73,9 @@ fn found_or(rt: &impl Abort, store: &Store, level: u16) -> Ref
     ensures { Has store.now result }
 {
     let variable = found(rt, store, level);
-    store.find(0, variable, Ref::True).expect(rt, "no such node")
+    store
+        .find(0, variable, Ref::True)
+        .expect(rt, "no such node")
 }
 
 /// The request for a conjunction that has no short answer.
@@ -116,9 +115,11 @@ fn root_of(rt: &impl Abort, store: &Store) -> Key
 fn open(alloc: Global, store: &Store, workers: u32) -> Result<(Lanes, Vec<Port>), AllocError>
     requires { (0 < workers) × (workers ≤ 16) }
     ensures lanes { IfOk result (λ r. r.0.sizes ≡ sizes_of store.now) }
-    ensures ports { IfOk result (λ r. All (λ p. IsPortOf r.0 p × IsFresh p) r.1.items) }
+    ensures ports { IfOk result (λ r. All (λ p. IsPortOf r.0 p) r.1.items) }
+    ensures fresh { IfOk result (λ r. All IsFresh r.1.items) }
 {
-    Lanes::new(alloc, store, workers)
+    let (lanes, ports) = Lanes::new(alloc, store, workers)?;
+    Ok((lanes, ports))
 }
 
 /// Runs the worker of the first of so many ports alone, on one root.
@@ -139,7 +140,12 @@ fn work_alone<R: Wait + Abort, G: Gate>(
 }
 
 /// Whether a level has this one record.
-fn is_row(rows: &[Record], key: Key, low: Result<Ref, (u16, Key)>, high: Result<Ref, (u16, Key)>) -> bool {
+fn is_row(
+    rows: &[Record],
+    key: Key,
+    low: Result<Ref, (u16, Key)>,
+    high: Result<Ref, (u16, Key)>,
+) -> bool {
     rows.len() == 1 && rows[0].key == key && tell(rows[0].low) == low && tell(rows[0].high) == high
 }
 
@@ -178,65 +184,15 @@ fn a_flag_is_read_where_a_level_begins(rt: HostRuntime) -> Result<(), Fail> {
     let root = root_of(&rt, &store);
     for (before, last, told, ends) in STOPS {
         let stop = AtomicBool::new(before);
-        let gate = Watcher { seen: AtomicU64::new(0), stop: &stop, last };
+        let gate = Watcher {
+            seen: AtomicU64::new(0),
+            stop: &stop,
+            last,
+        };
         let fault = work_alone(&rt, rt.alloc(), &store, root, &gate, &stop).err();
         let want = if ends { None } else { Some(WorkFault::Stopped) };
         assert_eq!(rt; fault, want);
         assert_eq!(rt; gate.seen.load(Ordering::SeqCst), told);
     }
-    Ok(())
-}
-
-/// The first of two workers waits for the End of the other, which sends nothing.
-fn wait_in_vain<R: Wait + Abort>(
-    rt: &R,
-    alloc: Global,
-    store: &Store,
-    root: Key,
-    stop: &AtomicBool,
-) -> Option<WorkFault>
-    requires { IsKey store.now root }
-{
-    let (lanes, mut ports) = open(alloc, store, 2).expect(rt, "out of memory");
-    let _second = ports.pop().expect(rt, "no second port");
-    let first = ports.pop().expect(rt, "no first port");
-    work(rt, alloc, &lanes, first, store, &[root], &Free, stop).err()
-}
-
-/// Sets the flag after some turns.
-fn set_late(stop: &AtomicBool) {
-    for _ in 0..1000 {
-        thread::yield_now();
-    }
-    stop.store(true, Ordering::SeqCst);
-}
-
-/// What a worker answers that waits in vain while another thread sets the flag.
-fn stopped_in_wait<R: Threads + Wait + Abort + Sync>(
-    rt: &R,
-    alloc: Global,
-    store: &Store,
-    root: Key,
-    stop: &AtomicBool,
-) -> Option<WorkFault>
-    requires { IsKey store.now root }
-{
-    let (fault, _) = thread::join(
-        rt,
-        move || -> Option<WorkFault>
-            requires { IsKey store.now root }
-        { wait_in_vain(rt, alloc, store, root, stop) },
-        move || set_late(stop),
-    );
-    fault
-}
-
-#[test]
-fn a_flag_is_read_in_a_wait(rt: HostRuntime) -> Result<(), Fail> {
-    let store = row_store(&rt, rt.alloc());
-    let root = root_of(&rt, &store);
-    let stop = AtomicBool::new(false);
-    let fault = stopped_in_wait(&rt, rt.alloc(), &store, root, &stop);
-    assert_eq!(rt; fault, Some(WorkFault::Stopped));
     Ok(())
 }
