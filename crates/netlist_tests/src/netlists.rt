@@ -1,6 +1,5 @@
 // Of the reader, what no contract says: the worked texts, the printed faults, and that each call succeeds with ample memory.
-ghost use Rattle.std.specs.Prelude.{None, Some};
-
+use crate::devices::{Endless, OneByte, Refusing};
 use net_bench::device::{Failed, Sink, Source, Through};
 use net_bench::name_table::NameTable;
 use net_bench::netlist::{BenchFault, Kind, Signal};
@@ -158,6 +157,49 @@ fn c17_prefixes(rt: HostRuntime) -> Result<(), Fail> {
             fault_of(rt.alloc(), front),
             prefix_fault(front),
             "after {n} bytes"
+        );
+    }
+    Ok(())
+}
+
+/// The first lines of C17, and what stands behind them.
+fn cut(alloc: Global, lines: usize, behind: &str) -> Result<Vec<u8>, AllocError> {
+    let mut text = Vec::new(alloc);
+    let mut left = lines;
+    for byte in C17.as_bytes() {
+        if left == 0 {
+            break;
+        }
+        text.push(*byte)?;
+        if *byte == b'\n' {
+            left -= 1;
+        }
+    }
+    text.extend_from_slice(behind.as_bytes())?;
+    Ok(text)
+}
+
+#[test]
+fn c17_cut(rt: HostRuntime) -> Result<(), Fail> {
+    let table = [
+        (5, "", None),
+        (7, "", Some(BenchFault::Undefined { line: 6 })),
+        (11, "", Some(BenchFault::Undefined { line: 6 })),
+        (12, "", Some(BenchFault::Undefined { line: 7 })),
+        (13, "", None),
+        (7, "10 ", Some(BenchFault::BadStatement { line: 8 })),
+        (
+            7,
+            "10 = NAND(1,",
+            Some(BenchFault::BadStatement { line: 8 }),
+        ),
+    ];
+    for (lines, behind, want) in table {
+        let text = cut(rt.alloc(), lines, behind)?;
+        assert_eq!(rt;
+            fault_of(rt.alloc(), text.as_slice()),
+            want,
+            "{lines} lines and {behind}"
         );
     }
     Ok(())
@@ -336,34 +378,14 @@ fn gate_words(rt: HostRuntime) -> Result<(), Fail> {
     Ok(())
 }
 
-/// A device that gives one byte a read, and fails when so many are left.
-#[derive(Drop)]
-struct OneByte<'a> {
-    left: &'a [u8],
-    fails_at: usize,
-    failed: bool,
-}
-
-impl<'a> Source for OneByte<'a> {
-    ghost remaining = { λ _. None };
-
-    ghost has_failed = { λ s. s.failed };
-
-    fn read(&mut self, buf: &mut [u8]) -> Result<usize, Failed> {
-        if self.left.len() == self.fails_at {
-            self.failed = true;
-            return Err(Failed);
-        }
-        let Some((byte, after)) = self.left.split_first() else {
-            return Ok(0);
-        };
-        let Some(first) = buf.first_mut() else {
-            return Ok(0);
-        };
-        *first = *byte;
-        self.left = after;
-        Ok(1)
-    }
+/// The fault of a text that drips from a device, which fails where so many bytes are left.
+fn dripping_fault(alloc: Global, text: &str, fails_at: usize) -> Option<BenchFault> {
+    let mut device = OneByte {
+        left: text.as_bytes(),
+        fails_at,
+        failed: false,
+    };
+    read_bench(alloc, &mut device).err()
 }
 
 #[test]
@@ -371,24 +393,10 @@ fn devices(rt: HostRuntime) -> Result<(), Fail> {
     let alloc = rt.alloc();
     let mut whole = Through::new(C17.as_bytes());
     assert_eq!(rt; read_bench(alloc, &mut whole)?.count(), 11);
-    let mut dripping = OneByte {
-        left: C17.as_bytes(),
-        fails_at: 1000,
-        failed: false,
-    };
-    assert_eq!(rt; read_bench(alloc, &mut dripping)?.count(), 11);
-    for fails_at in [100, 5, 0] {
-        let mut failing = OneByte {
-            left: C17.as_bytes(),
-            fails_at,
-            failed: false,
-        };
-        let answer = match read_bench(alloc, &mut failing) {
-            Ok(_) => None,
-            Err(fault) => Some(fault),
-        };
+    assert_eq!(rt; dripping_fault(alloc, C17, 1000), None);
+    for fails_at in 0..C17.len() + 1 {
         assert_eq!(rt;
-            answer,
+            dripping_fault(alloc, C17, fails_at),
             Some(BenchFault::Read),
             "with {fails_at} bytes left"
         );
@@ -396,6 +404,31 @@ fn devices(rt: HostRuntime) -> Result<(), Fail> {
     let mut sink = Through::new(Vec::new(alloc));
     assert_eq!(rt; sink.write(b"ab"), Ok(2));
     assert_eq!(rt; sink.flush(), Ok(()));
+    Ok(())
+}
+
+#[test]
+fn failing_devices(rt: HostRuntime) -> Result<(), Fail> {
+    let mut source = Through::new(Refusing);
+    assert_eq!(rt;
+        read_bench(rt.alloc(), &mut source).err(),
+        Some(BenchFault::Read)
+    );
+    let mut sink = Through::new(Refusing);
+    assert_eq!(rt; sink.write(b"ab"), Err(Failed));
+    let mut held = Through::new(Refusing);
+    assert_eq!(rt; held.flush(), Err(Failed));
+    Ok(())
+}
+
+#[test]
+fn endless_device(rt: HostRuntime) -> Result<(), Fail> {
+    let mut device = Endless { given: 0, asked: 0 };
+    assert_eq!(rt;
+        read_bench(rt.alloc(), &mut device).err(),
+        Some(BenchFault::TooLong)
+    );
+    assert_eq!(rt; device.asked, 67_108_865);
     Ok(())
 }
 
@@ -433,14 +466,24 @@ fn deep_chain(rt: HostRuntime) -> Result<(), Fail> {
     assert_eq!(rt; net.count(), 1_000_000);
     let last = net.find(b"s999999").ok_or("no last signal")?;
     assert_eq!(rt; rank_of(&net, last), Some(999_999));
-    let longer = chain(alloc, "INPUT(s0)\n", 1_000_000)?;
+    Ok(())
+}
+
+#[test]
+fn longer_chain(rt: HostRuntime) -> Result<(), Fail> {
+    let longer = chain(rt.alloc(), "INPUT(s0)\n", 1_000_000)?;
     assert_eq!(rt;
-        fault_of(alloc, longer.as_slice()),
+        fault_of(rt.alloc(), longer.as_slice()),
         Some(BenchFault::TooMany { line: 1_000_001 })
     );
-    let round = chain(alloc, "s0 = NOT(s999999)\n", 999_999)?;
+    Ok(())
+}
+
+#[test]
+fn round_chain(rt: HostRuntime) -> Result<(), Fail> {
+    let round = chain(rt.alloc(), "s0 = NOT(s999999)\n", 999_999)?;
     assert_eq!(rt;
-        fault_of(alloc, round.as_slice()),
+        fault_of(rt.alloc(), round.as_slice()),
         Some(BenchFault::Cycle { line: 1 })
     );
     Ok(())

@@ -1,7 +1,6 @@
-// Orders and pairings of small netlists, order files, and the texts of the faults.
-ghost use Rattle.std.specs.Prelude.{None};
-
-use net_bench::device::{Failed, Source, Through};
+// Orders and pairings of worked netlists, order files, and the texts of the faults.
+use crate::devices::{Endless, OneByte};
+use net_bench::device::Through;
 use net_bench::netlist::Signal;
 use net_bench::reader::{Netlist, parse_bench};
 use net_order::names::Names;
@@ -219,12 +218,12 @@ fn wide(alloc: Global, inputs: u32) -> Result<Netlist, Fail> {
     netlist(alloc, text.as_str())
 }
 
-/// A netlist of so many gates in a row, each with the one before it and an input as its operands.
+/// A netlist of so many gates in a row over one input, each with the one before it and the input as its operands.
 fn chain(alloc: Global, gates: u32) -> Result<Netlist, Fail> {
-    let mut text = format!(in alloc; "INPUT(b)\nINPUT(a)\nOUTPUT(g{gates})\ng0 = NOT(a)\n")?;
-    for i in 0..gates {
-        let next = u64::from(i) + 1;
-        text.push_str(format!(in alloc; "g{next} = AND(g{i}, b)\n")?.as_str())?;
+    let mut text = format!(in alloc; "INPUT(a)\nOUTPUT(g{gates})\ng1 = NOT(a)\n")?;
+    for gate in 1..gates {
+        let next = u64::from(gate) + 1;
+        text.push_str(format!(in alloc; "g{next} = AND(g{gate}, a)\n")?.as_str())?;
     }
     netlist(alloc, text.as_str())
 }
@@ -245,38 +244,47 @@ fn most_inputs(rt: HostRuntime) -> Result<(), Fail> {
 #[test]
 fn deep(rt: HostRuntime) -> Result<(), Fail> {
     let alloc = rt.alloc();
-    let net = chain(alloc, 10_000)?;
+    let net = chain(alloc, 999_999)?;
     let pairing = pair(alloc, &net, &net, Match::Position, &Order::Depth)?;
     let names = spelled(alloc, pairing.names())?;
-    assert_eq!(rt; names.as_slice(), b"a b ".as_slice());
+    assert_eq!(rt; names.as_slice(), b"a ".as_slice());
     Ok(())
 }
 
-/// A device that fails.
-#[derive(Drop)]
-struct Broken {
-    failed: bool,
+/// The fault of an order file that drips from a device, which fails where so many bytes are left.
+fn dripping_fault(alloc: Global, file: &str, fails_at: usize) -> Option<OrderFault> {
+    let mut device = OneByte {
+        left: file.as_bytes(),
+        fails_at,
+        failed: false,
+    };
+    read_order(alloc, &mut device).err()
 }
 
-impl Source for Broken {
-    ghost remaining = { λ _. None };
-
-    ghost has_failed = { λ d. d.failed };
-
-    fn read(&mut self, _buf: &mut [u8]) -> Result<usize, Failed> {
-        self.failed = true;
-        Err(Failed)
+#[test]
+fn order_devices(rt: HostRuntime) -> Result<(), Fail> {
+    let alloc = rt.alloc();
+    let file = "x1 x3\nx5";
+    assert_eq!(rt; dripping_fault(alloc, file, 1000), None);
+    for fails_at in 0..file.len() + 1 {
+        assert_eq!(rt;
+            dripping_fault(alloc, file, fails_at),
+            Some(OrderFault::Read),
+            "with {fails_at} bytes left"
+        );
     }
+    let mut device = Endless { given: 0, asked: 0 };
+    assert_eq!(rt;
+        read_order(alloc, &mut device).err(),
+        Some(OrderFault::TooLong)
+    );
+    assert_eq!(rt; device.asked, 67_108_865);
+    Ok(())
 }
 
 #[test]
 fn faults(rt: HostRuntime) -> Result<(), Fail> {
     let alloc = rt.alloc();
-    let mut device = Broken { failed: false };
-    assert_eq!(rt;
-        read_order(alloc, &mut device).err(),
-        Some(OrderFault::Read)
-    );
     let texts = [
         (
             OrderFault::CountsDiffer,

@@ -1,0 +1,77 @@
+// Devices that drip, fail or never end.
+ghost use Rattle.std.specs.Prelude.{None, false};
+
+use net_bench::device::{Failed, Source};
+use std::io;
+
+/// A device that gives one byte a read, and fails when so many are left.
+#[derive(Drop)]
+pub struct OneByte<'a> {
+    pub left: &'a [u8],
+    pub fails_at: usize,
+    pub failed: bool,
+}
+
+impl<'a> Source for OneByte<'a> {
+    ghost remaining = { λ _. None };
+
+    ghost has_failed = { λ s. s.failed };
+
+    fn read(&mut self, buf: &mut [u8]) -> Result<usize, Failed> {
+        if self.left.len() == self.fails_at {
+            self.failed = true;
+            return Err(Failed);
+        }
+        let Some((byte, after)) = self.left.split_first() else {
+            return Ok(0);
+        };
+        let Some(first) = buf.first_mut() else {
+            return Ok(0);
+        };
+        *first = *byte;
+        self.left = after;
+        Ok(1)
+    }
+}
+
+/// A device that gives blanks without end, and notes the most bytes that were asked for, those that it gave among them.
+#[derive(Drop)]
+pub struct Endless {
+    pub given: usize,
+    pub asked: usize,
+}
+
+impl Source for Endless {
+    ghost remaining = { λ _. None };
+
+    ghost has_failed = { λ _. false };
+
+    fn read(&mut self, buf: &mut [u8]) -> Result<usize, Failed> {
+        for byte in buf.iter_mut() {
+            *byte = b' ';
+        }
+        self.given = self.given.saturating_add(buf.len());
+        self.asked = usize::max(self.asked, self.given);
+        Ok(buf.len())
+    }
+}
+
+/// A reader and writer of std each call of which fails.
+#[derive(Drop)]
+pub struct Refusing;
+
+impl io::Read for Refusing {
+    fn read(&mut self, _buf: &mut [u8]) -> io::Result<usize> {
+        Err(io::Error::from(io::ErrorKind::ConnectionReset))
+    }
+}
+
+impl io::Write for Refusing {
+    fn write(&mut self, _buf: &[u8]) -> io::Result<usize> {
+        Err(io::Error::from(io::ErrorKind::ConnectionReset))
+    }
+
+    fn flush(&mut self) -> io::Result<()> {
+        Err(io::Error::from(io::ErrorKind::ConnectionReset))
+    }
+}
