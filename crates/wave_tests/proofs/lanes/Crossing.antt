@@ -1,0 +1,27 @@
+-- What the closures of the tests' threads hold may go to other threads.
+use mathlib.Core.List.{[], ◌∷◌}
+use base.Fml.{Lft}
+use mir.Syntax.{Lifetime}
+use denote.RattleType.{RattleType}
+use denote.Ref.{ShrRef}
+use denote.Struct.Tuple.{TupleAt}
+use denote.Param.Send.{IsSend, IsSync, sendable}
+use Rattle.dd_store.proofs.store.Store.TheSendSync as store
+use Rattle.req_table.proofs.Key.TheSendSync as key
+use Rattle.lane_queue.proofs.Sent.{port_send, lanes_sync}
+use Rattle.std.proofs.Crossing.{crosses}
+use Rattle.dd_store.specs.contracts.store.Store as Store
+use Rattle.req_table.specs.contracts.Key as Key
+use Rattle.lane_queue.specs.contracts.lanes.Lanes as Lanes
+use Rattle.lane_queue.specs.contracts.port.Port as Port
+
+store_sync : IsSync Store.the_row
+store_sync = store.the_sync
+
+key_send : IsSend Key.the_row
+key_send = key.the_send
+
+-- the thread that sends
+pub sender_send : (ν : _) (ℓ ℓ' ℓ'' : Lifetime) (κ κ' κ'' : Lft) (R : RattleType) → IsSync R
+    → IsSend (TupleAt ν (ShrRef ℓ κ R ∷ ShrRef ℓ' κ' Store.the_row ∷ ShrRef ℓ'' κ'' Lanes.the_row ∷ Port.the_row ∷ Key.the_row ∷ Key.the_row ∷ []))
+sender_send ν ℓ ℓ' ℓ'' κ κ' κ'' R r = search (sendable, crosses, lanes_sync, port_send, store_sync, key_send) depth 30
