@@ -8,13 +8,16 @@ use Rattle.net_bench.specs.Judge.{judge, answer}
 use Rattle.net_order.specs.declared.order.Match.TheVariants.{Name, Position}
 use Rattle.net_order.specs.Order.{declared, by_depth, bad_place, IsListing, output_pairs, only_in}
 
+-- The circuit of the statements that are answered, without any where a fault is.
 abbrev read : Result (List Statement) BenchFault → Circuit
 read (Ok ss) = circuit_of ss
 read (Err f) = circuit_of []
 
+-- The circuit of a text.
 abbrev netlist : List ℕ → Circuit
 netlist text = read (answer text)
 
+-- The text of c17.
 abbrev c17 : List ℕ
 c17 = codes "INPUT(1)\nINPUT(2)\nINPUT(3)\nINPUT(6)\nINPUT(7)\nOUTPUT(22)\nOUTPUT(23)\n10 = NAND(1, 3)\n11 = NAND(3, 6)\n16 = NAND(2, 11)\n19 = NAND(11, 7)\n22 = NAND(10, 16)\n23 = NAND(16, 19)\n"
 
@@ -49,6 +52,7 @@ lone_first : only_in Name (netlist (codes "INPUT(a) OUTPUT(a) OUTPUT(b) b = NOT(
 unfolding tokens_in pieces_in judge
 lone_first = refl
 
+-- The names x1 to x6.
 abbrev six : List (List ℕ)
 six = map (λ d. 120 ∷ d ∷ []) (codes "123456")
 
