@@ -63,15 +63,16 @@ fn both_ways(rt: &impl Abort, store: &Store) -> [Key; 2]
 fn merged_roots(rt: HostRuntime) -> Result<(), Fail> {
     let store = store_of(&rt, rt.alloc(), 2);
     let roots = both_ways(&rt, &store);
-    assert!(rt; roots[0] == roots[1]);
-    assert_eq!(rt; owner(roots[0], 4), 1);
+    let [first, second] = roots;
+    assert!(rt; first == second);
+    assert_eq!(rt; owner(first, 4), 1);
     let expanded = expand_all(&rt, rt.alloc(), &store, &roots, 4, &Free)?;
     let records = expanded.records();
     assert_eq!(rt; records.levels(), 2);
     assert!(rt;
         is_record(
             records.level(0),
-            roots[0],
+            first,
             Ref::False,
             variable(&rt, &store, 1)
         )
