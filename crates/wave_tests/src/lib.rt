@@ -4,6 +4,8 @@
 #[cfg(test)]
 mod cores;
 #[cfg(test)]
+mod expanded;
+#[cfg(test)]
 mod lanes;
 #[cfg(test)]
 mod requests;

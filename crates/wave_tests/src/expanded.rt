@@ -1,0 +1,226 @@
+//! Waves expanded by threads: their records, how many items were put, and workers that meet at a level.
+ghost use Rattle.std.specs.Prelude.{◌≡◌, ◌≤◌, ◌<◌, All};
+ghost use Rattle.req_table.specs.Keys.{IsKey};
+
+use crate::requests::{request, store_of, variable};
+use dd_store::{Ref, Store};
+use expand_work::{Free, Gate, expand_all};
+use lane_queue::Port;
+use req_table::requests::owner;
+use req_table::{Child, Key, Op, Record};
+use std::alloc::Global;
+use std::process::Abort;
+use std::sync::atomic::{AtomicBool, AtomicU32, Ordering};
+use std::test::Fail;
+
+/// How many items the ports put together.
+fn put_by(ports: &[Port]) -> u128 {
+    let mut total: u128 = 0;
+    for port in ports {
+        total = total.saturating_add(port.put());
+    }
+    total
+}
+
+/// Whether each of so many ports stands at the place of its number.
+fn are_numbered(ports: &[Port], workers: u32) -> bool {
+    let mut place: u32 = 0;
+    for port in ports {
+        if port.number() != place {
+            return false;
+        }
+        place = place.saturating_add(1);
+    }
+    place == workers
+}
+
+/// Whether the child is this answer.
+fn is_answer(child: Child, wanted: Ref) -> bool {
+    matches!(child, Child::Done(answer) if answer == wanted)
+}
+
+/// Whether these are the one record of this request, whose children are answers.
+fn is_record(records: &[Record], key: Key, low: Ref, high: Ref) -> bool {
+    records.len() == 1
+        && records[0].key == key
+        && is_answer(records[0].low, low)
+        && is_answer(records[0].high, high)
+}
+
+/// The conjunction of the variables a and b, asked for both ways round.
+fn both_ways(rt: &impl Abort, store: &Store) -> [Key; 2]
+    requires { store.now.levels ≡ 2 }
+    ensures { All (IsKey store.now) result }
+{
+    [
+        request(rt, store, Op::And, 0, 1),
+        request(rt, store, Op::And, 1, 0),
+    ]
+}
+
+// Two roots of one key make one record, whose owner gets both: 2 Asks, and 4 x 4 x 2 Ends.
+#[test]
+fn merged_roots(rt: HostRuntime) -> Result<(), Fail> {
+    let store = store_of(&rt, rt.alloc(), 2);
+    let roots = both_ways(&rt, &store);
+    let [first, second] = roots;
+    assert!(rt; first == second);
+    assert_eq!(rt; owner(first, 4), 1);
+    let expanded = expand_all(&rt, rt.alloc(), &store, &roots, 4, &Free)?;
+    let records = expanded.records();
+    assert_eq!(rt; records.levels(), 2);
+    assert!(rt;
+        is_record(
+            records.level(0),
+            first,
+            Ref::False,
+            variable(&rt, &store, 1)
+        )
+    );
+    assert!(rt; records.level(1).is_empty());
+    assert!(rt; are_numbered(expanded.ports(), 4));
+    assert_eq!(rt; put_by(expanded.ports()), 34);
+    Ok(())
+}
+
+/// The conjunction of the variables a and c, and the complement of d, which different workers of two own.
+fn two_roots(rt: &impl Abort, store: &Store) -> [Key; 2]
+    requires { store.now.levels ≡ 4 }
+    ensures { All (IsKey store.now) result }
+{
+    [
+        request(rt, store, Op::And, 0, 2),
+        request(rt, store, Op::Nand, 3, 3),
+    ]
+}
+
+/// Two workers, each of whom waits at level 0 until the other is there.
+#[derive(Drop)]
+struct Meeting {
+    there: [AtomicBool; 2],
+    missed: AtomicU32,
+}
+
+impl Meeting {
+    fn new() -> Meeting {
+        Meeting {
+            there: [AtomicBool::new(false), AtomicBool::new(false)],
+            missed: AtomicU32::new(0),
+        }
+    }
+
+    /// Waits for so many turns until the flag is set.
+    fn wait_for(&self, other: &AtomicBool) {
+        for _ in 0..50_000_000 {
+            if other.load(Ordering::SeqCst) {
+                return;
+            }
+        }
+        self.missed.fetch_add(1, Ordering::SeqCst);
+    }
+
+    /// Whether both were there, and neither waited in vain.
+    fn met(&self) -> bool {
+        let [first, second] = &self.there;
+        first.load(Ordering::SeqCst)
+            && second.load(Ordering::SeqCst)
+            && self.missed.load(Ordering::SeqCst) == 0
+    }
+}
+
+impl Gate for Meeting {
+    fn at_level(&self, worker: u32, level: u16) {
+        if level != 0 {
+            return;
+        }
+        let [first, second] = &self.there;
+        let (own, other) = if worker == 0 {
+            (first, second)
+        } else {
+            (second, first)
+        };
+        if !own.swap(true, Ordering::SeqCst) {
+            self.wait_for(other);
+        }
+    }
+}
+
+// Two workers are at one level at once, and put 2 Asks and 2 x 2 x 4 Ends.
+#[test]
+fn two_at_a_level(rt: HostRuntime) -> Result<(), Fail> {
+    let store = store_of(&rt, rt.alloc(), 4);
+    let roots = two_roots(&rt, &store);
+    assert_eq!(rt; (owner(roots[0], 2), owner(roots[1], 2)), (0, 1));
+    let gate = Meeting::new();
+    assert!(rt; !gate.met());
+    let expanded = expand_all(&rt, rt.alloc(), &store, &roots, 2, &gate)?;
+    assert!(rt; gate.met());
+    let records = expanded.records();
+    assert_eq!(rt; records.levels(), 4);
+    assert!(rt;
+        is_record(
+            records.level(0),
+            roots[0],
+            Ref::False,
+            variable(&rt, &store, 2)
+        )
+    );
+    assert!(rt; records.level(1).is_empty() && records.level(2).is_empty());
+    assert!(rt; is_record(records.level(3), roots[1], Ref::True, Ref::False));
+    assert!(rt; are_numbered(expanded.ports(), 2));
+    assert_eq!(rt; put_by(expanded.ports()), 18);
+    Ok(())
+}
+
+/// The keys of the records of a level, as operations on the levels of their operands, in order.
+fn keys_of(alloc: Global, store: &Store, row: &[Record]) -> Result<Vec<(Op, u16, u16)>, Fail> {
+    let mut keys = Vec::new(alloc);
+    for record in row {
+        let key = record.key;
+        keys.push((key.op(), store.top(key.f()), store.top(key.g())))?;
+    }
+    keys.sort()?;
+    Ok(keys)
+}
+
+/// Five roots, two of which are one request, and two of which ask for a further one each.
+fn five_roots(rt: &impl Abort, store: &Store) -> [Key; 5]
+    requires { store.now.levels ≡ 4 }
+    ensures { All (IsKey store.now) result }
+{
+    [
+        request(rt, store, Op::Xor, 0, 1),
+        request(rt, store, Op::And, 0, 2),
+        request(rt, store, Op::Nand, 1, 0),
+        request(rt, store, Op::Xor, 1, 0),
+        request(rt, store, Op::Nand, 3, 3),
+    ]
+}
+
+/// The requests that they ask for, by level: the operation and the levels of the operands, where 4 is a terminal's.
+const REACHED: [&[(Op, u16, u16)]; 4] = [
+    &[(Op::And, 0, 2), (Op::Xor, 0, 1), (Op::Nand, 0, 1)],
+    &[(Op::Xor, 4, 1), (Op::Nand, 4, 1)],
+    &[],
+    &[(Op::Nand, 3, 3)],
+];
+
+// However the threads run, the records are the same, and 5 roots, 2 children and the Ends are put.
+#[test]
+fn any_schedule(rt: HostRuntime) -> Result<(), Fail> {
+    let store = store_of(&rt, rt.alloc(), 4);
+    let roots = five_roots(&rt, &store);
+    for (workers, runs, put) in [(1, 1, 11), (2, 10, 23), (3, 10, 43), (16, 200, 1031)] {
+        for _ in 0..runs {
+            let expanded = expand_all(&rt, rt.alloc(), &store, &roots, workers, &Free)?;
+            assert_eq!(rt; expanded.records().levels(), 4);
+            for level in 0..4 {
+                let keys = keys_of(rt.alloc(), &store, expanded.records().level(level))?;
+                assert_eq!(rt; keys.as_slice(), REACHED[level as usize]);
+            }
+            assert!(rt; are_numbered(expanded.ports(), workers));
+            assert_eq!(rt; put_by(expanded.ports()), put);
+        }
+    }
+    Ok(())
+}
