@@ -2,13 +2,15 @@
 #![tactic(auto)]
 
 mod fault;
-mod options;
+mod folder;
+mod run;
 mod split;
 #[cfg(test)]
 mod tests;
 mod tool;
 
 use fault::ToolFault;
+use folder::Disk;
 use net_bench::device::Through;
 use std::io;
 use std::io::{BufWriter, Read, Write};
@@ -49,6 +51,7 @@ where
         rt,
         rt.alloc(),
         words.as_slice(),
+        &mut Disk::new(rt),
         &mut input,
         &mut out,
         &mut errors,

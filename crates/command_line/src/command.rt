@@ -1,44 +1,6 @@
-//! The command line.
-ghost use Rattle.std.specs.Prelude.{◌≡◌, ◌≤◌, ◌<◌};
-
-use clap::{Arg, ArgAction, ArgMatches, Command, Error, value_parser};
-use net_order::order::Match;
+//! The command of the program, as clap knows it.
+use clap::{Arg, ArgAction, Command, Error, value_parser};
 use std::alloc::Global;
-
-/// Where the order of the variables comes from.
-#[derive(Clone, Copy, Drop, Debug, PartialEq, Eq)]
-pub enum OrderChoice<'a> {
-    Declared,
-    Depth,
-    /// The path of a file with the names.
-    File(&'a str),
-}
-
-/// Where the netlists come from.
-#[derive(Clone, Copy, Drop, Debug, PartialEq, Eq)]
-pub enum Texts<'a> {
-    /// Both from standard input.
-    Input,
-    /// The paths of two files.
-    Files(&'a str, &'a str),
-    /// One path alone, which is refused.
-    One,
-}
-
-/// What the command line asks for.
-#[derive(Clone, Copy, Drop, Debug, PartialEq, Eq)]
-pub struct Options<'a> {
-    pub matching: Match,
-    pub order: OrderChoice<'a>,
-    pub workers: u32,
-    pub limit: u64,
-    pub sizes: bool,
-    pub texts: Texts<'a>,
-    ghost some_workers: { 1 ≤ workers },
-    ghost few_workers: { workers ≤ 16 },
-    ghost some_nodes: { 1 ≤ limit },
-    ghost few_nodes: { limit ≤ 4294967295 },
-}
 
 static MATCHES: [&str; 2] = ["name", "position"];
 
@@ -59,7 +21,7 @@ Status:
   3  out of memory, more nodes than the limit, no worker, or the report could not be written";
 
 /// The command of this program.
-fn command<'a>(alloc: Global) -> Result<Command<'a>, Error> {
+pub fn command<'a>(alloc: Global) -> Result<Command<'a>, Error> {
     let matching = Arg::new(alloc, "match")
         .long("match")
         .value_parser(MATCHES.as_slice())
@@ -107,39 +69,4 @@ fn command<'a>(alloc: Global) -> Result<Command<'a>, Error> {
             .arg(first)?
             .arg(second)?,
     )
-}
-
-/// Reads the words of a command line.
-pub fn read_options<'a>(alloc: Global, words: &'a [String]) -> Result<Options<'a>, Error> {
-    let matches = command(alloc)?.try_get_matches_from(words)?;
-    Ok(options_of(&matches))
-}
-
-/// What the matches say. The parser has tested each range.
-fn options_of<'a>(matches: &ArgMatches<'a>) -> Options<'a> {
-    let matching = match matches.get_str("match") {
-        Some("position") => Match::Position,
-        _ => Match::Name,
-    };
-    let order = match (matches.get_str("order-file"), matches.get_str("order")) {
-        (Some(path), _) => OrderChoice::File(path),
-        (None, Some("depth")) => OrderChoice::Depth,
-        _ => OrderChoice::Declared,
-    };
-    let texts = match (matches.get_str("FIRST"), matches.get_str("SECOND")) {
-        (Some(first), Some(second)) => Texts::Files(first, second),
-        (None, None) => Texts::Input,
-        _ => Texts::One,
-    };
-    Options {
-        matching,
-        order,
-        workers: matches.get_one::<u32>("workers").unwrap_or(4).clamp(1, 16),
-        limit: matches
-            .get_one::<u64>("limit")
-            .unwrap_or(67_108_864)
-            .clamp(1, 4_294_967_295),
-        sizes: matches.get_flag("sizes"),
-        texts,
-    }
 }
