@@ -1,10 +1,9 @@
 -- What a run does, from what its parts do.
-use Rattle.std.proofs.Common.{◌≡◌, ◌∙◌, ◌++◌, ◌⊎◌, inl, inr, ℕ, Bool, true, false, List, [], ◌∷◌, map, Option, Some, None, Result, Ok, Err, IfOk, IfErr, OnOk, refl, sym, ap, subst, append-nil}
+use Rattle.std.proofs.Common.{◌≡◌, ◌∙◌, ◌++◌, ◌⊎◌, inl, inr, ℕ, Bool, true, false, List, [], ◌∷◌, Option, Some, None, Result, Ok, Err, IfOk, IfErr, OnOk, refl, sym, ap, subst, append-nil}
 use Rattle.std.specs.Prelude.{IfSome, option_map}
 use Rattle.std.specs.Borrow.{Bor}
 use Rattle.std.specs.Io.KnownBytes.{Appends, Keeps}
 use Rattle.std.proofs.lemmas.List.{append_assoc}
-use Rattle.net_order.specs.declared.order.Order.{Order}
 use Rattle.check_report.specs.declared.outcome.Outcome.{Outcome}
 use Rattle.check_report.specs.Writing.{AppendsFront}
 use Rattle.command_line.specs.declared.options.Options.{Options}
@@ -15,7 +14,7 @@ use Rattle.bddcheck.specs.declared.fault.ToolFault.{ToolFault}
 use Rattle.bddcheck.specs.declared.fault.ToolFault.TheVariants.{OneFile, CannotOpen, InputUnread, InputTooLong, InputUndivided, BadOrder, Check, OutOfMemory}
 use Rattle.bddcheck.specs.Splitting.{IsSplit}
 use Rattle.bddcheck.specs.Opening.{Try, Extends, opened, AreTried}
-use Rattle.bddcheck.specs.Running.{text_paths, order_paths, paths_of, AreTexts, HasTexts, IsCompared, IsReported, HasReported, HasReportedFront, IsCompareFault, IsToolFault}
+use Rattle.bddcheck.specs.Running.{text_paths, order_paths, paths_of, AreTexts, HasTexts, IsCompared, HasReported, HasReportedFront, IsCompareFault, IsToolFault}
 
 -- ---- tries
 

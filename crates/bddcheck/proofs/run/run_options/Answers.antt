@@ -1,4 +1,4 @@
-use Rattle.std.proofs.Common.{rules, ◌≡◌, ◌∙◌, List, ℕ, [], Some, sym, refl, subst}
+use Rattle.std.proofs.Common.{rules, ◌∙◌, [], Some, sym, refl, subst}
 use Rattle.bddcheck.specs.Running.{text_paths}
 use Rattle.bddcheck.specs.Opening.{Extends, opened}
 use Rattle.bddcheck.proofs.Composing.{extends_none, input_texts, files_texts, split_parts, split_none, undivided, whole_report, whole_front, whole_faults, both_opened, all_opened, second_unopened}

@@ -1,4 +1,4 @@
-use Rattle.std.proofs.Common.{rules, inr, refl}
+use Rattle.std.proofs.Common.{inr, refl}
 use Rattle.bddcheck.specs.declared.fault.ToolFault.TheVariants.{OutOfMemory}
 use Rattle.bddcheck.proofs.tool.refuse.Goals as goal
 
