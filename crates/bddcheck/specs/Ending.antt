@@ -61,9 +61,13 @@ pub record Refuses (s : Scene) (o : Options) (fault : ToolFault) (status : ℕ) 
 abbrev pub IsEnding : Scene → Options → ℕ → Type 0
 IsEnding s o status = ((outcome : Outcome) × Reports s o outcome status) ⊎ ((fault : ToolFault) × Refuses s o fault status)
 
--- The words gave no options, and no file was opened: a text was written as help, or said as a mistake, or memory ran out.
-pub data IsWordEnding (s : Scene) : ℕ → Type 0 where
-  helped : (text : List ℕ) → Appends s.held s.written text → Keeps s.heard s.said → Extends s.tried s.tries [] → IsWordEnding s 0
-  helped_in_part : (text : List ℕ) → AppendsFront s.held s.written s.out_failed text → Keeps s.heard s.said → Extends s.tried s.tries [] → IsWordEnding s 3
-  mistaken : (text : List ℕ) → Says s.heard s.said s.errors_failed text → Keeps s.held s.written → Extends s.tried s.tries [] → IsWordEnding s 2
-  starved : {status : ℕ} → IsSaid s.heard s.said s.errors_failed OutOfMemory status → Keeps s.held s.written → Extends s.tried s.tries [] → IsWordEnding s status
+-- what is told where the words ask for no options: help on the output, a mistake, or want of memory
+pub data IsWordEnd (held written : Option (List ℕ)) (out_failed : Bool) (heard said : Option (List ℕ)) (errors_failed : Bool) : ℕ → Type 0 where
+  helped : (text : List ℕ) → Appends held written text → Keeps heard said → IsWordEnd held written out_failed heard said errors_failed 0
+  helped_in_part : (text : List ℕ) → AppendsFront held written out_failed text → Keeps heard said → IsWordEnd held written out_failed heard said errors_failed 3
+  mistaken : (text : List ℕ) → Says heard said errors_failed text → Keeps held written → IsWordEnd held written out_failed heard said errors_failed 2
+  starved : {status : ℕ} → IsSaid heard said errors_failed OutOfMemory status → Keeps held written → IsWordEnd held written out_failed heard said errors_failed status
+
+-- The words asked for no options, and no file was opened.
+abbrev pub IsWordEnding : Scene → ℕ → Type 0
+IsWordEnding s status = Extends s.tried s.tries [] × IsWordEnd s.held s.written s.out_failed s.heard s.said s.errors_failed status

@@ -40,7 +40,13 @@ where
         Err(error) if error.kind() == io::ErrorKind::OutOfMemory => {
             return tool::refuse(rt.alloc(), ToolFault::OutOfMemory, &mut errors);
         }
-        Err(_) => return 2,
+        Err(_) => {
+            tool::say(
+                &mut errors,
+                b"bddcheck: a word of the command line is no UTF-8\n",
+            );
+            return 2;
+        }
     };
     let Ok(buffered) = BufWriter::new(rt.alloc(), output) else {
         return tool::refuse(rt.alloc(), ToolFault::OutOfMemory, &mut errors);

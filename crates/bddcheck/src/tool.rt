@@ -1,8 +1,6 @@
 //! A run of the program: its words, its folder and its devices to a status.
-ghost use Rattle.std.specs.Prelude.{◌≡◌, ◌≤◌, ◌⊎◌, ℕ, List, Option};
-ghost use Rattle.bddcheck.specs.Opening.{Try};
-ghost use Rattle.command_line.specs.declared.options.Options.{Options};
-ghost use Rattle.bddcheck.specs.Ending.{Says, IsSaid, IsReportStatus, IsEnding, IsWordEnding};
+ghost use Rattle.std.specs.Prelude.{◌≡◌, ◌≤◌};
+ghost use Rattle.bddcheck.specs.Ending.{Says, IsSaid, IsReportStatus, IsWordEnd};
 
 use crate::fault::{ToolFault, line_of, status_of_fault};
 use crate::folder::Folder;
@@ -13,7 +11,7 @@ use net_bench::device::{Sink, Source};
 use std::alloc::Global;
 
 /// Writes a text as far as the device takes it. A failure is ignored.
-fn say<E: Sink>(errors: &mut E, text: &[u8])
+pub fn say<E: Sink>(errors: &mut E, text: &[u8])
     ensures { Says (E.contents errors.old) (E.contents errors.new) (E.has_failed errors.new) text.now }
 {
     let _ = write_whole(errors, text);
@@ -21,7 +19,8 @@ fn say<E: Sink>(errors: &mut E, text: &[u8])
 
 /// Prints the line of a fault, and answers its status. Where there is no memory for the line, it is that of want of memory.
 pub fn refuse<E: Sink>(alloc: Global, fault: ToolFault, errors: &mut E) -> u8
-    ensures { IsSaid (E.contents errors.old) (E.contents errors.new) (E.has_failed errors.new) fault result }
+    ensures said { IsSaid (E.contents errors.old) (E.contents errors.new) (E.has_failed errors.new) fault result }
+    ensures bound { result ≤ 3 }
 {
     match line_of(alloc, fault) {
         Ok(line) => {
@@ -36,13 +35,18 @@ pub fn refuse<E: Sink>(alloc: Global, fault: ToolFault, errors: &mut E) -> u8
 }
 
 /// Prints what the words were refused with, and answers the status: 0 for help, 2 for a mistake.
-#[tactic(auto, using(crate::proofs::Composing::keeps_own, crate::proofs::Composing::extends_none))]
+#[tactic(auto, using(crate::proofs::Composing::keeps_own))]
 fn refuse_words<W: Sink, E: Sink>(
     alloc: Global,
     refused: &Refused,
     out: &mut W,
     errors: &mut E,
-) -> u8 {
+) -> u8
+    ensures ending { IsWordEnd (W.contents out.old) (W.contents out.new) (W.has_failed out.new) (E.contents errors.old) (E.contents errors.new) (E.has_failed errors.new) result }
+    ensures bound { result ≤ 3 }
+    ensures untouched { result ≡ 2 → out.new ≡ out.old }
+    ensures silent { result ≤ 1 → errors.new ≡ errors.old }
+{
     match refused {
         Refused::Help(text) => match write_whole(out, text.as_bytes()) {
             Ok(()) => 0,
@@ -68,7 +72,6 @@ fn status_of(outcome: Outcome) -> u8
 }
 
 /// Runs the program on its words, and answers its status.
-#[tactic(auto, using(crate::proofs::Composing::keeps_own, crate::proofs::Composing::extends_none))]
 pub fn run_tool<H, F: Folder, R: Source, W: Sink, E: Sink>(
     rt: &H,
     alloc: Global,
@@ -77,7 +80,9 @@ pub fn run_tool<H, F: Folder, R: Source, W: Sink, E: Sink>(
     input: &mut R,
     out: &mut W,
     errors: &mut E,
-) -> u8 {
+) -> u8
+    ensures bound { result ≤ 3 }
+{
     let options = match read_options(alloc, words) {
         Ok(options) => options,
         Err(refused) => return refuse_words(alloc, &refused, out, errors),

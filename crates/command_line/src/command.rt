@@ -1,6 +1,10 @@
 //! The command of the program, as clap knows it.
+ghost use Rattle.std.specs.Prelude.{◌≡◌, false, codes, IfOk};
+ghost use Rattle.clap.specs.Words.{app_of, new_rule, rule_of};
+ghost use Rattle.command_line.specs.Words.{match_rule, order_rule, order_file_rule, workers_rule, limit_rule, sizes_rule, bare_app, IsTool};
+
 use clap::{Arg, ArgAction, Command, Error, value_parser};
-use std::alloc::Global;
+use std::alloc::{AllocError, Global};
 
 static MATCHES: [&str; 2] = ["name", "position"];
 
@@ -17,56 +21,115 @@ standard input, with a line `%%` between them.
 Status:
   0  all outputs are paired and equal
   1  some are different, or have no partner
-  2  the command line, a netlist or the order was refused
+  2  the command line, a file, a netlist or the order was refused
   3  out of memory, more nodes than the limit, no worker, or the report could not be written";
 
-/// The command of this program.
-pub fn command<'a>(alloc: Global) -> Result<Command<'a>, Error> {
-    let matching = Arg::new(alloc, "match")
+fn matching<'a>(alloc: Global) -> Arg<'a>
+    ensures rule { rule_of result ≡ match_rule result.value_parser }
+    ensures local { result.global ≡ false }
+{
+    Arg::new(alloc, "match")
         .long("match")
+        .value_name("HOW")
         .value_parser(MATCHES.as_slice())
         .default_value("name")
-        .help("How inputs and outputs are paired");
-    let order = Arg::new(alloc, "order")
+        .help("Pair inputs and outputs by their names or by their places")
+}
+
+fn order<'a>(alloc: Global) -> Arg<'a>
+    ensures rule { rule_of result ≡ order_rule result.value_parser }
+    ensures local { result.global ≡ false }
+{
+    Arg::new(alloc, "order")
         .long("order")
+        .value_name("ORDER")
         .value_parser(ORDERS.as_slice())
         .default_value("declared")
-        .help("The order of the variables: as declared, or as met below the outputs");
-    let order_file = Arg::new(alloc, "order-file")
+        .help("Order the variables as declared, or by depth: as met below the outputs")
+}
+
+fn order_file<'a>(alloc: Global) -> Result<Arg<'a>, AllocError>
+    ensures rule { IfOk result (λ a. rule_of a ≡ order_file_rule) }
+    ensures local { IfOk result (λ a. a.global ≡ false) }
+{
+    Arg::new(alloc, "order-file")
         .long("order-file")
         .value_name("F")
-        .conflicts_with("order")?
-        .help("A file with the names of all variables in their order");
-    let workers = Arg::new(alloc, "workers")
+        .help("Order the variables as a file lists their names; not with --order")
+        .conflicts_with("order")
+}
+
+fn workers<'a>(alloc: Global) -> Arg<'a>
+    ensures rule { rule_of result ≡ workers_rule result.value_parser }
+    ensures local { result.global ≡ false }
+{
+    Arg::new(alloc, "workers")
         .long("workers")
         .value_name("N")
         .value_parser(value_parser!(u32).range(1..=16))
         .default_value("4")
-        .help("The number of worker threads, 1 to 16");
-    let limit = Arg::new(alloc, "limit")
+        .help("Build the diagrams by this many workers, 1 to 16")
+}
+
+fn limit<'a>(alloc: Global) -> Arg<'a>
+    ensures rule { rule_of result ≡ limit_rule result.value_parser }
+    ensures local { result.global ≡ false }
+{
+    Arg::new(alloc, "limit")
         .long("limit")
         .value_name("N")
         .value_parser(value_parser!(u64).range(1..=4_294_967_295))
         .default_value("67108864")
-        .help("The most nodes that the diagrams may have, 1 to 4294967295");
-    let sizes = Arg::new(alloc, "sizes")
+        .help("Give up where the diagrams have more nodes, 1 to 4294967295")
+}
+
+fn sizes<'a>(alloc: Global) -> Arg<'a>
+    ensures rule { rule_of result ≡ sizes_rule }
+    ensures local { result.global ≡ false }
+{
+    Arg::new(alloc, "sizes")
         .long("sizes")
         .action(ArgAction::SetTrue)
-        .help("Print the number of nodes of each compared diagram");
-    let first = Arg::new(alloc, "FIRST").help("The file of the first netlist");
-    let second = Arg::new(alloc, "SECOND").help("The file of the second netlist");
-    Ok(
-        Command::new(alloc, "bddcheck")
-            .no_binary_name(true)
-            .about(ABOUT)
-            .after_help(MORE)
-            .arg(matching)?
-            .arg(order)?
-            .arg(order_file)?
-            .arg(workers)?
-            .arg(limit)?
-            .arg(sizes)?
-            .arg(first)?
-            .arg(second)?,
-    )
+        .help("Print the number of nodes of each compared diagram")
+}
+
+fn first<'a>(alloc: Global) -> Arg<'a>
+    ensures rule { rule_of result ≡ new_rule (codes "FIRST") }
+    ensures local { result.global ≡ false }
+{
+    Arg::new(alloc, "FIRST").help("The file of the first netlist")
+}
+
+fn second<'a>(alloc: Global) -> Arg<'a>
+    ensures rule { rule_of result ≡ new_rule (codes "SECOND") }
+    ensures local { result.global ≡ false }
+{
+    Arg::new(alloc, "SECOND").help("The file of the second netlist")
+}
+
+/// The command without arguments.
+fn bare<'a>(alloc: Global) -> Command<'a>
+    ensures { app_of result ≡ bare_app }
+{
+    Command::new(alloc, "bddcheck")
+        .no_binary_name(true)
+        .about(ABOUT)
+        .after_help(MORE)
+}
+
+/// The command of this program.
+pub fn command<'a>(alloc: Global) -> Result<Command<'a>, Error>
+    ensures { IfOk result (λ c. IsTool (app_of c)) }
+{
+    let command = bare(alloc)
+        .arg(matching(alloc))?
+        .arg(order(alloc))?
+        .arg(order_file(alloc)?)?
+        .arg(workers(alloc))?;
+    let command = command
+        .arg(limit(alloc))?
+        .arg(sizes(alloc))?
+        .arg(first(alloc))?
+        .arg(second(alloc))?;
+    Ok(command)
 }

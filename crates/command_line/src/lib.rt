@@ -3,5 +3,7 @@
 
 mod command;
 mod options;
+mod reading;
 
-pub use options::{Options, OrderChoice, Refused, Texts, read_options};
+pub use options::{Options, OrderChoice, Texts};
+pub use reading::{Refused, read_options};

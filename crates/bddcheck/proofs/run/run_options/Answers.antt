@@ -28,17 +28,17 @@ returns-in_ok-second-in-Files-clause-fault g c =
 pub returns-in-Some-clause-report : goal.returns-in-Some-clause-report
 returns-in-Some-clause-report g c =
     let texts = input_texts (g.F.Folder.told c.args.folder.now) (g.R.Source.remaining c.args.input.now) c.args.options.now c.in-Input.is c.in_ok-text-in-Input.text.items c.in-Some.one.now c.in-Some.two.now
-    (Some c.new-first.result.inner.now) (Some c.new-second.result.inner.now) (search rules) (search rules) c.in_ok-text-in-Input.ensures.text (split_parts _ _ c.split_input.result c.in-Some.one c.in-Some.two (search rules) (search rules) c.split_input.ensures) in
+    (Some c.new-first.result.0.now) (Some c.new-second.result.0.now) (search rules) (search rules) c.in_ok-text-in-Input.ensures.text (split_parts _ _ c.split_input.result c.in-Some.one c.in-Some.two (search rules) (search rules) c.split_input.ensures) in
     whole_report (g.F.Folder.told c.args.folder.now) (g.R.Source.remaining c.args.input.now) c.args.options.now _ _ texts _ refl _ _ c.compare-in-Input.result c.compare-in-Input.ensures.report
 
 pub returns-in-Some-clause-fault : goal.returns-in-Some-clause-fault
 returns-in-Some-clause-fault g c =
     let texts = input_texts (g.F.Folder.told c.args.folder.now) (g.R.Source.remaining c.args.input.now) c.args.options.now c.in-Input.is c.in_ok-text-in-Input.text.items c.in-Some.one.now c.in-Some.two.now
-    (Some c.new-first.result.inner.now) (Some c.new-second.result.inner.now) (search rules) (search rules) c.in_ok-text-in-Input.ensures.text (split_parts _ _ c.split_input.result c.in-Some.one c.in-Some.two (search rules) (search rules) c.split_input.ensures) in
+    (Some c.new-first.result.0.now) (Some c.new-second.result.0.now) (search rules) (search rules) c.in_ok-text-in-Input.ensures.text (split_parts _ _ c.split_input.result c.in-Some.one c.in-Some.two (search rules) (search rules) c.split_input.ensures) in
     whole_faults (g.F.Folder.told c.args.folder.now) (g.R.Source.remaining c.args.input.now) c.args.options.now _ _ texts _ refl _ _ _ (subst (λ t. Extends (g.F.Folder.tries c.args.folder.now) (g.F.Folder.tries c.args.folder.now) (opened (text_paths t))) (sym c.in-Input.is) (extends_none (g.F.Folder.tries c.args.folder.now))) c.compare-in-Input.result c.compare-in-Input.ensures.fault
 
 pub returns-in-Some-clause-unwritten : goal.returns-in-Some-clause-unwritten
 returns-in-Some-clause-unwritten g c is =
     let texts = input_texts (g.F.Folder.told c.args.folder.now) (g.R.Source.remaining c.args.input.now) c.args.options.now c.in-Input.is c.in_ok-text-in-Input.text.items c.in-Some.one.now c.in-Some.two.now
-    (Some c.new-first.result.inner.now) (Some c.new-second.result.inner.now) (search rules) (search rules) c.in_ok-text-in-Input.ensures.text (split_parts _ _ c.split_input.result c.in-Some.one c.in-Some.two (search rules) (search rules) c.split_input.ensures) in
+    (Some c.new-first.result.0.now) (Some c.new-second.result.0.now) (search rules) (search rules) c.in_ok-text-in-Input.ensures.text (split_parts _ _ c.split_input.result c.in-Some.one c.in-Some.two (search rules) (search rules) c.split_input.ensures) in
     whole_front (g.F.Folder.told c.args.folder.now) (g.R.Source.remaining c.args.input.now) c.args.options.now _ _ texts _ refl _ _ _ (c.compare-in-Input.ensures.unwritten is)
