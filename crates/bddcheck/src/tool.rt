@@ -1,6 +1,8 @@
 //! A run of the program: its words, its folder and its devices to a status.
-ghost use Rattle.std.specs.Prelude.{◌≡◌, ◌≤◌};
-ghost use Rattle.bddcheck.specs.Ending.{Says, IsSaid, IsReportStatus, IsWordEnd};
+ghost use Rattle.std.specs.Prelude.{◌≡◌, ◌≤◌, ◌⊎◌, map, string_bytes};
+ghost use Rattle.command_line.specs.Words.{AskFor};
+ghost use Rattle.command_line.specs.declared.options.Options.{Options};
+ghost use Rattle.bddcheck.specs.Ending.{Says, IsSaid, IsReportStatus, Scene, IsEnding, IsWordEnd, IsWordEnding};
 
 use crate::fault::{ToolFault, line_of, status_of_fault};
 use crate::folder::Folder;
@@ -72,6 +74,7 @@ fn status_of(outcome: Outcome) -> u8
 }
 
 /// Runs the program on its words, and answers its status.
+#[tactic(auto, using(crate::proofs::Composing::keeps_own, crate::proofs::Composing::extends_none))]
 pub fn run_tool<H, F: Folder, R: Source, W: Sink, E: Sink>(
     rt: &H,
     alloc: Global,
@@ -81,7 +84,24 @@ pub fn run_tool<H, F: Folder, R: Source, W: Sink, E: Sink>(
     out: &mut W,
     errors: &mut E,
 ) -> u8
+    // The words ask for options, and then the run ends with their report and status 0 or 1, or with the line and the status of a
+    // fault that has its cause; or they ask for none, and then no file is opened, and help, a mistake or want of memory is told.
+    ensures ending { let scene : Scene = record {
+      told = F.told folder.old;
+      tried = F.tries folder.old;
+      tries = F.tries folder.new;
+      input = R.remaining input.old;
+      held = W.contents out.old;
+      written = W.contents out.new;
+      out_failed = W.has_failed out.new;
+      heard = E.contents errors.old;
+      said = E.contents errors.new;
+      errors_failed = E.has_failed errors.new;
+    } in ((options : Options) × AskFor (map string_bytes words.now) options × IsEnding scene options result) ⊎ IsWordEnding scene result }
     ensures bound { result ≤ 3 }
+    // Status 2 says that nothing was written, statuses 0 and 1 that nothing was said.
+    ensures untouched { result ≡ 2 → out.new ≡ out.old }
+    ensures silent { result ≤ 1 → errors.new ≡ errors.old }
 {
     let options = match read_options(alloc, words) {
         Ok(options) => options,
