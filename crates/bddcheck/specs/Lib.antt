@@ -1,2 +1,5 @@
 pub mod Splitting
 pub mod Faults
+pub mod Opening
+pub mod Running
+pub mod Ending

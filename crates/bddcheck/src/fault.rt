@@ -1,5 +1,5 @@
 //! Why the program prints no report.
-ghost use Rattle.std.specs.Prelude.{◌≡◌, Some, IfOk, string_bytes};
+ghost use Rattle.std.specs.Prelude.{◌≡◌, ◌≤◌, Some, IfOk, string_bytes};
 ghost use Rattle.bddcheck.specs.Faults.{place_text, tool_fault_text, fault_line, text_status, order_status, check_status, fault_status};
 
 use check_report::CheckFault;
@@ -71,7 +71,8 @@ pub fn line_of(alloc: Global, fault: ToolFault) -> Result<String, AllocError>
 
 /// The status for a text that is refused.
 fn status_of_text(fault: BenchFault) -> u8
-    ensures { result ≡ text_status fault }
+    ensures status { result ≡ text_status fault }
+    ensures bound { result ≤ 3 }
 {
     match fault {
         BenchFault::OutOfMemory => 3,
@@ -81,7 +82,8 @@ fn status_of_text(fault: BenchFault) -> u8
 
 /// The status for an order that is refused.
 fn status_of_order(fault: OrderFault) -> u8
-    ensures { result ≡ order_status fault }
+    ensures status { result ≡ order_status fault }
+    ensures bound { result ≤ 3 }
 {
     match fault {
         OrderFault::OutOfMemory => 3,
@@ -91,7 +93,8 @@ fn status_of_order(fault: OrderFault) -> u8
 
 /// The status for a check that has no report.
 fn status_of_check(fault: CheckFault) -> u8
-    ensures { result ≡ check_status fault }
+    ensures status { result ≡ check_status fault }
+    ensures bound { result ≤ 3 }
 {
     match fault {
         CheckFault::First(fault) | CheckFault::Second(fault) => status_of_text(fault),
@@ -102,7 +105,8 @@ fn status_of_check(fault: CheckFault) -> u8
 
 /// The program's status for a fault.
 pub fn status_of_fault(fault: ToolFault) -> u8
-    ensures { result ≡ fault_status fault }
+    ensures status { result ≡ fault_status fault }
+    ensures bound { result ≤ 3 }
 {
     match fault {
         ToolFault::BadOrder(fault) => status_of_order(fault),

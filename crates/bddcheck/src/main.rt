@@ -2,13 +2,15 @@
 #![tactic(auto)]
 
 mod fault;
-mod options;
+mod folder;
+mod run;
 mod split;
 #[cfg(test)]
 mod tests;
 mod tool;
 
 use fault::ToolFault;
+use folder::Disk;
 use net_bench::device::Through;
 use std::io;
 use std::io::{BufWriter, Read, Write};
@@ -38,7 +40,13 @@ where
         Err(error) if error.kind() == io::ErrorKind::OutOfMemory => {
             return tool::refuse(rt.alloc(), ToolFault::OutOfMemory, &mut errors);
         }
-        Err(_) => return 2,
+        Err(_) => {
+            tool::say(
+                &mut errors,
+                b"bddcheck: a word of the command line is no UTF-8\n",
+            );
+            return 2;
+        }
     };
     let Ok(buffered) = BufWriter::new(rt.alloc(), output) else {
         return tool::refuse(rt.alloc(), ToolFault::OutOfMemory, &mut errors);
@@ -49,6 +57,7 @@ where
         rt,
         rt.alloc(),
         words.as_slice(),
+        &mut Disk::new(rt),
         &mut input,
         &mut out,
         &mut errors,

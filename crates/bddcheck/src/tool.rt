@@ -1,152 +1,70 @@
-//! A run of the program over any streams.
-ghost use Rattle.std.specs.Prelude.{◌≡◌, ◌<◌, ◌≤◌, ◌↔◌};
-ghost use Rattle.bddcheck.specs.Faults.{fault_status};
+//! A run of the program: its words, its folder and its devices to a status.
+ghost use Rattle.std.specs.Prelude.{◌≡◌, ◌≤◌, ◌⊎◌, map, string_bytes};
+ghost use Rattle.command_line.specs.Words.{AskFor};
+ghost use Rattle.command_line.specs.declared.options.Options.{Options};
+ghost use Rattle.bddcheck.specs.Ending.{Says, IsSaid, IsReportStatus, Scene, IsEnding, IsWordEnd, IsWordEnding};
 
-use crate::fault::{Place, ToolFault, line_of, status_of_fault};
-use crate::options::{Options, OrderChoice, Texts, read_options};
-use crate::split::split_input;
-use check_report::{Outcome, Settings, check, write_whole};
-use clap::Error;
-use clap::error::ErrorKind;
-use expand_work::Free;
-use net_bench::device::{Sink, Source, TextFault, Through, read_text};
-use net_order::order::Order;
-use net_order::order_file::read_order;
+use crate::fault::{ToolFault, line_of, status_of_fault};
+use crate::folder::Folder;
+use crate::run::run_options;
+use check_report::{Outcome, write_whole};
+use command_line::{Refused, read_options};
+use net_bench::device::{Sink, Source};
 use std::alloc::Global;
-use std::rt::Files;
-use std::{fs, io};
-
-/// The most bytes that standard input has: two texts and the line between them.
-const INPUT_LIMIT: usize = 134_221_824;
 
 /// Writes a text as far as the device takes it. A failure is ignored.
-fn say<E: Sink>(errors: &mut E, text: &[u8]) {
+pub fn say<E: Sink>(errors: &mut E, text: &[u8])
+    ensures { Says (E.contents errors.old) (E.contents errors.new) (E.has_failed errors.new) text.now }
+{
     let _ = write_whole(errors, text);
 }
 
-/// Prints the line of a fault, and answers its status.
+/// Prints the line of a fault, and answers its status. Where there is no memory for the line, it is that of want of memory.
 pub fn refuse<E: Sink>(alloc: Global, fault: ToolFault, errors: &mut E) -> u8
-    ensures { result ≡ fault_status fault }
+    ensures said { IsSaid (E.contents errors.old) (E.contents errors.new) (E.has_failed errors.new) fault result }
+    ensures bound { result ≤ 3 }
 {
     match line_of(alloc, fault) {
-        Ok(line) => say(errors, line.as_bytes()),
-        Err(_) => say(errors, b"bddcheck: out of memory\n"),
+        Ok(line) => {
+            say(errors, line.as_bytes());
+            status_of_fault(fault)
+        }
+        Err(_) => {
+            say(errors, b"bddcheck: out of memory\n");
+            status_of_fault(ToolFault::OutOfMemory)
+        }
     }
-    status_of_fault(fault)
 }
 
-/// Prints what the command line's reader says, and answers the status: 0 for help, 2 for a mistake.
-fn refuse_words<W: Sink, E: Sink>(alloc: Global, error: &Error, out: &mut W, errors: &mut E) -> u8
-    ensures { result < 4 }
+/// Prints what the words were refused with, and answers the status: 0 for help, 2 for a mistake.
+#[tactic(auto, using(crate::proofs::Composing::keeps_own))]
+fn refuse_words<W: Sink, E: Sink>(
+    alloc: Global,
+    refused: &Refused,
+    out: &mut W,
+    errors: &mut E,
+) -> u8
+    ensures ending { IsWordEnd (W.contents out.old) (W.contents out.new) (W.has_failed out.new) (E.contents errors.old) (E.contents errors.new) (E.has_failed errors.new) result }
+    ensures bound { result ≤ 3 }
+    ensures untouched { result ≡ 2 → out.new ≡ out.old }
+    ensures silent { result ≤ 1 → errors.new ≡ errors.old }
 {
-    if error.kind() == ErrorKind::OutOfMemory {
-        return refuse(alloc, ToolFault::OutOfMemory, errors);
-    }
-    let Ok(text) = error.to_string(alloc) else {
-        return refuse(alloc, ToolFault::OutOfMemory, errors);
-    };
-    if error.use_stderr() {
-        say(errors, text.as_bytes());
-        return 2;
-    }
-    match write_whole(out, text.as_bytes()) {
-        Ok(()) => 0,
-        Err(_) => 3,
-    }
-}
-
-/// Opens a file for reading.
-fn open<H: Files>(rt: &H, path: &str, place: Place) -> Result<Through<H::File>, ToolFault> {
-    match fs::open(rt, path) {
-        Ok(file) => Ok(Through::new(file)),
-        Err(error) => {
-            if error.kind() == io::ErrorKind::OutOfMemory {
-                Err(ToolFault::OutOfMemory)
-            } else {
-                Err(ToolFault::CannotOpen(place))
-            }
+    match refused {
+        Refused::Help(text) => match write_whole(out, text.as_bytes()) {
+            Ok(()) => 0,
+            Err(_) => 3,
+        },
+        Refused::Mistake(text) => {
+            say(errors, text.as_bytes());
+            2
         }
-    }
-}
-
-/// The order that is asked for. A file of names is opened and read.
-fn order_of<H: Files>(rt: &H, alloc: Global, choice: OrderChoice<'_>) -> Result<Order, ToolFault> {
-    match choice {
-        OrderChoice::Declared => Ok(Order::Declared),
-        OrderChoice::Depth => Ok(Order::Depth),
-        OrderChoice::File(path) => {
-            let mut file = open(rt, path, Place::Order)?;
-            match read_order(alloc, &mut file) {
-                Ok(names) => Ok(Order::Listed(names)),
-                Err(fault) => Err(ToolFault::BadOrder(fault)),
-            }
-        }
-    }
-}
-
-/// What the command line asks of the comparison.
-fn settings_of<H: Files>(
-    rt: &H,
-    alloc: Global,
-    options: &Options<'_>,
-) -> Result<Settings, ToolFault> {
-    let order = order_of(rt, alloc, options.order)?;
-    Ok(Settings {
-        matching: options.matching,
-        order,
-        workers: options.workers,
-        limit: options.limit,
-        sizes: options.sizes,
-    })
-}
-
-/// Compares two files.
-fn check_files<H: Files, W: Sink>(
-    rt: &H,
-    alloc: Global,
-    options: &Options<'_>,
-    paths: (&str, &str),
-    out: &mut W,
-) -> Result<Outcome, ToolFault> {
-    let mut first = open(rt, paths.0, Place::First)?;
-    let mut second = open(rt, paths.1, Place::Second)?;
-    let settings = settings_of(rt, alloc, options)?;
-    match check(rt, alloc, &mut first, &mut second, &settings, &Free, out) {
-        Ok(outcome) => Ok(outcome),
-        Err(fault) => Err(ToolFault::Check(fault)),
-    }
-}
-
-/// Compares the two texts of one input.
-fn check_input<H: Files, R: Source, W: Sink>(
-    rt: &H,
-    alloc: Global,
-    options: &Options<'_>,
-    input: &mut R,
-    out: &mut W,
-) -> Result<Outcome, ToolFault> {
-    let text = match read_text(alloc, input, INPUT_LIMIT) {
-        Ok(text) => text,
-        Err(TextFault::Read) => return Err(ToolFault::InputUnread),
-        Err(TextFault::TooLong) => return Err(ToolFault::InputTooLong),
-        Err(TextFault::OutOfMemory) => return Err(ToolFault::OutOfMemory),
-    };
-    let Some((one, two)) = split_input(text.as_slice()) else {
-        return Err(ToolFault::InputUndivided);
-    };
-    let settings = settings_of(rt, alloc, options)?;
-    let mut first = Through::new(one);
-    let mut second = Through::new(two);
-    match check(rt, alloc, &mut first, &mut second, &settings, &Free, out) {
-        Ok(outcome) => Ok(outcome),
-        Err(fault) => Err(ToolFault::Check(fault)),
+        Refused::OutOfMemory => refuse(alloc, ToolFault::OutOfMemory, errors),
     }
 }
 
 /// The status of a comparison: 0 where all outputs are paired and equal.
 fn status_of(outcome: Outcome) -> u8
-    ensures zero { (result ≡ 0) ↔ ((outcome.different ≡ 0) × (outcome.unmatched ≡ 0)) }
-    ensures bound { result ≤ 1 }
+    ensures { IsReportStatus outcome result }
 {
     if outcome.different == 0 && outcome.unmatched == 0 {
         0
@@ -155,27 +73,41 @@ fn status_of(outcome: Outcome) -> u8
     }
 }
 
-/// Runs the program on its words and streams, and answers its status.
-pub fn run_tool<H: Files, R: Source, W: Sink, E: Sink>(
+/// Runs the program on its words, and answers its status.
+#[tactic(auto, using(crate::proofs::Composing::keeps_own, crate::proofs::Composing::extends_none))]
+pub fn run_tool<H, F: Folder, R: Source, W: Sink, E: Sink>(
     rt: &H,
     alloc: Global,
     words: &[String],
+    folder: &mut F,
     input: &mut R,
     out: &mut W,
     errors: &mut E,
 ) -> u8
-    ensures { result < 4 }
+    // The words ask for options, and then the run ends with their report and status 0 or 1, or with the line and the status of a
+    // fault that has its cause; or they ask for none, and then no file is opened, and help, a mistake or want of memory is told.
+    ensures ending { let scene : Scene = record {
+      told = F.told folder.old;
+      tried = F.tries folder.old;
+      tries = F.tries folder.new;
+      input = R.remaining input.old;
+      held = W.contents out.old;
+      written = W.contents out.new;
+      out_failed = W.has_failed out.new;
+      heard = E.contents errors.old;
+      said = E.contents errors.new;
+      errors_failed = E.has_failed errors.new;
+    } in ((options : Options) × AskFor (map string_bytes words.now) options × IsEnding scene options result) ⊎ IsWordEnding scene result }
+    ensures bound { result ≤ 3 }
+    // Status 2 says that nothing was written, statuses 0 and 1 that nothing was said.
+    ensures untouched { result ≡ 2 → out.new ≡ out.old }
+    ensures silent { result ≤ 1 → errors.new ≡ errors.old }
 {
     let options = match read_options(alloc, words) {
         Ok(options) => options,
-        Err(error) => return refuse_words(alloc, &error, out, errors),
+        Err(refused) => return refuse_words(alloc, &refused, out, errors),
     };
-    let done = match options.texts {
-        Texts::One => Err(ToolFault::OneFile),
-        Texts::Files(first, second) => check_files(rt, alloc, &options, (first, second), out),
-        Texts::Input => check_input(rt, alloc, &options, input, out),
-    };
-    match done {
+    match run_options(rt, alloc, &options, folder, input, out) {
         Ok(outcome) => status_of(outcome),
         Err(fault) => refuse(alloc, fault, errors),
     }

@@ -7,8 +7,6 @@ mod fault;
 mod lines;
 mod outcome;
 mod settings;
-#[cfg(test)]
-mod tests;
 mod write;
 
 pub use checking::check;

@@ -1,0 +1,133 @@
+-- What a run does, from what its parts do.
+use Rattle.std.proofs.Common.{◌≡◌, ◌∙◌, ◌++◌, ◌⊎◌, inl, inr, ℕ, Bool, true, false, List, [], ◌∷◌, Option, Some, None, Result, Ok, Err, IfOk, IfErr, OnOk, refl, sym, ap, subst, append-nil}
+use Rattle.std.specs.Prelude.{IfSome, option_map}
+use Rattle.std.specs.Borrow.{Bor}
+use Rattle.std.specs.Io.KnownBytes.{Appends, Keeps}
+use Rattle.std.proofs.lemmas.List.{append_assoc}
+use Rattle.check_report.specs.declared.outcome.Outcome.{Outcome}
+use Rattle.check_report.specs.Writing.{AppendsFront}
+use Rattle.command_line.specs.declared.options.Options.{Options}
+use Rattle.command_line.specs.declared.options.Texts.{Texts}
+use Rattle.command_line.specs.declared.options.Texts.TheVariants.{Input, Files, One}
+use Rattle.bddcheck.specs.declared.fault.Place.TheVariants.{First, Second, Order as OrderFile}
+use Rattle.bddcheck.specs.declared.fault.ToolFault.{ToolFault}
+use Rattle.bddcheck.specs.declared.fault.ToolFault.TheVariants.{OneFile, CannotOpen, InputUnread, InputTooLong, InputUndivided, BadOrder, Check, OutOfMemory}
+use Rattle.bddcheck.specs.Splitting.{IsSplit}
+use Rattle.bddcheck.specs.Opening.{Try, Extends, opened, AreTried}
+use Rattle.bddcheck.specs.Running.{text_paths, order_paths, paths_of, AreTexts, HasTexts, IsCompared, HasReported, HasReportedFront, IsCompareFault, IsToolFault}
+
+-- ---- tries
+
+pub extends_none : (a : Option (List Try)) → Extends a a []
+extends_none None = tt
+extends_none (Some xs) = sym (append-nil xs)
+
+pub extends_more : (a b c : Option (List Try)) (ts us : List Try) → Extends a b ts → Extends b c us → Extends a c (ts ++ us)
+extends_more None b c ts us e f = tt
+extends_more (Some x) None c ts us e f = absurd e
+extends_more (Some x) (Some y) None ts us e f = absurd f
+extends_more (Some x) (Some y) (Some z) ts us e f = f ∙ ap (λ l. l ++ us) e ∙ append_assoc x ts us
+
+pub opened_more : (ps qs : List (List ℕ)) → opened (ps ++ qs) ≡ opened ps ++ opened qs
+opened_more [] qs = refl
+opened_more (p ∷ ps) qs = ap (λ l. (p, true) ∷ l) (opened_more ps qs)
+
+pub tried_more : (ps qs : List (List ℕ)) (ts : List Try) → AreTried qs ts → AreTried (ps ++ qs) (opened ps ++ ts)
+tried_more [] qs ts t = t
+tried_more (p ∷ ps) qs ts t = (refl, tried_more ps qs ts t)
+
+pub keeps_own : (a : Option (List ℕ)) → Keeps a a
+keeps_own None = tt
+keeps_own (Some xs) = refl
+
+-- ---- the two texts
+
+pub input_texts : (told : List ℕ → Option (List ℕ)) (input : Option (List ℕ)) (o : Options) → o.texts ≡ Input → (text one two : List ℕ) (first second : Option (List ℕ)) → first ≡ Some one → second ≡ Some two
+    → IfSome input (λ t. text ≡ t) → IsSplit text (Some (one, two)) → AreTexts told input o.texts first second
+input_texts told input o is text one two first second f g e s = subst (λ t. AreTexts told input t first second) (sym is) (by input e)
+  where
+    by : (input : Option (List ℕ)) → IfSome input (λ t. text ≡ t) → AreTexts told input Input first second
+    by None e = tt
+    by (Some t) e = ((one, two), subst (λ z. IsSplit z (Some (one, two))) e s, f, g)
+
+pub files_texts : (told told' : List ℕ → Option (List ℕ)) → told' ≡ told → (input : Option (List ℕ)) (o : Options) (first second : Bor (List ℕ)) → o.texts ≡ Files first second → (one two : Option (List ℕ))
+    → IfSome (told first.now) (λ text. one ≡ Some text) → IfSome (told' second.now) (λ text. two ≡ Some text) → AreTexts told input o.texts one two
+files_texts told told' kept input o first second is one two e f =
+    subst (λ t. AreTexts told input t one two) (sym is) (e, subst (λ t. IfSome (t second.now) (λ text. two ≡ Some text)) kept f)
+
+pub split_parts : (text slice : List ℕ) (r : Option (Bor (List ℕ) × Bor (List ℕ))) (one two : Bor (List ℕ)) → slice ≡ text → r ≡ Some (one, two) → IsSplit slice (option_map (λ parts. (parts.0.now, parts.1.now)) r)
+    → IsSplit text (Some (one.now, two.now))
+split_parts text slice r one two e f s =
+    subst (λ z. IsSplit text (option_map (λ parts. (parts.0.now, parts.1.now)) z)) f (subst (λ z. IsSplit z (option_map (λ parts. (parts.0.now, parts.1.now)) r)) e s)
+
+pub split_none : (slice text : List ℕ) → slice ≡ text → IsSplit slice None → IsSplit text None
+split_none slice text e s = subst (λ z. IsSplit z None) e s
+
+pub undivided : (input : Option (List ℕ)) (text : List ℕ) → IfSome input (λ t. text ≡ t) → IsSplit text None → IfSome input (λ t. IsSplit t None)
+undivided None text e s = tt
+undivided (Some t) text e s = subst (λ z. IsSplit z None) e s
+
+has_texts : (told : List ℕ → Option (List ℕ)) (input : Option (List ℕ)) (t : Texts) (one two : Option (List ℕ)) → AreTexts told input t one two → HasTexts input t
+has_texts told input (Files first second) one two a = tt
+has_texts told None Input one two a = tt
+has_texts told (Some text) Input one two a = (a.0, a.1)
+has_texts told input One one two a = absurd a
+
+-- ---- the whole of a run
+
+module _ (told : List ℕ → Option (List ℕ)) (input : Option (List ℕ)) (o : Options) (one two : Option (List ℕ)) (texts : AreTexts told input o.texts one two) where
+  pub whole_report : (told' : List ℕ → Option (List ℕ)) → told' ≡ told → (before now : Option (List ℕ)) (r : Result Outcome ToolFault) → IfOk r (λ outcome. (bytes : List ℕ) × IsCompared told' one two o outcome bytes × Appends before now bytes) → IfOk r (HasReported told input o before now)
+  whole_report told' e before now (Ok outcome) h =
+      (h.0, record { one = one; two = two; texts = texts; compared = subst (λ t. IsCompared t one two o outcome h.0) e h.1 }, h.2)
+  whole_report told' e before now (Err fault) h = tt
+
+  pub whole_front : (told' : List ℕ → Option (List ℕ)) → told' ≡ told → (before now : Option (List ℕ)) (has_failed : Bool)
+      → (outcome : Outcome) × (bytes : List ℕ) × IsCompared told' one two o outcome bytes × AppendsFront before now has_failed bytes
+      → HasReportedFront told input o before now has_failed
+  whole_front told' e before now has_failed h =
+      (h.0, h.1, record { one = one; two = two; texts = texts; compared = subst (λ t. IsCompared t one two o h.0 h.1) e h.2 }, h.3)
+
+  whole_fault : (tries : List Try) (fault : ToolFault) → IsCompareFault told one two o tries fault → IsToolFault told input o (opened (text_paths o.texts) ++ tries) fault
+  whole_fault tries OneFile f = absurd f
+  whole_fault tries InputUnread f = absurd f
+  whole_fault tries InputTooLong f = absurd f
+  whole_fault tries InputUndivided f = absurd f
+  whole_fault tries OutOfMemory f = tried_more (text_paths o.texts) (order_paths o.order) tries f
+  whole_fault tries (CannotOpen First) f = absurd f
+  whole_fault tries (CannotOpen Second) f = absurd f
+  whole_fault tries (CannotOpen OrderFile) f =
+      (f.0, f.1, has_texts told input o.texts one two texts, ap (λ l. opened (text_paths o.texts) ++ l) f.2)
+  whole_fault tries (BadOrder fault) f =
+      (f.0, f.1, has_texts told input o.texts one two texts, ap (λ l. opened (text_paths o.texts) ++ l) f.2 ∙ sym (opened_more (text_paths o.texts) (order_paths o.order)), f.3)
+  whole_fault tries (Check fault) f =
+      (one, two, f.0, texts, f.1, ap (λ l. opened (text_paths o.texts) ++ l) f.2 ∙ sym (opened_more (text_paths o.texts) (order_paths o.order)), f.3)
+
+  pub whole_faults : (told' : List ℕ → Option (List ℕ)) → told' ≡ told → (a b c : Option (List Try)) → Extends a b (opened (text_paths o.texts)) → (r : Result Outcome ToolFault)
+      → IfErr r (λ fault. (tries : List Try) × Extends b c tries × IsCompareFault told' one two o tries fault)
+      → IfErr r (λ fault. (tries : List Try) × Extends a c tries × IsToolFault told input o tries fault)
+  whole_faults told' e a b c before (Ok outcome) h = tt
+  whole_faults told' e a b c before (Err fault) h =
+      (opened (text_paths o.texts) ++ h.0, extends_more a b c (opened (text_paths o.texts)) h.0 before h.1, whole_fault h.0 fault (subst (λ t. IsCompareFault t one two o h.0 fault) e h.2))
+
+-- ---- two files
+
+module _ (o : Options) (first second : Bor (List ℕ)) (files : o.texts ≡ Files first second) where
+  pub both_opened : (a b c : Option (List Try)) → Extends a b ((first.now, true) ∷ []) → Extends b c ((second.now, true) ∷ []) → Extends a c (opened (text_paths o.texts))
+  both_opened a b c e f = subst (λ t. Extends a c (opened (text_paths t))) (sym files) (extends_more a b c ((first.now, true) ∷ []) ((second.now, true) ∷ []) e f)
+
+  pub all_opened : (a b c d : Option (List Try)) (r : Result Outcome ToolFault) → Extends a b ((first.now, true) ∷ []) → Extends b c ((second.now, true) ∷ []) → OnOk r (Extends c d (opened (order_paths o.order)))
+      → OnOk r (Extends a d (opened (paths_of o)))
+  all_opened a b c d (Ok outcome) e f h =
+      subst (λ l. Extends a d l) (sym (opened_more (text_paths o.texts) (order_paths o.order))) (extends_more a c d (opened (text_paths o.texts)) (opened (order_paths o.order)) (both_opened a b c e f) h)
+  all_opened a b c d (Err fault) e f h = tt
+
+  pub second_unopened : (told : List ℕ → Option (List ℕ)) (input : Option (List ℕ)) (fault : ToolFault) (a b c : Option (List Try)) → (fault ≡ CannotOpen Second) ⊎ (fault ≡ OutOfMemory)
+      → Extends a b ((first.now, true) ∷ []) → Extends b c ((second.now, false) ∷ []) → (tries : List Try) × Extends a c tries × IsToolFault told input o tries fault
+  second_unopened told input fault a b c (inl is) e f =
+      ((first.now, true) ∷ (second.now, false) ∷ [], extends_more a b c ((first.now, true) ∷ []) ((second.now, false) ∷ []) e f, subst (λ x. IsToolFault told input o ((first.now, true) ∷ (second.now, false) ∷ []) x) (sym is) (first, second, files, refl))
+  second_unopened told input fault a b c (inr is) e f = (
+    (first.now, true) ∷ (second.now, false) ∷ [],
+    extends_more a b c ((first.now, true) ∷ []) ((second.now, false) ∷ []) e f,
+    subst (λ x. IsToolFault told input o ((first.now, true) ∷ (second.now, false) ∷ []) x) (sym is)
+        (subst (λ t. AreTried (text_paths t ++ order_paths o.order) ((first.now, true) ∷ (second.now, false) ∷ [])) (sym files) (refl, (refl, refl))),
+  )

@@ -1,0 +1,50 @@
+use Rattle.std.proofs.Common.{◌≡◌, ◌≢◌, ◌∙◌, ap, sym, subst, inl, inr, Result, Ok, Err, OnErr}
+use Rattle.std.specs.Io.KnownBytes.{Keeps}
+use Rattle.check_report.specs.declared.outcome.Outcome.{Outcome}
+use Rattle.check_report.specs.declared.fault.CheckFault.TheVariants.{Write}
+use Rattle.bddcheck.specs.declared.fault.ToolFault.{ToolFault}
+use Rattle.bddcheck.specs.declared.fault.ToolFault.TheVariants.{Check, OutOfMemory}
+use Rattle.bddcheck.proofs.Composing.{keeps_own}
+use Rattle.bddcheck.proofs.tool.run_tool.Goals as goal
+
+-- the fault of an answer that has one
+abbrev fault_in : Result Outcome ToolFault → ToolFault
+fault_in (Ok outcome) = OutOfMemory
+fault_in (Err fault) = fault
+
+pub returns-in-Ok-run_options-clause-ending : goal.returns-in-Ok-run_options-clause-ending
+returns-in-Ok-run_options-clause-ending g c =
+    inl (
+      c.in-Ok.options,
+      c.in-Ok.ensures,
+      inl (
+        c.in-Ok-run_options.outcome,
+        record {
+          report = c.in-Ok-run_options.ensures.report;
+          opened_all = c.in-Ok-run_options.ensures.opened;
+          silent = keeps_own (g.E.Sink.contents c.args.errors.now);
+          code = c.status_of.ensures;
+        },
+      ),
+    )
+
+pub returns-in-Err-run_options-clause-ending : goal.returns-in-Err-run_options-clause-ending
+returns-in-Err-run_options-clause-ending g c =
+    let cause = c.in-Err-run_options.ensures.fault in
+    inl (
+      c.in-Ok.options,
+      c.in-Ok.ensures,
+      inr (
+        c.in-Err-run_options.fault,
+        record {
+          tries = cause.0;
+          tried = cause.1;
+          cause = cause.2;
+          line = c.refuse.ensures.said;
+          front = λ e. c.run_options.ensures.unwritten (c.in-Err-run_options.is ∙ ap Err e);
+          nothing = λ other.
+              let same = subst (λ r. OnErr r (r ≢ Err (Check Write) → c.run_options.new.out ≡ c.args.out.now)) c.in-Err-run_options.is c.run_options.ensures.untouched (λ e. other (ap fault_in e)) in
+              subst (λ w. Keeps (g.W.Sink.contents c.args.out.now) (g.W.Sink.contents w)) (sym same) (keeps_own (g.W.Sink.contents c.args.out.now));
+        },
+      ),
+    )

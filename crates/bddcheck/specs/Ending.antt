@@ -1,0 +1,73 @@
+-- How a run ends: what it has written, what it says, and its status.
+use Rattle.std.specs.Prelude.{◌≡◌, ◌≢◌, ◌≤◌, ◌⊎◌, ◌↔◌, ℕ, Bool, List, [], Option}
+use Rattle.std.specs.Io.KnownBytes.{Appends, Keeps}
+use Rattle.check_report.specs.declared.outcome.Outcome.{Outcome}
+use Rattle.check_report.specs.declared.fault.CheckFault.TheVariants.{Write}
+use Rattle.check_report.specs.Writing.{AppendsFront}
+use Rattle.command_line.specs.declared.options.Options.{Options}
+use Rattle.bddcheck.specs.declared.fault.ToolFault.{ToolFault}
+use Rattle.bddcheck.specs.declared.fault.ToolFault.TheVariants.{Check, OutOfMemory}
+use Rattle.bddcheck.specs.Faults.{fault_line, fault_status}
+use Rattle.bddcheck.specs.Opening.{Try, Extends, opened}
+use Rattle.bddcheck.specs.Running.{paths_of, HasReported, HasReportedFront, IsToolFault}
+
+-- a device has taken this text, or a front part of it
+abbrev pub Says : Option (List ℕ) → Option (List ℕ) → Bool → List ℕ → Type 0
+Says before now has_failed text = Appends before now text ⊎ AppendsFront before now has_failed text
+
+-- the line of this fault was said, and this is its status; where there was no memory for the line, those of want of memory
+pub record IsSaid (before now : Option (List ℕ)) (has_failed : Bool) (fault : ToolFault) (status : ℕ) : Type 0 where
+  pub said : ToolFault
+  pub which : (said ≡ fault) ⊎ (said ≡ OutOfMemory)
+  pub line : Says before now has_failed (fault_line said)
+  pub code : status ≡ fault_status said
+
+-- the status of a report: 0 where all outputs are paired and equal, else 1
+pub record IsReportStatus (outcome : Outcome) (status : ℕ) : Type 0 where
+  pub bound : status ≤ 1
+  pub zero : (status ≡ 0) ↔ ((outcome.different ≡ 0) × (outcome.unmatched ≡ 0))
+
+-- what a run is given and leaves: the files that are told and the tries before and now, the input, and the bytes of the output and of
+-- the error device before and now, with whether these have failed now
+pub record Scene : Type 0 where
+  pub told : List ℕ → Option (List ℕ)
+  pub tried : Option (List Try)
+  pub tries : Option (List Try)
+  pub input : Option (List ℕ)
+  pub held : Option (List ℕ)
+  pub written : Option (List ℕ)
+  pub out_failed : Bool
+  pub heard : Option (List ℕ)
+  pub said : Option (List ℕ)
+  pub errors_failed : Bool
+
+-- The report of what the options name was written, all files were opened, and nothing was said.
+pub record Reports (s : Scene) (o : Options) (outcome : Outcome) (status : ℕ) : Type 0 where
+  pub report : HasReported s.told s.input o s.held s.written outcome
+  pub opened_all : Extends s.tried s.tries (opened (paths_of o))
+  pub silent : Keeps s.heard s.said
+  pub code : IsReportStatus outcome status
+
+-- There is a fault: its line was said, and nothing was written but for a front part of the report where the writing failed.
+pub record Refuses (s : Scene) (o : Options) (fault : ToolFault) (status : ℕ) : Type 0 where
+  pub tries : List Try
+  pub tried : Extends s.tried s.tries tries
+  pub cause : IsToolFault s.told s.input o tries fault
+  pub line : IsSaid s.heard s.said s.errors_failed fault status
+  pub front : fault ≡ Check Write → HasReportedFront s.told s.input o s.held s.written s.out_failed
+  pub nothing : fault ≢ Check Write → Keeps s.held s.written
+
+-- how a run of some options ends
+abbrev pub IsEnding : Scene → Options → ℕ → Type 0
+IsEnding s o status = ((outcome : Outcome) × Reports s o outcome status) ⊎ ((fault : ToolFault) × Refuses s o fault status)
+
+-- what is told where the words ask for no options: help on the output, a mistake, or want of memory
+pub data IsWordEnd (held written : Option (List ℕ)) (out_failed : Bool) (heard said : Option (List ℕ)) (errors_failed : Bool) : ℕ → Type 0 where
+  helped : (text : List ℕ) → Appends held written text → Keeps heard said → IsWordEnd held written out_failed heard said errors_failed 0
+  helped_in_part : (text : List ℕ) → AppendsFront held written out_failed text → Keeps heard said → IsWordEnd held written out_failed heard said errors_failed 3
+  mistaken : (text : List ℕ) → Says heard said errors_failed text → Keeps held written → IsWordEnd held written out_failed heard said errors_failed 2
+  starved : {status : ℕ} → IsSaid heard said errors_failed OutOfMemory status → Keeps held written → IsWordEnd held written out_failed heard said errors_failed status
+
+-- The words asked for no options, and no file was opened.
+abbrev pub IsWordEnding : Scene → ℕ → Type 0
+IsWordEnding s status = Extends s.tried s.tries [] × IsWordEnd s.held s.written s.out_failed s.heard s.said s.errors_failed status

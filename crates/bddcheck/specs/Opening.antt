@@ -1,0 +1,23 @@
+-- Files that are opened: which paths were asked for, and in which order.
+use Rattle.std.specs.Prelude.{◌≡◌, ℕ, Bool, true, false, List, [], ◌∷◌, ◌++◌, map, Option, Some, None, ⊤}
+
+-- a path that was asked for, and whether its file was opened
+abbrev pub Try : Type 0
+Try = List ℕ × Bool
+
+-- tries that are told have grown by these
+abbrev pub Extends : Option (List Try) → Option (List Try) → List Try → Type 0
+Extends None now more = ⊤
+Extends (Some before) None more = ⊥
+Extends (Some before) (Some now) more = now ≡ before ++ more
+
+-- the files of all these paths were opened
+abbrev pub opened : List (List ℕ) → List Try
+opened paths = map (λ path. (path, true)) paths
+
+-- The paths were tried in their order, and no file behind one that was not opened.
+abbrev pub AreTried : List (List ℕ) → List Try → Type 0
+AreTried paths [] = ⊤
+AreTried [] (t ∷ ts) = ⊥
+AreTried (path ∷ paths) ((asked, true) ∷ ts) = (asked ≡ path) × AreTried paths ts
+AreTried (path ∷ paths) ((asked, false) ∷ ts) = (asked ≡ path) × (ts ≡ [])

@@ -1,0 +1,145 @@
+-- What a run compares, what it writes, and why it writes no report.
+use Rattle.std.specs.Prelude.{◌≡◌, ◌<◌, ◌⊎◌, ℕ, Bool, true, false, List, [], ◌∷◌, ◌++◌, length, Option, Some, None, IfSome, ⊤}
+use Rattle.std.specs.Borrow.{Bor}
+use Rattle.std.specs.Io.KnownBytes.{Appends}
+use Rattle.check_report.specs.Writing.{AppendsFront}
+use Rattle.net_order.specs.declared.order.Order.{Order}
+use Rattle.net_order.specs.declared.order.Order.TheVariants.{Declared as declared, Depth as depth, Listed}
+use Rattle.net_order.specs.declared.order.OrderFault.{OrderFault}
+use Rattle.net_order.specs.declared.order.OrderFault.TheVariants.{Read as OrderReadFailed, OutOfMemory as NoOrderMemory}
+use Rattle.net_order.specs.OrderText.{IsOrderText, IsBadText}
+use Rattle.check_report.specs.declared.outcome.Outcome.{Outcome}
+use Rattle.check_report.specs.Check.{IsChecked, IsCheckFault}
+use Rattle.command_line.specs.declared.options.Options.{Options}
+use Rattle.command_line.specs.declared.options.OrderChoice.{OrderChoice}
+use Rattle.command_line.specs.declared.options.OrderChoice.TheVariants.{Declared, Depth, File}
+use Rattle.command_line.specs.declared.options.Texts.{Texts}
+use Rattle.command_line.specs.declared.options.Texts.TheVariants.{Input, Files, One}
+use Rattle.bddcheck.specs.declared.fault.Place.{Place}
+use Rattle.bddcheck.specs.declared.fault.Place.TheVariants.{First, Second, Order as OrderFile}
+use Rattle.bddcheck.specs.declared.fault.ToolFault.{ToolFault}
+use Rattle.bddcheck.specs.declared.fault.ToolFault.TheVariants.{OneFile, CannotOpen, InputUnread, InputTooLong, InputUndivided, BadOrder, Check, OutOfMemory}
+use Rattle.bddcheck.specs.Splitting.{IsSplit}
+use Rattle.bddcheck.specs.Opening.{Try, opened, AreTried}
+
+-- the files that are opened for the texts, in this order
+abbrev pub text_paths : Texts → List (List ℕ)
+text_paths (Files first second) = first.now ∷ second.now ∷ []
+text_paths Input = []
+text_paths One = []
+
+-- the file that is opened for the order
+abbrev pub order_paths : OrderChoice → List (List ℕ)
+order_paths (File path) = path.now ∷ []
+order_paths Declared = []
+order_paths Depth = []
+
+-- all files that are opened, in this order
+abbrev pub paths_of : Options → List (List ℕ)
+paths_of o = text_paths o.texts ++ order_paths o.order
+
+-- what was told of a file is what is read of it
+abbrev pub IsReadOf : Option (List ℕ) → Option (List ℕ) → Type 0
+IsReadOf told read = IfSome told (λ text. read ≡ Some text)
+
+-- the two texts: of two files, or the parts of one input
+abbrev pub AreTexts : (List ℕ → Option (List ℕ)) → Option (List ℕ) → Texts → Option (List ℕ) → Option (List ℕ) → Type 0
+AreTexts told input (Files first second) one two = IsReadOf (told first.now) one × IsReadOf (told second.now) two
+AreTexts told input Input one two = IfSome input (λ text. (parts : List ℕ × List ℕ) × IsSplit text (Some parts) × (one ≡ Some parts.0) × (two ≡ Some parts.1))
+AreTexts told input One one two = ⊥
+
+-- the order that is asked for; a file of names has been read
+abbrev pub IsOrderOf : (List ℕ → Option (List ℕ)) → OrderChoice → Order → Type 0
+IsOrderOf told Declared order = order ≡ declared
+IsOrderOf told Depth order = order ≡ depth
+IsOrderOf told (File path) order = (names : List (List ℕ)) × (order ≡ Listed names) × IfSome (told path.now) (λ text. IsOrderText text names)
+
+-- the bytes are the report of these two texts under the options, and these are its counts
+pub record IsCompared (told : List ℕ → Option (List ℕ)) (one two : Option (List ℕ)) (o : Options) (outcome : Outcome) (bytes : List ℕ) : Type 0 where
+  pub order : Order
+  pub ordered : IsOrderOf told o.order order
+  pub checked : IsChecked one two o.matching order o.sizes outcome bytes
+
+-- The bytes are the report of the texts that the options name, and these are its counts.
+pub record IsReported (told : List ℕ → Option (List ℕ)) (input : Option (List ℕ)) (o : Options) (outcome : Outcome) (bytes : List ℕ) : Type 0 where
+  pub one : Option (List ℕ)
+  pub two : Option (List ℕ)
+  pub texts : AreTexts told input o.texts one two
+  pub compared : IsCompared told one two o outcome bytes
+
+-- a device has taken the report, and nothing else
+abbrev pub HasReported : (List ℕ → Option (List ℕ)) → Option (List ℕ) → Options → Option (List ℕ) → Option (List ℕ) → Outcome → Type 0
+HasReported told input o before now outcome = (bytes : List ℕ) × IsReported told input o outcome bytes × Appends before now bytes
+
+-- a device has taken a front part of the report; the whole only where it has failed
+abbrev pub HasReportedFront : (List ℕ → Option (List ℕ)) → Option (List ℕ) → Options → Option (List ℕ) → Option (List ℕ) → Bool → Type 0
+HasReportedFront told input o before now has_failed =
+    (outcome : Outcome) × (bytes : List ℕ) × IsReported told input o outcome bytes × AppendsFront before now has_failed bytes
+
+-- both texts are at hand
+abbrev pub HasTexts : Option (List ℕ) → Texts → Type 0
+HasTexts input (Files first second) = ⊤
+HasTexts input Input = IfSome input (λ text. (parts : List ℕ × List ℕ) × IsSplit text (Some parts))
+HasTexts input One = ⊥
+
+-- why the order file was refused
+abbrev pub IsOrderRefused : Option (List ℕ) → OrderFault → Type 0
+IsOrderRefused told fault = (fault ≡ NoOrderMemory) ⊎ (fault ≡ OrderReadFailed) ⊎ IfSome told (λ text. IsBadText text fault)
+
+-- why the order that is asked for was not had, and which files were tried for it
+abbrev pub IsOrderFault : (List ℕ → Option (List ℕ)) → OrderChoice → List Try → ToolFault → Type 0
+IsOrderFault told choice tries (CannotOpen OrderFile) = (path : Bor (List ℕ)) × (choice ≡ File path) × (tries ≡ (path.now, false) ∷ [])
+IsOrderFault told choice tries (BadOrder fault) =
+    (path : Bor (List ℕ)) × (choice ≡ File path) × (tries ≡ opened (order_paths choice)) × IsOrderRefused (told path.now) fault
+IsOrderFault told choice tries OutOfMemory = AreTried (order_paths choice) tries
+IsOrderFault told choice tries (CannotOpen First) = ⊥
+IsOrderFault told choice tries (CannotOpen Second) = ⊥
+IsOrderFault told choice tries OneFile = ⊥
+IsOrderFault told choice tries InputUnread = ⊥
+IsOrderFault told choice tries InputTooLong = ⊥
+IsOrderFault told choice tries InputUndivided = ⊥
+IsOrderFault told choice tries (Check fault) = ⊥
+
+-- why two texts have no report: for their order, or by the check
+abbrev pub IsCompareFault : (List ℕ → Option (List ℕ)) → Option (List ℕ) → Option (List ℕ) → Options → List Try → ToolFault → Type 0
+IsCompareFault told one two o tries (Check fault) =
+    (order : Order) × IsOrderOf told o.order order × (tries ≡ opened (order_paths o.order)) × IsCheckFault one two o.matching order fault
+IsCompareFault told one two o tries (CannotOpen place) = IsOrderFault told o.order tries (CannotOpen place)
+IsCompareFault told one two o tries (BadOrder fault) = IsOrderFault told o.order tries (BadOrder fault)
+IsCompareFault told one two o tries OutOfMemory = IsOrderFault told o.order tries OutOfMemory
+IsCompareFault told one two o tries OneFile = ⊥
+IsCompareFault told one two o tries InputUnread = ⊥
+IsCompareFault told one two o tries InputTooLong = ⊥
+IsCompareFault told one two o tries InputUndivided = ⊥
+
+-- why the input has no text
+abbrev pub IsInputFault : Option (List ℕ) → ToolFault → Type 0
+IsInputFault input InputTooLong = IfSome input (λ text. 134221824 < length text)
+IsInputFault input InputUnread = ⊤
+IsInputFault input OutOfMemory = ⊤
+IsInputFault input (Check fault) = ⊥
+IsInputFault input (CannotOpen place) = ⊥
+IsInputFault input (BadOrder fault) = ⊥
+IsInputFault input OneFile = ⊥
+IsInputFault input InputUndivided = ⊥
+
+-- why a file was not opened, with all that was tried before
+abbrev pub IsUnopened : Option (List ℕ) → Options → List Try → Place → Type 0
+IsUnopened input o tries First = (first second : Bor (List ℕ)) × (o.texts ≡ Files first second) × (tries ≡ (first.now, false) ∷ [])
+IsUnopened input o tries Second = (first second : Bor (List ℕ)) × (o.texts ≡ Files first second) × (tries ≡ (first.now, true) ∷ (second.now, false) ∷ [])
+IsUnopened input o tries OrderFile =
+    (path : Bor (List ℕ)) × (o.order ≡ File path) × HasTexts input o.texts × (tries ≡ opened (text_paths o.texts) ++ (path.now, false) ∷ [])
+
+-- Why there is no report, and which files were tried until then. What comes before in the order of the checks was accepted.
+abbrev pub IsToolFault : (List ℕ → Option (List ℕ)) → Option (List ℕ) → Options → List Try → ToolFault → Type 0
+IsToolFault told input o tries OneFile = (o.texts ≡ One) × (tries ≡ [])
+IsToolFault told input o tries (CannotOpen place) = IsUnopened input o tries place
+IsToolFault told input o tries InputUnread = (o.texts ≡ Input) × (tries ≡ [])
+IsToolFault told input o tries InputTooLong = (o.texts ≡ Input) × (tries ≡ []) × IfSome input (λ text. 134221824 < length text)
+IsToolFault told input o tries InputUndivided = (o.texts ≡ Input) × (tries ≡ []) × IfSome input (λ text. IsSplit text None)
+IsToolFault told input o tries (BadOrder fault) =
+    (path : Bor (List ℕ)) × (o.order ≡ File path) × HasTexts input o.texts × (tries ≡ opened (paths_of o)) × IsOrderRefused (told path.now) fault
+IsToolFault told input o tries (Check fault) =
+    (one two : Option (List ℕ)) × (order : Order) × AreTexts told input o.texts one two × IsOrderOf told o.order order
+    × (tries ≡ opened (paths_of o)) × IsCheckFault one two o.matching order fault
+IsToolFault told input o tries OutOfMemory = AreTried (paths_of o) tries

@@ -1,0 +1,65 @@
+//! Where files are opened.
+ghost use Rattle.std.specs.Prelude.{◌≡◌, ◌∷◌, [], ℕ, List, Option, Some, None, IfOk, IfSome, is_ok};
+ghost use Rattle.bddcheck.specs.Opening.{Extends, Try};
+
+use net_bench::device::{Source, Through};
+use std::rt::Files;
+use std::{fs, io};
+
+/// Why a file was not opened.
+#[derive(Clone, Copy, Drop, Debug, PartialEq, Eq)]
+pub enum OpenFault {
+    /// There is no such file, or it may not be read.
+    Refused,
+    /// A growth was refused.
+    OutOfMemory,
+}
+
+/// Something in which files are opened for reading, by their paths.
+pub trait Folder {
+    type File: Source + Drop;
+
+    // The paths that were asked for, the earliest first, each with whether it was opened, where the folder tells them.
+    ghost tries: { Self → Option (List Try) };
+    // The bytes of the file at a path, where the folder tells them.
+    ghost told: { Self → List ℕ → Option (List ℕ) };
+
+    /// Opens the file at the path.
+    fn open(&mut self, path: &str) -> Result<Self::File, OpenFault>
+        ensures tried { Extends (tries self.old) (tries self.new) ((path.now, is_ok result) ∷ []) }
+        ensures file { IfOk result (λ file. IfSome (told self.old path.now) (λ text. Self.File.remaining file ≡ Some text)) }
+        ensures kept { told self.new ≡ told self.old };
+}
+
+/// The file system of a runtime, which tells nothing.
+#[derive(Drop)]
+pub struct Disk<'a, H> {
+    rt: &'a H,
+}
+
+impl<'a, H> Disk<'a, H> {
+    pub fn new(rt: &'a H) -> Disk<'a, H> {
+        Disk { rt }
+    }
+}
+
+impl<'a, H: Files> Folder for Disk<'a, H> {
+    type File = Through<H::File>;
+
+    ghost tries = { λ _. None };
+
+    ghost told = { λ _ _. None };
+
+    fn open(&mut self, path: &str) -> Result<Through<H::File>, OpenFault> {
+        match fs::open(self.rt, path) {
+            Ok(file) => Ok(Through::new(file)),
+            Err(error) => {
+                if error.kind() == io::ErrorKind::OutOfMemory {
+                    Err(OpenFault::OutOfMemory)
+                } else {
+                    Err(OpenFault::Refused)
+                }
+            }
+        }
+    }
+}

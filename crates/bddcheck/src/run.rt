@@ -1,0 +1,146 @@
+//! A run with its options, over any folder, input and output.
+ghost use Rattle.std.specs.Prelude.{◌≡◌, ◌≢◌, ◌⊎◌, ℕ, ◌∷◌, [], List, IfOk, IfErr, OnOk, OnErr, IfSome, IsTrue, Some, Err, is_ok};
+ghost use Rattle.std.specs.Io.KnownBytes.{Appends};
+ghost use Rattle.check_report.specs.declared.fault.CheckFault.TheVariants.{Write};
+ghost use Rattle.check_report.specs.declared.outcome.Outcome.{Outcome};
+ghost use Rattle.check_report.specs.Writing.{AppendsFront};
+ghost use Rattle.bddcheck.specs.Opening.{Extends, Try, opened};
+ghost use Rattle.bddcheck.specs.Running.{order_paths, paths_of, IsOrderOf, IsOrderFault, IsCompared, IsCompareFault, IsInputFault, IsToolFault, HasReported, HasReportedFront};
+
+use crate::fault::{Place, ToolFault};
+use crate::folder::{Folder, OpenFault};
+use crate::split::split_input;
+use check_report::{Outcome, Settings, check};
+use command_line::{Options, OrderChoice, Texts};
+use expand_work::Free;
+use net_bench::device::{Sink, Source, TextFault, Through, read_text};
+use net_order::order::Order;
+use net_order::order_file::read_order;
+use std::alloc::Global;
+
+/// The most bytes that standard input has: two texts and the line between them.
+const INPUT_LIMIT: usize = 134_221_824;
+
+/// Opens a file.
+fn open<F: Folder>(folder: &mut F, path: &str, place: Place) -> Result<F::File, ToolFault>
+    ensures tried { Extends (F.tries folder.old) (F.tries folder.new) ((path.now, is_ok result) ∷ []) }
+    ensures file { IfOk result (λ file. IfSome (F.told folder.old path.now) (λ text. F.File.remaining file ≡ Some text)) }
+    ensures kept { F.told folder.new ≡ F.told folder.old }
+    ensures fault { IfErr result (λ fault. (fault ≡ ToolFault.CannotOpen place) ⊎ (fault ≡ ToolFault.OutOfMemory)) }
+{
+    match folder.open(path) {
+        Ok(file) => Ok(file),
+        Err(OpenFault::Refused) => Err(ToolFault::CannotOpen(place)),
+        Err(OpenFault::OutOfMemory) => Err(ToolFault::OutOfMemory),
+    }
+}
+
+/// The order that is asked for. A file of names is opened and read.
+fn order_of<F: Folder>(
+    alloc: Global,
+    folder: &mut F,
+    choice: OrderChoice<'_>,
+) -> Result<Order, ToolFault>
+    ensures order { IfOk result (IsOrderOf (F.told folder.old) choice.entry) }
+    ensures opened { OnOk result (Extends (F.tries folder.old) (F.tries folder.new) (opened (order_paths choice.entry))) }
+    ensures fault { IfErr result (λ fault. (tries : List Try) × Extends (F.tries folder.old) (F.tries folder.new) tries × IsOrderFault (F.told folder.old) choice.entry tries fault) }
+{
+    match choice {
+        OrderChoice::Declared => Ok(Order::Declared),
+        OrderChoice::Depth => Ok(Order::Depth),
+        OrderChoice::File(path) => {
+            let mut file = open(folder, path, Place::Order)?;
+            match read_order(alloc, &mut file) {
+                Ok(names) => Ok(Order::Listed(names)),
+                Err(fault) => Err(ToolFault::BadOrder(fault)),
+            }
+        }
+    }
+}
+
+/// Compares two texts. The order is read before them.
+fn compare<H, F: Folder, R1: Source, R2: Source, W: Sink>(
+    rt: &H,
+    alloc: Global,
+    options: &Options<'_>,
+    folder: &mut F,
+    first: &mut R1,
+    second: &mut R2,
+    out: &mut W,
+) -> Result<Outcome, ToolFault>
+    ensures report { IfOk result (λ outcome. (bytes : List ℕ) × IsCompared (F.told folder.old) (R1.remaining first.old) (R2.remaining second.old) options.now outcome bytes × Appends (W.contents out.old) (W.contents out.new) bytes) }
+    ensures opened { OnOk result (Extends (F.tries folder.old) (F.tries folder.new) (opened (order_paths options.now.order))) }
+    ensures fault { IfErr result (λ fault. (tries : List Try) × Extends (F.tries folder.old) (F.tries folder.new) tries × IsCompareFault (F.told folder.old) (R1.remaining first.old) (R2.remaining second.old) options.now tries fault) }
+    ensures unwritten { result ≡ Err (ToolFault.Check Write) → (outcome : Outcome) × (bytes : List ℕ) × IsCompared (F.told folder.old) (R1.remaining first.old) (R2.remaining second.old) options.now outcome bytes × AppendsFront (W.contents out.old) (W.contents out.new) (W.has_failed out.new) bytes }
+    ensures untouched { OnErr result (result ≢ Err (ToolFault.Check Write) → out.new ≡ out.old) }
+    ensures written { OnOk result (W.has_failed out.new ≡ W.has_failed out.old) }
+{
+    let settings = Settings {
+        matching: options.matching,
+        order: order_of(alloc, folder, options.order)?,
+        workers: options.workers,
+        limit: options.limit,
+        sizes: options.sizes,
+    };
+    match check(rt, alloc, first, second, &settings, &Free, out) {
+        Ok(outcome) => Ok(outcome),
+        Err(fault) => Err(ToolFault::Check(fault)),
+    }
+}
+
+/// The text of standard input.
+fn read_input<R: Source>(alloc: Global, input: &mut R) -> Result<Vec<u8>, ToolFault>
+    ensures text { IfOk result (λ text. IfSome (R.remaining input.old) (λ told. text.items ≡ told)) }
+    ensures fault { IfErr result (λ fault. IsInputFault (R.remaining input.old) fault) }
+    ensures read { result ≡ Err ToolFault.InputUnread → IsTrue (R.has_failed input.new) }
+{
+    match read_text(alloc, input, INPUT_LIMIT) {
+        Ok(text) => Ok(text),
+        Err(TextFault::Read) => Err(ToolFault::InputUnread),
+        Err(TextFault::TooLong) => Err(ToolFault::InputTooLong),
+        Err(TextFault::OutOfMemory) => Err(ToolFault::OutOfMemory),
+    }
+}
+
+/// Compares what the options name: two files, or the two texts of the input. FIRST, SECOND and the order's file are opened in
+/// this order; of the input the order's file is opened behind the reading and the dividing.
+pub fn run_options<H, F: Folder, R: Source, W: Sink>(
+    rt: &H,
+    alloc: Global,
+    options: &Options<'_>,
+    folder: &mut F,
+    input: &mut R,
+    out: &mut W,
+) -> Result<Outcome, ToolFault>
+    // What was written is the report of the two texts in the order that is asked for, and nothing else.
+    ensures report { IfOk result (HasReported (F.told folder.old) (R.remaining input.old) options.now (W.contents out.old) (W.contents out.new)) }
+    // Then each file that the options name was opened, in the stated order, and no other.
+    ensures opened { OnOk result (Extends (F.tries folder.old) (F.tries folder.new) (opened (paths_of options.now))) }
+    // A fault has its cause, what comes before it was accepted, and no file was tried beyond it.
+    ensures fault { IfErr result (λ fault. (tries : List Try) × Extends (F.tries folder.old) (F.tries folder.new) tries × IsToolFault (F.told folder.old) (R.remaining input.old) options.now tries fault) }
+    // Where the writing failed, a front part of the report was written; the whole only where the device has failed.
+    ensures unwritten { result ≡ Err (ToolFault.Check Write) → HasReportedFront (F.told folder.old) (R.remaining input.old) options.now (W.contents out.old) (W.contents out.new) (W.has_failed out.new) }
+    // At any other fault nothing was written.
+    ensures untouched { OnErr result (result ≢ Err (ToolFault.Check Write) → out.new ≡ out.old) }
+    // An input that is said to have failed has failed, and an output that took the report has not.
+    ensures read { result ≡ Err ToolFault.InputUnread → IsTrue (R.has_failed input.new) }
+    ensures written { OnOk result (W.has_failed out.new ≡ W.has_failed out.old) }
+{
+    match options.texts {
+        Texts::One => Err(ToolFault::OneFile),
+        Texts::Files(first, second) => {
+            let mut first = open(folder, first, Place::First)?;
+            let mut second = open(folder, second, Place::Second)?;
+            compare(rt, alloc, options, folder, &mut first, &mut second, out)
+        }
+        Texts::Input => {
+            let text = read_input(alloc, input)?;
+            let Some((one, two)) = split_input(text.as_slice()) else {
+                return Err(ToolFault::InputUndivided);
+            };
+            let mut first = Through::new(one);
+            let mut second = Through::new(two);
+            compare(rt, alloc, options, folder, &mut first, &mut second, out)
+        }
+    }
+}

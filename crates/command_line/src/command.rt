@@ -1,0 +1,135 @@
+//! The command of the program, as clap knows it.
+ghost use Rattle.std.specs.Prelude.{◌≡◌, false, codes, IfOk};
+ghost use Rattle.clap.specs.Words.{app_of, new_rule, rule_of};
+ghost use Rattle.command_line.specs.Words.{match_rule, order_rule, order_file_rule, workers_rule, limit_rule, sizes_rule, bare_app, IsTool};
+
+use clap::{Arg, ArgAction, Command, Error, value_parser};
+use std::alloc::{AllocError, Global};
+
+static MATCHES: [&str; 2] = ["name", "position"];
+
+static ORDERS: [&str; 2] = ["declared", "depth"];
+
+static ABOUT: &str =
+    "Decides for each pair of outputs of two bench netlists whether both compute the same Boolean function";
+
+static MORE: &str = "\
+For each pair of outputs a line EQUAL or DIFFER is printed, the latter with the least assignment on which the two differ;
+then the outputs without a partner (ONLY), and last the counts. Without FIRST and SECOND both netlists are read from
+standard input, with a line `%%` between them.
+
+Status:
+  0  all outputs are paired and equal
+  1  some are different, or have no partner
+  2  the command line, a file, a netlist or the order was refused
+  3  out of memory, more nodes than the limit, no worker, or the report could not be written";
+
+fn matching<'a>(alloc: Global) -> Arg<'a>
+    ensures rule { rule_of result ≡ match_rule result.value_parser }
+    ensures local { result.global ≡ false }
+{
+    Arg::new(alloc, "match")
+        .long("match")
+        .value_name("HOW")
+        .value_parser(MATCHES.as_slice())
+        .default_value("name")
+        .help("Pair inputs and outputs by their names or by their places")
+}
+
+fn order<'a>(alloc: Global) -> Arg<'a>
+    ensures rule { rule_of result ≡ order_rule result.value_parser }
+    ensures local { result.global ≡ false }
+{
+    Arg::new(alloc, "order")
+        .long("order")
+        .value_name("ORDER")
+        .value_parser(ORDERS.as_slice())
+        .default_value("declared")
+        .help("Order the variables as declared, or by depth: as met below the outputs")
+}
+
+fn order_file<'a>(alloc: Global) -> Result<Arg<'a>, AllocError>
+    ensures rule { IfOk result (λ a. rule_of a ≡ order_file_rule) }
+    ensures local { IfOk result (λ a. a.global ≡ false) }
+{
+    Arg::new(alloc, "order-file")
+        .long("order-file")
+        .value_name("F")
+        .help("Order the variables as a file lists their names; not with --order")
+        .conflicts_with("order")
+}
+
+fn workers<'a>(alloc: Global) -> Arg<'a>
+    ensures rule { rule_of result ≡ workers_rule result.value_parser }
+    ensures local { result.global ≡ false }
+{
+    Arg::new(alloc, "workers")
+        .long("workers")
+        .value_name("N")
+        .value_parser(value_parser!(u32).range(1..=16))
+        .default_value("4")
+        .help("Build the diagrams by this many workers, 1 to 16")
+}
+
+fn limit<'a>(alloc: Global) -> Arg<'a>
+    ensures rule { rule_of result ≡ limit_rule result.value_parser }
+    ensures local { result.global ≡ false }
+{
+    Arg::new(alloc, "limit")
+        .long("limit")
+        .value_name("N")
+        .value_parser(value_parser!(u64).range(1..=4_294_967_295))
+        .default_value("67108864")
+        .help("Give up where the diagrams have more nodes, 1 to 4294967295")
+}
+
+fn sizes<'a>(alloc: Global) -> Arg<'a>
+    ensures rule { rule_of result ≡ sizes_rule }
+    ensures local { result.global ≡ false }
+{
+    Arg::new(alloc, "sizes")
+        .long("sizes")
+        .action(ArgAction::SetTrue)
+        .help("Print the number of nodes of each compared diagram")
+}
+
+fn first<'a>(alloc: Global) -> Arg<'a>
+    ensures rule { rule_of result ≡ new_rule (codes "FIRST") }
+    ensures local { result.global ≡ false }
+{
+    Arg::new(alloc, "FIRST").help("The file of the first netlist")
+}
+
+fn second<'a>(alloc: Global) -> Arg<'a>
+    ensures rule { rule_of result ≡ new_rule (codes "SECOND") }
+    ensures local { result.global ≡ false }
+{
+    Arg::new(alloc, "SECOND").help("The file of the second netlist")
+}
+
+/// The command without arguments.
+fn bare<'a>(alloc: Global) -> Command<'a>
+    ensures { app_of result ≡ bare_app }
+{
+    Command::new(alloc, "bddcheck")
+        .no_binary_name(true)
+        .about(ABOUT)
+        .after_help(MORE)
+}
+
+/// The command of this program.
+pub fn command<'a>(alloc: Global) -> Result<Command<'a>, Error>
+    ensures { IfOk result (λ c. IsTool (app_of c)) }
+{
+    let command = bare(alloc)
+        .arg(matching(alloc))?
+        .arg(order(alloc))?
+        .arg(order_file(alloc)?)?
+        .arg(workers(alloc))?;
+    let command = command
+        .arg(limit(alloc))?
+        .arg(sizes(alloc))?
+        .arg(first(alloc))?
+        .arg(second(alloc))?;
+    Ok(command)
+}

@@ -1,0 +1,9 @@
+//! The command line of the program: what its words ask for.
+#![tactic(auto)]
+
+mod command;
+mod options;
+mod reading;
+
+pub use options::{Options, OrderChoice, Texts};
+pub use reading::{Refused, read_options};

@@ -1,0 +1,39 @@
+//! What a command line asks for.
+ghost use Rattle.std.specs.Prelude.{◌≤◌};
+
+use net_order::order::Match;
+
+/// Where the order of the variables comes from.
+#[derive(Clone, Copy, Drop, Debug, PartialEq, Eq)]
+pub enum OrderChoice<'a> {
+    Declared,
+    Depth,
+    /// The path of a file with the names.
+    File(&'a str),
+}
+
+/// Where the netlists come from.
+#[derive(Clone, Copy, Drop, Debug, PartialEq, Eq)]
+pub enum Texts<'a> {
+    /// Both from standard input.
+    Input,
+    /// The paths of two files.
+    Files(&'a str, &'a str),
+    /// One path alone, which is refused.
+    One,
+}
+
+/// What the command line asks for.
+#[derive(Clone, Copy, Drop, Debug, PartialEq, Eq)]
+pub struct Options<'a> {
+    pub matching: Match,
+    pub order: OrderChoice<'a>,
+    pub workers: u32,
+    pub limit: u64,
+    pub sizes: bool,
+    pub texts: Texts<'a>,
+    ghost some_workers: { 1 ≤ workers },
+    ghost few_workers: { workers ≤ 16 },
+    ghost some_nodes: { 1 ≤ limit },
+    ghost few_nodes: { limit ≤ 4294967295 },
+}
