@@ -1,5 +1,5 @@
 -- Known references stay known, and a wave's answers become known.
-use Rattle.std.proofs.Common.{◌≡◌, ℕ, suc, ◌<◌, List, [], ◌∷◌, All, arith}
+use Rattle.std.proofs.Common.{List, [], ◌∷◌, All}
 use Rattle.std.specs.Prelude.{Result, Ok, Err, IfOk}
 use Rattle.std.proofs.lemmas.List.Elements.{All-nil, All-cons}
 use Rattle.dd_store.specs.declared.reference.Ref.{Ref}

@@ -36,20 +36,18 @@ const D: usize = 5;
 /// An operation on two known references.
 type Step = (Op, usize, usize);
 
-/// Choices of a driven core: none, few, and more than a small wave has events.
-const CHOICES: [&[u8]; 3] = [&[], &[0, 1, 2], &[255; 200]];
-
-/// How a wave is run: on the test's thread by these choices, or by workers in threads.
+/// How a wave is run: on the test's thread by a core with these choices, or by workers in threads.
 #[derive(Clone, Copy)]
 enum Way {
     Alone(&'static [u8]),
     Threads,
 }
 
+/// The choices are none, few, and more than a small wave has events.
 const WAYS: [Way; 4] = [
-    Way::Alone(CHOICES[0]),
-    Way::Alone(CHOICES[1]),
-    Way::Alone(CHOICES[2]),
+    Way::Alone(&[]),
+    Way::Alone(&[0, 1, 2]),
+    Way::Alone(&[255; 200]),
     Way::Threads,
 ];
 
@@ -332,7 +330,10 @@ fn second_wave(rt: HostRuntime) -> Result<(), Fail> {
 fn core_reduced(rt: HostRuntime) -> Result<(), Fail> {
     let alloc = rt.alloc();
     for (limit, fits) in [(6, true), (5, false)] {
-        for choices in CHOICES {
+        for way in WAYS {
+            let Way::Alone(choices) = way else {
+                continue;
+            };
             let mut store = Store::new(alloc, 4, limit)?;
             let known = start(&rt, alloc, &mut store);
             let c = known_at(&rt, &store, known.as_slice(), C);
