@@ -5,12 +5,12 @@ ghost use Rattle.req_table.specs.Lanes.{ends};
 ghost use Rattle.lane_queue.specs.PortView.{sent_to, IsPortOf};
 ghost use Rattle.expand_work.specs.Work.{at, item_of, HasSent, MaySend};
 
-use crate::WorkFault;
 use crate::lists::KeyLists;
 use dd_store::Store;
 use lane_queue::{Lanes, Port};
 use req_table::requests::level_of;
 use req_table::{Item, Key};
+use std::alloc::AllocError;
 use std::sync::Wait;
 
 // Asks the worker `to` for the keys.
@@ -21,7 +21,7 @@ fn send_asks<R: Wait>(
     store: &Store,
     to: u32,
     keys: &[Key],
-) -> Result<(), WorkFault>
+) -> Result<(), AllocError>
     requires port { IsPortOf lanes.now port.old }
     requires to { to < length lanes.now.lanes }
     requires may { MaySend lanes.now store.now port.old to keys.now }
@@ -38,7 +38,7 @@ fn send_asks<R: Wait>(
             key: *key,
         };
         let Ok(_) = lanes.send(rt, port, to, ask) else {
-            return Err(WorkFault::OutOfMemory);
+            return Err(AllocError);
         };
     }
     Ok(())
@@ -51,7 +51,7 @@ pub fn send_due<R: Wait>(
     port: &mut Port,
     store: &Store,
     due: &KeyLists,
-) -> Result<(), WorkFault>
+) -> Result<(), AllocError>
     requires port { IsPortOf lanes.now port.old }
     requires long { length due.now ≡ length lanes.now.lanes }
     requires wide { length port.old.sent ≡ length lanes.now.lanes }
@@ -73,7 +73,7 @@ pub fn send_ends<R: Wait>(
     lanes: &Lanes,
     port: &mut Port,
     level: u16,
-) -> Result<(), WorkFault>
+) -> Result<(), AllocError>
     requires port { IsPortOf lanes.now port.old }
     requires level { level < lanes.now.sizes.levels }
     requires ended { (k : ℕ) → k < length lanes.now.lanes → ends (sent_to port.old k) ≡ level }
@@ -84,7 +84,7 @@ pub fn send_ends<R: Wait>(
     let from = port.number();
     for to in 0..lanes.count() {
         if lanes.send(rt, port, to, Item::End { from, level }).is_err() {
-            return Err(WorkFault::OutOfMemory);
+            return Err(AllocError);
         }
     }
     Ok(())
