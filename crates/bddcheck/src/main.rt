@@ -16,6 +16,8 @@ use std::io;
 use std::io::{BufWriter, Read, Write};
 use std::process::ExitCode;
 use std::rt::{Env, Files};
+use std::sync::Wait;
+use std::thread::Threads;
 
 /// The words after the program's name.
 fn words_of<H: Env + AllocGlobal>(rt: &H) -> io::Result<Vec<String>> {
@@ -29,7 +31,7 @@ fn words_of<H: Env + AllocGlobal>(rt: &H) -> io::Result<Vec<String>> {
 /// The status of a run over the words and streams of the process.
 fn status_of<H, I, O, E>(rt: &H, input: I, output: O, errors: E) -> u8
 where
-    H: Env + Files + AllocGlobal,
+    H: Env + Files + AllocGlobal + Threads + Wait + Sync,
     I: Read + Drop,
     O: Write + Drop,
     E: Write + Drop,

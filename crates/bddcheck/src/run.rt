@@ -17,6 +17,8 @@ use net_bench::device::{Sink, Source, TextFault, Through, read_text};
 use net_order::order::Order;
 use net_order::order_file::read_order;
 use std::alloc::Global;
+use std::sync::Wait;
+use std::thread::Threads;
 
 /// The most bytes that standard input has: two texts and the line between them.
 const INPUT_LIMIT: usize = 134_221_824;
@@ -59,7 +61,7 @@ fn order_of<F: Folder>(
 }
 
 /// Compares two texts. The order is read before them.
-fn compare<H, F: Folder, R1: Source, R2: Source, W: Sink>(
+fn compare<H: Threads + Wait + Sync, F: Folder, R1: Source, R2: Source, W: Sink>(
     rt: &H,
     alloc: Global,
     options: &Options<'_>,
@@ -104,7 +106,7 @@ fn read_input<R: Source>(alloc: Global, input: &mut R) -> Result<Vec<u8>, ToolFa
 
 /// Compares what the options name: two files, or the two texts of the input. FIRST, SECOND and the order's file are opened in
 /// this order; of the input the order's file is opened behind the reading and the dividing.
-pub fn run_options<H, F: Folder, R: Source, W: Sink>(
+pub fn run_options<H: Threads + Wait + Sync, F: Folder, R: Source, W: Sink>(
     rt: &H,
     alloc: Global,
     options: &Options<'_>,

@@ -11,6 +11,8 @@ use check_report::{Outcome, write_whole};
 use command_line::{Refused, read_options};
 use net_bench::device::{Sink, Source};
 use std::alloc::Global;
+use std::sync::Wait;
+use std::thread::Threads;
 
 /// Writes a text as far as the device takes it. A failure is ignored.
 pub fn say<E: Sink>(errors: &mut E, text: &[u8])
@@ -75,7 +77,7 @@ fn status_of(outcome: Outcome) -> u8
 
 /// Runs the program on its words, and answers its status.
 #[tactic(auto, using(crate::proofs::Composing::keeps_own, crate::proofs::Composing::extends_none))]
-pub fn run_tool<H, F: Folder, R: Source, W: Sink, E: Sink>(
+pub fn run_tool<H: Threads + Wait + Sync, F: Folder, R: Source, W: Sink, E: Sink>(
     rt: &H,
     alloc: Global,
     words: &[String],

@@ -22,9 +22,11 @@ use net_bench::netlist::BenchFault;
 use net_bench::reader::{Netlist, read_bench};
 use net_order::pairing::{Pairing, pair};
 use std::alloc::Global;
+use std::sync::Wait;
+use std::thread::Threads;
 
 /// The report of two netlists that are paired.
-fn compare<'a, H, G: Gate>(
+fn compare<'a, H: Threads + Wait + Sync, G: Gate>(
     rt: &H,
     alloc: Global,
     first: &'a Netlist,
@@ -72,8 +74,9 @@ fn compare<'a, H, G: Gate>(
     }
 }
 
-/// Reads two netlists, compares their outputs and writes the report. Nothing is written before the whole report stands.
-pub fn check<H, R1: Source, R2: Source, G: Gate, W: Sink>(
+/// Reads two netlists, compares their outputs and writes the report. The gates' diagrams are built by as many threads as the
+/// settings have workers. Nothing is written before the whole report stands.
+pub fn check<H: Threads + Wait + Sync, R1: Source, R2: Source, G: Gate, W: Sink>(
     rt: &H,
     alloc: Global,
     first: &mut R1,

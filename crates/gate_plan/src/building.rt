@@ -17,10 +17,12 @@ use expand_work::{Gate, WaveFault};
 use net_bench::netlist::Signal;
 use net_bench::reader::Netlist;
 use net_order::pairing::Pairing;
-use reduce_up::wave_one;
+use reduce_up::wave;
 use req_table::Op;
 use std::alloc::{AllocError, Global};
 use std::marker::Model;
+use std::sync::Wait;
+use std::thread::Threads;
 
 /// A reference for each signal of two netlists.
 #[derive(Drop)]
@@ -138,7 +140,7 @@ fn fold_entries(
 }
 
 /// The wave of one fold number of a rank: the steps of both netlists are asked for together.
-fn build_fold<R>(
+fn build_fold<R: Threads + Wait + Sync, G: Gate>(
     rt: &R,
     alloc: Global,
     store: &mut Store,
@@ -148,6 +150,7 @@ fn build_fold<R>(
     rank: usize,
     fold: usize,
     workers: u32,
+    gate: &G,
 ) -> Result<(), WaveFault>
     requires workers { (0 < workers) × (workers ≤ 16) }
     requires rank { 1 ≤ rank }
@@ -161,7 +164,6 @@ fn build_fold<R>(
     ensures second_next { OnOk result (AreFolded second.now.net (input_level second.now) store.new built.new.second rank (fold + 1)) }
     ensures within { OnOk result (IsStillWithin store.old store.new) }
     ensures fault { IfErr result (IsBuildFault store.old.levels (IsPlacedValue store.old.levels first.now second.now) store.new) }
-    ensures served { IfErr result (λ e. e ≢ WaveFault.NoWorker) }
 {
     let ours = first.steps(rank, fold);
     let theirs = second.steps(rank, fold);
@@ -170,7 +172,7 @@ fn build_fold<R>(
         Ok(entries) => entries,
         Err(_) => return Err(WaveFault::OutOfMemory),
     };
-    let answers = wave_one(rt, alloc, store, entries.as_slice(), workers, &[])?;
+    let answers = wave(rt, alloc, store, entries.as_slice(), workers, gate)?;
     let (one, two) = answers.as_slice().split_at(ours.len());
     take_answers(&mut built.first, ours, one);
     take_answers(&mut built.second, theirs, two);
@@ -178,7 +180,7 @@ fn build_fold<R>(
 }
 
 /// The copies and all folds of one rank.
-fn build_rank<R>(
+fn build_rank<R: Threads + Wait + Sync, G: Gate>(
     rt: &R,
     alloc: Global,
     store: &mut Store,
@@ -187,6 +189,7 @@ fn build_rank<R>(
     built: &mut Built,
     rank: usize,
     workers: u32,
+    gate: &G,
 ) -> Result<(), WaveFault>
     requires workers { (0 < workers) × (workers ≤ 16) }
     requires rank { 1 ≤ rank }
@@ -200,13 +203,14 @@ fn build_rank<R>(
     ensures second_next { OnOk result (AreRight second.now.net (input_level second.now) store.new built.new.second (rank + 1)) }
     ensures within { OnOk result (IsStillWithin store.old store.new) }
     ensures fault { IfErr result (IsBuildFault store.old.levels (IsPlacedValue store.old.levels first.now second.now) store.new) }
-    ensures served { IfErr result (λ e. e ≢ WaveFault.NoWorker) }
 {
     let _ = store.levels();
     copy_all(&mut built.first, first.copies(rank));
     copy_all(&mut built.second, second.copies(rank));
     for fold in 0..first.folds(rank).max(second.folds(rank)) {
-        build_fold(rt, alloc, store, first, second, built, rank, fold, workers)?;
+        build_fold(
+            rt, alloc, store, first, second, built, rank, fold, workers, gate,
+        )?;
     }
     Ok(())
 }
@@ -236,8 +240,9 @@ fn start(
 }
 
 /// Builds the diagrams of all signals of two netlists, over the variables of their pairing: all variables in level order,
-/// then per rank the copies and one wave for each fold number, of both netlists together.
-pub fn build<R, G: Gate>(
+/// then per rank the copies and one wave for each fold number, of both netlists together. A wave's requests are expanded by
+/// as many threads as there are workers; NoWorker is answered where one could not be started.
+pub fn build<R: Threads + Wait + Sync, G: Gate>(
     rt: &R,
     alloc: Global,
     store: &mut Store,
@@ -263,8 +268,6 @@ pub fn build<R, G: Gate>(
     ensures need { count_of store.old ≡ 0 → OnOk result (HasNeed (circuit first.now) (circuit second.now) pairing.now store.new) }
     // Full is answered only where the store has more nodes than its limit, or as many and lacks one that is needed.
     ensures fault { IfErr result (IsBuildFault (length pairing.now.names) (IsNeededValue (circuit first.now) (circuit second.now) pairing.now) store.new) }
-    // No thread is started.
-    ensures served { IfErr result (λ e. e ≢ WaveFault.NoWorker) }
 {
     let variables = make_variables(alloc, store)?;
     let Ok(first_plan) = Plan::new(alloc, first) else {
@@ -298,6 +301,7 @@ pub fn build<R, G: Gate>(
             &mut built,
             below + 1,
             workers,
+            gate,
         )?;
     }
     Ok(built)

@@ -16,15 +16,15 @@ fold_entries-requires-clause-second g c =
     steps_fit c.args.second.now.net c.requires.second_plan.sound (input_level c.args.second.now) c.args.store.now c.args.built.now.second c.args.built.now.second c.args.rank c.args.fold c.steps-theirs.result.now
     c.requires.second_folded refl c.steps-theirs.ensures
 
-pub wave_one-requires-clause-operands : goal.wave_one-requires-clause-operands
-wave_one-requires-clause-operands g c =
+pub wave-requires-clause-operands : goal.wave-requires-clause-operands
+wave-requires-clause-operands g c lifetimes lives =
     all_entries c.args.store.now c.args.built.now.first c.args.built.now.second c.steps-ours.result.now c.steps-theirs.result.now c.as_slice.result.now
     c.requires.first_folded.right.known c.requires.second_folded.right.known (c.as_slice.ensures.value ∙ c.in-Ok.ensures)
 
 pub split_at-requires : goal.split_at-requires
 split_at-requires g c =
     let n : length c.in_ok-answers.answers.items ≡ length c.steps-ours.result.now + length c.steps-theirs.result.now =
-    answers_long c.args.store.now c.wave_one.new.store c.args.built.now.first c.args.built.now.second c.steps-ours.result.now c.steps-theirs.result.now c.as_slice.result.now c.in_ok-answers.answers.items (c.as_slice.ensures.value ∙ c.in-Ok.ensures) c.in_ok-answers.ensures.answers in
+    answers_long c.args.store.now c.wave.new.store c.args.built.now.first c.args.built.now.second c.steps-ours.result.now c.steps-theirs.result.now c.as_slice.result.now c.in_ok-answers.answers.items (c.as_slice.ensures.value ∙ c.in-Ok.ensures) c.in_ok-answers.ensures.answers in
     let m : length c.as_slice-2.result.now ≡ length c.in_ok-answers.answers.items = ap length c.as_slice-2.ensures.value in
     omega arith
 
@@ -41,45 +41,45 @@ take_answers-requires-2-clause-below g c =
 pub take_answers-requires-2-clause-each : goal.take_answers-requires-2-clause-each
 take_answers-requires-2-clause-each g c =
     let n : length c.in_ok-answers.answers.items ≡ length c.steps-ours.result.now + length c.steps-theirs.result.now =
-    answers_long c.args.store.now c.wave_one.new.store c.args.built.now.first c.args.built.now.second c.steps-ours.result.now c.steps-theirs.result.now c.as_slice.result.now c.in_ok-answers.answers.items (c.as_slice.ensures.value ∙ c.in-Ok.ensures) c.in_ok-answers.ensures.answers in
+    answers_long c.args.store.now c.wave.new.store c.args.built.now.first c.args.built.now.second c.steps-ours.result.now c.steps-theirs.result.now c.as_slice.result.now c.in_ok-answers.answers.items (c.as_slice.ensures.value ∙ c.in-Ok.ensures) c.in_ok-answers.ensures.answers in
     let m : length c.as_slice-2.result.now ≡ length c.in_ok-answers.answers.items = ap length c.as_slice-2.ensures.value in
     let k : length c.split_at.result.1.now + length c.steps-ours.result.now ≡ length c.as_slice-2.result.now = c.split_at.ensures.back_len in
     omega arith
 
 pub returns-clause-first_next : goal.returns-clause-first_next
 returns-clause-first_next g c =
-    fold_next c.args.first.now.net c.requires.first_plan.sound (input_level c.args.first.now) c.args.store.now c.wave_one.new.store c.args.built.now.first c.built.inside.first.items c.take_answers.new.references.items c.args.rank c.args.fold c.steps-ours.result.now c.split_at.result.0.now
-    c.levels.ensures.sound c.wave_one.ensures.adds.keeps c.requires.first_folded (ap (λ z. z.first) c.built.view_is) c.steps-ours.ensures
-    (first_answers c.args.store.now c.wave_one.new.store c.args.built.now.first c.args.built.now.second c.steps-ours.result.now c.steps-theirs.result.now c.as_slice.result.now c.in_ok-answers.answers.items (c.as_slice.ensures.value ∙ c.in-Ok.ensures) c.in_ok-answers.ensures.answers c.split_at.result.0.now (c.split_at.ensures.front ∙ ap (take (length c.steps-ours.result.now)) c.as_slice-2.ensures.value))
+    fold_next c.args.first.now.net c.requires.first_plan.sound (input_level c.args.first.now) c.args.store.now c.wave.new.store c.args.built.now.first c.built.inside.first.items c.take_answers.new.references.items c.args.rank c.args.fold c.steps-ours.result.now c.split_at.result.0.now
+    c.levels.ensures.sound c.wave.ensures.adds.keeps c.requires.first_folded (ap (λ z. z.first) c.built.view_is) c.steps-ours.ensures
+    (first_answers c.args.store.now c.wave.new.store c.args.built.now.first c.args.built.now.second c.steps-ours.result.now c.steps-theirs.result.now c.as_slice.result.now c.in_ok-answers.answers.items (c.as_slice.ensures.value ∙ c.in-Ok.ensures) c.in_ok-answers.ensures.answers c.split_at.result.0.now (c.split_at.ensures.front ∙ ap (take (length c.steps-ours.result.now)) c.as_slice-2.ensures.value))
     c.take_answers.ensures
 
 pub returns-clause-second_next : goal.returns-clause-second_next
 returns-clause-second_next g c =
-    fold_next c.args.second.now.net c.requires.second_plan.sound (input_level c.args.second.now) c.args.store.now c.wave_one.new.store c.args.built.now.second c.built.inside.second.items c.take_answers-2.new.references.items c.args.rank c.args.fold c.steps-theirs.result.now c.split_at.result.1.now
-    c.levels.ensures.sound c.wave_one.ensures.adds.keeps c.requires.second_folded (ap (λ z. z.second) c.built.view_is) c.steps-theirs.ensures
-    (second_answers c.args.store.now c.wave_one.new.store c.args.built.now.first c.args.built.now.second c.steps-ours.result.now c.steps-theirs.result.now c.as_slice.result.now c.in_ok-answers.answers.items (c.as_slice.ensures.value ∙ c.in-Ok.ensures) c.in_ok-answers.ensures.answers c.split_at.result.1.now (c.split_at.ensures.back ∙ ap (drop (length c.steps-ours.result.now)) c.as_slice-2.ensures.value))
+    fold_next c.args.second.now.net c.requires.second_plan.sound (input_level c.args.second.now) c.args.store.now c.wave.new.store c.args.built.now.second c.built.inside.second.items c.take_answers-2.new.references.items c.args.rank c.args.fold c.steps-theirs.result.now c.split_at.result.1.now
+    c.levels.ensures.sound c.wave.ensures.adds.keeps c.requires.second_folded (ap (λ z. z.second) c.built.view_is) c.steps-theirs.ensures
+    (second_answers c.args.store.now c.wave.new.store c.args.built.now.first c.args.built.now.second c.steps-ours.result.now c.steps-theirs.result.now c.as_slice.result.now c.in_ok-answers.answers.items (c.as_slice.ensures.value ∙ c.in-Ok.ensures) c.in_ok-answers.ensures.answers c.split_at.result.1.now (c.split_at.ensures.back ∙ ap (drop (length c.steps-ours.result.now)) c.as_slice-2.ensures.value))
     c.take_answers-2.ensures
 
 pub returns-in_err-answers-clause-adds : goal.returns-in_err-answers-clause-adds
 returns-in_err-answers-clause-adds g c =
-    wave_adds c.args.store.now c.wave_one.new.store c.as_slice.result.now (IsPlacedValue c.args.store.now.levels c.args.first.now c.args.second.now)
+    wave_adds c.args.store.now c.wave.new.store c.as_slice.result.now (IsPlacedValue c.args.store.now.levels c.args.first.now c.args.second.now)
     (all_asked c.args.first.now c.args.second.now c.requires.first_plan.sound c.requires.second_plan.sound c.args.store.now c.args.built.now.first c.args.built.now.second c.args.rank c.args.fold c.steps-ours.result.now c.steps-theirs.result.now c.as_slice.result.now
     c.requires.first_folded c.requires.second_folded c.steps-ours.ensures c.steps-theirs.ensures (c.as_slice.ensures.value ∙ c.in-Ok.ensures))
-    c.wave_one.ensures.adds
+    c.wave.ensures.adds
 
 pub returns-in_err-answers-clause-fault : goal.returns-in_err-answers-clause-fault
 returns-in_err-answers-clause-fault g c =
     let p = err_from_is_err_and c.from_residual.result c.from_residual.ensures.1 in
     rw (p.1, p.2) (
-    wave_fault c.args.store.now c.wave_one.new.store c.as_slice.result.now (IsPlacedValue c.args.store.now.levels c.args.first.now c.args.second.now)
+    wave_fault c.args.store.now c.wave.new.store c.as_slice.result.now (IsPlacedValue c.args.store.now.levels c.args.first.now c.args.second.now)
     (all_asked c.args.first.now c.args.second.now c.requires.first_plan.sound c.requires.second_plan.sound c.args.store.now c.args.built.now.first c.args.built.now.second c.args.rank c.args.fold c.steps-ours.result.now c.steps-theirs.result.now c.as_slice.result.now
     c.requires.first_folded c.requires.second_folded c.steps-ours.ensures c.steps-theirs.ensures (c.as_slice.ensures.value ∙ c.in-Ok.ensures))
-    c.wave_one.ensures.adds.keeps _ c.in_err-answers.ensures.fault
+    c.wave.ensures.adds.keeps _ c.in_err-answers.ensures.fault
     )
 
 pub returns-clause-adds : goal.returns-clause-adds
 returns-clause-adds g c =
-    wave_adds c.args.store.now c.wave_one.new.store c.as_slice.result.now (IsPlacedValue c.args.store.now.levels c.args.first.now c.args.second.now)
+    wave_adds c.args.store.now c.wave.new.store c.as_slice.result.now (IsPlacedValue c.args.store.now.levels c.args.first.now c.args.second.now)
     (all_asked c.args.first.now c.args.second.now c.requires.first_plan.sound c.requires.second_plan.sound c.args.store.now c.args.built.now.first c.args.built.now.second c.args.rank c.args.fold c.steps-ours.result.now c.steps-theirs.result.now c.as_slice.result.now
     c.requires.first_folded c.requires.second_folded c.steps-ours.ensures c.steps-theirs.ensures (c.as_slice.ensures.value ∙ c.in-Ok.ensures))
-    c.wave_one.ensures.adds
+    c.wave.ensures.adds

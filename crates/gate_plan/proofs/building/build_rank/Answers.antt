@@ -29,10 +29,10 @@ loop-fold-init g c = record {
 }
 
 pub build_fold-requires-clause-first_folded : goal.build_fold-requires-clause-first_folded
-build_fold-requires-clause-first_folded g c = c.loop-fold.invariant.first
+build_fold-requires-clause-first_folded g c lifetimes lives = c.loop-fold.invariant.first
 
 pub build_fold-requires-clause-second_folded : goal.build_fold-requires-clause-second_folded
-build_fold-requires-clause-second_folded g c = c.loop-fold.invariant.second
+build_fold-requires-clause-second_folded g c lifetimes lives = c.loop-fold.invariant.second
 
 pub returns-in_err-build_fold-clause-adds : goal.returns-in_err-build_fold-clause-adds
 returns-in_err-build_fold-clause-adds g c =
