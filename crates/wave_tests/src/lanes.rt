@@ -38,6 +38,21 @@ fn tell(item: Item) -> Told {
     }
 }
 
+/// The items of one sender, in their order.
+fn of_sender(alloc: Global, items: &Vec<Item>, sender: u32) -> Result<Vec<Item>, AllocError> {
+    let mut kept = Vec::new(alloc);
+    for item in items {
+        let from = match *item {
+            Item::Ask { from, .. } => from,
+            Item::End { from, .. } => from,
+        };
+        if from == sender {
+            kept.push(*item)?;
+        }
+    }
+    Ok(kept)
+}
+
 /// A variable of the store.
 fn variable(rt: &impl Abort, store: &mut Store, level: u16) -> Ref
     requires { level < store.old.levels }
@@ -300,5 +315,100 @@ fn two_threads_keep_the_order(rt: HostRuntime) -> Result<(), Fail> {
     }
     let settled = settle(&rt, lanes, vec![in rt.alloc(); first, second]?)?;
     assert!(rt; settled.left[0].is_empty() && settled.left[1].is_empty());
+    Ok(())
+}
+
+/// Each port puts a request and the first End on all lanes; the last comes first.
+fn send_to_all<R: Wait + Abort>(
+    rt: &R,
+    alloc: Global,
+    store: &Store,
+    lanes: &Lanes,
+    mut ports: Vec<Port>,
+    key: Key,
+) -> Vec<Port>
+    requires store { lanes.now.sizes ≡ sizes_of store.now }
+    requires ports { All (λ p. IsPortOf lanes.now p) ports.items }
+    requires key { IsKeyOf (sizes_of store.now) key }
+    ensures { All (λ p. IsPortOf lanes.now p) result.items }
+{
+    let mut done = Vec::new(alloc);
+    for _ in 0..lanes.count() {
+        let mut port = ports.pop().expect(rt, "no port is left");
+        put_on_all(rt, store, lanes, &mut port, key);
+        done.push(port).expect(rt, "out of memory");
+    }
+    done
+}
+
+/// Puts a request and the first End on all lanes.
+fn put_on_all<R: Wait + Abort>(rt: &R, store: &Store, lanes: &Lanes, port: &mut Port, key: Key)
+    requires store { lanes.now.sizes ≡ sizes_of store.now }
+    requires port { IsPortOf lanes.now port.old }
+    requires key { IsKeyOf (sizes_of store.now) key }
+    ensures { IsPortOf lanes.now port.new }
+{
+    let workers = lanes.count();
+    for to in 0..workers {
+        ask(rt, store, lanes, port, to, key);
+        end(rt, store, lanes, port, to);
+    }
+    assert_eq!(rt; port.put(), 2 * workers as u128);
+}
+
+/// Each port takes as many Ends as there are workers; the last comes first.
+fn take_from_all<R: Wait + Abort>(
+    rt: &R,
+    alloc: Global,
+    lanes: &Lanes,
+    mut ports: Vec<Port>,
+    key: Key,
+) -> Vec<Port>
+    requires { All (λ p. IsPortOf lanes.now p) ports.items }
+    ensures { All (λ p. IsPortOf lanes.now p) result.items }
+{
+    let workers = lanes.count();
+    let mut done = Vec::new(alloc);
+    for _ in 0..workers {
+        let mut port = ports.pop().expect(rt, "no port is left");
+        let items = take_until(rt, alloc, lanes, &mut port, workers as usize);
+        assert_eq!(rt; items.len(), 2 * workers as usize);
+        for from in 0..workers {
+            come_in_order(rt, alloc, &items, from, key);
+        }
+        done.push(port).expect(rt, "out of memory");
+    }
+    done
+}
+
+/// Sees that the request came of this sender, then its first End, and nothing else.
+fn come_in_order(rt: &impl Abort, alloc: Global, items: &Vec<Item>, from: u32, key: Key) {
+    let theirs = of_sender(alloc, items, from).expect(rt, "out of memory");
+    assert_eq!(rt; theirs.len(), 2);
+    for (place, key) in [(0, Some(key)), (1, None)] {
+        assert_eq!(rt;
+            tell(theirs[place]),
+            Told {
+                from,
+                level: 0,
+                key
+            }
+        );
+    }
+}
+
+#[test]
+fn sixteen_ports_send_to_all(rt: HostRuntime) -> Result<(), Fail> {
+    let mut store = Store::new(rt.alloc(), 1, 1)?;
+    let a = variable(&rt, &mut store, 0);
+    let key = request_for(&rt, &store, Op::Nand, a, a);
+    let (lanes, ports) = open(rt.alloc(), &store, 16)?;
+    let ports = send_to_all(&rt, rt.alloc(), &store, &lanes, ports, key);
+    let ports = take_from_all(&rt, rt.alloc(), &lanes, ports, key);
+    let settled = settle(&rt, lanes, ports)?;
+    assert_eq!(rt; settled.left.len(), 16);
+    for left in &settled.left {
+        assert!(rt; left.is_empty());
+    }
     Ok(())
 }
