@@ -8,6 +8,8 @@ mod expanded;
 #[cfg(test)]
 mod lanes;
 #[cfg(test)]
+mod plans;
+#[cfg(test)]
 mod requests;
 #[cfg(test)]
 mod waves;
