@@ -5,7 +5,9 @@ use super::reports::words_of;
 use crate::tool::run_tool;
 use net_bench::device::Through;
 use std::alloc::Global;
+use std::sync::Wait;
 use std::test::Fail;
+use std::thread::Threads;
 
 /// Words, two texts, a list of names, the status, and the line behind the program's name.
 type Row = (
@@ -27,8 +29,8 @@ struct Left {
 }
 
 /// A run of the words over a folder and an input, with an output of much room.
-fn left_by(
-    rt: &HostRuntime,
+fn left_by<R: AllocGlobal + Threads + Wait + Sync>(
+    rt: &R,
     line: &str,
     mut folder: Shelf,
     mut input: Reader,
@@ -475,8 +477,8 @@ fn more_variables_than_levels(rt: HostRuntime) -> Result<(), Fail> {
 }
 
 /// A run on two equal netlists, or on the words alone, over an output and an error device.
-fn status_over(
-    rt: &HostRuntime,
+fn status_over<R: AllocGlobal + Threads + Wait + Sync>(
+    rt: &R,
     line: &str,
     out: &mut Page,
     errors: &mut Page,
