@@ -3,7 +3,7 @@ ghost use Rattle.std.specs.Prelude.{◌≡◌, ◌≤◌, ◌<◌, All};
 ghost use Rattle.req_table.specs.Keys.{IsKey};
 
 use crate::requests::{request, store_of, variable};
-use dd_store::{Ref, Store};
+use dd_store::{Ref, Store, Watch};
 use expand_work::{Free, Gate, expand_all};
 use lane_queue::Port;
 use req_table::requests::owner;
@@ -126,6 +126,10 @@ impl Meeting {
             && second.load(Ordering::SeqCst)
             && self.missed.load(Ordering::SeqCst) == 0
     }
+}
+
+impl Watch for Meeting {
+    fn at_shard(&self, _shard: u8, _level: u16) {}
 }
 
 impl Gate for Meeting {

@@ -6,7 +6,7 @@ ghost use Rattle.req_table.specs.Keys.{IsKey};
 ghost use Rattle.lane_queue.specs.PortView.{IsPortOf};
 ghost use Rattle.expand_work.specs.Worked.{IsFresh, IsWorked};
 
-use dd_store::{Ref, Store};
+use dd_store::{Ref, Store, Watch};
 use expand_work::{Free, Gate, Part, WorkFault, work};
 use lane_queue::{Lanes, Port};
 use req_table::requests::{normal, short};
@@ -24,6 +24,10 @@ struct Watcher<'a> {
     seen: AtomicU64,
     stop: &'a AtomicBool,
     last: u16,
+}
+
+impl<'a> Watch for Watcher<'a> {
+    fn at_shard(&self, _shard: u8, _level: u16) {}
 }
 
 impl<'a> Gate for Watcher<'a> {
