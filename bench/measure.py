@@ -1,18 +1,20 @@
-"""Runs a program within a time limit, and tells its processor time and its peak memory."""
+"""Runs a program within a time limit, and tells its times and its peak memory."""
 import os
 import pathlib
 import resource
 import signal
 import subprocess
 import tempfile
+import time
 from dataclasses import dataclass
 
 
 @dataclass
 class Run:
-    """One run: None seconds where the time limit was reached."""
+    """One run: None seconds of processor time where the time limit was reached; the clock's seconds are told anyway."""
 
     seconds: float | None
+    clock: float
     megabytes: float
     status: int
     output: str
@@ -36,6 +38,7 @@ def run(words, limit):
     """
     with tempfile.TemporaryDirectory() as folder:
         note = pathlib.Path(folder) / "memory"
+        begun = time.monotonic()
         child = subprocess.Popen(
             ["/usr/bin/time", "-q", "-f", "%M", "-o", str(note), *words],
             stdout=subprocess.PIPE,
@@ -47,24 +50,36 @@ def run(words, limit):
         signal.alarm(4 * limit)
         output = child.stdout.read().decode(errors="replace")
         _, status, used = os.wait4(child.pid, 0)
+        clock = time.monotonic() - begun
         signal.alarm(0)
         child.returncode = os.waitstatus_to_exitcode(status)
         stopped = child.returncode < 0 or child.returncode > 127
         return Run(
             seconds=None if stopped else used.ru_utime + used.ru_stime,
+            clock=clock,
             megabytes=megabytes_of(note),
             status=child.returncode,
             output=output,
         )
 
 
-def least(words, limit, repeats):
-    """The run with the least processor time, of so many; the first where that one is stopped."""
+def repeated(words, limit, repeats, measure):
+    """The run whose `measure` is least, of so many; the first where that one is stopped."""
     runs = [run(words, limit)]
     while runs[-1].seconds is not None and len(runs) < repeats:
         runs.append(run(words, limit))
     ended = [r for r in runs if r.seconds is not None]
-    return min(ended, key=lambda r: r.seconds) if ended else runs[0]
+    return min(ended, key=measure) if ended else runs[0]
+
+
+def least(words, limit, repeats):
+    """The run with the least processor time."""
+    return repeated(words, limit, repeats, lambda r: r.seconds)
+
+
+def quickest(words, limit, repeats):
+    """The run with the least time on the clock."""
+    return repeated(words, limit, repeats, lambda r: r.clock)
 
 
 def shown(number, digits=2):
