@@ -2,6 +2,7 @@
 ghost use Rattle.std.specs.Prelude.{◌≡◌, Some};
 ghost use Rattle.expand_work.specs.Fault.{wave_fault_text};
 ghost use Rattle.expand_work.specs.declared.fault.WaveFault.TheVariants.{OutOfMemory};
+ghost use Rattle.expand_work.specs.declared.fault.WorkFault.TheVariants as work_faults;
 
 use std::alloc::AllocError;
 use std::fmt;
@@ -40,6 +41,8 @@ pub enum WorkFault {
 }
 
 impl From<AllocError> for WorkFault {
+    ghost from_gives = { λ _ fault. fault ≡ work_faults.OutOfMemory };
+
     fn from(_fault: AllocError) -> WorkFault {
         WorkFault::OutOfMemory
     }
