@@ -1,7 +1,7 @@
 -- The children of a record become due, and the next key of a table is expanded.
 use Rattle.std.proofs.Common.{◌≡◌, ℕ, inl, ◌+◌, ◌*◌, ◌<◌, ◌≤◌, Bool, true, false, cond, eqb, ◌&&◌, List, [], ◌∷◌, ◌++◌, length, get_or, set, map, filter, All, Contains, refl, sym, ap, ◌∙◌, subst, arith, append-nil, append_assoc, mod-lt, le_of_suc-le-suc}
 use Rattle.std.proofs.lemmas.List.{length-set, length-map}
-use Rattle.std.proofs.lemmas.List.Elements.{filter-append}
+use Rattle.std.proofs.lemmas.List.Elements.{filter-append, All-contains}
 use Rattle.dd_store.specs.Nodes.{Nodes}
 use Rattle.req_table.specs.declared.Key.{Key}
 use Rattle.req_table.specs.declared.Child.{Child}
@@ -97,6 +97,17 @@ all_known v h by l bb lb e =
     let row = map key_of (by_place v.levels v.rows by l) in
     all_of (Contains row) (asks_at l (list_of v.taken by)) (λ x i. contains_of row x (subst (λ t. Has t x) e (Admits-admitted [] (asks_at l (list_of v.taken by)) (by_place v.levels v.tables by l) x (h.tables by l bb lb).distinct i)))
 
+-- a table whose row lacks a key
+pub left_over : (v : View) (h : IsKept v) (by : ℕ) (bb : by < v.workers) (lb : get_or v.at by 0 < v.levels) (x : Key) (more : List Key)
+    → by_place v.levels v.tables by (get_or v.at by 0) ≡ map key_of (by_place v.levels v.rows by (get_or v.at by 0)) ++ x ∷ more
+    → ¬ All (Contains (row_here (state_of v) by)) (asks_here (state_of v) by)
+left_over v h by bb lb x more front a =
+    let row = row_here (state_of v) by in
+    let asks = asks_here (state_of v) by in
+    let (before, after, stands, known, new) = next_of asks row x more (subst (λ t. IsDistinctOf asks t) front (h.tables by (get_or v.at by 0) bb lb).distinct) in
+    let here = contains_of asks x (subst (λ t. Has t x) (sym stands) (Has-append_right before (x ∷ after) x (inl refl))) in
+    new (has_of row x (All-contains (Contains row) asks x a here))
+
 -- Expand
 module _ (S : Nodes) (v : View) (h : IsKept v) (by : ℕ) (bb : by < v.workers) (lb : get_or v.at by 0 < v.levels) (x : Key) (more : List Key)
     (front : by_place v.levels v.tables by (get_or v.at by 0) ≡ map key_of (by_place v.levels v.rows by (get_or v.at by 0)) ++ x ∷ more) where
@@ -191,22 +202,36 @@ next_found v h by l bb lb row t u x done n row-is done-is t-is n-is u-is less fo
     let (more, e) = next_at keys rest x fit at-is in
     (more, f ∙ ap (λ k. keys ++ k) e)
 
+pub none_found : (v : View) (h : IsKept v) (by l : ℕ) (bb : by < v.workers) (lb : l < v.levels) (row : List Record) (t : List Key) (done n : ℕ)
+    → row ≡ get_or v.rows (by * v.levels + l) row → done ≡ length row → t ≡ get_or v.tables (by * v.levels + l) t → n ≡ length t → n ≤ done
+    → by_place v.levels v.tables by l ≡ map key_of (by_place v.levels v.rows by l)
+none_found v h by l bb lb row t done n row-is done-is t-is n-is less =
+    let p = by * v.levels + l in
+    let r-is = got v.rows p row [] (place v.workers v.levels by l (length v.rows) bb lb h.shape.rows) row-is in
+    let e : by_place v.levels v.tables by l ≡ t = got v.tables p t [] (place v.workers v.levels by l (length v.tables) bb lb h.shape.tables) t-is in
+    let keys = map key_of (by_place v.levels v.rows by l) in
+    let f = (h.tables by l bb lb).front in
+    let rest = (h.tables by l bb lb).rest in
+    let m : length keys ≡ done = length-map (by_place v.levels v.rows by l) key_of ∙ ap length r-is ∙ sym done-is in
+    let full : length (keys ++ rest) ≤ length keys = subst (λ k. length k ≤ length keys) f (subst (λ k. length k ≤ length keys) (sym e) (omega (arith, m, less, n-is))) in
+    f ∙ ap (λ k. keys ++ k) (none_at keys rest full) ∙ append-nil keys
+
 -- the children of a record that were owed are taken back
-pub forgiven_one : (v u1 u2 u3 : View) (by : ℕ) (low : Child) → IsKept v → (let r : View = record v { due = owe_of v.workers by low v.due } in u1 ≡ r) → u2 ≡ u1
-    → ((d : List (List Key)) → u2.due ≡ owe_of u2.workers by low d → length d ≡ u2.workers * u2.workers → (let r : View = record u2 { due = d } in u3 ≡ r)) → u3 ≡ v
-forgiven_one v u1 u2 u3 by low h e1 e2 f =
+pub forgiven_one : (v u1 u2 u3 : View) (by : ℕ) (low : Child) → (let r : View = record v { due = owe_of v.workers by low v.due } in u1 ≡ r) → u2 ≡ u1
+    → ((d : List (List Key)) → u2.due ≡ owe_of u2.workers by low d → (let r : View = record u2 { due = d } in u3 ≡ r)) → u3 ≡ v
+forgiven_one v u1 u2 u3 by low e1 e2 f =
     let e = e2 ∙ e1 in
     let w-is : u2.workers ≡ v.workers = ap (λ (u : View). u.workers) e in
-    f v.due (ap (λ (u : View). u.due) e ∙ ap (λ n. owe_of n by low v.due) (sym w-is)) (h.shape.due ∙ ap (λ n. n * n) (sym w-is)) ∙ ap (λ (u : View). let r : View = record u { due = v.due } in r) e
+    f v.due (ap (λ (u : View). u.due) e ∙ ap (λ n. owe_of n by low v.due) (sym w-is)) ∙ ap (λ (u : View). let r : View = record u { due = v.due } in r) e
 
-pub forgiven_both : (v u1 u2 : View) (by : ℕ) (r : Record) (d : List (List Key)) → v.due ≡ owe_all v.workers by r d → length d ≡ v.workers * v.workers
-    → ((d' : List (List Key)) → v.due ≡ owe_of v.workers by r.high d' → length d' ≡ v.workers * v.workers → (let r : View = record v { due = d' } in u1 ≡ r))
-    → ((d' : List (List Key)) → u1.due ≡ owe_of u1.workers by r.low d' → length d' ≡ u1.workers * u1.workers → (let r : View = record u1 { due = d' } in u2 ≡ r))
+pub forgiven_both : (v u1 u2 : View) (by : ℕ) (r : Record) (d : List (List Key)) → v.due ≡ owe_all v.workers by r d
+    → ((d' : List (List Key)) → v.due ≡ owe_of v.workers by r.high d' → (let r : View = record v { due = d' } in u1 ≡ r))
+    → ((d' : List (List Key)) → u1.due ≡ owe_of u1.workers by r.low d' → (let r : View = record u1 { due = d' } in u2 ≡ r))
     → (let r : View = record v { due = d } in u2 ≡ r)
-forgiven_both v u1 u2 by r d e size f g =
-    let e1 = f (owe_of v.workers by r.low d) e (owe_size v.workers by r.low d ∙ size) in
+forgiven_both v u1 u2 by r d e f g =
+    let e1 = f (owe_of v.workers by r.low d) e in
     let w-is : u1.workers ≡ v.workers = ap (λ (u : View). u.workers) e1 in
-    g d (ap (λ (u : View). u.due) e1 ∙ ap (λ n. owe_of n by r.low d) (sym w-is)) (size ∙ ap (λ n. n * n) (sym w-is)) ∙ ap (λ (u : View). let r : View = record u { due = d } in r) e1
+    g d (ap (λ (u : View). u.due) e1 ∙ ap (λ n. owe_of n by r.low d) (sym w-is)) ∙ ap (λ (u : View). let r : View = record u { due = d } in r) e1
 
 -- what an Expand leaves
 pub expanded : (v u1 u2 : View) (by l l' : ℕ) (r r' : Record) → (let x : View = record v { due = owe_all v.workers by r v.due } in u1 ≡ x)

@@ -1,5 +1,5 @@
-// The lists of all workers, and the events on them.
-ghost use Rattle.std.specs.Prelude.{◌≡◌, ℕ, ◌+◌, ◌*◌, ◌<◌, ◌≤◌, List, [], ◌∷◌, ◌++◌, length, slice_index_or, slice_set, sum, map, All, MatchOption, IfOk, OnOk, OnErr, MatchBool};
+//! The lists of all workers, and the events on them.
+ghost use Rattle.std.specs.Prelude.{◌≡◌, ℕ, ◌+◌, ◌*◌, ◌<◌, ◌≤◌, List, [], ◌∷◌, ◌++◌, length, slice_index_or, slice_set, sum, map, All, Contains, MatchOption, IfSome, IfOk, OnOk, OnErr, MatchBool};
 ghost use Rattle.std.specs.List.{sum_by};
 ghost use Rattle.req_table.specs.Lanes.{sent_by, IsFair, IsClosed, asks_at};
 ghost use Rattle.req_table.specs.Keys.{IsKey, wave_at};
@@ -7,7 +7,7 @@ ghost use Rattle.req_table.specs.declared.Key.{Key as KeyValue};
 ghost use Rattle.wave_core.specs.View.{View, IsKept, state_of, wave_of_view, number_of, owe_of, owe_all, list_of, by_place};
 ghost use Rattle.req_table.specs.Settled.{key_of, level_of_rows};
 ghost use Rattle.req_table.specs.Tables.{row_at};
-ghost use Rattle.wave_core.specs.Step.{IsStart, IsStep, IsAllowed, asks_here};
+ghost use Rattle.wave_core.specs.Step.{IsStart, IsStep, IsAllowed, IsAtWork, asks_here, row_here};
 ghost use Rattle.wave_core.specs.declared.Event.TheVariants.{Send, End, Take, Expand, Advance};
 
 use crate::lists::{Items, Keys, Lane, Row, append, count_items, count_levels, count_records};
@@ -68,7 +68,7 @@ impl Model for Machine {
 }
 
 impl Machine {
-    // The start for these roots.
+    /// The start for these roots.
     pub fn new(
         alloc: Global,
         store: &Store,
@@ -98,7 +98,7 @@ impl Machine {
         })
     }
 
-    // Sends the first item that is due from `by` to `to`.
+    /// Sends the first item that is due from `by` to `to`.
     pub fn send(&mut self, store: &Store, by: u32, to: u32) -> Result<bool, AllocError>
         ensures same { (self.new.workers ≡ self.old.workers) × (self.new.levels ≡ self.old.levels) }
         ensures ok { IfOk result (λ b. MatchBool b (IsStep (wave_of_view store.now self.old) (state_of self.old) (Send by to) (state_of self.new)) ((self.new ≡ self.old) × ¬ IsAllowed (wave_of_view store.now self.old) (state_of self.old) (Send by to))) }
@@ -130,7 +130,7 @@ impl Machine {
         }
     }
 
-    // Sends the next End from `by` to `to`.
+    /// Sends the next End from `by` to `to`.
     pub fn end(&mut self, store: &Store, by: u32, to: u32) -> Result<bool, AllocError>
         ensures same { (self.new.workers ≡ self.old.workers) × (self.new.levels ≡ self.old.levels) }
         ensures ok { IfOk result (λ b. MatchBool b (IsStep (wave_of_view store.now self.old) (state_of self.old) (End by to) (state_of self.new)) ((self.new ≡ self.old) × ¬ IsAllowed (wave_of_view store.now self.old) (state_of self.old) (End by to))) }
@@ -166,7 +166,7 @@ impl Machine {
         }
     }
 
-    // Whether each worker has sent more Ends to `by` than the level, and `by` has taken them.
+    /// Whether each worker has sent more Ends to `by` than the level, and `by` has taken them.
     fn is_ended(&self, by: u32, level: u16) -> bool
         requires { by < self.now.workers }
         ensures { MatchBool result ((s : ℕ) → s < self.now.workers → level < number_of self.now.workers self.now.counted by s) ((s : ℕ) × (s < self.now.workers) × (number_of self.now.workers self.now.counted by s ≤ level)) }
@@ -180,7 +180,7 @@ impl Machine {
         true
     }
 
-    // Adds a child to what is due from `by`.
+    /// Adds a child to what is due from `by`.
     fn owe(&mut self, by: u32, child: &Child) -> Result<(), AllocError>
         requires { by < self.old.workers }
         ensures ok { OnOk result (let r : View = record self.old { due = owe_of self.old.workers by child.now self.old.due } in self.new ≡ r) }
@@ -195,11 +195,11 @@ impl Machine {
         }
     }
 
-    // Takes such a child back.
+    /// Takes such a child back.
     fn forgive(&mut self, by: u32, child: &Child)
         requires { by < self.old.workers }
         ensures same { self.new.workers ≡ self.old.workers }
-        ensures back { (d : List (List KeyValue)) → self.old.due ≡ owe_of self.old.workers by child.now d → length d ≡ self.old.workers * self.old.workers → (let r : View = record self.old { due = d } in self.new ≡ r) }
+        ensures back { (d : List (List KeyValue)) → self.old.due ≡ owe_of self.old.workers by child.now d → (let r : View = record self.old { due = d } in self.new ≡ r) }
     {
         match child {
             Child::Done(_) => {}
@@ -210,13 +210,12 @@ impl Machine {
         }
     }
 
-    // Adds both children of a record to what is due from `by`.
+    /// Adds both children of a record to what is due from `by`.
     fn owe_both(&mut self, by: u32, added: &Record) -> Result<(), AllocError>
         requires { by < self.old.workers }
         ensures ok { OnOk result (let r : View = record self.old { due = owe_all self.old.workers by added.now self.old.due } in self.new ≡ r) }
         ensures err { OnErr result (self.new ≡ self.old) }
     {
-        let _ = &self.workers;
         self.owe(by, &added.low)?;
         match self.owe(by, &added.high) {
             Ok(()) => Ok(()),
@@ -227,11 +226,32 @@ impl Machine {
         }
     }
 
-    // The first key of a level that is not yet expanded.
+    /// The level of `by`, where `by` has taken an End of it from every worker.
+    fn closed_level(&self, store: &Store, by: u32) -> Option<u16>
+        requires fair { by < self.now.workers → (s : ℕ) → s < self.now.workers → IsFair (wave_of_view store.now self.now).scope (sent_by s (list_of self.now.taken by)) }
+        ensures kept { IsKept self.now }
+        ensures at_work { MatchOption result (¬ IsAtWork (wave_of_view store.now self.now) (state_of self.now) by) (λ level. (level ≡ slice_index_or self.now.at by 0) × IsAtWork (wave_of_view store.now self.now) (state_of self.now) by) }
+    {
+        if by >= self.workers {
+            return None;
+        }
+        let level = self.at[by as usize];
+        if level >= self.levels {
+            return None;
+        }
+        if !self.is_ended(by, level) {
+            return None;
+        }
+        Some(level)
+    }
+
+    /// The first key of the level of `by` that is not yet expanded.
     fn next_key(&self, by: u32, level: u16) -> Option<Key>
         requires by { by < self.now.workers }
         requires level { level < self.now.levels }
-        ensures { MatchOption result (by_place self.now.levels self.now.tables by level ≡ map key_of (by_place self.now.levels self.now.rows by level)) (λ x. (more : List KeyValue) × (by_place self.now.levels self.now.tables by level ≡ map key_of (by_place self.now.levels self.now.rows by level) ++ x ∷ more)) }
+        requires here { level ≡ slice_index_or self.now.at by 0 }
+        ensures left { MatchOption result (All (Contains (row_here (state_of self.now) by)) (asks_here (state_of self.now) by)) (λ _. ¬ All (Contains (row_here (state_of self.now) by)) (asks_here (state_of self.now) by)) }
+        ensures front { IfSome result (λ x. (more : List KeyValue) × (by_place self.now.levels self.now.tables by level ≡ map key_of (by_place self.now.levels self.now.rows by level) ++ x ∷ more)) }
     {
         let place = by as usize * self.levels as usize + level as usize;
         let done = self.rows[place].len();
@@ -241,7 +261,7 @@ impl Machine {
         Some(self.tables[place].key_at(done))
     }
 
-    // Puts the record of the next key into its row.
+    /// Puts the record of the next key into its row.
     fn note(&mut self, by: u32, level: u16, added: &Record) -> Result<(), AllocError>
         requires by { by < self.old.workers }
         requires level { level < self.old.levels }
@@ -254,16 +274,16 @@ impl Machine {
         Ok(())
     }
 
-    // Takes both children of a record back.
+    /// Takes both children of a record back.
     fn forgive_both(&mut self, by: u32, added: &Record)
         requires { by < self.old.workers }
-        ensures { (d : List (List KeyValue)) → self.old.due ≡ owe_all self.old.workers by added.now d → length d ≡ self.old.workers * self.old.workers → (let r : View = record self.old { due = d } in self.new ≡ r) }
+        ensures { (d : List (List KeyValue)) → self.old.due ≡ owe_all self.old.workers by added.now d → (let r : View = record self.old { due = d } in self.new ≡ r) }
     {
         self.forgive(by, &added.high);
         self.forgive(by, &added.low);
     }
 
-    // Expands the first key of the level of `by` that is not yet expanded.
+    /// Expands the first key of the level of `by` that is not yet expanded.
     pub fn expand(&mut self, store: &Store, by: u32) -> Result<bool, AllocError>
         requires fair { by < self.old.workers → (s : ℕ) → s < self.old.workers → IsFair (wave_of_view store.now self.old).scope (sent_by s (list_of self.old.taken by)) }
         requires held { by < self.old.workers → All (IsKey store.now) (asks_here (state_of self.old) by) }
@@ -271,16 +291,9 @@ impl Machine {
         ensures ok { IfOk result (λ b. MatchBool b (IsStep (wave_of_view store.now self.old) (state_of self.old) (Expand by) (state_of self.new)) ((self.new ≡ self.old) × ¬ IsAllowed (wave_of_view store.now self.old) (state_of self.old) (Expand by))) }
         ensures err { OnErr result (self.new ≡ self.old) }
     {
-        if by >= self.workers {
+        let Some(level) = self.closed_level(store, by) else {
             return Ok(false);
-        }
-        let level = self.at[by as usize];
-        if level >= self.levels {
-            return Ok(false);
-        }
-        if !self.is_ended(by, level) {
-            return Ok(false);
-        }
+        };
         let Some(key) = self.next_key(by, level) else {
             return Ok(false);
         };
@@ -295,7 +308,7 @@ impl Machine {
         }
     }
 
-    // Whether nothing is due from `by`.
+    /// Whether nothing is due from `by`.
     fn is_paid(&self, by: u32) -> bool
         requires { by < self.now.workers }
         ensures { MatchBool result ((to : ℕ) → to < self.now.workers → by_place self.now.workers self.now.due by to ≡ []) ((to : ℕ) × (to < self.now.workers) × ¬ (by_place self.now.workers self.now.due by to ≡ [])) }
@@ -309,23 +322,16 @@ impl Machine {
         true
     }
 
-    // Moves `by` to the next level.
+    /// Moves `by` to the next level.
     pub fn advance(&mut self, store: &Store, by: u32) -> bool
         requires fair { by < self.old.workers → (s : ℕ) → s < self.old.workers → IsFair (wave_of_view store.now self.old).scope (sent_by s (list_of self.old.taken by)) }
         ensures same { (self.new.workers ≡ self.old.workers) × (self.new.levels ≡ self.old.levels) }
         ensures done { MatchBool result (IsStep (wave_of_view store.now self.old) (state_of self.old) (Advance by) (state_of self.new)) ((self.new ≡ self.old) × ¬ IsAllowed (wave_of_view store.now self.old) (state_of self.old) (Advance by)) }
     {
-        if by >= self.workers {
+        let Some(level) = self.closed_level(store, by) else {
             return false;
-        }
-        let level = self.at[by as usize];
-        if level >= self.levels {
-            return false;
-        }
-        if !self.is_ended(by, level) {
-            return false;
-        }
-        if let Some(_key) = self.next_key(by, level) {
+        };
+        if self.next_key(by, level).is_some() {
             return false;
         }
         if !self.is_paid(by) {
@@ -335,7 +341,7 @@ impl Machine {
         true
     }
 
-    // Takes the first item that waits on the lane of `by`.
+    /// Takes the first item that waits on the lane of `by`.
     pub fn take(&mut self, store: &Store, by: u32) -> Result<bool, AllocError>
         ensures same { (self.new.workers ≡ self.old.workers) × (self.new.levels ≡ self.old.levels) }
         ensures ok { IfOk result (λ b. MatchBool b (IsStep (wave_of_view store.now self.old) (state_of self.old) (Take by) (state_of self.new)) ((self.new ≡ self.old) × ¬ IsAllowed (wave_of_view store.now self.old) (state_of self.old) (Take by))) }
@@ -385,7 +391,7 @@ impl Machine {
         }
     }
 
-    // Whether each worker is past the last level.
+    /// Whether each worker is past the last level.
     pub fn is_finished(&self) -> bool
         ensures { MatchBool result ((k : ℕ) → k < self.now.workers → slice_index_or self.now.at k 0 ≡ self.now.levels) ((k : ℕ) × (k < self.now.workers) × ¬ (slice_index_or self.now.at k 0 ≡ self.now.levels)) }
     {
@@ -397,28 +403,24 @@ impl Machine {
         true
     }
 
-    // How many workers there are.
+    /// How many workers there are.
     pub fn workers(&self) -> u32
         ensures { result ≡ self.now.workers }
     {
         self.workers
     }
 
-    // Whether an item is due from `by` to `to`.
+    /// Whether an item is due from `by` to `to`.
     pub fn can_send(&self, store: &Store, by: u32, to: u32) -> bool
         ensures { MatchBool result (IsAllowed (wave_of_view store.now self.now) (state_of self.now) (Send by to)) (¬ IsAllowed (wave_of_view store.now self.now) (state_of self.now) (Send by to)) }
     {
         if by >= self.workers || to >= self.workers {
             return false;
         }
-        let place = (by * self.workers + to) as usize;
-        if self.due[place].is_empty() {
-            return false;
-        }
-        true
+        !self.due[(by * self.workers + to) as usize].is_empty()
     }
 
-    // Whether `by` may end its next level on the lane of `to`.
+    /// Whether `by` may end its next level on the lane of `to`.
     pub fn can_end(&self, store: &Store, by: u32, to: u32) -> bool
         ensures { MatchBool result (IsAllowed (wave_of_view store.now self.now) (state_of self.now) (End by to)) (¬ IsAllowed (wave_of_view store.now self.now) (state_of self.now) (End by to)) }
     {
@@ -427,78 +429,42 @@ impl Machine {
         }
         let place = (by * self.workers + to) as usize;
         let level = self.ended[place];
-        if !self.due[place].is_empty() {
-            return false;
-        }
-        let present = self.at[by as usize];
-        if level > present {
-            return false;
-        }
-        if level >= self.levels {
-            return false;
-        }
-        true
+        self.due[place].is_empty() && level <= self.at[by as usize] && level < self.levels
     }
 
-    // Whether an item waits on the lane of `by`.
+    /// Whether an item waits on the lane of `by`.
     pub fn can_take(&self, store: &Store, by: u32) -> bool
         ensures { MatchBool result (IsAllowed (wave_of_view store.now self.now) (state_of self.now) (Take by)) (¬ IsAllowed (wave_of_view store.now self.now) (state_of self.now) (Take by)) }
     {
         if by >= self.workers {
             return false;
         }
-        if self.waiting[by as usize].first().is_none() {
-            return false;
-        }
-        true
+        self.waiting[by as usize].first().is_some()
     }
 
-    // Whether the level of `by` is closed and a key of it is not yet expanded.
+    /// Whether the level of `by` is closed and a key of it is not yet expanded.
     pub fn can_expand(&self, store: &Store, by: u32) -> bool
         requires fair { by < self.now.workers → (s : ℕ) → s < self.now.workers → IsFair (wave_of_view store.now self.now).scope (sent_by s (list_of self.now.taken by)) }
         ensures { MatchBool result (IsAllowed (wave_of_view store.now self.now) (state_of self.now) (Expand by)) (¬ IsAllowed (wave_of_view store.now self.now) (state_of self.now) (Expand by)) }
     {
-        if by >= self.workers {
-            return false;
+        match self.closed_level(store, by) {
+            Some(level) => self.next_key(by, level).is_some(),
+            None => false,
         }
-        let level = self.at[by as usize];
-        if level >= self.levels {
-            return false;
-        }
-        if !self.is_ended(by, level) {
-            return false;
-        }
-        if let Some(_key) = self.next_key(by, level) {
-            return true;
-        }
-        false
     }
 
-    // Whether the level of `by` is closed, all its keys are expanded and nothing is due from `by`.
+    /// Whether the level of `by` is closed, all its keys are expanded and nothing is due from `by`.
     pub fn can_advance(&self, store: &Store, by: u32) -> bool
         requires fair { by < self.now.workers → (s : ℕ) → s < self.now.workers → IsFair (wave_of_view store.now self.now).scope (sent_by s (list_of self.now.taken by)) }
         ensures { MatchBool result (IsAllowed (wave_of_view store.now self.now) (state_of self.now) (Advance by)) (¬ IsAllowed (wave_of_view store.now self.now) (state_of self.now) (Advance by)) }
     {
-        if by >= self.workers {
-            return false;
+        match self.closed_level(store, by) {
+            Some(level) => self.next_key(by, level).is_none() && self.is_paid(by),
+            None => false,
         }
-        let level = self.at[by as usize];
-        if level >= self.levels {
-            return false;
-        }
-        if !self.is_ended(by, level) {
-            return false;
-        }
-        if let Some(_key) = self.next_key(by, level) {
-            return false;
-        }
-        if !self.is_paid(by) {
-            return false;
-        }
-        true
     }
 
-    // The records of a level, worker by worker.
+    /// The records of a level, worker by worker.
     fn level_records(&self, alloc: Global, level: u16) -> Result<Vec<Record>, AllocError>
         requires { level < self.now.levels }
         ensures { IfOk result (λ records. records.items ≡ level_of_rows self.now.workers (by_place self.now.levels self.now.rows) level) }
@@ -511,7 +477,7 @@ impl Machine {
         Ok(records)
     }
 
-    // The records of all levels.
+    /// The records of all levels.
     pub fn records_by_level(&self, alloc: Global) -> Result<Records, AllocError>
         ensures levels { IfOk result (λ r. length r ≡ self.now.levels) }
         ensures rows { IfOk result (λ r. (v : ℕ) → v < self.now.levels → row_at r v ≡ level_of_rows self.now.workers (by_place self.now.levels self.now.rows) v) }
@@ -523,7 +489,7 @@ impl Machine {
         Ok(Records::of(rows))
     }
 
-    // How many events were done: each sent an item, took one, made a record or passed a level.
+    /// How many events were done: each sent an item, took one, made a record or passed a level.
     pub fn events_done(&self) -> u128
         ensures { result ≡ sum_by length self.now.sent + sum_by length self.now.taken + sum_by length self.now.rows + sum self.now.at }
     {
@@ -531,7 +497,7 @@ impl Machine {
         lanes + count_records(&self.rows) + count_levels(&self.at)
     }
 
-    // Whether `by` has taken an End of the level from every worker.
+    /// Whether `by` has taken an End of the level from every worker.
     pub fn is_closed(&self, store: &Store, by: u32, level: u16) -> bool
         requires by { by < self.now.workers }
         requires fair { (s : ℕ) → s < self.now.workers → IsFair (wave_of_view store.now self.now).scope (sent_by s (list_of self.now.taken by)) }
@@ -544,7 +510,7 @@ impl Machine {
         true
     }
 
-    // What `by` has sent to `to`.
+    /// What `by` has sent to `to`.
     pub fn sent(&self, by: u32, to: u32) -> &[Item]
         requires by { by < self.now.workers }
         requires to { to < self.now.workers }
@@ -553,7 +519,7 @@ impl Machine {
         self.sent[(by * self.workers + to) as usize].as_slice()
     }
 
-    // The records of `by` at a level.
+    /// The records of `by` at a level.
     pub fn records(&self, by: u32, level: u16) -> &[Record]
         requires by { by < self.now.workers }
         requires level { level < self.now.levels }
@@ -563,7 +529,7 @@ impl Machine {
         self.rows[place].as_slice()
     }
 
-    // What `by` has taken.
+    /// What `by` has taken.
     pub fn taken(&self, by: u32) -> &[Item]
         requires { by < self.now.workers }
         ensures { result.now ≡ list_of self.now.taken by }

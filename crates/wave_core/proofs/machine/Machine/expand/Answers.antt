@@ -1,82 +1,30 @@
-use Rattle.std.proofs.Common.{◌≡◌, ◌<◌, ◌∷◌, ◌++◌, All, Contains, map, get_or, refl, sym, subst, arith}
+use Rattle.std.proofs.Common.{◌≡◌, ◌∷◌, ◌++◌, map, get_or, sym, subst}
 use Rattle.std.proofs.lemmas.List.Elements.{All-contains}
 use Rattle.req_table.specs.Settled.{key_of}
-use Rattle.req_table.specs.Lanes.{asks_at, IsClosed}
 use Rattle.req_table.specs.Keys.{IsKey, record_of}
 use Rattle.wave_core.specs.declared.Event.TheVariants.{Expand}
-use Rattle.wave_core.specs.View.{View, IsKept, by_place, list_of, state_of, wave_of_view}
+use Rattle.wave_core.specs.View.{View, by_place, state_of, wave_of_view}
 use Rattle.wave_core.specs.Step.{IsStep, asks_here}
-use Rattle.wave_core.proofs.Grid.{got}
-use Rattle.wave_core.proofs.Owes.{closed_of_ended, open_of_ended, all_known, next_here, expand_step, expanded}
+use Rattle.wave_core.proofs.Owes.{next_here, expand_step, expanded}
 use Rattle.wave_core.proofs.machine.Machine.expand.Goals as goal
-
-pub returns-then-not-is_ended-clause-ok : goal.returns-then-not-is_ended-clause-ok
-returns-then-not-is_ended-clause-ok c =
-    let v = c.args.self.now in
-    let S = c.args.store.now in
-    let view = c.self.view_is in
-    let h = subst (λ (u : View). IsKept u) view c.self.invariant in
-    let bi : c.args.by < c.self.inside.workers = omega arith in
-    let bb = subst (λ (u : View). c.args.by < u.workers) view bi in
-    let level = c.index-level.result.now in
-    let li : level < c.self.inside.levels = omega arith in
-    let lb = subst (λ (u : View). level < u.levels) view li in
-    let level-is : level ≡ get_or v.at c.args.by 0 =
-    subst (λ (u : View). level ≡ get_or u.at c.args.by 0) view (sym (got c.self.inside.at.items c.args.by level 0 (subst (λ n. c.args.by < n) (sym c.self.invariant.shape.at) bi) c.index-level.ensures)) in
-    let e = c.if-not-is_ended.ensures in
-    (refl, λ a. open_of_ended S v h c.args.by level bb (c.requires.fair bb) e.0 e.1 e.2 (subst (λ n. IsClosed (wave_of_view S v).scope n (list_of v.taken c.args.by)) (sym level-is) a.0.2))
-
-pub returns-in_default-clause-ok : goal.returns-in_default-clause-ok
-returns-in_default-clause-ok c =
-    let v = c.args.self.now in
-    let S = c.args.store.now in
-    let view = c.self.view_is in
-    let h = subst (λ (u : View). IsKept u) view c.self.invariant in
-    let bi : c.args.by < c.self.inside.workers = omega arith in
-    let bb = subst (λ (u : View). c.args.by < u.workers) view bi in
-    let level = c.index-level.result.now in
-    let li : level < c.self.inside.levels = omega arith in
-    let lb = subst (λ (u : View). level < u.levels) view li in
-    let level-is : level ≡ get_or v.at c.args.by 0 =
-    subst (λ (u : View). level ≡ get_or u.at c.args.by 0) view (sym (got c.self.inside.at.items c.args.by level 0 (subst (λ n. c.args.by < n) (sym c.self.invariant.shape.at) bi) c.index-level.ensures)) in
-    (refl, λ a. a.1 (subst (λ n. All (Contains (map key_of (by_place v.levels v.rows c.args.by n))) (asks_at n (list_of v.taken c.args.by))) level-is (all_known v h c.args.by level bb lb c.in_default.ensures)))
 
 pub split-record-requires : goal.split-record-requires
 split-record-requires c =
     let v = c.args.self.now in
     let S = c.args.store.now in
-    let view = c.self.view_is in
-    let h = subst (λ (u : View). IsKept u) view c.self.invariant in
-    let bi : c.args.by < c.self.inside.workers = omega arith in
-    let bb = subst (λ (u : View). c.args.by < u.workers) view bi in
-    let level = c.index-level.result.now in
-    let li : level < c.self.inside.levels = omega arith in
-    let lb = subst (λ (u : View). level < u.levels) view li in
-    let level-is : level ≡ get_or v.at c.args.by 0 =
-    subst (λ (u : View). level ≡ get_or u.at c.args.by 0) view (sym (got c.self.inside.at.items c.args.by level 0 (subst (λ n. c.args.by < n) (sym c.self.invariant.shape.at) bi) c.index-level.ensures)) in
-    let lb0 = subst (λ n. n < v.levels) level-is lb in
-    let key = c.in-Some.key in
-    let (more, found) = c.in-Some.ensures in
-    let front = subst (λ n. by_place v.levels v.tables c.args.by n ≡ map key_of (by_place v.levels v.rows c.args.by n) ++ key ∷ more) level-is found in
-    All-contains (IsKey S) (asks_here (state_of v) c.args.by) key (c.requires.held bb) (next_here S v h c.args.by bb lb0 key more front)
+    let work = c.in-Some.ensures.at_work in
+    let (more, found) = c.in-Some-next_key.ensures.front in
+    let key = c.in-Some-next_key.key in
+    let front = subst (λ n. by_place v.levels v.tables c.args.by n ≡ map key_of (by_place v.levels v.rows c.args.by n) ++ key ∷ more) work.0 found in
+    All-contains (IsKey S) (asks_here (state_of v) c.args.by) key (c.requires.held work.1.0) (next_here S v c.closed_level.ensures.kept c.args.by work.1.0 work.1.1 key more front)
 
 pub returns-in-Ok-clause-ok : goal.returns-in-Ok-clause-ok
 returns-in-Ok-clause-ok c =
     let v = c.args.self.now in
     let S = c.args.store.now in
-    let view = c.self.view_is in
-    let h = subst (λ (u : View). IsKept u) view c.self.invariant in
-    let bi : c.args.by < c.self.inside.workers = omega arith in
-    let bb = subst (λ (u : View). c.args.by < u.workers) view bi in
-    let level = c.index-level.result.now in
-    let li : level < c.self.inside.levels = omega arith in
-    let lb = subst (λ (u : View). level < u.levels) view li in
-    let level-is : level ≡ get_or v.at c.args.by 0 =
-    subst (λ (u : View). level ≡ get_or u.at c.args.by 0) view (sym (got c.self.inside.at.items c.args.by level 0 (subst (λ n. c.args.by < n) (sym c.self.invariant.shape.at) bi) c.index-level.ensures)) in
-    let lb0 = subst (λ n. n < v.levels) level-is lb in
-    let key = c.in-Some.key in
-    let (more, found) = c.in-Some.ensures in
-    let front = subst (λ n. by_place v.levels v.tables c.args.by n ≡ map key_of (by_place v.levels v.rows c.args.by n) ++ key ∷ more) level-is found in
-    let closed = subst (λ n. IsClosed (wave_of_view S v).scope n (list_of v.taken c.args.by)) level-is (closed_of_ended S v h c.args.by level bb (c.requires.fair bb) c.if-not-is_ended.ensures) in
-    let after = expanded v c.owe_both.new.self c.note.new.self c.args.by level (get_or v.at c.args.by 0) c.split-record.result (record_of S key) c.in_ok-owe_both.ensures.ok c.in-Ok.ensures.ok c.split-record.ensures.value level-is in
-    subst (λ (u : View). IsStep (wave_of_view S v) (state_of v) (Expand c.args.by) (state_of u)) (sym after) (expand_step S v h c.args.by bb lb0 key more front closed)
+    let work = c.in-Some.ensures.at_work in
+    let (more, found) = c.in-Some-next_key.ensures.front in
+    let key = c.in-Some-next_key.key in
+    let front = subst (λ n. by_place v.levels v.tables c.args.by n ≡ map key_of (by_place v.levels v.rows c.args.by n) ++ key ∷ more) work.0 found in
+    let after = expanded v c.owe_both.new.self c.note.new.self c.args.by c.in-Some.level (get_or v.at c.args.by 0) c.split-record.result (record_of S key) c.in_ok-owe_both.ensures.ok c.in-Ok.ensures.ok c.split-record.ensures.value work.0 in
+    subst (λ (u : View). IsStep (wave_of_view S v) (state_of v) (Expand c.args.by) (state_of u)) (sym after) (expand_step S v c.closed_level.ensures.kept c.args.by work.1.0 work.1.1 key more front work.1.2)

@@ -2,11 +2,11 @@ use Rattle.std.proofs.Common.{◌≡◌, ◌+◌, ◌*◌, ◌<◌, [], ◌∷�
 use Rattle.req_table.specs.Short.{owner_of}
 use Rattle.wave_core.specs.View.{View, owe_of}
 use Rattle.wave_core.proofs.Machines.{view_in}
-use Rattle.wave_core.proofs.Owes.{forgiven}
+use Rattle.wave_core.proofs.Owes.{forgiven, owe_size}
 use Rattle.wave_core.proofs.machine.Machine.forgive.Goals as goal
 
 pub returns-in-Ask-clause-back : goal.returns-in-Ask-clause-back
-returns-in-Ask-clause-back c = λ d e size.
+returns-in-Ask-clause-back c = λ d e.
     let v = view_in c.self.inside in
     let x = c.in-Ask.key in
     let w = v.workers in
@@ -19,5 +19,6 @@ returns-in-Ask-clause-back c = λ d e size.
     let ob : o < w = subst (λ n. n < w) (sym o-is) (mod-lt _ some) in
     let D-is : v.due ≡ set d (c.args.by * w + o) (get_or d (c.args.by * w + o) [] ++ x ∷ []) =
     ap (λ (u : View). u.due) view ∙ e ∙ ap (λ n. owe_of n c.args.by c.args.child.now d) w-is ∙ ap (λ t. owe_of w c.args.by t d) c.in-Ask.is ∙ ap (λ n. set d (c.args.by * w + n) (get_or d (c.args.by * w + n) [] ++ x ∷ [])) (sym o-is) in
-    let done = forgiven w c.args.by o x d v.due c.index_mut.result.now c.undo.new.self bb ob (subst (λ n. length d ≡ n * n) w-is size) D-is c.index_mut.ensures.value c.undo.ensures in
+    let size : length d ≡ w * w = sym (owe_size c.args.self.now.workers c.args.by c.args.child.now d) ∙ ap (λ l. length l) (sym e) ∙ ap (λ (u : View). length u.due) (sym view) ∙ c.self.invariant.shape.due in
+    let done = forgiven w c.args.by o x d v.due c.index_mut.result.now c.undo.new.self bb ob size D-is c.index_mut.ensures.value c.undo.ensures in
     ap (λ l. let r : View = record v { due = l } in r) done ∙ ap (λ (u : View). let r : View = record u { due = d } in r) view

@@ -1,8 +1,6 @@
-use Rattle.std.proofs.Common.{subst}
-use Rattle.wave_core.specs.View.{View, IsKept}
 use Rattle.wave_core.proofs.Owes.{forgiven_one}
 use Rattle.wave_core.proofs.machine.Machine.owe_both.Goals as goal
 
 pub returns-in-Err-clause-err : goal.returns-in-Err-clause-err
 returns-in-Err-clause-err c =
-    forgiven_one c.args.self.now c.owe.new.self c.owe-2.new.self c.forgive.new.self c.args.by c.args.added.now.low (subst (λ (u : View). IsKept u) c.self.view_is c.self.invariant) c.in_ok-owe.ensures.ok c.in-Err.ensures.err c.forgive.ensures.back
+    forgiven_one c.args.self.now c.owe.new.self c.owe-2.new.self c.forgive.new.self c.args.by c.args.added.now.low c.in_ok-owe.ensures.ok c.in-Err.ensures.err c.forgive.ensures.back
