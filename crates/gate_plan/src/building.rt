@@ -12,6 +12,7 @@ ghost use Rattle.gate_plan.specs.Building.{IsPaired, first_level, second_level, 
 use crate::folds::{add_entries, copy_all, take_answers};
 use crate::inputs::{Which, input_references, make_variables};
 use crate::steps::{Copied, Plan, Step};
+use crate::team::Team;
 use dd_store::{Ref, Store};
 use expand_work::{Gate, WaveFault};
 use net_bench::netlist::Signal;
@@ -122,6 +123,13 @@ impl<'a> Side<'a> {
     }
 }
 
+/// The two netlists that are built together.
+#[derive(Drop)]
+struct Sides<'a> {
+    first: Side<'a>,
+    second: Side<'a>,
+}
+
 /// What the steps of both netlists ask for.
 fn fold_entries(
     alloc: Global,
@@ -141,38 +149,40 @@ fn fold_entries(
 
 /// The wave of one fold number of a rank: the steps of both netlists are asked for together.
 fn build_fold<R: Threads + Wait + Sync, G: Gate>(
-    rt: &R,
-    alloc: Global,
+    team: &Team<'_, R, G>,
     store: &mut Store,
-    first: &Side<'_>,
-    second: &Side<'_>,
+    sides: &Sides<'_>,
     built: &mut Built,
     rank: usize,
     fold: usize,
-    workers: u32,
-    gate: &G,
 ) -> Result<(), WaveFault>
-    requires workers { (0 < workers) × (workers ≤ 16) }
     requires rank { 1 ≤ rank }
-    requires first_plan { IsPlan first.now.net first.now.plan }
-    requires second_plan { IsPlan second.now.net second.now.plan }
-    requires first_folded { AreFolded first.now.net (input_level first.now) store.old built.old.first rank fold }
-    requires second_folded { AreFolded second.now.net (input_level second.now) store.old built.old.second rank fold }
+    requires first_plan { IsPlan sides.now.first.net sides.now.first.plan }
+    requires second_plan { IsPlan sides.now.second.net sides.now.second.plan }
+    requires first_folded { AreFolded sides.now.first.net (input_level sides.now.first) store.old built.old.first rank fold }
+    requires second_folded { AreFolded sides.now.second.net (input_level sides.now.second) store.old built.old.second rank fold }
     ensures sound { IsSound store.new }
-    ensures adds { AddsDescribed store.old store.new (IsCounted store.old.levels (IsPlacedValue store.old.levels first.now second.now)) }
-    ensures first_next { OnOk result (AreFolded first.now.net (input_level first.now) store.new built.new.first rank (fold + 1)) }
-    ensures second_next { OnOk result (AreFolded second.now.net (input_level second.now) store.new built.new.second rank (fold + 1)) }
+    ensures adds { AddsDescribed store.old store.new (IsCounted store.old.levels (IsPlacedValue store.old.levels sides.now.first sides.now.second)) }
+    ensures first_next { OnOk result (AreFolded sides.now.first.net (input_level sides.now.first) store.new built.new.first rank (fold + 1)) }
+    ensures second_next { OnOk result (AreFolded sides.now.second.net (input_level sides.now.second) store.new built.new.second rank (fold + 1)) }
     ensures within { OnOk result (IsStillWithin store.old store.new) }
-    ensures fault { IfErr result (IsBuildFault store.old.levels (IsPlacedValue store.old.levels first.now second.now) store.new) }
+    ensures fault { IfErr result (IsBuildFault store.old.levels (IsPlacedValue store.old.levels sides.now.first sides.now.second) store.new) }
 {
-    let ours = first.steps(rank, fold);
-    let theirs = second.steps(rank, fold);
+    let ours = sides.first.steps(rank, fold);
+    let theirs = sides.second.steps(rank, fold);
     let _ = store.levels();
-    let entries = match fold_entries(alloc, built, ours, theirs) {
+    let entries = match fold_entries(team.alloc, built, ours, theirs) {
         Ok(entries) => entries,
         Err(_) => return Err(WaveFault::OutOfMemory),
     };
-    let answers = wave(rt, alloc, store, entries.as_slice(), workers, gate)?;
+    let answers = wave(
+        team.rt,
+        team.alloc,
+        store,
+        entries.as_slice(),
+        team.workers,
+        team.gate,
+    )?;
     let (one, two) = answers.as_slice().split_at(ours.len());
     take_answers(&mut built.first, ours, one);
     take_answers(&mut built.second, theirs, two);
@@ -181,52 +191,41 @@ fn build_fold<R: Threads + Wait + Sync, G: Gate>(
 
 /// The copies and all folds of one rank.
 fn build_rank<R: Threads + Wait + Sync, G: Gate>(
-    rt: &R,
-    alloc: Global,
+    team: &Team<'_, R, G>,
     store: &mut Store,
-    first: &Side<'_>,
-    second: &Side<'_>,
+    sides: &Sides<'_>,
     built: &mut Built,
     rank: usize,
-    workers: u32,
-    gate: &G,
 ) -> Result<(), WaveFault>
-    requires workers { (0 < workers) × (workers ≤ 16) }
     requires rank { 1 ≤ rank }
-    requires first_plan { IsPlan first.now.net first.now.plan }
-    requires second_plan { IsPlan second.now.net second.now.plan }
-    requires first_right { AreRight first.now.net (input_level first.now) store.old built.old.first rank }
-    requires second_right { AreRight second.now.net (input_level second.now) store.old built.old.second rank }
+    requires first_plan { IsPlan sides.now.first.net sides.now.first.plan }
+    requires second_plan { IsPlan sides.now.second.net sides.now.second.plan }
+    requires first_right { AreRight sides.now.first.net (input_level sides.now.first) store.old built.old.first rank }
+    requires second_right { AreRight sides.now.second.net (input_level sides.now.second) store.old built.old.second rank }
     ensures sound { IsSound store.new }
-    ensures adds { AddsDescribed store.old store.new (IsCounted store.old.levels (IsPlacedValue store.old.levels first.now second.now)) }
-    ensures first_next { OnOk result (AreRight first.now.net (input_level first.now) store.new built.new.first (rank + 1)) }
-    ensures second_next { OnOk result (AreRight second.now.net (input_level second.now) store.new built.new.second (rank + 1)) }
+    ensures adds { AddsDescribed store.old store.new (IsCounted store.old.levels (IsPlacedValue store.old.levels sides.now.first sides.now.second)) }
+    ensures first_next { OnOk result (AreRight sides.now.first.net (input_level sides.now.first) store.new built.new.first (rank + 1)) }
+    ensures second_next { OnOk result (AreRight sides.now.second.net (input_level sides.now.second) store.new built.new.second (rank + 1)) }
     ensures within { OnOk result (IsStillWithin store.old store.new) }
-    ensures fault { IfErr result (IsBuildFault store.old.levels (IsPlacedValue store.old.levels first.now second.now) store.new) }
+    ensures fault { IfErr result (IsBuildFault store.old.levels (IsPlacedValue store.old.levels sides.now.first sides.now.second) store.new) }
 {
     let _ = store.levels();
-    copy_all(&mut built.first, first.copies(rank));
-    copy_all(&mut built.second, second.copies(rank));
-    for fold in 0..first.folds(rank).max(second.folds(rank)) {
-        build_fold(
-            rt, alloc, store, first, second, built, rank, fold, workers, gate,
-        )?;
+    copy_all(&mut built.first, sides.first.copies(rank));
+    copy_all(&mut built.second, sides.second.copies(rank));
+    for fold in 0..sides.first.folds(rank).max(sides.second.folds(rank)) {
+        build_fold(team, store, sides, built, rank, fold)?;
     }
     Ok(())
 }
 
 /// The inputs' diagrams of both netlists.
-fn start(
-    alloc: Global,
-    first: &Side<'_>,
-    second: &Side<'_>,
-    variables: &[Ref],
-) -> Result<Built, AllocError>
-    requires first { (s : ℕ) → Contains first.now.net.inputs s → input_level first.now s < length variables.now }
-    requires second { (s : ℕ) → Contains second.now.net.inputs s → input_level second.now s < length variables.now }
-    ensures first { IfOk result (λ b. AreInputs first.now.net (input_level first.now) variables.now b.first) }
-    ensures second { IfOk result (λ b. AreInputs second.now.net (input_level second.now) variables.now b.second) }
+fn start(alloc: Global, sides: &Sides<'_>, variables: &[Ref]) -> Result<Built, AllocError>
+    requires first { (s : ℕ) → Contains sides.now.first.net.inputs s → input_level sides.now.first s < length variables.now }
+    requires second { (s : ℕ) → Contains sides.now.second.net.inputs s → input_level sides.now.second s < length variables.now }
+    ensures first { IfOk result (λ b. AreInputs sides.now.first.net (input_level sides.now.first) variables.now b.first) }
+    ensures second { IfOk result (λ b. AreInputs sides.now.second.net (input_level sides.now.second) variables.now b.second) }
 {
+    let Sides { first, second } = sides;
     Ok(Built {
         first: input_references(alloc, first.netlist, first.pairing, first.which, variables)?,
         second: input_references(
@@ -276,33 +275,31 @@ pub fn build<R: Threads + Wait + Sync, G: Gate>(
     let Ok(second_plan) = Plan::new(alloc, second) else {
         return Err(WaveFault::OutOfMemory);
     };
-    let first_side = Side {
-        netlist: first,
-        pairing,
-        which: Which::First,
-        plan: &first_plan,
+    let sides = Sides {
+        first: Side {
+            netlist: first,
+            pairing,
+            which: Which::First,
+            plan: &first_plan,
+        },
+        second: Side {
+            netlist: second,
+            pairing,
+            which: Which::Second,
+            plan: &second_plan,
+        },
     };
-    let second_side = Side {
-        netlist: second,
-        pairing,
-        which: Which::Second,
-        plan: &second_plan,
-    };
-    let Ok(mut built) = start(alloc, &first_side, &second_side, variables.as_slice()) else {
+    let Ok(mut built) = start(alloc, &sides, variables.as_slice()) else {
         return Err(WaveFault::OutOfMemory);
     };
-    for below in 0..first_side.ranks().max(second_side.ranks()) {
-        build_rank(
-            rt,
-            alloc,
-            store,
-            &first_side,
-            &second_side,
-            &mut built,
-            below + 1,
-            workers,
-            gate,
-        )?;
+    let team = Team {
+        rt,
+        alloc,
+        workers,
+        gate,
+    };
+    for below in 0..sides.first.ranks().max(sides.second.ranks()) {
+        build_rank(&team, store, &sides, &mut built, below + 1)?;
     }
     Ok(built)
 }

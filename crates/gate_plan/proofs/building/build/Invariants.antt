@@ -8,8 +8,8 @@ use Rattle.gate_plan.proofs.building.build.Given as goal
 
 abbrev pub invariant-loop-below : goal.invariant-loop-below
 invariant-loop-below g l =
-    let one : Placed = l.first_side in
-    let two : Placed = l.second_side in
+    let one : Placed = l.sides.first in
+    let two : Placed = l.sides.second in
     record {
       sound : IsSound l.store;
       adds : AddsDescribed l.fn.store l.store (IsCounted l.fn.store.levels (IsPlacedValue l.fn.store.levels one two));

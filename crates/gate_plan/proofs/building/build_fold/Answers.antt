@@ -8,12 +8,12 @@ use Rattle.gate_plan.proofs.building.build_fold.Goals as goal
 
 pub fold_entries-requires-clause-first : goal.fold_entries-requires-clause-first
 fold_entries-requires-clause-first g c =
-    steps_fit c.args.first.now.net c.requires.first_plan.sound (input_level c.args.first.now) c.args.store.now c.args.built.now.first c.args.built.now.first c.args.rank c.args.fold c.steps-ours.result.now
+    steps_fit c.args.sides.now.first.net c.requires.first_plan.sound (input_level c.args.sides.now.first) c.args.store.now c.args.built.now.first c.args.built.now.first c.args.rank c.args.fold c.steps-ours.result.now
     c.requires.first_folded refl c.steps-ours.ensures
 
 pub fold_entries-requires-clause-second : goal.fold_entries-requires-clause-second
 fold_entries-requires-clause-second g c =
-    steps_fit c.args.second.now.net c.requires.second_plan.sound (input_level c.args.second.now) c.args.store.now c.args.built.now.second c.args.built.now.second c.args.rank c.args.fold c.steps-theirs.result.now
+    steps_fit c.args.sides.now.second.net c.requires.second_plan.sound (input_level c.args.sides.now.second) c.args.store.now c.args.built.now.second c.args.built.now.second c.args.rank c.args.fold c.steps-theirs.result.now
     c.requires.second_folded refl c.steps-theirs.ensures
 
 pub wave-requires-clause-operands : goal.wave-requires-clause-operands
@@ -30,12 +30,12 @@ split_at-requires g c =
 
 pub take_answers-requires-clause-below : goal.take_answers-requires-clause-below
 take_answers-requires-clause-below g c =
-    steps_fit c.args.first.now.net c.requires.first_plan.sound (input_level c.args.first.now) c.args.store.now c.args.built.now.first c.built.inside.first.items c.args.rank c.args.fold c.steps-ours.result.now
+    steps_fit c.args.sides.now.first.net c.requires.first_plan.sound (input_level c.args.sides.now.first) c.args.store.now c.args.built.now.first c.built.inside.first.items c.args.rank c.args.fold c.steps-ours.result.now
     c.requires.first_folded (ap (λ z. z.first) c.built.view_is) c.steps-ours.ensures
 
 pub take_answers-requires-2-clause-below : goal.take_answers-requires-2-clause-below
 take_answers-requires-2-clause-below g c =
-    steps_fit c.args.second.now.net c.requires.second_plan.sound (input_level c.args.second.now) c.args.store.now c.args.built.now.second c.built.inside.second.items c.args.rank c.args.fold c.steps-theirs.result.now
+    steps_fit c.args.sides.now.second.net c.requires.second_plan.sound (input_level c.args.sides.now.second) c.args.store.now c.args.built.now.second c.built.inside.second.items c.args.rank c.args.fold c.steps-theirs.result.now
     c.requires.second_folded (ap (λ z. z.second) c.built.view_is) c.steps-theirs.ensures
 
 pub take_answers-requires-2-clause-each : goal.take_answers-requires-2-clause-each
@@ -48,22 +48,22 @@ take_answers-requires-2-clause-each g c =
 
 pub returns-clause-first_next : goal.returns-clause-first_next
 returns-clause-first_next g c =
-    fold_next c.args.first.now.net c.requires.first_plan.sound (input_level c.args.first.now) c.args.store.now c.wave.new.store c.args.built.now.first c.built.inside.first.items c.take_answers.new.references.items c.args.rank c.args.fold c.steps-ours.result.now c.split_at.result.0.now
+    fold_next c.args.sides.now.first.net c.requires.first_plan.sound (input_level c.args.sides.now.first) c.args.store.now c.wave.new.store c.args.built.now.first c.built.inside.first.items c.take_answers.new.references.items c.args.rank c.args.fold c.steps-ours.result.now c.split_at.result.0.now
     c.levels.ensures.sound c.wave.ensures.adds.keeps c.requires.first_folded (ap (λ z. z.first) c.built.view_is) c.steps-ours.ensures
     (first_answers c.args.store.now c.wave.new.store c.args.built.now.first c.args.built.now.second c.steps-ours.result.now c.steps-theirs.result.now c.as_slice.result.now c.in_ok-answers.answers.items (c.as_slice.ensures.value ∙ c.in-Ok.ensures) c.in_ok-answers.ensures.answers c.split_at.result.0.now (c.split_at.ensures.front ∙ ap (take (length c.steps-ours.result.now)) c.as_slice-2.ensures.value))
     c.take_answers.ensures
 
 pub returns-clause-second_next : goal.returns-clause-second_next
 returns-clause-second_next g c =
-    fold_next c.args.second.now.net c.requires.second_plan.sound (input_level c.args.second.now) c.args.store.now c.wave.new.store c.args.built.now.second c.built.inside.second.items c.take_answers-2.new.references.items c.args.rank c.args.fold c.steps-theirs.result.now c.split_at.result.1.now
+    fold_next c.args.sides.now.second.net c.requires.second_plan.sound (input_level c.args.sides.now.second) c.args.store.now c.wave.new.store c.args.built.now.second c.built.inside.second.items c.take_answers-2.new.references.items c.args.rank c.args.fold c.steps-theirs.result.now c.split_at.result.1.now
     c.levels.ensures.sound c.wave.ensures.adds.keeps c.requires.second_folded (ap (λ z. z.second) c.built.view_is) c.steps-theirs.ensures
     (second_answers c.args.store.now c.wave.new.store c.args.built.now.first c.args.built.now.second c.steps-ours.result.now c.steps-theirs.result.now c.as_slice.result.now c.in_ok-answers.answers.items (c.as_slice.ensures.value ∙ c.in-Ok.ensures) c.in_ok-answers.ensures.answers c.split_at.result.1.now (c.split_at.ensures.back ∙ ap (drop (length c.steps-ours.result.now)) c.as_slice-2.ensures.value))
     c.take_answers-2.ensures
 
 pub returns-in_err-answers-clause-adds : goal.returns-in_err-answers-clause-adds
 returns-in_err-answers-clause-adds g c =
-    wave_adds c.args.store.now c.wave.new.store c.as_slice.result.now (IsPlacedValue c.args.store.now.levels c.args.first.now c.args.second.now)
-    (all_asked c.args.first.now c.args.second.now c.requires.first_plan.sound c.requires.second_plan.sound c.args.store.now c.args.built.now.first c.args.built.now.second c.args.rank c.args.fold c.steps-ours.result.now c.steps-theirs.result.now c.as_slice.result.now
+    wave_adds c.args.store.now c.wave.new.store c.as_slice.result.now (IsPlacedValue c.args.store.now.levels c.args.sides.now.first c.args.sides.now.second)
+    (all_asked c.args.sides.now.first c.args.sides.now.second c.requires.first_plan.sound c.requires.second_plan.sound c.args.store.now c.args.built.now.first c.args.built.now.second c.args.rank c.args.fold c.steps-ours.result.now c.steps-theirs.result.now c.as_slice.result.now
     c.requires.first_folded c.requires.second_folded c.steps-ours.ensures c.steps-theirs.ensures (c.as_slice.ensures.value ∙ c.in-Ok.ensures))
     c.wave.ensures.adds
 
@@ -71,15 +71,15 @@ pub returns-in_err-answers-clause-fault : goal.returns-in_err-answers-clause-fau
 returns-in_err-answers-clause-fault g c =
     let p = err_from_is_err_and c.from_residual.result c.from_residual.ensures.1 in
     rw (p.1, p.2) (
-    wave_fault c.args.store.now c.wave.new.store c.as_slice.result.now (IsPlacedValue c.args.store.now.levels c.args.first.now c.args.second.now)
-    (all_asked c.args.first.now c.args.second.now c.requires.first_plan.sound c.requires.second_plan.sound c.args.store.now c.args.built.now.first c.args.built.now.second c.args.rank c.args.fold c.steps-ours.result.now c.steps-theirs.result.now c.as_slice.result.now
+    wave_fault c.args.store.now c.wave.new.store c.as_slice.result.now (IsPlacedValue c.args.store.now.levels c.args.sides.now.first c.args.sides.now.second)
+    (all_asked c.args.sides.now.first c.args.sides.now.second c.requires.first_plan.sound c.requires.second_plan.sound c.args.store.now c.args.built.now.first c.args.built.now.second c.args.rank c.args.fold c.steps-ours.result.now c.steps-theirs.result.now c.as_slice.result.now
     c.requires.first_folded c.requires.second_folded c.steps-ours.ensures c.steps-theirs.ensures (c.as_slice.ensures.value ∙ c.in-Ok.ensures))
     c.wave.ensures.adds.keeps _ c.in_err-answers.ensures.fault
     )
 
 pub returns-clause-adds : goal.returns-clause-adds
 returns-clause-adds g c =
-    wave_adds c.args.store.now c.wave.new.store c.as_slice.result.now (IsPlacedValue c.args.store.now.levels c.args.first.now c.args.second.now)
-    (all_asked c.args.first.now c.args.second.now c.requires.first_plan.sound c.requires.second_plan.sound c.args.store.now c.args.built.now.first c.args.built.now.second c.args.rank c.args.fold c.steps-ours.result.now c.steps-theirs.result.now c.as_slice.result.now
+    wave_adds c.args.store.now c.wave.new.store c.as_slice.result.now (IsPlacedValue c.args.store.now.levels c.args.sides.now.first c.args.sides.now.second)
+    (all_asked c.args.sides.now.first c.args.sides.now.second c.requires.first_plan.sound c.requires.second_plan.sound c.args.store.now c.args.built.now.first c.args.built.now.second c.args.rank c.args.fold c.steps-ours.result.now c.steps-theirs.result.now c.as_slice.result.now
     c.requires.first_folded c.requires.second_folded c.steps-ours.ensures c.steps-theirs.ensures (c.as_slice.ensures.value ∙ c.in-Ok.ensures))
     c.wave.ensures.adds

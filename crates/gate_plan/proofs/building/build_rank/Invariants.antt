@@ -8,8 +8,8 @@ use Rattle.gate_plan.proofs.building.build_rank.Given as goal
 abbrev pub invariant-loop-fold : goal.invariant-loop-fold
 invariant-loop-fold g l = record {
   sound : IsSound l.store;
-  adds : AddsDescribed l.fn.store l.store (IsCounted l.fn.store.levels (IsPlacedValue l.fn.store.levels l.first l.second));
+  adds : AddsDescribed l.fn.store l.store (IsCounted l.fn.store.levels (IsPlacedValue l.fn.store.levels l.sides.first l.sides.second));
   within : IsStillWithin l.fn.store l.store;
-  first : AreFolded l.first.net (input_level l.first) l.store l.built.first l.rank l.fold;
-  second : AreFolded l.second.net (input_level l.second) l.store l.built.second l.rank l.fold;
+  first : AreFolded l.sides.first.net (input_level l.sides.first) l.store l.built.first l.rank l.fold;
+  second : AreFolded l.sides.second.net (input_level l.sides.second) l.store l.built.second l.rank l.fold;
 }
