@@ -1,15 +1,69 @@
--- What a parse of the command finds.
-use Rattle.std.proofs.Common.{◌≡◌, ◌∙◌, ap, refl, ℕ, true, List, Option}
-use Rattle.clap.specs.Words.{App, Row, HasMatchesOf, found_of, is_simple, matches_of, rows_of}
+-- What a parse of the command finds, and what it has against the words.
+use Rattle.std.proofs.Common.{◌≡◌, ◌∙◌, inl, inr, ap, sym, refl, ℕ, true, List, [], Option, Some, None, arith, ◌<◌, ◌^◌, Result, Ok, Err}
+use Rattle.std.specs.Prelude.{find, min, max, unwrap_or, option_and_then, option_map}
+use Rattle.std.specs.Str.{bytes_eq}
+use Rattle.std.specs.Str.Parse.{ParsesUnsigned, digits_value, without_leading_plus}
+use Rattle.clap.specs.Words.{App, Row, HasMatchesOf, IsUnsignedIn, ReadsOne, found_of, fault_of, is_simple, is_simple_and_free, kind_of, matched_of, matches_of, rows_of}
+use Rattle.clap.specs.Facts.{Entry}
+use Rattle.clap.specs.Kinds.{HasKind}
+use Rattle.clap.specs.Walk.{row_of}
 use Rattle.clap.specs.declared.builder.value_parser.ValueParser.{ValueParser}
+use Rattle.clap.specs.declared.error.Error.{Error}
+use Rattle.clap.specs.declared.error.kind.ErrorKind.{ErrorKind}
+use Rattle.clap.specs.declared.error.kind.ErrorKind.TheVariants.{OutOfMemory as NoMemory}
 use Rattle.clap.specs.declared.parser.matches.ArgMatches.{ArgMatches}
+use Rattle.clap.specs.declared.parser.matches.Found.{Found}
 use Rattle.clap.proofs.OnLiterals.{clap_on_literals}
-use Rattle.command_line.specs.Words.{tool_app, IsTool, AreFound}
+use Rattle.clap.proofs.WalkLemmas.{find_row}
+use Rattle.command_line.specs.declared.reading.Refused.{Refused}
+use Rattle.command_line.specs.declared.reading.Refused.TheVariants.{Help, Mistake, OutOfMemory}
+use Rattle.command_line.specs.Words.{tool_app, IsTool, IsNumberIn, AreFound, IsToldAs, IsRefusal}
 
-tool_is_simple : (matching order workers limit : Option ValueParser) → is_simple (tool_app matching order workers limit) ≡ true
+tool_is_simple : (matching order : Option ValueParser) → is_simple (tool_app matching order) ≡ true
 unfolding clap_on_literals
-tool_is_simple matching order workers limit = refl
+tool_is_simple matching order = refl
 
-pub found : (a : App) (words : List (List ℕ)) (m : ArgMatches) → IsTool a → HasMatchesOf a words m → AreFound words (rows_of (found_of m))
-found a words m t h =
-    (t.0, t.1, t.2, t.3, (h (ap is_simple t.4 ∙ tool_is_simple t.0 t.1 t.2 t.3)).0 ∙ ap (λ x. matches_of x words) t.4)
+-- no argument has a rule on another
+tool_is_free : (matching order : Option ValueParser) → is_simple_and_free (tool_app matching order) ≡ true
+unfolding clap_on_literals
+tool_is_free matching order = refl
+
+pub is_free : (a : App) → IsTool a → is_simple_and_free a ≡ true
+is_free a t = ap is_simple_and_free t.4 ∙ tool_is_free t.0 t.1
+
+pub found : (a : App) (words : List (List ℕ)) (m : ArgMatches) → IsTool a → fault_of a words ≡ [] → HasMatchesOf a words m → AreFound words (rows_of (found_of m))
+found a words m t none h =
+    (t.0, t.1, t.2, t.3, ap (λ x. fault_of x words) (sym t.4) ∙ none, (h (ap is_simple t.4 ∙ tool_is_simple t.0 t.1)).0 ∙ ap (λ x. matches_of x words) t.4)
+
+-- want of memory is told as such
+starved : (kind : ErrorKind) (r : Refused) → kind ≡ NoMemory → IsToldAs kind r → r ≡ OutOfMemory
+starved kind (Help text) e (inl f) = cc
+starved kind (Help text) e (inr f) = cc
+starved kind (Mistake text) e t = absurd (t.2 e)
+starved kind OutOfMemory e t = refl
+
+pub refused : (a : App) (words : List (List ℕ)) (e : Error) (r : Refused) → IsTool a → HasKind (fault_of a words) e → IsToldAs (kind_of e) r → IsRefusal words r
+refused a words e r t (inl none) told = inr (inr (starved (kind_of e) r none told))
+refused a words e r t (inr among) told = inl (fault_of a words, kind_of e, (t.0, t.1, t.2, t.3, ap (λ x. fault_of x words) t.4), among, told)
+
+-- the number of a text is read, where it is in a range that fits
+pub number_read : {E : Type 0} (G : List ℕ → Result ℕ E → Type 0) (k low high : ℕ) (word : Option (List ℕ)) (r : Option ℕ) (d n : ℕ) → ((t : List ℕ) → word ≡ Some t → ReadsOne G t r) → ((u : List ℕ) (x : Result ℕ E) → G u x → ParsesUnsigned k 10 u x)
+    → high < 2 ^ k → n ≡ max low (min (unwrap_or r d) high) → IsNumberIn low high word n
+number_read {E} G k low high None r d n read only fits is = tt
+number_read {E} G k low high (Some t) r d n read only fits is = by r (read t refl) is
+  where
+    by : (r : Option ℕ) → ReadsOne G t r → n ≡ max low (min (unwrap_or r d) high) → IsUnsignedIn low high t → n ≡ digits_value 10 (without_leading_plus t)
+    by (Some v) h e range =
+        let same : v ≡ digits_value 10 (without_leading_plus t) = (only t (Ok v) h).1 in
+        let above = range.2 in
+        let below = range.3 in
+        omega arith
+    by None h e range = let below = range.3 in absurd (only t (Err h.0) h.1 (range.0, omega arith))
+
+-- the source of an argument's row is that of its entry
+pub source_row : (f : Found) (id : List ℕ) → option_and_then (λ a. a.source) (matched_of f id) ≡ option_and_then (λ (r : Row). r.source) (find (λ r. bytes_eq r.id id) (rows_of f))
+source_row f id = go (find (λ (e : Entry). bytes_eq e.0.now id) f.entries.items) ∙ ap (option_and_then (λ (r : Row). r.source)) (sym (find_row f.entries.items id))
+  where
+    go : (o : Option Entry) → option_and_then (λ a. a.source) (option_map (λ e. e.1) o) ≡ option_and_then (λ (r : Row). r.source) (option_map row_of o)
+    go None = refl
+    go (Some e) = refl

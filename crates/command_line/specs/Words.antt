@@ -1,10 +1,16 @@
 -- What the words of the command line ask for, by clap's matches of the command's arguments.
-use Rattle.std.specs.Prelude.{◌≡◌, ℕ, Bool, true, false, List, [], ◌∷◌, codes, Option, Some, None, ⊤}
+use Rattle.std.specs.Prelude.{◌≡◌, ◌≢◌, ◌⊎◌, ℕ, pos, Bool, true, false, List, [], ◌∷◌, map, codes, Option, Some, None, IfSome, ⊤, find, option_and_then}
+use Rattle.std.specs.Borrow.{Bor}
 use Rattle.std.specs.Str.{bytes_eq}
-use Rattle.clap.specs.Words.{App, Row, Rule, first_of, one_of, matches_of, new_app, new_rule, with_rule}
+use Rattle.std.specs.Str.Parse.{digits_value, without_leading_plus}
+use Rattle.clap.specs.Words.{App, Row, Rule, Text, Kinds, IsAmong, IsUnsignedIn, fault_of, first_of, one_of, matches_of, new_app, new_rule, with_rule}
 use Rattle.clap.specs.Simple.{on_top}
 use Rattle.clap.specs.declared.builder.action.ArgAction.TheVariants.{SetTrue}
 use Rattle.clap.specs.declared.builder.value_parser.ValueParser.{ValueParser}
+use Rattle.clap.specs.declared.builder.value_parser.ValueParser.TheVariants.{Names, Signed, Unsigned}
+use Rattle.clap.specs.declared.error.kind.ErrorKind.{ErrorKind}
+use Rattle.clap.specs.declared.error.kind.ErrorKind.TheVariants.{ArgumentConflict, DisplayHelp, DisplayVersion, OutOfMemory as NoMemory}
+use Rattle.clap.specs.declared.parser.matches.ValueSource.TheVariants.{CommandLine}
 use Rattle.net_order.specs.declared.order.Match.{Match}
 use Rattle.net_order.specs.declared.order.Match.TheVariants.{Name, Position}
 use Rattle.command_line.specs.declared.options.Options.{Options}
@@ -12,6 +18,8 @@ use Rattle.command_line.specs.declared.options.OrderChoice.{OrderChoice}
 use Rattle.command_line.specs.declared.options.OrderChoice.TheVariants.{Declared, Depth, File}
 use Rattle.command_line.specs.declared.options.Texts.{Texts}
 use Rattle.command_line.specs.declared.options.Texts.TheVariants.{Input, Files, One}
+use Rattle.command_line.specs.declared.reading.Refused.{Refused}
+use Rattle.command_line.specs.declared.reading.Refused.TheVariants.{Help, Mistake, OutOfMemory}
 
 -- an option that takes a value, and the value that it has where the words give none
 abbrev pub value_rule : List ℕ → List (List ℕ) → Option ValueParser → Rule
@@ -28,15 +36,16 @@ match_rule parser = value_rule (codes "match") (codes "name" ∷ []) parser
 abbrev pub order_rule : Option ValueParser → Rule
 order_rule parser = value_rule (codes "order") (codes "declared" ∷ []) parser
 
--- it is not free: `--order` excludes it
 abbrev pub order_file_rule : Rule
-order_file_rule = record (value_rule (codes "order-file") [] None) { is_free = false }
+order_file_rule = value_rule (codes "order-file") [] None
 
-abbrev pub workers_rule : Option ValueParser → Rule
-workers_rule parser = value_rule (codes "workers") (codes "4" ∷ []) parser
+-- 1 to 16 threads
+abbrev pub workers_rule : Rule
+workers_rule = value_rule (codes "workers") (codes "4" ∷ []) (Some (Signed (pos 1) (pos 16)))
 
-abbrev pub limit_rule : Option ValueParser → Rule
-limit_rule parser = value_rule (codes "limit") (codes "67108864" ∷ []) parser
+-- 1 to 4294967295 nodes
+abbrev pub limit_rule : Rule
+limit_rule = value_rule (codes "limit") (codes "67108864" ∷ []) (Some (Unsigned 1 4294967295))
 
 abbrev pub sizes_rule : Rule
 sizes_rule = record (new_rule (codes "sizes")) { long = Some (codes "sizes"); action = Some SetTrue }
@@ -45,14 +54,24 @@ sizes_rule = record (new_rule (codes "sizes")) { long = Some (codes "sizes"); ac
 abbrev pub bare_app : App
 bare_app = on_top (λ s. record s { no_binary_name = true }) (new_app (codes "bddcheck"))
 
--- The command with its arguments. The parsers of their values are named apart.
-abbrev pub tool_app : (matching order workers limit : Option ValueParser) → App
-tool_app matching order workers limit =
-    with_rule (with_rule (with_rule (with_rule (with_rule (with_rule (with_rule (with_rule bare_app (match_rule matching)) (order_rule order)) order_file_rule) (workers_rule workers)) (limit_rule limit)) sizes_rule) (new_rule (codes "FIRST"))) (new_rule (codes "SECOND"))
+-- a parser of exactly these words
+abbrev pub TakesOnly : List Text → Option ValueParser → Type 0
+TakesOnly words parser = (names : Bor (List (Bor Text))) × (parser ≡ Some (Names names)) × (map (λ s. s.now) names.now ≡ words)
+
+abbrev pub TakesMatches : Option ValueParser → Type 0
+TakesMatches = TakesOnly (codes "name" ∷ codes "position" ∷ [])
+
+abbrev pub TakesOrders : Option ValueParser → Type 0
+TakesOrders = TakesOnly (codes "declared" ∷ codes "depth" ∷ [])
+
+-- The command with its arguments. The parsers of two lists of words are named apart.
+abbrev pub tool_app : (matching order : Option ValueParser) → App
+tool_app matching order =
+    with_rule (with_rule (with_rule (with_rule (with_rule (with_rule (with_rule (with_rule bare_app (match_rule matching)) (order_rule order)) order_file_rule) workers_rule) limit_rule) sizes_rule) (new_rule (codes "FIRST"))) (new_rule (codes "SECOND"))
 
 -- the command has these arguments
 abbrev pub IsTool : App → Type 0
-IsTool a = (matching order workers limit : Option ValueParser) × (a ≡ tool_app matching order workers limit)
+IsTool a = (matching order : Option ValueParser) × TakesMatches matching × TakesOrders order × (a ≡ tool_app matching order)
 
 -- by position where that word is given
 abbrev pub IsMatching : Option (List ℕ) → Match → Type 0
@@ -91,17 +110,51 @@ AreTexts None (Some second) (Files a b) = ⊥
 abbrev pub IsFlag : Option (List ℕ) → Bool → Type 0
 IsFlag word sizes = (word ≡ Some (codes "true") → sizes ≡ true) × (word ≡ Some (codes "false") → sizes ≡ false)
 
+-- the number is that of the text, where this is a number of the range
+abbrev pub IsNumberIn : ℕ → ℕ → Option Text → ℕ → Type 0
+IsNumberIn low high word n = IfSome word (λ text. IsUnsignedIn low high text → n ≡ digits_value 10 (without_leading_plus text))
+
+-- the words give the argument, so that its value is no default
+abbrev pub IsGiven : Text → List Row → Type 0
+IsGiven id rows = option_and_then (λ r. r.source) (find (λ r. bytes_eq r.id id) rows) ≡ Some CommandLine
+
+-- the words give an order and a file of an order
+abbrev pub GiveTwoOrders : List Row → Type 0
+GiveTwoOrders rows = IsGiven (codes "order") rows × IsGiven (codes "order-file") rows
+
 -- The options say what was found for the arguments.
 pub record AreOptions (rows : List Row) (o : Options) : Type 0 where
   pub matching : IsMatching (first_of (codes "match") rows) o.matching
   pub order : IsChoice (first_of (codes "order-file") rows) (first_of (codes "order") rows) o.order
+  pub workers : IsNumberIn 1 16 (one_of (codes "workers") rows) o.workers
+  pub limit : IsNumberIn 1 4294967295 (one_of (codes "limit") rows) o.limit
   pub texts : AreTexts (first_of (codes "FIRST") rows) (first_of (codes "SECOND") rows) o.texts
   pub sizes : IsFlag (one_of (codes "sizes") rows) o.sizes
 
--- the rows are clap's matches of the command on the words
-abbrev pub AreFound : List (List ℕ) → List Row → Type 0
-AreFound words rows = (matching order workers limit : Option ValueParser) × (rows ≡ matches_of (tool_app matching order workers limit) words)
+-- the kinds of the first fault that clap finds in the words; none where it takes them
+abbrev pub AreFaults : List Text → Kinds → Type 0
+AreFaults words kinds =
+    (matching order : Option ValueParser) × TakesMatches matching × TakesOrders order × (kinds ≡ fault_of (tool_app matching order) words)
 
--- The words ask for these options, by clap's matches of the command.
-abbrev pub AskFor : List (List ℕ) → Options → Type 0
-AskFor words o = (rows : List Row) × AreFound words rows × AreOptions rows o
+-- clap takes the words, and the rows are its matches of the command
+abbrev pub AreFound : List Text → List Row → Type 0
+AreFound words rows =
+    (matching order : Option ValueParser) × TakesMatches matching × TakesOrders order
+    × (fault_of (tool_app matching order) words ≡ []) × (rows ≡ matches_of (tool_app matching order) words)
+
+-- The words ask for these options, by clap's matches of the command. They give one order.
+abbrev pub AskFor : List Text → Options → Type 0
+AskFor words o = (rows : List Row) × AreFound words rows × (GiveTwoOrders rows → ⊥) × AreOptions rows o
+
+-- how a fault of this kind is told: help as such, any other as a mistake; or that there was no memory for its text
+abbrev pub IsToldAs : ErrorKind → Refused → Type 0
+IsToldAs kind (Help text) = (kind ≡ DisplayHelp) ⊎ (kind ≡ DisplayVersion)
+IsToldAs kind (Mistake text) = (kind ≢ DisplayHelp) × (kind ≢ DisplayVersion) × (kind ≢ NoMemory)
+IsToldAs kind OutOfMemory = ⊤
+
+-- The words are refused for the first fault that clap finds in them, or for two orders, or for want of memory.
+abbrev pub IsRefusal : List Text → Refused → Type 0
+IsRefusal words refused =
+    ((kinds : Kinds) × (kind : ErrorKind) × AreFaults words kinds × IsAmong kind kinds × IsToldAs kind refused)
+    ⊎ (((rows : List Row) × AreFound words rows × GiveTwoOrders rows × IsToldAs ArgumentConflict refused)
+    ⊎ (refused ≡ OutOfMemory))

@@ -1,9 +1,9 @@
 //! The command of the program, as clap knows it.
 ghost use Rattle.std.specs.Prelude.{◌≡◌, false, codes, IfOk};
 ghost use Rattle.clap.specs.Words.{app_of, new_rule, rule_of};
-ghost use Rattle.command_line.specs.Words.{match_rule, order_rule, order_file_rule, workers_rule, limit_rule, sizes_rule, bare_app, IsTool};
+ghost use Rattle.command_line.specs.Words.{TakesMatches, TakesOrders, match_rule, order_rule, order_file_rule, workers_rule, limit_rule, sizes_rule, bare_app, IsTool};
 
-use clap::{Arg, ArgAction, Command, Error, value_parser};
+use clap::{Arg, ArgAction, Command, value_parser};
 use std::alloc::{AllocError, Global};
 
 static MATCHES: [&str; 2] = ["name", "position"];
@@ -26,6 +26,7 @@ Status:
 
 fn matching<'a>(alloc: Global) -> Arg<'a>
     ensures rule { rule_of result ≡ match_rule result.value_parser }
+    ensures parser { TakesMatches result.value_parser }
     ensures local { result.global ≡ false }
 {
     Arg::new(alloc, "match")
@@ -38,6 +39,7 @@ fn matching<'a>(alloc: Global) -> Arg<'a>
 
 fn order<'a>(alloc: Global) -> Arg<'a>
     ensures rule { rule_of result ≡ order_rule result.value_parser }
+    ensures parser { TakesOrders result.value_parser }
     ensures local { result.global ≡ false }
 {
     Arg::new(alloc, "order")
@@ -48,19 +50,18 @@ fn order<'a>(alloc: Global) -> Arg<'a>
         .help("Order the variables as declared, or by depth: as met below the outputs")
 }
 
-fn order_file<'a>(alloc: Global) -> Result<Arg<'a>, AllocError>
-    ensures rule { IfOk result (λ a. rule_of a ≡ order_file_rule) }
-    ensures local { IfOk result (λ a. a.global ≡ false) }
+fn order_file<'a>(alloc: Global) -> Arg<'a>
+    ensures rule { rule_of result ≡ order_file_rule }
+    ensures local { result.global ≡ false }
 {
     Arg::new(alloc, "order-file")
         .long("order-file")
         .value_name("F")
         .help("Order the variables as a file lists their names; not with --order")
-        .conflicts_with("order")
 }
 
 fn workers<'a>(alloc: Global) -> Arg<'a>
-    ensures rule { rule_of result ≡ workers_rule result.value_parser }
+    ensures rule { rule_of result ≡ workers_rule }
     ensures local { result.global ≡ false }
 {
     Arg::new(alloc, "workers")
@@ -72,7 +73,7 @@ fn workers<'a>(alloc: Global) -> Arg<'a>
 }
 
 fn limit<'a>(alloc: Global) -> Arg<'a>
-    ensures rule { rule_of result ≡ limit_rule result.value_parser }
+    ensures rule { rule_of result ≡ limit_rule }
     ensures local { result.global ≡ false }
 {
     Arg::new(alloc, "limit")
@@ -118,13 +119,13 @@ fn bare<'a>(alloc: Global) -> Command<'a>
 }
 
 /// The command of this program.
-pub fn command<'a>(alloc: Global) -> Result<Command<'a>, Error>
+pub fn command<'a>(alloc: Global) -> Result<Command<'a>, AllocError>
     ensures { IfOk result (λ c. IsTool (app_of c)) }
 {
     let command = bare(alloc)
         .arg(matching(alloc))?
         .arg(order(alloc))?
-        .arg(order_file(alloc)?)?
+        .arg(order_file(alloc))?
         .arg(workers(alloc))?;
     let command = command
         .arg(limit(alloc))?

@@ -1,14 +1,18 @@
 //! From the words of a command line to what they ask for.
-ghost use Rattle.std.specs.Prelude.{◌≡◌, IfOk, map, option_map, string_bytes};
-ghost use Rattle.clap.specs.Words.{found_of, rows_of};
-ghost use Rattle.command_line.specs.Words.{IsMatching, IsChoice, AreTexts, AreOptions, AreFound, AskFor};
+ghost use Rattle.std.specs.Prelude.{◌≡◌, ◌≤◌, ◌↔◌, IfOk, IfErr, IsTrue, codes, map, option_map, string_bytes};
+ghost use Rattle.clap.specs.Values.{kind_of};
+ghost use Rattle.clap.specs.Words.{app_of, found_of, one_of, rows_of};
+ghost use Rattle.command_line.specs.Words.{IsTool, IsMatching, IsChoice, IsNumberIn, IsGiven, GiveTwoOrders, AreTexts, AreOptions, AreFound, AskFor, IsToldAs, IsRefusal};
 
 use crate::command::command;
 use crate::options::{Options, OrderChoice, Texts};
 use clap::error::ErrorKind;
-use clap::{ArgMatches, Error};
+use clap::parser::ValueSource;
+use clap::{ArgMatches, Command, Error};
 use net_order::order::Match;
 use std::alloc::Global;
+
+static TWO_ORDERS: &str = "the argument '--order <ORDER>' cannot be used with '--order-file <F>'";
 
 /// Why the words give no options. The texts are the parser's own, and ended by a line feed.
 #[derive(Drop)]
@@ -22,7 +26,9 @@ pub enum Refused {
 }
 
 /// What an error of the parser says.
-fn refusal(alloc: Global, error: &Error) -> Refused {
+fn refusal(alloc: Global, error: &Error) -> Refused
+    ensures { IsToldAs (kind_of error.now) result }
+{
     if error.kind() == ErrorKind::OutOfMemory {
         return Refused::OutOfMemory;
     }
@@ -38,19 +44,58 @@ fn refusal(alloc: Global, error: &Error) -> Refused {
 
 /// The options of the words, which begin behind the program's name.
 pub fn read_options<'a>(alloc: Global, words: &'a [String]) -> Result<Options<'a>, Refused>
-    ensures { IfOk result (AskFor (map string_bytes words.entry.now)) }
+    ensures options { IfOk result (AskFor (map string_bytes words.entry.now)) }
+    ensures refused { IfErr result (IsRefusal (map string_bytes words.entry.now)) }
 {
-    match parsed(alloc, words) {
-        Ok(matches) => Ok(options_of(&matches)),
+    let Ok(mut command) = command(alloc) else {
+        return Err(Refused::OutOfMemory);
+    };
+    let matches = parsed(alloc, &mut command, words)?;
+    if has_two_orders(&matches) {
+        return Err(two_orders(alloc, &mut command));
+    }
+    Ok(options_of(&matches))
+}
+
+/// What the parser finds in the words.
+fn parsed<'a>(
+    alloc: Global,
+    command: &mut Command<'a>,
+    words: &'a [String],
+) -> Result<ArgMatches<'a>, Refused>
+    requires { IsTool (app_of command.old) }
+    ensures found { IfOk result (λ m. AreFound (map string_bytes words.entry.now) (rows_of (found_of m))) }
+    ensures refused { IfErr result (IsRefusal (map string_bytes words.entry.now)) }
+{
+    match command.try_get_matches_from_mut(words) {
+        Ok(matches) => Ok(matches),
         Err(error) => Err(refusal(alloc, &error)),
     }
 }
 
-/// What the parser finds in the words.
-fn parsed<'a>(alloc: Global, words: &'a [String]) -> Result<ArgMatches<'a>, Error>
-    ensures { IfOk result (λ m. AreFound (map string_bytes words.entry.now) (rows_of (found_of m))) }
+/// Whether the words themselves give this argument.
+#[tactic(auto, using(crate::proofs::Found::source_row))]
+fn is_given(matches: &ArgMatches<'_>, id: &str) -> bool
+    ensures { IsTrue result ↔ IsGiven id.now (rows_of (found_of matches.now)) }
 {
-    command(alloc)?.try_get_matches_from(words)
+    matches.value_source(id) == Some(ValueSource::CommandLine)
+}
+
+/// Whether the words give an order, and a file of an order.
+fn has_two_orders(matches: &ArgMatches<'_>) -> bool
+    ensures { IsTrue result ↔ GiveTwoOrders (rows_of (found_of matches.now)) }
+{
+    is_given(matches, "order") && is_given(matches, "order-file")
+}
+
+/// What is said of two orders, in the parser's words.
+fn two_orders(alloc: Global, command: &mut Command<'_>) -> Refused
+    ensures { IsToldAs ErrorKind.ArgumentConflict result }
+{
+    match command.error(ErrorKind::ArgumentConflict, TWO_ORDERS) {
+        Ok(error) => refusal(alloc, &error),
+        Err(_) => Refused::OutOfMemory,
+    }
 }
 
 /// By position where that word is given.
@@ -87,18 +132,36 @@ fn texts_of<'a>(first: Option<&'a str>, second: Option<&'a str>) -> Texts<'a>
     }
 }
 
-/// What the matches say. The parser has tested each range.
+/// The number of workers. The parser has tested its range.
+fn workers_of(matches: &ArgMatches<'_>) -> u32
+    ensures some { 1 ≤ result }
+    ensures few { result ≤ 16 }
+    ensures number { IsNumberIn 1 16 (one_of (codes "workers") (rows_of (found_of matches.now))) result }
+{
+    matches.get_one("workers").unwrap_or(4).clamp(1, 16)
+}
+
+/// The limit of nodes. The parser has tested its range.
+fn limit_of(matches: &ArgMatches<'_>) -> u64
+    ensures some { 1 ≤ result }
+    ensures few { result ≤ 4294967295 }
+    ensures number { IsNumberIn 1 4294967295 (one_of (codes "limit") (rows_of (found_of matches.now))) result }
+{
+    matches
+        .get_one("limit")
+        .unwrap_or(67_108_864)
+        .clamp(1, 4_294_967_295)
+}
+
+/// What the matches say.
 fn options_of<'a>(matches: &ArgMatches<'a>) -> Options<'a>
     ensures { AreOptions (rows_of (found_of matches.now)) result }
 {
     Options {
         matching: matching_of(matches.get_str("match")),
         order: order_of(matches.get_str("order-file"), matches.get_str("order")),
-        workers: matches.get_one::<u32>("workers").unwrap_or(4).clamp(1, 16),
-        limit: matches
-            .get_one::<u64>("limit")
-            .unwrap_or(67_108_864)
-            .clamp(1, 4_294_967_295),
+        workers: workers_of(matches),
+        limit: limit_of(matches),
         sizes: matches.get_flag("sizes"),
         texts: texts_of(matches.get_str("FIRST"), matches.get_str("SECOND")),
     }

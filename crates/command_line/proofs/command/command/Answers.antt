@@ -6,10 +6,10 @@ pub returns : goal.returns
 returns c =
     let one = c.in_ok-arg.ensures.shape c.matching.ensures.local ∙ ap₂ with_rule c.bare.ensures c.matching.ensures.rule in
     let two = c.in_ok-arg-2.ensures.shape c.order.ensures.local ∙ ap₂ with_rule one c.order.ensures.rule in
-    let three = c.in_ok-arg-3.ensures.shape c.in_ok-order_file.ensures.local ∙ ap₂ with_rule two c.in_ok-order_file.ensures.rule in
+    let three = c.in_ok-arg-3.ensures.shape c.order_file.ensures.local ∙ ap₂ with_rule two c.order_file.ensures.rule in
     let four = c.in_ok-command.ensures.shape c.workers.ensures.local ∙ ap₂ with_rule three c.workers.ensures.rule in
     let five = c.in_ok-arg-4.ensures.shape c.limit.ensures.local ∙ ap₂ with_rule four c.limit.ensures.rule in
     let six = c.in_ok-arg-5.ensures.shape c.sizes.ensures.local ∙ ap₂ with_rule five c.sizes.ensures.rule in
     let seven = c.in_ok-arg-6.ensures.shape c.first.ensures.local ∙ ap₂ with_rule six c.first.ensures.rule in
     let eight = c.in_ok-command-2.ensures.shape c.second.ensures.local ∙ ap₂ with_rule seven c.second.ensures.rule in
-    (c.matching.result.value_parser, c.order.result.value_parser, c.workers.result.value_parser, c.limit.result.value_parser, eight)
+    (c.matching.result.value_parser, c.order.result.value_parser, c.matching.ensures.parser, c.order.ensures.parser, eight)

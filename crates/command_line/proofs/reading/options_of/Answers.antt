@@ -16,6 +16,8 @@ returns c =
       matching = subst (λ w. IsMatching w c.matching_of.result) (match_is ∙ first_value-rows f (codes "match")) c.matching_of.ensures;
       order = subst (λ w. IsChoice w (first_of (codes "order") (rows_of f)) c.order_of.result) (path_is ∙ first_value-rows f (codes "order-file"))
           (subst (λ w. IsChoice (option_map (λ (s : Bor (List ℕ)). s.now) c.get_str-2.result) w c.order_of.result) (order_is ∙ first_value-rows f (codes "order")) c.order_of.ensures);
+      workers = c.workers_of.ensures.number;
+      limit = c.limit_of.ensures.number;
       texts = subst (λ w. AreTexts w (first_of (codes "SECOND") (rows_of f)) c.texts_of.result) (first_is ∙ first_value-rows f (codes "FIRST"))
           (subst (λ w. AreTexts (option_map (λ (s : Bor (List ℕ)). s.now) c.get_str-4.result) w c.texts_of.result) (second_is ∙ first_value-rows f (codes "SECOND")) c.texts_of.ensures);
       sizes = (λ e. c.get_flag.ensures.value (one_text-rows f (codes "sizes") ∙ e), λ e. c.get_flag.ensures.other (one_text-rows f (codes "sizes") ∙ e));
