@@ -5,7 +5,9 @@ use Rattle.std.specs.Borrow.{Bor}
 use Rattle.std.specs.Io.KnownBytes.{Appends, Keeps}
 use Rattle.std.proofs.lemmas.List.{append_assoc}
 use Rattle.check_report.specs.declared.outcome.Outcome.{Outcome}
+use Rattle.check_report.specs.Limits.{AreWithin, AreBeyond}
 use Rattle.check_report.specs.Writing.{AppendsFront}
+use Rattle.net_order.specs.declared.order.Order.{Order}
 use Rattle.command_line.specs.declared.options.Options.{Options}
 use Rattle.command_line.specs.declared.options.Texts.{Texts}
 use Rattle.command_line.specs.declared.options.Texts.TheVariants.{Input, Files, One}
@@ -14,7 +16,7 @@ use Rattle.bddcheck.specs.declared.fault.ToolFault.{ToolFault}
 use Rattle.bddcheck.specs.declared.fault.ToolFault.TheVariants.{OneFile, CannotOpen, InputUnread, InputTooLong, InputUndivided, BadOrder, Check, OutOfMemory}
 use Rattle.bddcheck.specs.Splitting.{IsSplit}
 use Rattle.bddcheck.specs.Opening.{Try, Extends, opened, AreTried}
-use Rattle.bddcheck.specs.Running.{text_paths, order_paths, paths_of, AreTexts, HasTexts, IsCompared, HasReported, HasReportedFront, IsCompareFault, IsToolFault}
+use Rattle.bddcheck.specs.Running.{text_paths, order_paths, paths_of, IsShort, AreTexts, HasTexts, IsOrderOf, IsCompared, HasReported, HasReportedFront, IsWithin, IsBeyond, IsCompareFault, IsToolFault}
 
 -- ---- tries
 
@@ -43,12 +45,12 @@ keeps_own (Some xs) = refl
 -- ---- the two texts
 
 pub input_texts : (told : List ℕ → Option (List ℕ)) (input : Option (List ℕ)) (o : Options) → o.texts ≡ Input → (text one two : List ℕ) (first second : Option (List ℕ)) → first ≡ Some one → second ≡ Some two
-    → IfSome input (λ t. text ≡ t) → IsSplit text (Some (one, two)) → AreTexts told input o.texts first second
-input_texts told input o is text one two first second f g e s = subst (λ t. AreTexts told input t first second) (sym is) (by input e)
+    → IfSome input (λ t. text ≡ t) → IsShort text → IsSplit text (Some (one, two)) → AreTexts told input o.texts first second
+input_texts told input o is text one two first second f g e short s = subst (λ t. AreTexts told input t first second) (sym is) (by input e)
   where
     by : (input : Option (List ℕ)) → IfSome input (λ t. text ≡ t) → AreTexts told input Input first second
     by None e = tt
-    by (Some t) e = ((one, two), subst (λ z. IsSplit z (Some (one, two))) e s, f, g)
+    by (Some t) e = (subst IsShort e short, (one, two), subst (λ z. IsSplit z (Some (one, two))) e s, f, g)
 
 pub files_texts : (told told' : List ℕ → Option (List ℕ)) → told' ≡ told → (input : Option (List ℕ)) (o : Options) (first second : Bor (List ℕ)) → o.texts ≡ Files first second → (one two : Option (List ℕ))
     → IfSome (told first.now) (λ text. one ≡ Some text) → IfSome (told' second.now) (λ text. two ≡ Some text) → AreTexts told input o.texts one two
@@ -63,14 +65,14 @@ split_parts text slice r one two e f s =
 pub split_none : (slice text : List ℕ) → slice ≡ text → IsSplit slice None → IsSplit text None
 split_none slice text e s = subst (λ z. IsSplit z None) e s
 
-pub undivided : (input : Option (List ℕ)) (text : List ℕ) → IfSome input (λ t. text ≡ t) → IsSplit text None → IfSome input (λ t. IsSplit t None)
-undivided None text e s = tt
-undivided (Some t) text e s = subst (λ z. IsSplit z None) e s
+pub undivided : (input : Option (List ℕ)) (text : List ℕ) → IfSome input (λ t. text ≡ t) → IsShort text → IsSplit text None → IfSome input (λ t. IsShort t × IsSplit t None)
+undivided None text e short s = tt
+undivided (Some t) text e short s = (subst IsShort e short, subst (λ z. IsSplit z None) e s)
 
 has_texts : (told : List ℕ → Option (List ℕ)) (input : Option (List ℕ)) (t : Texts) (one two : Option (List ℕ)) → AreTexts told input t one two → HasTexts input t
 has_texts told input (Files first second) one two a = tt
 has_texts told None Input one two a = tt
-has_texts told (Some text) Input one two a = (a.0, a.1)
+has_texts told (Some text) Input one two a = (a.0, a.1, a.2)
 has_texts told input One one two a = absurd a
 
 -- ---- the whole of a run
@@ -86,6 +88,13 @@ module _ (told : List ℕ → Option (List ℕ)) (input : Option (List ℕ)) (o 
       → HasReportedFront told input o before now has_failed
   whole_front told' e before now has_failed h =
       (h.0, h.1, record { one = one; two = two; texts = texts; compared = subst (λ t. IsCompared t one two o h.0 h.1) e h.2 }, h.3)
+
+  pub whole_within : (told' : List ℕ → Option (List ℕ)) → told' ≡ told → (r : Result Outcome ToolFault) → OnOk r ((order : Order) × IsOrderOf told' o.order order × AreWithin one two o.matching order o.limit) → OnOk r (IsWithin told input o)
+  whole_within told' e (Ok outcome) h = (one, two, h.0, texts, subst (λ t. IsOrderOf t o.order h.0) e h.1, h.2)
+  whole_within told' e (Err fault) h = tt
+
+  pub whole_beyond : (told' : List ℕ → Option (List ℕ)) → told' ≡ told → (order : Order) × IsOrderOf told' o.order order × AreBeyond one two o.matching order o.limit → IsBeyond told input o
+  whole_beyond told' e h = (one, two, h.0, texts, subst (λ t. IsOrderOf t o.order h.0) e h.1, h.2)
 
   whole_fault : (tries : List Try) (fault : ToolFault) → IsCompareFault told one two o tries fault → IsToolFault told input o (opened (text_paths o.texts) ++ tries) fault
   whole_fault tries OneFile f = absurd f

@@ -1,15 +1,19 @@
 -- How a run ends: what it has written, what it says, and its status.
-use Rattle.std.specs.Prelude.{◌≡◌, ◌≢◌, ◌≤◌, ◌⊎◌, ◌↔◌, ℕ, Bool, List, [], Option}
+use Rattle.std.specs.Prelude.{◌≡◌, ◌≢◌, ◌≤◌, ◌⊎◌, ◌↔◌, ℕ, Bool, List, [], Option, string_bytes}
 use Rattle.std.specs.Io.KnownBytes.{Appends, Keeps}
 use Rattle.check_report.specs.declared.outcome.Outcome.{Outcome}
-use Rattle.check_report.specs.declared.fault.CheckFault.TheVariants.{Write}
+use Rattle.check_report.specs.declared.fault.CheckFault.TheVariants.{Wave, Write}
 use Rattle.check_report.specs.Writing.{AppendsFront}
 use Rattle.command_line.specs.declared.options.Options.{Options}
+use Rattle.command_line.specs.declared.reading.Refused.{Refused}
+use Rattle.command_line.specs.declared.reading.Refused.TheVariants.{Help, Mistake, OutOfMemory as NoWordMemory}
+use Rattle.command_line.specs.Words.{IsRefusal}
+use Rattle.expand_work.specs.declared.fault.WaveFault.TheVariants.{Full}
 use Rattle.bddcheck.specs.declared.fault.ToolFault.{ToolFault}
 use Rattle.bddcheck.specs.declared.fault.ToolFault.TheVariants.{Check, OutOfMemory}
 use Rattle.bddcheck.specs.Faults.{fault_line, fault_status}
 use Rattle.bddcheck.specs.Opening.{Try, Extends, opened}
-use Rattle.bddcheck.specs.Running.{paths_of, HasReported, HasReportedFront, IsToolFault}
+use Rattle.bddcheck.specs.Running.{paths_of, HasReported, HasReportedFront, IsWithin, IsBeyond, IsToolFault}
 
 -- a device has taken this text, or a front part of it
 abbrev pub Says : Option (List ℕ) → Option (List ℕ) → Bool → List ℕ → Type 0
@@ -44,6 +48,7 @@ pub record Scene : Type 0 where
 -- The report of what the options name was written, all files were opened, and nothing was said.
 pub record Reports (s : Scene) (o : Options) (outcome : Outcome) (status : ℕ) : Type 0 where
   pub report : HasReported s.told s.input o s.held s.written outcome
+  pub within : IsWithin s.told s.input o
   pub opened_all : Extends s.tried s.tries (opened (paths_of o))
   pub silent : Keeps s.heard s.said
   pub code : IsReportStatus outcome status
@@ -53,6 +58,7 @@ pub record Refuses (s : Scene) (o : Options) (fault : ToolFault) (status : ℕ) 
   pub tries : List Try
   pub tried : Extends s.tried s.tries tries
   pub cause : IsToolFault s.told s.input o tries fault
+  pub full : fault ≡ Check (Wave Full) → IsBeyond s.told s.input o
   pub line : IsSaid s.heard s.said s.errors_failed fault status
   pub front : fault ≡ Check Write → HasReportedFront s.told s.input o s.held s.written s.out_failed
   pub nothing : fault ≢ Check Write → Keeps s.held s.written
@@ -61,13 +67,18 @@ pub record Refuses (s : Scene) (o : Options) (fault : ToolFault) (status : ℕ) 
 abbrev pub IsEnding : Scene → Options → ℕ → Type 0
 IsEnding s o status = ((outcome : Outcome) × Reports s o outcome status) ⊎ ((fault : ToolFault) × Refuses s o fault status)
 
--- what is told where the words ask for no options: help on the output, a mistake, or want of memory
-pub data IsWordEnd (held written : Option (List ℕ)) (out_failed : Bool) (heard said : Option (List ℕ)) (errors_failed : Bool) : ℕ → Type 0 where
-  helped : (text : List ℕ) → Appends held written text → Keeps heard said → IsWordEnd held written out_failed heard said errors_failed 0
-  helped_in_part : (text : List ℕ) → AppendsFront held written out_failed text → Keeps heard said → IsWordEnd held written out_failed heard said errors_failed 3
-  mistaken : (text : List ℕ) → Says heard said errors_failed text → Keeps held written → IsWordEnd held written out_failed heard said errors_failed 2
-  starved : {status : ℕ} → IsSaid heard said errors_failed OutOfMemory status → Keeps held written → IsWordEnd held written out_failed heard said errors_failed status
+-- what is told of words that ask for no options: help on the output, a mistake, or want of memory
+abbrev pub IsWordEnd : (held written : Option (List ℕ)) (out_failed : Bool) (heard said : Option (List ℕ)) (errors_failed : Bool) → Refused → ℕ → Type 0
+IsWordEnd held written out_failed heard said errors_failed (Help text) status =
+    Keeps heard said
+    × ((Appends held written (string_bytes text) × (status ≡ 0)) ⊎ (AppendsFront held written out_failed (string_bytes text) × (status ≡ 3)))
+IsWordEnd held written out_failed heard said errors_failed (Mistake text) status =
+    Keeps held written × Says heard said errors_failed (string_bytes text) × (status ≡ 2)
+IsWordEnd held written out_failed heard said errors_failed NoWordMemory status =
+    Keeps held written × IsSaid heard said errors_failed OutOfMemory status
 
--- The words asked for no options, and no file was opened.
-abbrev pub IsWordEnding : Scene → ℕ → Type 0
-IsWordEnding s status = Extends s.tried s.tries [] × IsWordEnd s.held s.written s.out_failed s.heard s.said s.errors_failed status
+-- The words are refused for a cause, which is told, and no file was opened.
+abbrev pub IsWordEnding : Scene → List (List ℕ) → ℕ → Type 0
+IsWordEnding s words status =
+    Extends s.tried s.tries []
+    × ((refused : Refused) × IsRefusal words refused × IsWordEnd s.held s.written s.out_failed s.heard s.said s.errors_failed refused status)

@@ -1,5 +1,5 @@
 -- What a run compares, what it writes, and why it writes no report.
-use Rattle.std.specs.Prelude.{◌≡◌, ◌<◌, ◌⊎◌, ℕ, Bool, true, false, List, [], ◌∷◌, ◌++◌, length, Option, Some, None, IfSome, ⊤}
+use Rattle.std.specs.Prelude.{◌≡◌, ◌<◌, ◌≤◌, ◌⊎◌, ℕ, Bool, true, false, List, [], ◌∷◌, ◌++◌, length, Option, Some, None, IfSome, ⊤}
 use Rattle.std.specs.Borrow.{Bor}
 use Rattle.std.specs.Io.KnownBytes.{Appends}
 use Rattle.check_report.specs.Writing.{AppendsFront}
@@ -10,6 +10,7 @@ use Rattle.net_order.specs.declared.order.OrderFault.TheVariants.{Read as OrderR
 use Rattle.net_order.specs.OrderText.{IsOrderText, IsBadText}
 use Rattle.check_report.specs.declared.outcome.Outcome.{Outcome}
 use Rattle.check_report.specs.Check.{IsChecked, IsCheckFault}
+use Rattle.check_report.specs.Limits.{AreWithin, AreBeyond}
 use Rattle.command_line.specs.declared.options.Options.{Options}
 use Rattle.command_line.specs.declared.options.OrderChoice.{OrderChoice}
 use Rattle.command_line.specs.declared.options.OrderChoice.TheVariants.{Declared, Depth, File}
@@ -42,10 +43,14 @@ paths_of o = text_paths o.texts ++ order_paths o.order
 abbrev pub IsReadOf : Option (List ℕ) → Option (List ℕ) → Type 0
 IsReadOf told read = IfSome told (λ text. read ≡ Some text)
 
+-- an input of two texts and the line between them, with its end, or of less
+abbrev pub IsShort : List ℕ → Type 0
+IsShort text = length text ≤ 134221824
+
 -- the two texts: of two files, or the parts of one input
 abbrev pub AreTexts : (List ℕ → Option (List ℕ)) → Option (List ℕ) → Texts → Option (List ℕ) → Option (List ℕ) → Type 0
 AreTexts told input (Files first second) one two = IsReadOf (told first.now) one × IsReadOf (told second.now) two
-AreTexts told input Input one two = IfSome input (λ text. (parts : List ℕ × List ℕ) × IsSplit text (Some parts) × (one ≡ Some parts.0) × (two ≡ Some parts.1))
+AreTexts told input Input one two = IfSome input (λ text. IsShort text × (parts : List ℕ × List ℕ) × IsSplit text (Some parts) × (one ≡ Some parts.0) × (two ≡ Some parts.1))
 AreTexts told input One one two = ⊥
 
 -- the order that is asked for; a file of names has been read
@@ -76,10 +81,22 @@ abbrev pub HasReportedFront : (List ℕ → Option (List ℕ)) → Option (List 
 HasReportedFront told input o before now has_failed =
     (outcome : Outcome) × (bytes : List ℕ) × IsReported told input o outcome bytes × AppendsFront before now has_failed bytes
 
+-- this holds of the texts and the order that the options name
+abbrev pub AreNamed : (List ℕ → Option (List ℕ)) → Option (List ℕ) → Options → (Option (List ℕ) → Option (List ℕ) → Order → Type 0) → Type 0
+AreNamed told input o P = (one two : Option (List ℕ)) × (order : Order) × AreTexts told input o.texts one two × IsOrderOf told o.order order × P one two order
+
+-- the nodes that the two texts need are within the limit of the options
+abbrev pub IsWithin : (List ℕ → Option (List ℕ)) → Option (List ℕ) → Options → Type 0
+IsWithin told input o = AreNamed told input o (λ one two order. AreWithin one two o.matching order o.limit)
+
+-- they are not
+abbrev pub IsBeyond : (List ℕ → Option (List ℕ)) → Option (List ℕ) → Options → Type 0
+IsBeyond told input o = AreNamed told input o (λ one two order. AreBeyond one two o.matching order o.limit)
+
 -- both texts are at hand
 abbrev pub HasTexts : Option (List ℕ) → Texts → Type 0
 HasTexts input (Files first second) = ⊤
-HasTexts input Input = IfSome input (λ text. (parts : List ℕ × List ℕ) × IsSplit text (Some parts))
+HasTexts input Input = IfSome input (λ text. IsShort text × (parts : List ℕ × List ℕ) × IsSplit text (Some parts))
 HasTexts input One = ⊥
 
 -- why the order file was refused
@@ -136,7 +153,7 @@ IsToolFault told input o tries OneFile = (o.texts ≡ One) × (tries ≡ [])
 IsToolFault told input o tries (CannotOpen place) = IsUnopened input o tries place
 IsToolFault told input o tries InputUnread = (o.texts ≡ Input) × (tries ≡ [])
 IsToolFault told input o tries InputTooLong = (o.texts ≡ Input) × (tries ≡ []) × IfSome input (λ text. 134221824 < length text)
-IsToolFault told input o tries InputUndivided = (o.texts ≡ Input) × (tries ≡ []) × IfSome input (λ text. IsSplit text None)
+IsToolFault told input o tries InputUndivided = (o.texts ≡ Input) × (tries ≡ []) × IfSome input (λ text. IsShort text × IsSplit text None)
 IsToolFault told input o tries (BadOrder fault) =
     (path : Bor (List ℕ)) × (o.order ≡ File path) × HasTexts input o.texts × (tries ≡ opened (paths_of o)) × IsOrderRefused (told path.now) fault
 IsToolFault told input o tries (Check fault) =

@@ -1,11 +1,14 @@
 //! A run with its options, over any folder, input and output.
 ghost use Rattle.std.specs.Prelude.{◌≡◌, ◌≢◌, ◌⊎◌, ℕ, ◌∷◌, [], List, IfOk, IfErr, OnOk, OnErr, IfSome, IsTrue, Some, Err, is_ok};
 ghost use Rattle.std.specs.Io.KnownBytes.{Appends};
-ghost use Rattle.check_report.specs.declared.fault.CheckFault.TheVariants.{Write};
+ghost use Rattle.check_report.specs.declared.fault.CheckFault.TheVariants.{Wave, Write};
 ghost use Rattle.check_report.specs.declared.outcome.Outcome.{Outcome};
+ghost use Rattle.check_report.specs.Limits.{AreWithin, AreBeyond};
 ghost use Rattle.check_report.specs.Writing.{AppendsFront};
+ghost use Rattle.expand_work.specs.declared.fault.WaveFault.TheVariants.{Full};
+ghost use Rattle.net_order.specs.declared.order.Order.{Order};
 ghost use Rattle.bddcheck.specs.Opening.{Extends, Try, opened};
-ghost use Rattle.bddcheck.specs.Running.{order_paths, paths_of, IsOrderOf, IsOrderFault, IsCompared, IsCompareFault, IsInputFault, IsToolFault, HasReported, HasReportedFront};
+ghost use Rattle.bddcheck.specs.Running.{order_paths, paths_of, IsShort, IsOrderOf, IsOrderFault, IsCompared, IsCompareFault, IsInputFault, IsToolFault, HasReported, HasReportedFront, IsWithin, IsBeyond};
 
 use crate::fault::{Place, ToolFault};
 use crate::folder::{Folder, OpenFault};
@@ -72,7 +75,9 @@ fn compare<H: Threads + Wait + Sync, F: Folder, R1: Source, R2: Source, W: Sink>
 ) -> Result<Outcome, ToolFault>
     ensures report { IfOk result (λ outcome. (bytes : List ℕ) × IsCompared (F.told folder.old) (R1.remaining first.old) (R2.remaining second.old) options.now outcome bytes × Appends (W.contents out.old) (W.contents out.new) bytes) }
     ensures opened { OnOk result (Extends (F.tries folder.old) (F.tries folder.new) (opened (order_paths options.now.order))) }
+    ensures within { OnOk result ((order : Order) × IsOrderOf (F.told folder.old) options.now.order order × AreWithin (R1.remaining first.old) (R2.remaining second.old) options.now.matching order options.now.limit) }
     ensures fault { IfErr result (λ fault. (tries : List Try) × Extends (F.tries folder.old) (F.tries folder.new) tries × IsCompareFault (F.told folder.old) (R1.remaining first.old) (R2.remaining second.old) options.now tries fault) }
+    ensures full { result ≡ Err (ToolFault.Check (Wave Full)) → (order : Order) × IsOrderOf (F.told folder.old) options.now.order order × AreBeyond (R1.remaining first.old) (R2.remaining second.old) options.now.matching order options.now.limit }
     ensures unwritten { result ≡ Err (ToolFault.Check Write) → (outcome : Outcome) × (bytes : List ℕ) × IsCompared (F.told folder.old) (R1.remaining first.old) (R2.remaining second.old) options.now outcome bytes × AppendsFront (W.contents out.old) (W.contents out.new) (W.has_failed out.new) bytes }
     ensures untouched { OnErr result (result ≢ Err (ToolFault.Check Write) → out.new ≡ out.old) }
     ensures written { OnOk result (W.has_failed out.new ≡ W.has_failed out.old) }
@@ -93,6 +98,7 @@ fn compare<H: Threads + Wait + Sync, F: Folder, R1: Source, R2: Source, W: Sink>
 /// The text of standard input.
 fn read_input<R: Source>(alloc: Global, input: &mut R) -> Result<Vec<u8>, ToolFault>
     ensures text { IfOk result (λ text. IfSome (R.remaining input.old) (λ told. text.items ≡ told)) }
+    ensures short { IfOk result (λ text. IsShort text.items) }
     ensures fault { IfErr result (λ fault. IsInputFault (R.remaining input.old) fault) }
     ensures read { result ≡ Err ToolFault.InputUnread → IsTrue (R.has_failed input.new) }
 {
@@ -118,6 +124,9 @@ pub fn run_options<H: Threads + Wait + Sync, F: Folder, R: Source, W: Sink>(
     ensures report { IfOk result (HasReported (F.told folder.old) (R.remaining input.old) options.now (W.contents out.old) (W.contents out.new)) }
     // Then each file that the options name was opened, in the stated order, and no other.
     ensures opened { OnOk result (Extends (F.tries folder.old) (F.tries folder.new) (opened (paths_of options.now))) }
+    // The nodes that the texts need are within the limit where there is a report, and Full comes only where they are not.
+    ensures within { OnOk result (IsWithin (F.told folder.old) (R.remaining input.old) options.now) }
+    ensures full { result ≡ Err (ToolFault.Check (Wave Full)) → IsBeyond (F.told folder.old) (R.remaining input.old) options.now }
     // A fault has its cause, what comes before it was accepted, and no file was tried beyond it.
     ensures fault { IfErr result (λ fault. (tries : List Try) × Extends (F.tries folder.old) (F.tries folder.new) tries × IsToolFault (F.told folder.old) (R.remaining input.old) options.now tries fault) }
     // Where the writing failed, a front part of the report was written; the whole only where the device has failed.

@@ -46,7 +46,7 @@ fn refuse_words<W: Sink, E: Sink>(
     out: &mut W,
     errors: &mut E,
 ) -> u8
-    ensures ending { IsWordEnd (W.contents out.old) (W.contents out.new) (W.has_failed out.new) (E.contents errors.old) (E.contents errors.new) (E.has_failed errors.new) result }
+    ensures ending { IsWordEnd (W.contents out.old) (W.contents out.new) (W.has_failed out.new) (E.contents errors.old) (E.contents errors.new) (E.has_failed errors.new) refused.now result }
     ensures bound { result ≤ 3 }
     ensures untouched { result ≡ 2 → out.new ≡ out.old }
     ensures silent { result ≤ 1 → errors.new ≡ errors.old }
@@ -87,7 +87,7 @@ pub fn run_tool<H: Threads + Wait + Sync, F: Folder, R: Source, W: Sink, E: Sink
     errors: &mut E,
 ) -> u8
     // The words ask for options, and then the run ends with their report and status 0 or 1, or with the line and the status of a
-    // fault that has its cause; or they ask for none, and then no file is opened, and help, a mistake or want of memory is told.
+    // fault that has its cause; or they are refused for a cause, no file is opened, and help, a mistake or want of memory is told.
     ensures ending { let scene : Scene = record {
       told = F.told folder.old;
       tried = F.tries folder.old;
@@ -99,7 +99,7 @@ pub fn run_tool<H: Threads + Wait + Sync, F: Folder, R: Source, W: Sink, E: Sink
       heard = E.contents errors.old;
       said = E.contents errors.new;
       errors_failed = E.has_failed errors.new;
-    } in ((options : Options) × AskFor (map string_bytes words.now) options × IsEnding scene options result) ⊎ IsWordEnding scene result }
+    } in ((options : Options) × AskFor (map string_bytes words.now) options × IsEnding scene options result) ⊎ IsWordEnding scene (map string_bytes words.now) result }
     ensures bound { result ≤ 3 }
     // Status 2 says that nothing was written, statuses 0 and 1 that nothing was said.
     ensures untouched { result ≡ 2 → out.new ≡ out.old }

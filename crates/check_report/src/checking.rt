@@ -1,12 +1,12 @@
 //! From two readers to a report.
 ghost use Rattle.std.specs.Prelude.{◌≡◌, ◌≢◌, ℕ, List, IfOk, IfErr, OnOk, OnErr, IsTrue};
 ghost use Rattle.std.specs.Io.KnownBytes.{Appends};
-ghost use Rattle.net_bench.specs.Circuit.{Circuit, circuit};
-ghost use Rattle.net_order.specs.Order.{Paired, IsPairing};
+ghost use Rattle.net_bench.specs.Circuit.{circuit};
+ghost use Rattle.net_order.specs.Order.{IsPairing};
 ghost use Rattle.check_report.specs.declared.outcome.Outcome.{Outcome};
 ghost use Rattle.check_report.specs.Report.{IsReport};
-ghost use Rattle.check_report.specs.Check.{ArePaired, IsChecked, IsCheckFault, IsLate};
-ghost use Rattle.check_report.specs.Limits.{FitsWithin, Exceeds};
+ghost use Rattle.check_report.specs.Check.{IsChecked, IsCheckFault, IsLate};
+ghost use Rattle.check_report.specs.Limits.{FitsWithin, Exceeds, AreWithin, AreBeyond};
 ghost use Rattle.check_report.specs.Writing.{AppendsFront};
 
 use crate::compare::{Comparison, Report, report_of};
@@ -89,8 +89,8 @@ pub fn check<H: Threads + Wait + Sync, R1: Source, R2: Source, G: Gate, W: Sink>
     // where their functions are equal.
     ensures report { IfOk result (λ o. (bytes : List ℕ) × IsChecked (R1.remaining first.old) (R2.remaining second.old) settings.now.matching settings.now.order settings.now.sizes o bytes × Appends (W.contents out.old) (W.contents out.new) bytes) }
     // The nodes that the two netlists need are within the limit where there is a report, and Full comes only where they are not.
-    ensures within { OnOk result ((a b : Circuit) × (p : Paired) × ArePaired (R1.remaining first.old) (R2.remaining second.old) settings.now.matching settings.now.order a b p × FitsWithin settings.now.limit a b p) }
-    ensures full { result ≡ Err (CheckFault.Wave WaveFault.Full) → (a b : Circuit) × (p : Paired) × ArePaired (R1.remaining first.old) (R2.remaining second.old) settings.now.matching settings.now.order a b p × Exceeds settings.now.limit a b p }
+    ensures within { OnOk result (AreWithin (R1.remaining first.old) (R2.remaining second.old) settings.now.matching settings.now.order settings.now.limit) }
+    ensures full { result ≡ Err (CheckFault.Wave WaveFault.Full) → AreBeyond (R1.remaining first.old) (R2.remaining second.old) settings.now.matching settings.now.order settings.now.limit }
     // A fault has its cause, and what comes before it was accepted.
     ensures fault { IfErr result (IsCheckFault (R1.remaining first.old) (R2.remaining second.old) settings.now.matching settings.now.order) }
     // Where the writing failed, a front part of the report was written; the whole only where the device has failed.

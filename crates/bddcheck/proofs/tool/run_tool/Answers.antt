@@ -16,11 +16,12 @@ pub returns-in-Ok-run_options-clause-ending : goal.returns-in-Ok-run_options-cla
 returns-in-Ok-run_options-clause-ending g c =
     inl (
       c.in-Ok.options,
-      c.in-Ok.ensures,
+      c.in-Ok.ensures.options,
       inl (
         c.in-Ok-run_options.outcome,
         record {
           report = c.in-Ok-run_options.ensures.report;
+          within = c.in-Ok-run_options.ensures.within;
           opened_all = c.in-Ok-run_options.ensures.opened;
           silent = keeps_own (g.E.Sink.contents c.args.errors.now);
           code = c.status_of.ensures;
@@ -33,13 +34,14 @@ returns-in-Err-run_options-clause-ending g c =
     let cause = c.in-Err-run_options.ensures.fault in
     inl (
       c.in-Ok.options,
-      c.in-Ok.ensures,
+      c.in-Ok.ensures.options,
       inr (
         c.in-Err-run_options.fault,
         record {
           tries = cause.0;
           tried = cause.1;
           cause = cause.2;
+          full = λ e. c.run_options.ensures.full (c.in-Err-run_options.is ∙ ap Err e);
           line = c.refuse.ensures.said;
           front = λ e. c.run_options.ensures.unwritten (c.in-Err-run_options.is ∙ ap Err e);
           nothing = λ other.
