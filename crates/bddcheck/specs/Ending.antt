@@ -1,5 +1,5 @@
 -- How a run ends: what it has written, what it says, and its status.
-use Rattle.std.specs.Prelude.{◌≡◌, ◌≢◌, ◌≤◌, ◌⊎◌, ◌↔◌, ℕ, Bool, List, [], Option, string_bytes}
+use Rattle.std.specs.Prelude.{◌≡◌, ◌≢◌, ◌≤◌, ◌⊎◌, ◌↔◌, ℕ, Bool, List, [], Option, IsTrue, string_bytes}
 use Rattle.std.specs.Io.KnownBytes.{Appends, Keeps}
 use Rattle.check_report.specs.declared.outcome.Outcome.{Outcome}
 use Rattle.check_report.specs.declared.fault.CheckFault.TheVariants.{Wave, Write}
@@ -10,7 +10,7 @@ use Rattle.command_line.specs.declared.reading.Refused.TheVariants.{Help, Mistak
 use Rattle.command_line.specs.Words.{IsRefusal}
 use Rattle.expand_work.specs.declared.fault.WaveFault.TheVariants.{Full}
 use Rattle.bddcheck.specs.declared.fault.ToolFault.{ToolFault}
-use Rattle.bddcheck.specs.declared.fault.ToolFault.TheVariants.{Check, OutOfMemory}
+use Rattle.bddcheck.specs.declared.fault.ToolFault.TheVariants.{Check, InputUnread, OutOfMemory}
 use Rattle.bddcheck.specs.Faults.{fault_line, fault_status}
 use Rattle.bddcheck.specs.Opening.{Try, Extends, opened}
 use Rattle.bddcheck.specs.Running.{paths_of, HasReported, HasReportedFront, IsWithin, IsBeyond, IsToolFault}
@@ -32,12 +32,13 @@ pub record IsReportStatus (outcome : Outcome) (status : ℕ) : Type 0 where
   pub zero : (status ≡ 0) ↔ ((outcome.different ≡ 0) × (outcome.unmatched ≡ 0))
 
 -- what a run is given and leaves: the files that are told and the tries before and now, the input, and the bytes of the output and of
--- the error device before and now, with whether these have failed now
+-- the error device before and now; and whether each of the three devices has failed now
 pub record Scene : Type 0 where
   pub told : List ℕ → Option (List ℕ)
   pub tried : Option (List Try)
   pub tries : Option (List Try)
   pub input : Option (List ℕ)
+  pub input_failed : Bool
   pub held : Option (List ℕ)
   pub written : Option (List ℕ)
   pub out_failed : Bool
@@ -58,6 +59,7 @@ pub record Refuses (s : Scene) (o : Options) (fault : ToolFault) (status : ℕ) 
   pub tries : List Try
   pub tried : Extends s.tried s.tries tries
   pub cause : IsToolFault s.told s.input o tries fault
+  pub unread : fault ≡ InputUnread → IsTrue s.input_failed
   pub full : fault ≡ Check (Wave Full) → IsBeyond s.told s.input o
   pub line : IsSaid s.heard s.said s.errors_failed fault status
   pub front : fault ≡ Check Write → HasReportedFront s.told s.input o s.held s.written s.out_failed

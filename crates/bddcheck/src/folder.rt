@@ -38,7 +38,10 @@ pub struct Disk<'a, H> {
 }
 
 impl<'a, H> Disk<'a, H> {
-    pub fn new(rt: &'a H) -> Disk<'a, H> {
+    /// The file system that this runtime reaches.
+    pub fn new(rt: &'a H) -> Disk<'a, H>
+        ensures { result.rt ≡ rt.entry }
+    {
         Disk { rt }
     }
 }

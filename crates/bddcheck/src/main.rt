@@ -1,6 +1,8 @@
 //! The program: two netlists in, a report and a status out.
 #![tactic(auto)]
 
+ghost use Rattle.std.specs.Prelude.{◌≤◌};
+
 mod fault;
 mod folder;
 mod run;
@@ -35,6 +37,7 @@ where
     I: Read + Drop,
     O: Write + Drop,
     E: Write + Drop,
+    ensures { result ≤ 3 }
 {
     let mut errors = Through::new(errors);
     let words = match words_of(rt) {

@@ -1,6 +1,7 @@
 //! Runs of the program over a folder and devices in memory.
 mod devices;
 mod fault_lines;
+mod meetings;
 mod netlists;
 mod refusals;
 mod reports;

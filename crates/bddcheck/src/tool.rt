@@ -93,6 +93,7 @@ pub fn run_tool<H: Threads + Wait + Sync, F: Folder, R: Source, W: Sink, E: Sink
       tried = F.tries folder.old;
       tries = F.tries folder.new;
       input = R.remaining input.old;
+      input_failed = R.has_failed input.new;
       held = W.contents out.old;
       written = W.contents out.new;
       out_failed = W.has_failed out.new;

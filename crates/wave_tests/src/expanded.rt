@@ -1,11 +1,13 @@
 //! Waves expanded by threads: their records, how many items were put, and workers that meet at a level.
 ghost use Rattle.std.specs.Prelude.{◌≡◌, ◌≤◌, ◌<◌, All};
+ghost use Rattle.reduce_up.specs.Waves.{IsEntry};
 ghost use Rattle.req_table.specs.Keys.{IsKey};
 
 use crate::requests::{request, store_of, variable};
 use dd_store::{Ref, Store, Watch};
 use expand_work::{Free, Gate, expand_all};
 use lane_queue::Port;
+use reduce_up::wave;
 use req_table::requests::owner;
 use req_table::{Child, Key, Op, Record};
 use std::alloc::Global;
@@ -149,10 +151,22 @@ impl Gate for Meeting {
     }
 }
 
-// Two workers are at one level at once, and put 2 Asks and 2 x 2 x 4 Ends.
+/// The operations of the same two requests.
+fn two_entries(rt: &impl Abort, store: &Store) -> [(Op, Ref, Ref); 2]
+    requires { store.now.levels ≡ 4 }
+    ensures { All (IsEntry store.now) result }
+{
+    let d = variable(rt, store, 3);
+    [
+        (Op::And, variable(rt, store, 0), variable(rt, store, 2)),
+        (Op::Nand, d, d),
+    ]
+}
+
+// Two workers are at one level at once, and put 2 Asks and 2 x 2 x 4 Ends; and again in a wave.
 #[test]
 fn two_at_a_level(rt: HostRuntime) -> Result<(), Fail> {
-    let store = store_of(&rt, rt.alloc(), 4);
+    let mut store = store_of(&rt, rt.alloc(), 4);
     let roots = two_roots(&rt, &store);
     assert_eq!(rt; (owner(roots[0], 2), owner(roots[1], 2)), (0, 1));
     let gate = Meeting::new();
@@ -173,6 +187,14 @@ fn two_at_a_level(rt: HostRuntime) -> Result<(), Fail> {
     assert!(rt; is_record(records.level(3), roots[1], Ref::True, Ref::False));
     assert!(rt; are_numbered(expanded.ports(), 2));
     assert_eq!(rt; put_by(expanded.ports()), 18);
+    let gate = Meeting::new();
+    let entries = two_entries(&rt, &store);
+    let answers = wave(&rt, rt.alloc(), &mut store, &entries, 2, &gate)?;
+    assert!(rt; gate.met());
+    let both = store.find(0, Ref::False, entries[0].2);
+    let not_d = store.find(3, Ref::True, Ref::False);
+    assert!(rt; both.is_some() && both == answers.first().copied());
+    assert!(rt; not_d.is_some() && not_d == answers.last().copied());
     Ok(())
 }
 

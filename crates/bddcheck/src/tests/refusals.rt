@@ -2,6 +2,7 @@
 use super::devices::{Page, Reader, Shelf, Tape, new_page, start, tape_of};
 use super::netlists::{C17, C17_CUT, C17_OF_FOUR, LONG_NAME, LOOP, LOOP_AND_MORE, PAIRS};
 use super::reports::words_of;
+use crate::folder::Disk;
 use crate::tool::run_tool;
 use net_bench::device::Through;
 use std::alloc::Global;
@@ -65,7 +66,7 @@ fn shelf(alloc: Global, first: Tape, second: Tape, list: Tape) -> Shelf {
 }
 
 /// The texts that are refused.
-fn refused_texts() -> [Row; 17] {
+fn refused_texts() -> [Row; 20] {
     [
         (
             "",
@@ -174,7 +175,31 @@ fn refused_texts() -> [Row; 17] {
             "order: line 3: not a signal name",
         ),
         (
-            "--limit 19",
+            "--limit 19 --workers 1",
+            C17,
+            C17,
+            "",
+            3,
+            "build: more nodes than the limit",
+        ),
+        (
+            "--limit 19 --workers 2",
+            C17,
+            C17,
+            "",
+            3,
+            "build: more nodes than the limit",
+        ),
+        (
+            "--limit 19 --workers 3",
+            C17,
+            C17,
+            "",
+            3,
+            "build: more nodes than the limit",
+        ),
+        (
+            "--limit 19 --workers 16",
             C17,
             C17,
             "",
@@ -582,5 +607,41 @@ fn command_lines(rt: HostRuntime) -> Result<(), Fail> {
     let mut short = new_page(rt.alloc(), 5, true);
     let status = status_over(&rt, "--help", &mut short, &mut errors)?;
     assert_eq!(rt; status, 3);
+    Ok(())
+}
+
+// The file system: a file without bytes, and paths without a file.
+#[test]
+fn files_of_the_disk(rt: HostRuntime) -> Result<(), Fail> {
+    for (line, status, report, error) in [
+        (
+            "/dev/null /dev/null",
+            0,
+            "0 equal, 0 different, 0 unmatched\n",
+            "",
+        ),
+        (
+            "/dev/null /dev/null/none",
+            2,
+            "",
+            "bddcheck: second: cannot be opened\n",
+        ),
+    ] {
+        let words = words_of(rt.alloc(), line)?;
+        let mut out = new_page(rt.alloc(), 1_000, false);
+        let mut errors = new_page(rt.alloc(), 1_000, false);
+        let got = run_tool(
+            &rt,
+            rt.alloc(),
+            words.as_slice(),
+            &mut Disk::new(&rt),
+            &mut start(tape_of("")),
+            &mut out,
+            &mut errors,
+        );
+        assert_eq!(rt; errors.held.as_slice(), error.as_bytes());
+        assert_eq!(rt; out.held.as_slice(), report.as_bytes());
+        assert_eq!(rt; got, status, "{line}");
+    }
     Ok(())
 }

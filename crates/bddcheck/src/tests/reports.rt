@@ -1,7 +1,7 @@
 //! Reports of the worked examples, by files and by standard input, with several numbers of workers.
 use super::devices::{Shelf, new_page, tape_of};
 use super::netlists::{
-    BUFFER, C17, C17_RESPELLED, C17B, C17C, CHAIN8, NEVER, PAIRS, PAR8, WIRE, XOR_OF_SAME,
+    BUFFER, C17, C17_RESPELLED, C17B, C17C, CHAIN8, NEVER, PAIRS, PAIRS13, PAR8, WIRE, XOR_OF_SAME,
 };
 use crate::tool::run_tool;
 use net_bench::device::Through;
@@ -18,7 +18,7 @@ type Row = (
     &'static str,
 );
 
-static ALL_EQUAL: &str = "EQUAL 22\nEQUAL 23\n2 equal, 0 different, 0 unmatched\n";
+pub static ALL_EQUAL: &str = "EQUAL 22\nEQUAL 23\n2 equal, 0 different, 0 unmatched\n";
 
 /// The words of a line.
 pub fn words_of(alloc: Global, line: &str) -> Result<Vec<String>, AllocError> {
@@ -30,7 +30,7 @@ pub fn words_of(alloc: Global, line: &str) -> Result<Vec<String>, AllocError> {
 }
 
 /// The worked examples.
-fn examples() -> [Row; 22] {
+fn examples() -> [Row; 23] {
     [
         ("", C17, C17, "", 0, ALL_EQUAL),
         (
@@ -96,6 +96,14 @@ fn examples() -> [Row; 22] {
             "x1 x3 x5 x2 x4 x6",
             0,
             "EQUAL o size 14\n1 equal, 0 different, 0 unmatched\n",
+        ),
+        (
+            "--sizes",
+            PAIRS13,
+            PAIRS13,
+            "",
+            0,
+            "EQUAL o size 16382\n1 equal, 0 different, 0 unmatched\n",
         ),
         ("", "", "", "", 0, "0 equal, 0 different, 0 unmatched\n"),
         ("", C17_RESPELLED, C17, "", 0, ALL_EQUAL),

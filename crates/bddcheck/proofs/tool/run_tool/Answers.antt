@@ -41,6 +41,7 @@ returns-in-Err-run_options-clause-ending g c =
           tries = cause.0;
           tried = cause.1;
           cause = cause.2;
+          unread = λ e. c.run_options.ensures.read (c.in-Err-run_options.is ∙ ap Err e);
           full = λ e. c.run_options.ensures.full (c.in-Err-run_options.is ∙ ap Err e);
           line = c.refuse.ensures.said;
           front = λ e. c.run_options.ensures.unwritten (c.in-Err-run_options.is ∙ ap Err e);
