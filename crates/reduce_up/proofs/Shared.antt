@@ -17,7 +17,7 @@ use Rattle.dd_store.specs.Growing.{IsIn}
 use Rattle.dd_store.specs.Parts.Part.{node}
 use Rattle.dd_store.specs.Nodes.{Nodes, node as node_at, shard_at, den, IsSound, IsThere, count_of}
 use Rattle.dd_store.specs.Adding.{AreReady, GrowsLevel, IsLevelFault}
-use Rattle.dd_store.specs.View.{part_of, part, Has, Keeps, IsFull}
+use Rattle.dd_store.specs.View.{part_of, part, Has}
 use Rattle.dd_store.proofs.Storing.{node_in_shard, node_from_shard, small_shard, shard-le-count}
 use Rattle.dd_store.proofs.AddingAll.{grown_only, Extends-grown}
 use Rattle.dd_store.proofs.View.{keeps, same_ref, absent}
@@ -210,7 +210,3 @@ notes_next old row found i mid entry answer new lt at beside n m = record {
     | inr below ↦ m.more (slice_index_or row j d).key (n.done j d below)
   ];
 }
-
--- once all are noted, as many are as a list that goes beside the row is long
-pub notes_all : (old : List (Key × Ref)) (row : List Record) (found : List Ref) (i : ℕ) (new : List (Key × Ref)) → i ≡ length row → NotesFirst old row found i new → NotesFirst old row found (length row) new
-notes_all old row found i new e n = subst (λ z. NotesFirst old row found z new) e n

@@ -47,14 +47,14 @@ fn pairs_of<R: Threads + Sync>(
         .collect(rt, alloc)
 }
 
-/// A list for each shard, without pairs.
-fn empty_lists(alloc: Global) -> Result<Vec<Vec<(Ref, Ref)>>, AllocError>
+/// A list for each shard, without pairs and with room for some.
+fn empty_lists(alloc: Global, room: usize) -> Result<Vec<Vec<(Ref, Ref)>>, AllocError>
     ensures sixteen { IfOk result (λ lists. length lists.items ≡ 16) }
     ensures empty { IfOk result (λ lists. (s : ℕ) → length (list_at lists.items s) ≡ 0) }
 {
-    let mut lists = Vec::new(alloc);
+    let mut lists = Vec::with_capacity(alloc, SHARDS)?;
     for _ in 0..SHARDS {
-        lists.push(Vec::new(alloc))?;
+        lists.push(Vec::with_capacity(alloc, room)?)?;
     }
     Ok(lists)
 }
@@ -77,7 +77,7 @@ fn divide(alloc: Global, pairs: &[(Ref, Ref)]) -> Result<Vec<Vec<(Ref, Ref)>>, A
     ensures sixteen { IfOk result (λ lists. length lists.items ≡ 16) }
     ensures divided { IfOk result (λ lists. AreDivided pairs.now (list_at lists.items)) }
 {
-    let mut lists = empty_lists(alloc)?;
+    let mut lists = empty_lists(alloc, pairs.len() / SHARDS)?;
     for pair in pairs {
         list_pair(&mut lists, *pair)?;
     }
@@ -156,7 +156,8 @@ fn note_all(results: &mut Results, row: &[Record], answers: &[Ref]) -> Result<()
 
 /// Notes the diagrams of a row, whose records and shards several threads share.
 ///
-/// What one thread cannot be started for, the caller's thread does.
+/// What no thread could be started for, the caller's thread does. After a refusal some of the nodes may stand, and some diagrams may
+/// be noted.
 pub(crate) fn share_row<R: Threads + Sync, H: Watch>(
     rt: &R,
     alloc: Global,

@@ -344,7 +344,7 @@ fn core_reduced(rt: HostRuntime) -> Result<(), Fail> {
             let records = closure_of(&rt, alloc, &store, &roots, choices);
             closures_are_records(&store, &roots, &records);
             assert_eq!(rt; store.count(), 4);
-            match reduce(&rt, alloc, &mut store, &records) {
+            match reduce(&rt, alloc, &mut store, &records, &Free) {
                 Ok(results) => {
                     assert!(rt; fits);
                     let first = node(&rt, &store, 0, Ref::False, c);

@@ -1,8 +1,7 @@
-use Rattle.std.proofs.Common.{◌≡◌, ◌∷◌, ◌++◌, [], rules, sym, ap, ◌∙◌, subst, take, get_or, ℕ}
+use Rattle.std.proofs.Common.{take, get_or, ℕ}
 use Rattle.std.proofs.lemmas.List.{take_more}
 use Rattle.dd_store.specs.declared.reference.Ref.TheVariants.{False}
 use Rattle.dd_store.specs.Levels.{list_at}
-use Rattle.reduce_up.specs.Sharing.{IsListed}
 use Rattle.reduce_up.proofs.Dividing.{none_divided, listed_more}
 use Rattle.reduce_up.proofs.parallel.divide.Goals as goal
 

@@ -1,4 +1,4 @@
-use Rattle.std.proofs.Common.{◌≡◌, ◌≢◌, ◌∷◌, ◌++◌, [], rules, sym, ap, ◌∙◌, subst, set, arith, ℕ, length}
+use Rattle.std.proofs.Common.{◌≡◌, ◌≢◌, ◌∷◌, ◌++◌, [], rules, sym, ap, ◌∙◌, subst, set, arith}
 use Rattle.dd_store.specs.Codes.{shard_of_pair}
 use Rattle.dd_store.specs.Levels.{list_at}
 use Rattle.dd_store.proofs.LevelFacts.{list_read}

@@ -1,11 +1,10 @@
-use Rattle.std.proofs.Common.{◌≡◌, ◌<◌, ◌+◌, ◌++◌, ◌∷◌, [], ℕ, rules, sym, ap, ◌∙◌, subst, get_or, length, length-append, arith}
-use Rattle.std.specs.Prelude.{min}
+use Rattle.std.proofs.Common.{◌≡◌, ◌+◌, ◌++◌, ◌∷◌, [], rules, sym, subst, length, length-append}
 use Rattle.std.specs.Iterator.Adapters.{zip_first, zip_second}
 use Rattle.std.specs.Slice.Iter.{iter_rest}
-use Rattle.std.proofs.lemmas.Slice.Zip.{zip_turn, zip_end}
+use Rattle.std.proofs.lemmas.Slice.Zip.{zip_turn}
 use Rattle.reduce_up.specs.Sharing.{NotesFirst}
 use Rattle.reduce_up.specs.Reducing.{Notes}
-use Rattle.reduce_up.proofs.Shared.{notes_none, notes_fewer, notes_next, notes_all}
+use Rattle.reduce_up.proofs.Shared.{notes_none, notes_fewer, notes_next}
 use Rattle.reduce_up.proofs.parallel.note_all.Goals as goal
 
 pub loop-entry-init : goal.loop-entry-init

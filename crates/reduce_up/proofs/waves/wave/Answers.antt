@@ -4,7 +4,7 @@ use Rattle.req_table.specs.declared.Record.{Record}
 use Rattle.req_table.specs.Keys.{IsKey, wave_of}
 use Rattle.req_table.specs.Settled.{IsClosure}
 use Rattle.req_table.specs.Tables.{row_at}
-use Rattle.reduce_up.specs.Waves.{requests_of, IsClosureOf}
+use Rattle.reduce_up.specs.Waves.{requests_of}
 use Rattle.reduce_up.proofs.Rooted.{requests_good}
 use Rattle.reduce_up.proofs.Waving.{not_full}
 use Rattle.reduce_up.proofs.waves.wave.Goals as goal
