@@ -12,8 +12,8 @@ use req_table::{Record, Records};
 use std::alloc::Global;
 use std::thread::Threads;
 
-/// A row with fewer records is reduced on the caller's thread, since there a map over the records starts no thread, and to start
-/// those that share the shards takes longer than such a row.
+/// A row with fewer records is reduced on the caller's thread: a map over it would start no thread, and to start those that share the
+/// shards takes longer than the row.
 const FEWEST_SHARED: usize = 2048;
 
 /// The diagram of a record's request, which adds at most its node.
