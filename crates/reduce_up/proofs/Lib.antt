@@ -3,6 +3,8 @@ pub mod Reduction
 pub mod Levelling
 pub mod Closed
 pub mod Missing
+pub mod Dividing
+pub mod Shared
 pub mod Below
 pub mod Rooted
 pub mod Waving

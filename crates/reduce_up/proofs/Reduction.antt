@@ -53,14 +53,11 @@ either n v f g lt h y hy = split (take v y) (drop v y) (simp length-take (omega 
     split q [] hq hx e = absurd (omega arith)
     split q (b ∷ x) hq hx e = subst (λ z. f z ≡ g z) e (h b q x hq (omega arith))
 
--- in the new store the made reference is the answer
-pub made_answer : (old new : Nodes) (v : ℕ) (k : Key) (lo hi r : Ref) → IsSound old → IsSound new → IsKeyAt old v k → IsAnswerAt old v k false lo → IsAnswerAt old v k true hi → IsMade old new v lo hi r → IsAnswer new k r
-made_answer old new v k lo hi r S T key zero_side one_side m =
-    by m.is
+-- in the new store the reference that stands for the two children is the answer
+pub made_answer : (old new : Nodes) (v : ℕ) (k : Key) (lo hi r : Ref) → IsSound old → IsSound new → IsKeyAt old v k → IsAnswerAt old v k false lo → IsAnswerAt old v k true hi → Keeps old new → Has new r → ((lo ≡ hi) × (r ≡ lo)) ⊎ ((lo ≢ hi) × (part new r ≡ node v lo hi)) → IsAnswer new k r
+made_answer old new v k lo hi r S T key zero_side one_side K here is =
+    by is
   where
-    K : Keeps old new
-    K = m.keeps
-
     mean : (x : List Bool) → meaning new k x ≡ meaning old k x
     mean = kept_meaning old new S K k key.first key.second
 
@@ -83,7 +80,7 @@ made_answer old new v k lo hi r S T key zero_side one_side m =
     node_case : part new r ≡ node v lo hi → (b : Bool) (q x : List Bool) → length q ≡ v → v + suc (length x) ≡ new.levels → den new r (q ++ b ∷ x) ≡ meaning new k (q ++ b ∷ x)
     node_case e b q x hq hx =
         let bit : get_or (q ++ b ∷ x) v false ≡ b = ap (λ i. get_or (q ++ b ∷ x) i false) (sym hq) ∙ get_or-append_seam q b x false in
-        by_bit new T r v lo hi m.has e (q ++ b ∷ x) ∙ ap (λ c. den new (cond c hi lo) (q ++ b ∷ x)) bit ∙ side b
+        by_bit new T r v lo hi here e (q ++ b ∷ x) ∙ ap (λ c. den new (cond c hi lo) (q ++ b ∷ x)) bit ∙ side b
       where
         side : (b : Bool) → den new (cond b hi lo) (q ++ b ∷ x) ≡ meaning new k (q ++ b ∷ x)
         side true = one_den q x hq hx
@@ -93,15 +90,15 @@ made_answer old new v k lo hi r S T key zero_side one_side m =
     by (inl e) = record {
       first = K.has k.f key.first;
       second = K.has k.g key.second;
-      has = m.has;
+      has = here;
       not_above = let b : v < top old lo = zero_side.below in let t : top new lo ≡ top old lo = kept_top old new K lo in let u : top new r ≡ top new lo = ap (top new) e.1 in omega (arith, level_is);
       denotes = either new.levels v (den new r) (meaning new k) fit (λ b q x hq hx. ap (λ z. den new z (q ++ b ∷ x)) e.1 ∙ equal_case e.0 b q x hq hx);
     }
     by (inr e) = record {
       first = K.has k.f key.first;
       second = K.has k.g key.second;
-      has = m.has;
-      not_above = let t : top new r ≡ v = top-node new r v lo hi m.has e.1 in omega (arith, level_is);
+      has = here;
+      not_above = let t : top new r ≡ v = top-node new r v lo hi here e.1 in omega (arith, level_is);
       denotes = either new.levels v (den new r) (meaning new k) fit (node_case e.1);
     }
 
@@ -135,7 +132,7 @@ pub record_done : (old new : Nodes) (v : ℕ) (entry : Record) (lo hi : Ref) (re
     IfOk result (λ r. IsMade old new v lo hi r) → OnErr result (new ≡ old) →
     IfOk result (λ r. IsAnswer new entry.key r) × AddsDescribed old new (AskedBy old v (entry ∷ []))
 record_done old new v entry lo hi (Ok r) S T key zero_side one_side m e =
-    let a : IsAnswer new entry.key r = made_answer old new v entry.key lo hi r S T key zero_side one_side m in
+    let a : IsAnswer new entry.key r = made_answer old new v entry.key lo hi r S T key zero_side one_side m.keeps m.has m.is in
     (a, made_adds old new v entry lo hi r S key zero_side.has m a)
 record_done old new v entry lo hi (Err f) S T key zero_side one_side m e = (tt, adds_none old new (AskedBy old v (entry ∷ [])) e)
 

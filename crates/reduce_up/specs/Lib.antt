@@ -1,3 +1,4 @@
 pub mod Reducing
 pub mod Levels
 pub mod Waves
+pub mod Sharing

@@ -1,25 +1,20 @@
 //! Reduction of the records of a wave, from the last level up.
 ghost use Rattle.std.specs.Prelude.{◌≡◌, ◌<◌, ◌≤◌, length, IfOk, IfErr, OnOk, [], ◌∷◌};
 ghost use Rattle.dd_store.specs.Nodes.{IsSound, count_of};
-ghost use Rattle.reduce_up.specs.Reducing.{IsReady, IsResolved, IsRecordAt, AreAnswers, IsAnswer, AddsDescribed, AskedBy, IsRow, IsRowReduced, IsRowWithin, IsRecordFault, IsRowFault, wave_fault};
+ghost use Rattle.reduce_up.specs.Reducing.{IsReady, IsRecordAt, AreAnswers, IsAnswer, AddsDescribed, AskedBy, IsRow, IsRowReduced, IsRowWithin, IsRecordFault, IsRowFault, wave_fault};
 ghost use Rattle.reduce_up.specs.Levels.{AreRecords, AskedInRows, AreReduced, IsReduceFault, IsWithinFrom};
 
+use crate::parallel::share_row;
 use crate::results::Results;
-use dd_store::{Ref, Store, StoreFault};
+use dd_store::{Ref, Store, StoreFault, Watch};
 use expand_work::WaveFault;
-use req_table::{Child, Record, Records};
+use req_table::{Record, Records};
 use std::alloc::Global;
+use std::thread::Threads;
 
-/// The diagram of a child.
-fn resolve(results: &Results, child: Child) -> Ref
-    requires { IsReady results.now child }
-    ensures { IsResolved results.now child result }
-{
-    match child {
-        Child::Done(answer) => answer,
-        Child::Ask { key, .. } => results.get(&key),
-    }
-}
+/// A row with fewer records is reduced on the caller's thread: a map over it would start no thread, and to start those that share the
+/// shards takes longer than the row.
+const FEWEST_SHARED: usize = 2048;
 
 /// The diagram of a record's request, which adds at most its node.
 fn reduce_record(
@@ -38,8 +33,8 @@ fn reduce_record(
     ensures adds { AddsDescribed store.old store.new (AskedBy store.old level (entry ∷ [])) }
     ensures fault { IfErr result (λ e. IsRecordFault store.new level entry.key e) }
 {
-    let low = resolve(results, entry.low);
-    let high = resolve(results, entry.high);
+    let low = results.resolve(entry.low);
+    let high = results.resolve(entry.high);
     store.make(level, low, high)
 }
 
@@ -79,14 +74,45 @@ fn reduce_row(
     Ok(())
 }
 
-/// Notes the diagrams of a row, and sees that the store is within its limit where the row has records.
-fn reduce_level(
+/// Notes the diagrams of a row, by several threads where it has many records.
+fn note_row<R: Threads + Sync, H: Watch>(
+    rt: &R,
+    alloc: Global,
     store: &mut Store,
     results: &mut Results,
     level: u16,
     row: &[Record],
+    watch: &H,
 ) -> Result<(), WaveFault>
     requires held { IsSound store.old }
+    requires level { level < store.old.levels }
+    requires answers { AreAnswers store.old results.old }
+    requires row { IsRow store.old results.old level row.now }
+    ensures left { IsRowReduced store.old results.old level row.now 0 store.new results.new }
+    ensures whole { OnOk result (IsRowReduced store.old results.old level row.now (length row.now) store.new results.new) }
+    ensures fault { IfErr result (λ e. IsRowFault store.new level row.now e) }
+{
+    if row.len() < FEWEST_SHARED {
+        return reduce_row(store, results, level, row);
+    }
+    match share_row(rt, alloc, store, results, level, row, watch) {
+        Ok(()) => Ok(()),
+        Err(fault) => Err(wave_fault(fault)),
+    }
+}
+
+/// Notes the diagrams of a row, and sees that the store is within its limit where the row has records.
+fn reduce_level<R: Threads + Sync, H: Watch>(
+    rt: &R,
+    alloc: Global,
+    store: &mut Store,
+    results: &mut Results,
+    level: u16,
+    row: &[Record],
+    watch: &H,
+) -> Result<(), WaveFault>
+    requires held { IsSound store.old }
+    requires level { level < store.old.levels }
     requires answers { AreAnswers store.old results.old }
     requires row { IsRow store.old results.old level row.now }
     ensures left { IsRowReduced store.old results.old level row.now 0 store.new results.new }
@@ -97,7 +123,7 @@ fn reduce_level(
     if row.is_empty() {
         return Ok(());
     }
-    reduce_row(store, results, level, row)?;
+    note_row(rt, alloc, store, results, level, row, watch)?;
     if store.count() > store.limit() {
         return Err(WaveFault::Full);
     }
@@ -106,14 +132,16 @@ fn reduce_level(
 
 /// The diagram of each record's request.
 ///
-/// The answer Full may also come at the first refused node, before all of a level are tried. NoWorker never comes.
-pub fn reduce<R>(
-    _rt: &R,
+/// A level with many records is shared by several threads, and the watch is told of its shards; what no thread could be started for, the
+/// caller's thread does. The answer Full may also come at the first refused node, before all of a level are tried. NoWorker never comes.
+pub fn reduce<R: Threads + Sync, H: Watch>(
+    rt: &R,
     alloc: Global,
     store: &mut Store,
     records: &Records,
+    watch: &H,
 ) -> Result<Results, WaveFault>
-    requires { AreRecords store.old records.now }
+    requires records { AreRecords store.old records.now }
     ensures sound { IsSound store.new }
     ensures adds { AddsDescribed store.old store.new (AskedInRows store.old records.now) }
     ensures answers { IfOk result (λ results. AreReduced records.now store.new results) }
@@ -124,7 +152,15 @@ pub fn reduce<R>(
     let mut level = store.levels();
     while level > 0 {
         level -= 1;
-        reduce_level(store, &mut results, level, records.level(level))?;
+        reduce_level(
+            rt,
+            alloc,
+            store,
+            &mut results,
+            level,
+            records.level(level),
+            watch,
+        )?;
     }
     Ok(results)
 }

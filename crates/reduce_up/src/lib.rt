@@ -3,6 +3,7 @@
 
 pub mod law;
 mod levels;
+mod parallel;
 mod results;
 mod waves;
 

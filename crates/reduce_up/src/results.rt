@@ -1,10 +1,10 @@
 //! The diagrams of a wave's requests.
 ghost use Rattle.std.specs.Prelude.{◌≡◌, OnOk, OnErr, Contains, []};
-ghost use Rattle.reduce_up.specs.Reducing.{HasAnswer, Notes};
+ghost use Rattle.reduce_up.specs.Reducing.{HasAnswer, IsReady, IsResolved, Notes};
 
 use dd_store::Ref;
 use indexmap::IndexMap;
-use req_table::Key;
+use req_table::{Child, Key};
 use std::alloc::{AllocError, Global};
 use std::marker::Model;
 
@@ -49,5 +49,16 @@ impl Results {
         ensures { Contains self.now (key.now, result) }
     {
         *self.map.get(key).unwrap()
+    }
+
+    /// The diagram of a child.
+    pub(crate) fn resolve(&self, child: Child) -> Ref
+        requires { IsReady self.now child }
+        ensures { IsResolved self.now child result }
+    {
+        match child {
+            Child::Done(answer) => answer,
+            Child::Ask { key, .. } => self.get(&key),
+        }
     }
 }

@@ -9,8 +9,8 @@ ghost use Rattle.reduce_up.specs.Waves.{IsEntry, AnswersEach, IsWanted, AddsBelo
 
 use crate::levels::reduce;
 use crate::results::Results;
-use dd_store::{Ref, Store};
-use expand_work::{Gate, WaveFault, expand_all};
+use dd_store::{Ref, Store, Watch};
+use expand_work::{Free, Gate, WaveFault, expand_all};
 use req_table::requests::{normal, short};
 use req_table::{Key, Op, Records};
 use std::alloc::{AllocError, Global};
@@ -80,12 +80,13 @@ pub(crate) fn closure_of(
 }
 
 /// The diagram of each operation, by reduction of the records of all requests that they ask for.
-fn answer_closure<R>(
+fn answer_closure<R: Threads + Sync, H: Watch>(
     rt: &R,
     alloc: Global,
     store: &mut Store,
     entries: &[(Op, Ref, Ref)],
     records: &Records,
+    watch: &H,
 ) -> Result<Vec<Ref>, WaveFault>
     requires operands { All (IsEntry store.old) entries.now }
     requires closure { (workers : ℕ) × (0 < workers) × IsClosureOf store.old workers (requests_of entries.now) records.now }
@@ -98,7 +99,7 @@ fn answer_closure<R>(
     ensures served { IfErr result (λ e. e ≢ WaveFault.NoWorker) }
 {
     let _ = store.levels();
-    let results = match reduce(rt, alloc, store, records) {
+    let results = match reduce(rt, alloc, store, records, watch) {
         Ok(results) => results,
         Err(fault) => return Err(fault),
     };
@@ -112,7 +113,7 @@ fn answer_closure<R>(
 ///
 /// The requests of all operations together are expanded by the state machine of the workers on the caller's thread, which the
 /// choices drive, and reduced from the last level up.
-pub fn wave_one<R>(
+pub fn wave_one<R: Threads + Sync>(
     rt: &R,
     alloc: Global,
     store: &mut Store,
@@ -137,13 +138,14 @@ pub fn wave_one<R>(
     let Ok(records) = closure_of(alloc, store, workers, roots.as_slice(), choices) else {
         return Err(WaveFault::OutOfMemory);
     };
-    answer_closure(rt, alloc, store, entries, &records)
+    answer_closure(rt, alloc, store, entries, &records, &Free)
 }
 
 /// The diagram of each operation on its two operands.
 ///
 /// The requests of all operations together are expanded by workers in threads, and reduced from the last level up (Ochi,
-/// Yasuoka and Yajima 1993). NoWorker is answered where a thread could not be started.
+/// Yasuoka and Yajima 1993). NoWorker is answered where a worker's thread could not be started;
+/// what no other thread could be started for, the caller's thread does.
 pub fn wave<R: Threads + Wait + Sync, G: Gate>(
     rt: &R,
     alloc: Global,
@@ -169,5 +171,5 @@ pub fn wave<R: Threads + Wait + Sync, G: Gate>(
         Ok(expanded) => expanded,
         Err(fault) => return Err(fault),
     };
-    answer_closure(rt, alloc, store, entries, expanded.records())
+    answer_closure(rt, alloc, store, entries, expanded.records(), gate)
 }

@@ -14,4 +14,6 @@ mod requests;
 #[cfg(test)]
 mod waves;
 #[cfg(test)]
+mod wide;
+#[cfg(test)]
 mod workers;

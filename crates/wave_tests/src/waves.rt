@@ -34,11 +34,11 @@ const C: usize = 4;
 const D: usize = 5;
 
 /// An operation on two known references.
-type Step = (Op, usize, usize);
+pub(crate) type Step = (Op, usize, usize);
 
 /// How a wave is run: on the test's thread by a core with these choices, or by workers in threads.
 #[derive(Clone, Copy)]
-enum Way {
+pub(crate) enum Way {
     Alone(&'static [u8]),
     Threads,
 }
@@ -52,7 +52,7 @@ const WAYS: [Way; 4] = [
 ];
 
 /// The constants and all variables of a store.
-fn start<R: Abort>(rt: &R, alloc: Global, store: &mut Store) -> Vec<Ref>
+pub(crate) fn start<R: Abort>(rt: &R, alloc: Global, store: &mut Store) -> Vec<Ref>
     ensures { All (Has store.new) result.items }
 {
     let mut known = Vec::new(alloc);
@@ -66,7 +66,7 @@ fn start<R: Abort>(rt: &R, alloc: Global, store: &mut Store) -> Vec<Ref>
 }
 
 /// A known reference.
-fn known_at<R: Abort>(rt: &R, store: &Store, known: &[Ref], place: usize) -> Ref
+pub(crate) fn known_at<R: Abort>(rt: &R, store: &Store, known: &[Ref], place: usize) -> Ref
     requires { All (Has store.now) known.now }
     ensures { Has store.now result }
 {
@@ -74,7 +74,7 @@ fn known_at<R: Abort>(rt: &R, store: &Store, known: &[Ref], place: usize) -> Ref
 }
 
 /// The entries of steps.
-fn entries_of<R: Abort>(
+pub(crate) fn entries_of<R: Abort>(
     rt: &R,
     alloc: Global,
     store: &Store,
@@ -114,7 +114,7 @@ fn answers_of<R: Threads + Wait + Sync>(
 }
 
 /// Runs a wave of steps, and adds its answers to the known references.
-fn run<R: Abort + Threads + Wait + Sync>(
+pub(crate) fn run<R: Abort + Threads + Wait + Sync>(
     rt: &R,
     alloc: Global,
     store: &mut Store,
@@ -176,7 +176,7 @@ fn only<R: Abort>(rt: &R, records: &Records, results: &Results, level: u16, key:
 }
 
 /// The node of a level with two children, which has to be there.
-fn node<R: Abort>(rt: &R, store: &Store, level: u16, low: Ref, high: Ref) -> Ref {
+pub(crate) fn node<R: Abort>(rt: &R, store: &Store, level: u16, low: Ref, high: Ref) -> Ref {
     assert!(rt; level < store.levels());
     store.find(level, low, high).expect(rt, "no such node")
 }
@@ -344,7 +344,7 @@ fn core_reduced(rt: HostRuntime) -> Result<(), Fail> {
             let records = closure_of(&rt, alloc, &store, &roots, choices);
             closures_are_records(&store, &roots, &records);
             assert_eq!(rt; store.count(), 4);
-            match reduce(&rt, alloc, &mut store, &records) {
+            match reduce(&rt, alloc, &mut store, &records, &Free) {
                 Ok(results) => {
                     assert!(rt; fits);
                     let first = node(&rt, &store, 0, Ref::False, c);

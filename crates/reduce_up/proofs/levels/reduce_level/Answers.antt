@@ -6,8 +6,8 @@ use Rattle.reduce_up.proofs.Reduction.{row_over}
 use Rattle.reduce_up.proofs.levels.reduce_level.Goals as goal
 
 pub returns-then-count-limit-clause-fault : goal.returns-then-count-limit-clause-fault
-returns-then-count-limit-clause-fault c =
+returns-then-count-limit-clause-fault g c =
     let empty : (length c.args.row.now == 0) ≡ false = sym c.is_empty.ensures ∙ c.if-is_empty.false in
     let some : 0 < length c.args.row.now = grind (arith, nat_tests) in
-    let over : c.reduce_row.new.store.limit < count_of c.reduce_row.new.store = omega arith in
-    row_over c.reduce_row.new.store c.args.level c.args.row.now some over
+    let over : c.note_row.new.store.limit < count_of c.note_row.new.store = omega arith in
+    row_over c.note_row.new.store c.args.level c.args.row.now some over

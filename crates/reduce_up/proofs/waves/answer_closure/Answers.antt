@@ -1,8 +1,8 @@
 use Rattle.reduce_up.proofs.Waving.{wave_records, wave_adds, wave_answers, wave_below, wave_within, wave_refused, wave_noted}
 use Rattle.reduce_up.proofs.waves.answer_closure.Goals as goal
 
-pub reduce-requires : goal.reduce-requires
-reduce-requires g c =
+pub reduce-requires-clause-records : goal.reduce-requires-clause-records
+reduce-requires-clause-records g c κs within =
     wave_records c.args.store.now c.levels.ensures.sound c.requires.closure.0 c.requires.closure.1 c.args.entries.now c.requires.operands c.args.records.now c.requires.closure.2
 
 pub returns-in-Err-clause-adds : goal.returns-in-Err-clause-adds

@@ -4,7 +4,7 @@ use Rattle.req_table.specs.declared.Record.{Record}
 use Rattle.req_table.specs.Keys.{IsKey, wave_of}
 use Rattle.req_table.specs.Settled.{IsClosure}
 use Rattle.req_table.specs.Tables.{row_at}
-use Rattle.reduce_up.specs.Waves.{requests_of, IsClosureOf}
+use Rattle.reduce_up.specs.Waves.{requests_of}
 use Rattle.reduce_up.proofs.Rooted.{requests_good}
 use Rattle.reduce_up.proofs.Waving.{not_full}
 use Rattle.reduce_up.proofs.waves.wave.Goals as goal
@@ -18,7 +18,7 @@ pub returns-in-Err-clause-fault : goal.returns-in-Err-clause-fault
 returns-in-Err-clause-fault g c = not_full c.args.store.now c.args.entries.now c.args.store.now c.in-Err.fault c.in-Err.ensures.fault
 
 pub answer_closure-requires-clause-closure : goal.answer_closure-requires-clause-closure
-answer_closure-requires-clause-closure g c =
+answer_closure-requires-clause-closure g c κs within =
     let roots : c.as_slice.result.now ≡ requests_of c.args.entries.now = c.as_slice.ensures.value ∙ c.in-Ok.ensures in
     let rows : c.records.result.now ≡ c.in-Ok-expand_all.expanded.records = c.records.ensures in (
       c.args.workers,

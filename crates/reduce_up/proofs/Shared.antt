@@ -1,0 +1,212 @@
+-- A level whose shards several threads share: what they leave, seen through references, and what it is for the level's records.
+use Rattle.std.proofs.Common.{◌≡◌, ◌≢◌, ℕ, ◌+◌, ◌*◌, ◌<◌, ◌≤◌, ◌⊎◌, inl, inr, true, false, List, [], ◌∷◌, length, get_or, slice_get, Some, None, refl, sym, ◌∙◌, ap, subst, arith, Contains, All}
+use Rattle.std.specs.Prelude.{slice_index_or, Result, Ok, Err, MatchResult, OnOk, IfErr}
+use Rattle.std.specs.List.{AllZip}
+use Rattle.std.proofs.Math.Nat.{eq-or-lt_of_le}
+use Rattle.std.proofs.lemmas.List.Elements.{All-contains, Contains-get_or}
+use Rattle.dd_store.specs.declared.reference.NodeId.{NodeId}
+use Rattle.dd_store.specs.declared.reference.Ref.{Ref}
+use Rattle.dd_store.specs.declared.reference.Ref.TheVariants.{False, True, Node}
+use Rattle.dd_store.specs.declared.StoreFault.{StoreFault}
+use Rattle.dd_store.specs.declared.StoreFault.TheVariants.{Full, OutOfMemory}
+use Rattle.req_table.specs.declared.Key.{Key}
+use Rattle.req_table.specs.declared.Record.{Record}
+use Rattle.dd_store.specs.Graph.{Pair}
+use Rattle.dd_store.specs.Codes.{shard_of_pair}
+use Rattle.dd_store.specs.Growing.{IsIn}
+use Rattle.dd_store.specs.Parts.Part.{node}
+use Rattle.dd_store.specs.Nodes.{Nodes, node as node_at, shard_at, den, IsSound, IsThere, count_of}
+use Rattle.dd_store.specs.Adding.{AreReady, GrowsLevel, IsLevelFault}
+use Rattle.dd_store.specs.View.{part_of, part, Has}
+use Rattle.dd_store.proofs.Storing.{node_in_shard, node_from_shard, small_shard, shard-le-count}
+use Rattle.dd_store.proofs.AddingAll.{grown_only, Extends-grown}
+use Rattle.dd_store.proofs.View.{keeps, same_ref, absent}
+use Rattle.expand_work.proofs.Zips.{zip_at, zip_long}
+use Rattle.reduce_up.specs.Reducing.{IsKeyAt, IsAnswer, IsAnswerAt, IsRecordAt, AreAnswers, HasAnswer, AddsDescribed, AskedBy, IsRow, IsRowReduced, IsRowFault, Notes, wave_fault}
+use Rattle.reduce_up.specs.Sharing.{IsPairOf, CanStand, AreDivided, AddsPairs, HasPair, IsPairsFault, NotesFirst}
+use Rattle.reduce_up.proofs.Noting.{nothing, head_in, tail_in, in_cases}
+use Rattle.reduce_up.proofs.Reduction.{resolved, made_answer, kept_meaning, answer_kept, record_kept, row_fault}
+use Rattle.reduce_up.proofs.Missing.{record_fault}
+
+-- pairs that can stand at a level may be added to it
+pub ready : (S : Nodes) (v : ℕ) (pairs : List Pair) (lists : ℕ → List Pair) → v < S.levels → All (CanStand S v) pairs → AreDivided pairs lists → AreReady S v lists
+ready S v pairs lists lt can d = record {
+  level = lt;
+  differ = λ s p w. (d.only s p w).1;
+  lo_here = λ s p w. (of s p w).has_low;
+  hi_here = λ s p w. (of s p w).has_high;
+  above = λ s p w. ((of s p w).below_low, (of s p w).below_high);
+  sharded = λ s p lt w. (d.only s p w).2;
+}
+  where
+    of : (s : ℕ) (p : Pair) → IsIn (lists s) p → CanStand S v p
+    of s p w = All-contains (CanStand S v) pairs p can (d.only s p w).0
+
+-- a name that has two children, by its part
+named : (T : Nodes) (m : NodeId) (v : ℕ) (p : Pair) → node_at T m ≡ Some p → m.level ≡ v → part T (Node m) ≡ node v p.0 p.1
+named T m v p e at = ap (part_of m) e ∙ ap (λ u. node u p.0 p.1) at
+
+-- each new node is that of a pair
+pub adds_pairs : (S T : Nodes) (v : ℕ) (pairs : List Pair) (lists : ℕ → List Pair) → GrowsLevel S T v lists → AreDivided pairs lists → AddsPairs S T v pairs
+adds_pairs S T v pairs lists g d = record { keeps = keeps S T (Extends-grown S T v lists g); only = other }
+  where
+    other : (m : Ref) → Has T m → Has S m ⊎ ((p : Pair) × Contains pairs p × (p.0 ≢ p.1) × (part T m ≡ node v p.0 p.1))
+    other False h = inl tt
+    other True h = inl tt
+    other (Node m) h = elim (grown_only S T v lists g m h.0 h.1) [
+      | inl old ↦ inl (h.0, old)
+      | inr new ↦ let o = d.only m.shard h.0 new.2 in inr (h.0, o.0, o.1, named T m v h.0 h.1 new.0)
+    ]
+
+-- where no pair is missing, each has its reference
+pub has_pairs : (T : Nodes) (v : ℕ) (pairs : List Pair) (lists : ℕ → List Pair) → AreDivided pairs lists → IsLevelFault T v lists None → (p : Pair) → Contains pairs p → HasPair T v p
+has_pairs T v pairs lists d f p c = elim (same_ref p.0 p.1) [
+  | yes e ↦ (p.0, inl (e, refl))
+  | no n ↦
+      let small = small_shard p.0 p.1 in
+      let w = f (shard_of_pair p.0 p.1) p small (d.all p c n) in
+      let m : NodeId = record { level = v; shard = shard_of_pair p.0 p.1; index = w.0 } in
+      (Node m, inr (n, (m, refl, refl, node_from_shard T m p small w.1)))
+]
+
+-- where one is missing at a shard that is full, the store is full
+pub pairs_fault : (T : Nodes) (v : ℕ) (pairs : List Pair) (lists : ℕ → List Pair) (f : StoreFault) → IsSound T → AreDivided pairs lists → IsLevelFault T v lists (Some f) → IsPairsFault T v pairs f
+pairs_fault T v pairs lists OutOfMemory w d h = tt
+pairs_fault T v pairs lists Full w d (s, lt, full, (p, in_list, out)) =
+    let o = d.only s p in_list in
+    let enough : length (shard_at T v s) ≤ count_of T = shard-le-count T (16 * v + s) in (
+      p,
+      o.0,
+      (
+        omega arith,
+        o.1,
+        absent T v p.0 p.1 (λ m at e.
+            let here = node_in_shard T m p e in
+            let shard : m.shard ≡ s = w.sharded m p e ∙ o.2 in
+            out (m.index, ap (λ z. slice_get (shard_at T z s) m.index) (sym at) ∙ ap (λ z. slice_get (shard_at T m.level z) m.index) (sym shard) ∙ here.1)),
+      ),
+    )
+
+-- both by the answer of the store
+pub pairs_there : (T : Nodes) (v : ℕ) (pairs : List Pair) (lists : ℕ → List Pair) (r : Result (Unit {0}) StoreFault) → AreDivided pairs lists →
+    MatchResult r (λ _. IsLevelFault T v lists None) (λ f. IsLevelFault T v lists (Some f)) → OnOk r (All (HasPair T v) pairs)
+pairs_there T v pairs lists (Ok u) d h = λ k e lt. has_pairs T v pairs lists d h (get_or pairs k e) (Contains-get_or pairs k e lt)
+pairs_there T v pairs lists (Err f) d h = tt
+
+pub pairs_refused : (T : Nodes) (v : ℕ) (pairs : List Pair) (lists : ℕ → List Pair) (r : Result (Unit {0}) StoreFault) → IsSound T → AreDivided pairs lists →
+    MatchResult r (λ _. IsLevelFault T v lists None) (λ f. IsLevelFault T v lists (Some f)) → IfErr r (λ f. IsPairsFault T v pairs f)
+pairs_refused T v pairs lists (Ok u) w d h = tt
+pairs_refused T v pairs lists (Err f) w d h = pairs_fault T v pairs lists f w d h
+
+-- the item that stands beside one
+zip_right : {A B : Type 0} (R : A → B → Type 0) (xs : List A) (ys : List B) → AllZip R xs ys → (y : B) → Contains ys y → (x : A) × Contains xs x × R x y
+zip_right R [] [] h y c = absurd (nothing y c)
+zip_right R [] (z ∷ ys) h y c = absurd h
+zip_right R (x ∷ xs) [] h y c = absurd h
+zip_right R (x ∷ xs) (z ∷ ys) h y c = elim (in_cases z y ys c) [
+  | inl e ↦ (x, head_in x xs, subst (R x) e h.0)
+  | inr more ↦ let w = zip_right R xs ys h.1 y more in (w.0, tail_in x w.0 xs w.1, w.2)
+]
+
+-- the records of a row, and the pairs that their children come to
+module _ (S : Nodes) (before : List (Key × Ref)) (v : ℕ) (row : List Record) (pairs : List Pair) (held : IsSound S) (answers : AreAnswers S before) (is_row : IsRow S before v row) (are : AllZip (IsPairOf before) row pairs) where
+  low_of : (U : Nodes) (r : Record) (p : Pair) → AreAnswers U before → IsRecordAt U v r → IsPairOf before r p → IsAnswerAt U v r.key false p.0
+  low_of U r p a i e = resolved U v r.key false r.low before p.0 i.low a e.0
+
+  high_of : (U : Nodes) (r : Record) (p : Pair) → AreAnswers U before → IsRecordAt U v r → IsPairOf before r p → IsAnswerAt U v r.key true p.1
+  high_of U r p a i e = resolved U v r.key true r.high before p.1 i.high a e.1
+
+  pub can_stand : (p : Pair) → Contains pairs p → CanStand S v p
+  can_stand p c =
+      let w = zip_right (IsPairOf before) row pairs are p c in
+      let low = low_of S w.0 p answers (is_row.records w.0 w.1) w.2 in
+      let high = high_of S w.0 p answers (is_row.records w.0 w.1) w.2 in
+      record { has_low = low.has; has_high = high.has; below_low = low.below; below_high = high.below }
+
+  module _ (T : Nodes) (sound : IsSound T) (adds : AddsPairs S T v pairs) where
+    -- the reference that stands for a record's pair is its answer
+    answered : (r : Record) (p : Pair) (m : Ref) → Contains row r → IsPairOf before r p → Has T m → ((p.0 ≡ p.1) × (m ≡ p.0)) ⊎ ((p.0 ≢ p.1) × (part T m ≡ node v p.0 p.1)) → IsAnswer T r.key m
+    answered r p m c e h is =
+        let i = is_row.records r c in
+        made_answer S T v r.key p.0 p.1 m held sound i.key (low_of S r p answers i e) (high_of S r p answers i e) adds.keeps h is
+
+    row_adds : AddsDescribed S T (AskedBy S v row)
+    row_adds = record { keeps = adds.keeps; described = λ m h. elim (adds.only m h) [ inl old ↦ inl old | inr new ↦ inr (described m h new.0 new.1 new.2 new.3) ] }
+      where
+        described : (m : Ref) → Has T m → (p : Pair) → Contains pairs p → p.0 ≢ p.1 → part T m ≡ node v p.0 p.1 → (w : ℕ) × (lo : Ref) × (hi : Ref) × (part T m ≡ node w lo hi) × AskedBy S v row w (den T m)
+        described m h p c n e =
+            let w = zip_right (IsPairOf before) row pairs are p c in
+            let r : Record = w.0 in
+            let key : IsKeyAt S v r.key = (is_row.records r w.1).key in
+            let a : IsAnswer T r.key m = answered r p m w.1 w.2 h (inr (n, e)) in
+            (v, p.0, p.1, e, (refl, (r, w.1, λ x hx. a.denotes x (hx ∙ sym (adds.keeps.levels)) ∙ kept_meaning S T held adds.keeps r.key key.first key.second x)))
+
+    answers_kept : AreAnswers T before
+    answers_kept k r c = answer_kept S T held adds.keeps k r (answers k r c)
+
+    -- before an answer is noted
+    pub row_added : IsRowReduced S before v row 0 T before
+    row_added = record { held = sound; adds = row_adds; answers = answers_kept; more = λ k h. h; done = λ j d lt. absurd (omega arith) }
+
+    -- the cause of a level's refusal is one of the row's
+    pub row_refused : (f : StoreFault) → IsPairsFault T v pairs f → IsRowFault T v row (wave_fault f)
+    row_refused OutOfMemory h = tt
+    row_refused Full h =
+        let w = zip_right (IsPairOf before) row pairs are h.0 h.1 in
+        let r : Record = w.0 in
+        let i : IsRecordAt T v r = record_kept S T held adds.keeps v r (is_row.records r w.1) in
+        row_fault T v row r Full w.1
+        (record_fault T T v r.key h.0.0 h.0.1 (Err Full) sound i.key (low_of T r h.0 answers_kept i w.2) (high_of T r h.0 answers_kept i w.2) refl h.2)
+
+    module _ (found : List Ref) (there : AllZip (λ (p : Pair) r. IsThere T v p.0 p.1 r) pairs found) where
+      has_there : (p : Pair) (m : Ref) → Has T p.0 → IsThere T v p.0 p.1 m → Has T m × (((p.0 ≡ p.1) × (m ≡ p.0)) ⊎ ((p.0 ≢ p.1) × (part T m ≡ node v p.0 p.1)))
+      has_there p m h (inl e) = (subst (Has T) (sym e.1) h, inl e)
+      has_there p m h (inr (n, (id, is, at, e))) = (subst (Has T) (sym is) (p, e), inr (n, ap (part T) is ∙ named T id v p e at))
+
+      -- the references found are the records' answers
+      found_answer : (j : ℕ) (d : Record) (r : Ref) → j < length row → IsAnswer T (slice_index_or row j d).key (slice_index_or found j r)
+      found_answer j d r lt =
+          let long : length row ≡ length pairs = zip_long (IsPairOf before) row pairs are in
+          let entry : Record = get_or row j d in
+          let p : Pair = get_or pairs j (r, r) in
+          let member : Contains row entry = Contains-get_or row j d lt in
+          let e : IsPairOf before entry p = zip_at (IsPairOf before) row pairs j d (r, r) are lt in
+          let t : IsThere T v p.0 p.1 (get_or found j r) = zip_at (λ (p : Pair) r. IsThere T v p.0 p.1 r) pairs found j (r, r) r there (omega arith) in
+          let low = low_of S entry p answers (is_row.records entry member) e in
+          let h = has_there p (get_or found j r) (adds.keeps.has p.0 low.has) t in
+          answered entry p (get_or found j r) member e h.0 h.1
+
+      -- and once they are noted, the row is reduced
+      pub row_noted : (i : ℕ) (after : List (Key × Ref)) → NotesFirst before row found i after → IsRowReduced S before v row i T after
+      row_noted i after n = record {
+        held = sound;
+        adds = row_adds;
+        answers = λ k r c. elim (n.only k r c) [
+          | inl old ↦ answers_kept k r old
+          | inr (j, d, lt, key, answer) ↦ subst (λ z. IsAnswer T z r) key (subst (λ z. IsAnswer T (slice_index_or row j d).key z) answer (found_answer j d r lt))
+        ];
+        more = n.more;
+        done = n.done;
+      }
+
+-- no answer is noted yet
+pub notes_none : (old : List (Key × Ref)) (row : List Record) (found : List Ref) → NotesFirst old row found 0 old
+notes_none old row found = record { only = λ k a c. inl c; more = λ k h. h; done = λ j d lt. absurd (omega arith) }
+
+pub notes_fewer : (old : List (Key × Ref)) (row : List Record) (found : List Ref) (i : ℕ) (new : List (Key × Ref)) → NotesFirst old row found i new → NotesFirst old row found 0 new
+notes_fewer old row found i new n = record { only = n.only; more = n.more; done = λ j d lt. absurd (omega arith) }
+
+-- one more is
+pub notes_next : (old : List (Key × Ref)) (row : List Record) (found : List Ref) (i : ℕ) (mid : List (Key × Ref)) (entry : Record) (answer : Ref) (new : List (Key × Ref)) →
+    i < length row → ((d : Record) → entry ≡ get_or row i d) → ((d : Ref) → answer ≡ get_or found i d) → NotesFirst old row found i mid → Notes mid entry.key answer new → NotesFirst old row found (i + 1) new
+notes_next old row found i mid entry answer new lt at beside n m = record {
+  only = λ k a c. elim (m.only k a c) [
+    | inl before ↦ n.only k a before
+    | inr e ↦ inr (i, entry, lt, ap (λ z. z.key) (sym (at entry)) ∙ sym e.0, sym (beside a) ∙ sym e.1)
+  ];
+  more = λ k h. m.more k (n.more k h);
+  done = λ j d lj. elim (eq-or-lt_of_le (let z : j ≤ i = omega arith in z)) [
+    | inl same ↦ subst (λ z. HasAnswer new z.key) (at d ∙ ap (λ z. get_or row z d) (sym same)) (answer, m.noted)
+    | inr below ↦ m.more (slice_index_or row j d).key (n.done j d below)
+  ];
+}

@@ -1,0 +1,58 @@
+-- A level that several threads share: the pairs that its records' children come to, their division by shard, and the nodes
+-- that stand for them.
+use Rattle.std.specs.Prelude.{◌≡◌, ◌≢◌, ℕ, ◌<◌, ◌⊎◌, List, [], ◌∷◌, ◌++◌, length, Contains, slice_index_or}
+use Rattle.dd_store.specs.declared.reference.Ref.{Ref}
+use Rattle.dd_store.specs.declared.StoreFault.{StoreFault}
+use Rattle.dd_store.specs.declared.StoreFault.TheVariants.{Full, OutOfMemory}
+use Rattle.req_table.specs.declared.Key.{Key}
+use Rattle.req_table.specs.declared.Record.{Record}
+use Rattle.dd_store.specs.Graph.{Pair}
+use Rattle.dd_store.specs.Codes.{shard_of_pair}
+use Rattle.dd_store.specs.Growing.{IsIn}
+use Rattle.dd_store.specs.Nodes.{Nodes, IsThere}
+use Rattle.dd_store.specs.Parts.Part.{node}
+use Rattle.dd_store.specs.View.{part, Has, top, Keeps, IsFull}
+use Rattle.reduce_up.specs.Reducing.{HasAnswer, IsResolved}
+
+-- the pair that the two children of a record come to
+abbrev pub IsPairOf : List (Key × Ref) → Record → Pair → Type 0
+IsPairOf results r p = IsResolved results r.low p.0 × IsResolved results r.high p.1
+
+-- both are references of the store below level v
+pub record CanStand (s : Nodes) (v : ℕ) (p : Pair) : Type 0 where
+  pub has_low : Has s p.0
+  pub has_high : Has s p.1
+  pub below_low : v < top s p.0
+  pub below_high : v < top s p.1
+
+-- one pair more: it is last in the list of its shard, unless its children are equal; all other lists are as they were
+pub record IsListed (old : ℕ → List Pair) (p : Pair) (new : ℕ → List Pair) : Type 0 where
+  pub equal : p.0 ≡ p.1 → (s : ℕ) → new s ≡ old s
+  pub own : p.0 ≢ p.1 → new (shard_of_pair p.0 p.1) ≡ old (shard_of_pair p.0 p.1) ++ p ∷ []
+  pub others : (s : ℕ) → s ≢ shard_of_pair p.0 p.1 → new s ≡ old s
+
+-- each pair of different children is in the list of its shard, and the lists have no others
+pub record AreDivided (pairs : List Pair) (lists : ℕ → List Pair) : Type 0 where
+  pub all : (p : Pair) → Contains pairs p → p.0 ≢ p.1 → IsIn (lists (shard_of_pair p.0 p.1)) p
+  pub only : (s : ℕ) (p : Pair) → IsIn (lists s) p → Contains pairs p × (p.0 ≢ p.1) × (shard_of_pair p.0 p.1 ≡ s)
+
+-- new keeps what old has, and each other node of new is one of level v for a pair of different children
+pub record AddsPairs (old new : Nodes) (v : ℕ) (pairs : List Pair) : Type 0 where
+  pub keeps : Keeps old new
+  pub only : (m : Ref) → Has new m → Has old m ⊎ ((p : Pair) × Contains pairs p × (p.0 ≢ p.1) × (part new m ≡ node v p.0 p.1))
+
+-- a reference stands for the pair: the child, where both are equal, or the node of level v
+abbrev pub HasPair : Nodes → ℕ → Pair → Type 0
+HasPair s v p = (r : Ref) × IsThere s v p.0 p.1 r
+
+-- why pairs have no reference: Full only where the store has as many nodes as its limit and lacks a pair's node
+abbrev pub IsPairsFault : Nodes → ℕ → List Pair → StoreFault → Type 0
+IsPairsFault s v pairs OutOfMemory = Unit {0}
+IsPairsFault s v pairs Full = (p : Pair) × Contains pairs p × IsFull s v p.0 p.1 Full
+
+-- of a row and the answers of its records, in order, the first i are noted in `new`, whose other answers are those of old; a
+-- key that has an answer keeps one
+pub record NotesFirst (old : List (Key × Ref)) (row : List Record) (answers : List Ref) (i : ℕ) (new : List (Key × Ref)) : Type 0 where
+  pub only : (k : Key) (a : Ref) → Contains new (k, a) → Contains old (k, a) ⊎ ((j : ℕ) × (d : Record) × (j < length row) × ((slice_index_or row j d).key ≡ k) × (slice_index_or answers j a ≡ a))
+  pub more : (k : Key) → HasAnswer old k → HasAnswer new k
+  pub done : (j : ℕ) (d : Record) → j < i → HasAnswer new (slice_index_or row j d).key

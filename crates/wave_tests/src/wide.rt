@@ -1,0 +1,159 @@
+//! A level with so many records that several threads share it.
+use crate::waves::{Step, Way, entries_of, node, run, start};
+use dd_store::{Ref, Store, Watch};
+use expand_work::{Gate, WaveFault};
+use reduce_up::wave;
+use req_table::Op;
+use std::alloc::Global;
+use std::process::Abort;
+use std::sync::atomic::{AtomicBool, AtomicU64, Ordering};
+use std::test::Fail;
+
+// The first variable is the factor of all products; the constants stand before it, and the products behind all variables.
+const FACTOR: usize = 2;
+
+/// The products of the first variable with each other one.
+fn products<R: Abort>(rt: &R, alloc: Global, variables: u16) -> Vec<Step> {
+    let mut steps = Vec::new(alloc);
+    for other in 1..variables as usize {
+        steps
+            .push((Op::And, FACTOR, FACTOR + other))
+            .expect(rt, "memory");
+    }
+    steps
+}
+
+/// The sum of each two products: each asks for a node of the first level, and for the sum of two variables below it.
+fn sums<R: Abort>(rt: &R, alloc: Global, variables: u16) -> Vec<Step> {
+    let first = FACTOR + variables as usize;
+    let mut steps = Vec::new(alloc);
+    for second in 1..variables as usize {
+        for other in second..variables as usize {
+            if other > second {
+                steps
+                    .push((Op::Or, first + second - 1, first + other - 1))
+                    .expect(rt, "memory");
+            }
+        }
+    }
+    steps
+}
+
+/// The diagrams of the sums, found by their children.
+fn found<R: Abort>(rt: &R, alloc: Global, store: &Store, variables: u16) -> Vec<Ref> {
+    let mut answers = Vec::new(alloc);
+    for second in 1..variables {
+        for other in second..variables {
+            if other > second {
+                let last = node(rt, store, other, Ref::False, Ref::True);
+                let both = node(rt, store, second, last, Ref::True);
+                answers
+                    .push(node(rt, store, 0, Ref::False, both))
+                    .expect(rt, "memory");
+            }
+        }
+    }
+    answers
+}
+
+// 2,080 records at the first level, and as many nodes there and below it: with 66 variables and 65 products 4,291 nodes are just
+// enough, and where one less is allowed the whole level is there before it is refused. A second wave adds nothing.
+#[test]
+fn wide_level(rt: HostRuntime) -> Result<(), Fail> {
+    let alloc = rt.alloc();
+    for (limit, fits) in [(4_291, true), (4_290, false)] {
+        for way in [Way::Threads, Way::Alone(&[])] {
+            let mut store = Store::new(alloc, 66, limit)?;
+            let mut known = start(&rt, alloc, &mut store);
+            let factors = products(&rt, alloc, 66);
+            let steps = sums(&rt, alloc, 66);
+            assert_eq!(rt; steps.len(), 2_080);
+            let made = run(
+                &rt,
+                alloc,
+                &mut store,
+                &mut known,
+                factors.as_slice(),
+                3,
+                way,
+            );
+            assert!(rt; made.is_ok());
+            assert_eq!(rt; store.count(), 131);
+            let answer = run(&rt, alloc, &mut store, &mut known, steps.as_slice(), 3, way);
+            assert_eq!(rt; store.count(), 4_291);
+            if fits {
+                assert!(rt; answer.is_ok());
+                let again = run(
+                    &rt,
+                    alloc,
+                    &mut store,
+                    &mut known,
+                    steps.as_slice(),
+                    2,
+                    Way::Alone(&[1]),
+                );
+                assert!(rt; again.is_ok());
+                assert_eq!(rt; store.count(), 4_291);
+                let answers = found(&rt, alloc, &store, 66);
+                assert_eq!(rt; known.get(133..2_213), Some(answers.as_slice()));
+                assert_eq!(rt; known.get(2_213..), Some(answers.as_slice()));
+            } else {
+                assert!(rt; answer == Err(WaveFault::Full));
+                assert_eq!(rt; known.len(), 133);
+            }
+        }
+    }
+    Ok(())
+}
+
+/// Counts how often each shard of the first level is come to, four bits for each, and sees whether another level's is.
+#[derive(Drop)]
+struct Shards {
+    counts: AtomicU64,
+    elsewhere: AtomicBool,
+}
+
+impl Watch for Shards {
+    fn at_shard(&self, shard: u8, level: u16) {
+        if level == 0 && shard < 16 {
+            self.counts.fetch_add(1 << (4 * shard), Ordering::SeqCst);
+        } else {
+            self.elsewhere.store(true, Ordering::SeqCst);
+        }
+    }
+}
+
+impl Gate for Shards {
+    fn at_level(&self, _worker: u32, _level: u16) {}
+}
+
+// A level of 2,016 records is left to the caller's thread; of one with 2,080 each shard is told once.
+#[test]
+fn shards_of_a_wide_level(rt: HostRuntime) -> Result<(), Fail> {
+    let alloc = rt.alloc();
+    for (variables, told) in [(65, 0), (66, 0x1111_1111_1111_1111)] {
+        let mut store = Store::new(alloc, variables, 10_000)?;
+        let mut known = start(&rt, alloc, &mut store);
+        let factors = products(&rt, alloc, variables);
+        let steps = sums(&rt, alloc, variables);
+        let made = run(
+            &rt,
+            alloc,
+            &mut store,
+            &mut known,
+            factors.as_slice(),
+            2,
+            Way::Threads,
+        );
+        assert!(rt; made.is_ok());
+        let entries = entries_of(&rt, alloc, &store, known.as_slice(), steps.as_slice());
+        let gate = Shards {
+            counts: AtomicU64::new(0),
+            elsewhere: AtomicBool::new(false),
+        };
+        assert!(rt; wave(&rt, alloc, &mut store, entries.as_slice(), 2, &gate).is_ok());
+        assert_eq!(rt; gate.counts.load(Ordering::SeqCst), told);
+        assert!(rt; !gate.elsewhere.load(Ordering::SeqCst));
+    }
+    Ok(())
+}
