@@ -1,6 +1,6 @@
 //! Threads that are at one place at once while a netlist is checked against itself.
 use super::devices::new_page;
-use super::netlists::C17;
+use super::netlists::{C17, PAIRS13};
 use super::reports::ALL_EQUAL;
 use check_report::{CheckFault, Settings, check};
 use dd_store::Watch;
@@ -13,7 +13,7 @@ use std::sync::atomic::{AtomicBool, Ordering};
 use std::test::Fail;
 use std::thread::Threads;
 
-/// Two workers, each of whom waits where he first comes to level 0 until the other is there.
+/// Two threads, each of which waits where it first comes until the other is there.
 #[derive(Drop)]
 struct Meeting {
     there: [AtomicBool; 2],
@@ -28,8 +28,14 @@ impl Meeting {
         }
     }
 
-    /// Says that one of the two is there, and waits for so many turns until the other is.
-    fn come(&self, own: &AtomicBool, other: &AtomicBool) {
+    /// The first or the last of the two says that it is there, and waits for so many turns until the other is.
+    fn come(&self, is_last: bool) {
+        let [first, last] = &self.there;
+        let (own, other) = if is_last {
+            (last, first)
+        } else {
+            (first, last)
+        };
         if own.swap(true, Ordering::SeqCst) {
             return;
         }
@@ -43,26 +49,43 @@ impl Meeting {
 
     /// Whether both were there, and neither waited in vain.
     fn met(&self) -> bool {
-        let [first, second] = &self.there;
+        let [first, last] = &self.there;
         first.load(Ordering::SeqCst)
-            && second.load(Ordering::SeqCst)
+            && last.load(Ordering::SeqCst)
             && !self.missed.load(Ordering::SeqCst)
     }
 }
 
-impl Watch for Meeting {
+/// The workers 0 and 1 meet at level 0.
+#[derive(Drop)]
+struct AtLevel(Meeting);
+
+impl Watch for AtLevel {
     fn at_shard(&self, _shard: u8, _level: u16) {}
 }
 
-impl Gate for Meeting {
+impl Gate for AtLevel {
     fn at_level(&self, worker: u32, level: u16) {
-        let [first, second] = &self.there;
-        match (worker, level) {
-            (0, 0) => self.come(first, second),
-            (1, 0) => self.come(second, first),
-            _ => {}
+        if level == 0 && worker <= 1 {
+            self.0.come(worker == 1);
         }
     }
+}
+
+/// The threads of the shards 0 and 15 meet.
+#[derive(Drop)]
+struct AtShards(Meeting);
+
+impl Watch for AtShards {
+    fn at_shard(&self, shard: u8, _level: u16) {
+        if shard == 0 || shard == 15 {
+            self.0.come(shard == 15);
+        }
+    }
+}
+
+impl Gate for AtShards {
+    fn at_level(&self, _worker: u32, _level: u16) {}
 }
 
 /// The report of a netlist against itself, by two workers.
@@ -76,7 +99,7 @@ fn report_of<R: Threads + Wait + Sync, G: Gate>(
         matching: Match::Name,
         order: Order::Declared,
         workers: 2,
-        limit: 100_000,
+        limit: 67_108_864,
         sizes: false,
     };
     let mut first = Through::new(text.as_bytes());
@@ -96,10 +119,21 @@ fn report_of<R: Threads + Wait + Sync, G: Gate>(
 
 #[test]
 fn two_at_a_level(rt: HostRuntime) -> Result<(), Fail> {
-    let gate = Meeting::new();
-    assert!(rt; !gate.met());
+    let gate = AtLevel(Meeting::new());
+    assert!(rt; !gate.0.met());
     let report = report_of(&rt, rt.alloc(), C17, &gate)?;
     assert_eq!(rt; report.as_slice(), ALL_EQUAL.as_bytes());
-    assert!(rt; gate.met());
+    assert!(rt; gate.0.met());
+    Ok(())
+}
+
+// A level of this netlist has so many requests that threads share its shards.
+#[test]
+fn two_at_shards(rt: HostRuntime) -> Result<(), Fail> {
+    let gate = AtShards(Meeting::new());
+    let report = report_of(&rt, rt.alloc(), PAIRS13, &gate)?;
+    let equal = "EQUAL o\n1 equal, 0 different, 0 unmatched\n";
+    assert_eq!(rt; report.as_slice(), equal.as_bytes());
+    assert!(rt; gate.0.met());
     Ok(())
 }
