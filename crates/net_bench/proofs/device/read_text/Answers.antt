@@ -8,8 +8,11 @@ pub returns-then-is_err-clause-taken : goal.returns-then-is_err-clause-taken
 returns-then-is_err-clause-taken g c = (
   c.loop-chunk.text.items ++ take c.in-Ok.taken c.read.new.buf,
   Consumes-trans _ _ _ _ _ c.loop-chunk.invariant.bytes c.in-Ok.ensures.bytes.0,
-  omega (arith, c.read.auto.buf,
+  omega (
+    arith,
+    c.read.auto.buf,
     length-append c.loop-chunk.text.items (take c.in-Ok.taken c.read.new.buf),
     length-take c.in-Ok.taken c.read.new.buf,
-    length-take c.min-room.result c.loop-chunk.chunk),
+    length-take c.min-room.result c.loop-chunk.chunk,
+  ),
 )
