@@ -31,6 +31,7 @@ PACKAGES = {
 def install():
     missing = [name for path, name in PACKAGES.items() if not pathlib.Path(path).exists()]
     if missing:
+        subprocess.run(["apt-get", "update"], check=True, stdout=sys.stderr)
         subprocess.run(["apt-get", "install", "-y", *missing], check=True, stdout=sys.stderr)
 
 

@@ -9,7 +9,8 @@ It prints three tables in Markdown:
    ratio to 1 worker
 2. what a wave of at most two requests costs, by the number of workers and of levels: a chain of XOR gates over the last
    two of so many variables, against a chain of half as many gates
-3. the peak memory by node, of functions whose diagrams double: the number of nodes is the least limit that is not refused
+3. time on the clock and peak memory by node of functions whose diagrams are wide: the number of nodes is the least limit
+   that is not refused
 """
 import argparse
 import pathlib
@@ -22,7 +23,7 @@ from measure import quickest, ratio, run, shown, table
 
 WORKERS = [1, 2, 4]
 LEVELS = [64, 256, 1024, 4096]
-PAIRS = [12, 14, 16]
+PAIRS = [14, 16, 18]
 
 
 def words_of(settings, workers, *more):
@@ -105,7 +106,7 @@ def memory_rows(folder, settings):
         cells = [f"{count} pairs", str(nodes)]
         for workers in WORKERS:
             one = answered([settings.program, "--workers", str(workers), str(path), str(path)], settings)
-            cells += [shown(one.megabytes, 0), shown(one.megabytes * 2**20 / nodes, 0)]
+            cells += [shown(one.clock), shown(one.megabytes, 0), shown(one.megabytes * 2**20 / nodes, 0)]
         print(" ".join(cells), file=sys.stderr, flush=True)
         yield cells
 
@@ -125,13 +126,13 @@ def main():
     times = [f"{what} by {workers}" for workers in WORKERS for what in ("clock", "processor")]
     ratios = [f"{what} {workers} / 1" for workers in WORKERS[1:] for what in ("clock", "processor")]
     waves = [f"{what} by {workers}" for workers in (1, 2, 4, 16) for what in ("clock", "processor")]
-    memory = [f"{what} by {workers}" for workers in WORKERS for what in ("MB", "bytes / node")]
+    memory = [f"{what} by {workers}" for workers in WORKERS for what in ("clock", "MB", "bytes / node")]
     try:
         print("Seconds, of the run that ended first:\n")
         print(table(["circuits", *times, *ratios], list(circuit_rows(folder, settings))))
         print("\nMicroseconds of a wave of at most two requests:\n")
         print(table(["levels", *waves], list(wave_rows(folder, settings))))
-        print("\nPeak memory by node:\n")
+        print("\nWide diagrams, seconds on the clock and peak memory by node:\n")
         print(table(["function", "nodes", *memory], list(memory_rows(folder, settings))))
     finally:
         shutil.rmtree(folder)
