@@ -10,7 +10,6 @@ installs Debian's berkeley-abc and libbdd-dev where they are missing, for itself
 Markdown: processor time and peak memory of each program, their ratios, and how much each grew since the
 size before.
 """
-import argparse
 import pathlib
 import shutil
 import subprocess
@@ -18,7 +17,7 @@ import sys
 import tempfile
 
 import circuits
-from measure import least, ratio, shown, table
+from measure import least, ratio, shown, table, words_parser
 
 HERE = pathlib.Path(__file__).parent
 PACKAGES = {
@@ -96,12 +95,9 @@ def measure_family(family, folder, driver, settings):
 
 
 def read_words():
-    parser = argparse.ArgumentParser()
-    parser.add_argument("program")
+    parser = words_parser()
     parser.add_argument("building")
     parser.add_argument("families", nargs="*", default=list(circuits.FAMILIES), metavar="FAMILY")
-    parser.add_argument("--limit", type=int, default=60)
-    parser.add_argument("--repeats", type=int, default=3)
     parser.add_argument("--workers", type=int, default=1)
     return parser.parse_args()
 

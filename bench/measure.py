@@ -1,4 +1,5 @@
 """Runs a program within a time limit, and tells its times and its peak memory."""
+import argparse
 import os
 import pathlib
 import resource
@@ -80,6 +81,15 @@ def least(words, limit, repeats):
 def quickest(words, limit, repeats):
     """The run with the least time on the clock."""
     return repeated(words, limit, repeats, lambda r: r.clock)
+
+
+def words_parser():
+    """A parser of the words that each script takes: the program, how long a run may take, and how often it is repeated."""
+    parser = argparse.ArgumentParser()
+    parser.add_argument("program")
+    parser.add_argument("--limit", type=int, default=60)
+    parser.add_argument("--repeats", type=int, default=3)
+    return parser
 
 
 def shown(number, digits=2):

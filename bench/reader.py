@@ -7,14 +7,13 @@ Each chain is given to bddcheck as the first netlist, with a second one that is 
 first is read whole, and no gate is built. A reader that is linear in the text, or nearly so, takes about twice the
 time for twice the signals, whether each gate stands behind its operand or before it. It prints a table in Markdown.
 """
-import argparse
 import pathlib
 import shutil
 import sys
 import tempfile
 
 import chains
-from measure import least, ratio, shown, table
+from measure import least, ratio, shown, table, words_parser
 
 SIZES = [999999 >> shift for shift in range(7, -1, -1)]
 
@@ -51,16 +50,8 @@ def measure_order(order, folder, bad, settings):
     return rows
 
 
-def read_words():
-    parser = argparse.ArgumentParser()
-    parser.add_argument("program")
-    parser.add_argument("--limit", type=int, default=60)
-    parser.add_argument("--repeats", type=int, default=3)
-    return parser.parse_args()
-
-
 def main():
-    settings = read_words()
+    settings = words_parser().parse_args()
     folder = pathlib.Path(tempfile.mkdtemp())
     try:
         bad = folder / "bad.bench"

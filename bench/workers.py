@@ -12,16 +12,16 @@ It prints three tables in Markdown:
 3. time on the clock and peak memory by node of functions whose diagrams are wide: the number of nodes is the least limit
    that is not refused
 """
-import argparse
 import pathlib
 import shutil
 import sys
 import tempfile
 
 import circuits
-from measure import quickest, ratio, run, shown, table
+from measure import quickest, ratio, run, shown, table, words_parser
 
 WORKERS = [1, 2, 4]
+WAVE_WORKERS = [1, 2, 4, 16]
 LEVELS = [64, 256, 1024, 4096]
 PAIRS = [14, 16, 18]
 
@@ -67,7 +67,7 @@ def wave_rows(folder, settings):
         for path, count in zip(paths, (gates, gates // 2)):
             path.write_text(chain(levels, count))
         cells = [str(levels)]
-        for workers in [1, 2, 4, 16]:
+        for workers in WAVE_WORKERS:
             long, short = (
                 answered([settings.program, "--workers", str(workers), str(path), str(path)], settings) for path in paths
             )
@@ -112,11 +112,8 @@ def memory_rows(folder, settings):
 
 
 def read_words():
-    parser = argparse.ArgumentParser()
-    parser.add_argument("program")
+    parser = words_parser()
     parser.add_argument("families", nargs="*", default=list(circuits.FAMILIES), metavar="FAMILY")
-    parser.add_argument("--limit", type=int, default=60)
-    parser.add_argument("--repeats", type=int, default=3)
     return parser.parse_args()
 
 
@@ -125,7 +122,7 @@ def main():
     folder = pathlib.Path(tempfile.mkdtemp())
     times = [f"{what} by {workers}" for workers in WORKERS for what in ("clock", "processor")]
     ratios = [f"{what} {workers} / 1" for workers in WORKERS[1:] for what in ("clock", "processor")]
-    waves = [f"{what} by {workers}" for workers in (1, 2, 4, 16) for what in ("clock", "processor")]
+    waves = [f"{what} by {workers}" for workers in WAVE_WORKERS for what in ("clock", "processor")]
     memory = [f"{what} by {workers}" for workers in WORKERS for what in ("clock", "MB", "bytes / node")]
     try:
         print("Seconds, of the run that ended first:\n")
