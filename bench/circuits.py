@@ -10,6 +10,12 @@ multiplier  two numbers of SIZE bits: an array of rows, and a Wallace tree
 parity      SIZE inputs: a chain, and a balanced tree of XOR gates
 alu         eight functions of two numbers of SIZE bits: one adder with an AND-OR selection, and two
             look-ahead adders with a tree of multiplexers
+
+Only peers.py takes these:
+
+products    the sum of SIZE products of two inputs: by one OR, and by a tree of NAND and OR gates
+xors        SIZE gates in a chain over 64 inputs, in two orders of the inputs
+steps       SIZE gates in a chain over 64 inputs, by turns AND and OR, and the same by De Morgan's laws
 """
 import pathlib
 import sys
@@ -227,11 +233,63 @@ def alu(net, size, build):
     net.outputs("r", build(net, a, b, code))
 
 
+def products(net, size, join):
+    x, y = net.inputs("x", size), net.inputs("y", size)
+    net.output("o", join(net, x, y))
+
+
+def one_or(net, x, y):
+    return net.gate("OR", *[net.gate("AND", a, b) for a, b in zip(x, y)])
+
+
+def nand_tree(net, x, y):
+    """NAND over complemented products by twos, and OR gates above in a tree."""
+    terms = [net.gate("NAND", a, b) for a, b in zip(x, y)]
+    terms = [net.gate("NAND", *terms[i : i + 2]) for i in range(0, len(terms), 2)]
+    while len(terms) > 1:
+        terms = [net.gate("OR", *terms[i : i + 2]) for i in range(0, len(terms), 2)]
+    return terms[0]
+
+
+CHAIN_INPUTS = 64
+
+
+def long_chain(net, size, link):
+    net.output("o", link(net, net.inputs("x", CHAIN_INPUTS), size))
+
+
+def xors(net, inputs, size):
+    return chain(net, [inputs[i % len(inputs)] for i in range(size + 1)])
+
+
+def xors_backward(net, inputs, size):
+    return chain(net, [inputs[i % len(inputs)] for i in range(size, -1, -1)])
+
+
+def and_or_steps(net, inputs, size):
+    result = inputs[0]
+    for i in range(1, size + 1):
+        result = net.gate(("AND", "OR")[i % 2], result, inputs[i * 7 % len(inputs)])
+    return result
+
+
+def or_and_steps(net, inputs, size):
+    """As `and_or_steps`: each gate is the complement of that one's."""
+    inverse = [net.gate("NOT", x) for x in inputs]
+    result = inverse[0]
+    for i in range(1, size + 1):
+        result = net.gate(("OR", "AND")[i % 2], result, inverse[i * 7 % len(inputs)])
+    return net.gate("NOT", result)
+
+
 BUILDERS = {
     "adder": (adder, ripple, look_ahead),
     "multiplier": (multiplier, array, wallace),
     "parity": (parity, chain, tree),
     "alu": (alu, and_or_alu, tree_alu),
+    "products": (products, one_or, nand_tree),
+    "xors": (long_chain, xors, xors_backward),
+    "steps": (long_chain, and_or_steps, or_and_steps),
 }
 
 

@@ -1,18 +1,19 @@
-// Compares two bench netlists by a depth-first BDD package, BuDDy: the yardstick of compare.py.
+// Compares two bench netlists by a depth-first BDD package, BuDDy: the yardstick of compare.py and peers.py.
 //
-// usage: depth_first FIRST SECOND
+// usage: depth_first FIRST SECOND [ORDER]
 //
-// Inputs and outputs are paired by name. Variables stand in the order in which the inputs are met below the first
-// netlist's outputs, operands from left to right. All gates of both netlists are built, operand by operand. It
+// Inputs and outputs are paired by name. Variables stand in the order of the names in the file ORDER; without it in the
+// order in which the inputs are met below the first netlist's outputs, operands from left to right. All gates of both
+// netlists are built, operand by operand, each operand first. It
 // prints a line for each output, and the number of nodes at the end on standard error. The netlists are taken to be
 // right: nothing is checked.
 #include <bdd.h>
 
 #include <fstream>
 #include <iostream>
-#include <map>
-#include <set>
 #include <string>
+#include <unordered_map>
+#include <unordered_set>
 #include <vector>
 
 struct Gate {
@@ -23,7 +24,7 @@ struct Gate {
 struct Netlist {
     std::vector<std::string> inputs;
     std::vector<std::string> outputs;
-    std::map<std::string, Gate> gates;
+    std::unordered_map<std::string, Gate> gates;
 };
 
 // The words of a line: the runs of bytes between blanks, marks of the format and the line's end.
@@ -63,7 +64,7 @@ static Netlist read(const char* path) {
 // The signals below `roots`, each behind its operands, and before those that are met later.
 static std::vector<std::string> met(const Netlist& net, const std::vector<std::string>& roots) {
     std::vector<std::string> order;
-    std::set<std::string> entered;
+    std::unordered_set<std::string> entered;
     std::vector<std::pair<std::string, size_t>> path;
     for (const std::string& root : roots) {
         if (entered.insert(root).second) {
@@ -85,7 +86,7 @@ static std::vector<std::string> met(const Netlist& net, const std::vector<std::s
     return order;
 }
 
-static bdd value(const Gate& gate, const std::map<std::string, bdd>& known) {
+static bdd value(const Gate& gate, const std::unordered_map<std::string, bdd>& known) {
     const std::string& kind = gate.kind;
     int op = kind == "OR" || kind == "NOR" ? bddop_or : kind == "XOR" || kind == "XNOR" ? bddop_xor : bddop_and;
     bdd result = known.at(gate.operands[0]);
@@ -96,8 +97,8 @@ static bdd value(const Gate& gate, const std::map<std::string, bdd>& known) {
     return inverted ? !result : result;
 }
 
-static std::map<std::string, bdd> build(const Netlist& net, const std::map<std::string, int>& level) {
-    std::map<std::string, bdd> known;
+static std::unordered_map<std::string, bdd> build(const Netlist& net, const std::unordered_map<std::string, int>& level) {
+    std::unordered_map<std::string, bdd> known;
     for (const std::string& name : met(net, net.outputs)) {
         auto gate = net.gates.find(name);
         known[name] = gate == net.gates.end() ? bdd_ithvar(level.at(name)) : value(gate->second, known);
@@ -105,8 +106,8 @@ static std::map<std::string, bdd> build(const Netlist& net, const std::map<std::
     return known;
 }
 
-static std::map<std::string, int> levels(const Netlist& first) {
-    std::map<std::string, int> level;
+static std::unordered_map<std::string, int> levels(const Netlist& first) {
+    std::unordered_map<std::string, int> level;
     for (const std::string& name : met(first, first.outputs)) {
         if (!first.gates.count(name)) {
             level.insert({name, (int)level.size()});
@@ -115,12 +116,22 @@ static std::map<std::string, int> levels(const Netlist& first) {
     return level;
 }
 
+// The levels of the names of a file. It is taken to have each input of both netlists.
+static std::unordered_map<std::string, int> listed(const char* path) {
+    std::unordered_map<std::string, int> level;
+    std::ifstream file(path);
+    for (std::string name; file >> name;) {
+        level.insert({name, (int)level.size()});
+    }
+    return level;
+}
+
 int main(int count, char** words) {
-    if (count != 3) {
+    if (count != 3 && count != 4) {
         return 2;
     }
     Netlist first = read(words[1]), second = read(words[2]);
-    std::map<std::string, int> level = levels(first);
+    std::unordered_map<std::string, int> level = count == 4 ? listed(words[3]) : levels(first);
     bdd_init(1 << 16, 1 << 14);
     bdd_gbc_hook(nullptr);
     bdd_setcacheratio(4);
@@ -128,7 +139,7 @@ int main(int count, char** words) {
     bdd_setvarnum((int)level.size());
     int different = 0;
     {
-        std::map<std::string, bdd> a = build(first, level), b = build(second, level);
+        std::unordered_map<std::string, bdd> a = build(first, level), b = build(second, level);
         for (const std::string& name : first.outputs) {
             bool equal = a.at(name) == b.at(name);
             std::cout << (equal ? "EQUAL " : "DIFFER ") << name << "\n";

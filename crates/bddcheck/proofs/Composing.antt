@@ -16,7 +16,8 @@ use Rattle.bddcheck.specs.declared.fault.ToolFault.{ToolFault}
 use Rattle.bddcheck.specs.declared.fault.ToolFault.TheVariants.{OneFile, CannotOpen, InputUnread, InputTooLong, InputUndivided, BadOrder, Check, OutOfMemory}
 use Rattle.bddcheck.specs.Splitting.{IsSplit}
 use Rattle.bddcheck.specs.Opening.{Try, Extends, opened, AreTried}
-use Rattle.bddcheck.specs.Running.{text_paths, order_paths, paths_of, IsShort, AreTexts, HasTexts, IsOrderOf, IsCompared, HasReported, HasReportedFront, IsWithin, IsBeyond, IsCompareFault, IsToolFault}
+use Rattle.bddcheck.specs.Running.{text_paths, order_paths, paths_of, IsShort, AreTexts, HasTexts, IsOrderOf, IsCompared, HasReported, HasReportedFront, HasFirstFailed, HasSecondFailed, IsWithin, IsBeyond, IsCompareFault, IsToolFault}
+use Rattle.bddcheck.proofs.Failing.{check_fault}
 
 -- ---- tries
 
@@ -83,10 +84,10 @@ module _ (told : List ℕ → Option (List ℕ)) (input : Option (List ℕ)) (o 
       (h.0, record { one = one; two = two; texts = texts; compared = subst (λ t. IsCompared t one two o outcome h.0) e h.1 }, h.2)
   whole_report told' e before now (Err fault) h = tt
 
-  pub whole_front : (told' : List ℕ → Option (List ℕ)) → told' ≡ told → (before now : Option (List ℕ)) (has_failed : Bool)
-      → (outcome : Outcome) × (bytes : List ℕ) × IsCompared told' one two o outcome bytes × AppendsFront before now has_failed bytes
-      → HasReportedFront told input o before now has_failed
-  whole_front told' e before now has_failed h =
+  pub whole_front : (told' : List ℕ → Option (List ℕ)) → told' ≡ told → (before now : Option (List ℕ)) (has_failed has_stopped : Bool)
+      → (outcome : Outcome) × (bytes : List ℕ) × IsCompared told' one two o outcome bytes × AppendsFront before now has_failed has_stopped bytes
+      → HasReportedFront told input o before now has_failed has_stopped
+  whole_front told' e before now has_failed has_stopped h =
       (h.0, h.1, record { one = one; two = two; texts = texts; compared = subst (λ t. IsCompared t one two o h.0 h.1) e h.2 }, h.3)
 
   pub whole_within : (told' : List ℕ → Option (List ℕ)) → told' ≡ told → (r : Result Outcome ToolFault) → OnOk r ((order : Order) × IsOrderOf told' o.order order × AreWithin one two o.matching order o.limit) → OnOk r (IsWithin told input o)
@@ -96,27 +97,31 @@ module _ (told : List ℕ → Option (List ℕ)) (input : Option (List ℕ)) (o 
   pub whole_beyond : (told' : List ℕ → Option (List ℕ)) → told' ≡ told → (order : Order) × IsOrderOf told' o.order order × AreBeyond one two o.matching order o.limit → IsBeyond told input o
   whole_beyond told' e h = (one, two, h.0, texts, subst (λ t. IsOrderOf t o.order h.0) e h.1, h.2)
 
-  whole_fault : (tries : List Try) (fault : ToolFault) → IsCompareFault told one two o tries fault → IsToolFault told input o (opened (text_paths o.texts) ++ tries) fault
-  whole_fault tries OneFile f = absurd f
-  whole_fault tries InputUnread f = absurd f
-  whole_fault tries InputTooLong f = absurd f
-  whole_fault tries InputUndivided f = absurd f
-  whole_fault tries OutOfMemory f = tried_more (text_paths o.texts) (order_paths o.order) tries f
-  whole_fault tries (CannotOpen First) f = absurd f
-  whole_fault tries (CannotOpen Second) f = absurd f
-  whole_fault tries (CannotOpen OrderFile) f =
-      (f.0, f.1, has_texts told input o.texts one two texts, ap (λ l. opened (text_paths o.texts) ++ l) f.2)
-  whole_fault tries (BadOrder fault) f =
-      (f.0, f.1, has_texts told input o.texts one two texts, ap (λ l. opened (text_paths o.texts) ++ l) f.2 ∙ sym (opened_more (text_paths o.texts) (order_paths o.order)), f.3)
-  whole_fault tries (Check fault) f =
-      (one, two, f.0, texts, f.1, ap (λ l. opened (text_paths o.texts) ++ l) f.2 ∙ sym (opened_more (text_paths o.texts) (order_paths o.order)), f.3)
+  module _ (broken : List ℕ → Type 0) (first_failed second_failed : Type 0) (first : first_failed → HasFirstFailed broken o.texts) (second : second_failed → HasSecondFailed broken o.texts) where
+    whole_fault : (tries : List Try) (fault : ToolFault) → IsCompareFault told broken one two first_failed second_failed o tries fault → IsToolFault told broken input o (opened (text_paths o.texts) ++ tries) fault
+    whole_fault tries OneFile f = absurd f
+    whole_fault tries InputUnread f = absurd f
+    whole_fault tries InputTooLong f = absurd f
+    whole_fault tries InputUndivided f = absurd f
+    whole_fault tries OutOfMemory f = tried_more (text_paths o.texts) (order_paths o.order) tries f
+    whole_fault tries (CannotOpen First) f = absurd f
+    whole_fault tries (CannotOpen Second) f = absurd f
+    whole_fault tries (CannotOpen OrderFile) f =
+        (f.0, f.1, has_texts told input o.texts one two texts, ap (λ l. opened (text_paths o.texts) ++ l) f.2)
+    whole_fault tries (BadOrder fault) f =
+        (f.0, f.1, has_texts told input o.texts one two texts, ap (λ l. opened (text_paths o.texts) ++ l) f.2 ∙ sym (opened_more (text_paths o.texts) (order_paths o.order)), f.3)
+    whole_fault tries (Check fault) f =
+        (one, two, f.0, texts, f.1, ap (λ l. opened (text_paths o.texts) ++ l) f.2 ∙ sym (opened_more (text_paths o.texts) (order_paths o.order)), check_fault one two first_failed second_failed (HasFirstFailed broken o.texts) (HasSecondFailed broken o.texts) o.matching f.0 first second fault f.3)
 
-  pub whole_faults : (told' : List ℕ → Option (List ℕ)) → told' ≡ told → (a b c : Option (List Try)) → Extends a b (opened (text_paths o.texts)) → (r : Result Outcome ToolFault)
-      → IfErr r (λ fault. (tries : List Try) × Extends b c tries × IsCompareFault told' one two o tries fault)
-      → IfErr r (λ fault. (tries : List Try) × Extends a c tries × IsToolFault told input o tries fault)
-  whole_faults told' e a b c before (Ok outcome) h = tt
-  whole_faults told' e a b c before (Err fault) h =
-      (opened (text_paths o.texts) ++ h.0, extends_more a b c (opened (text_paths o.texts)) h.0 before h.1, whole_fault h.0 fault (subst (λ t. IsCompareFault t one two o h.0 fault) e h.2))
+    pub whole_faults : (told' : List ℕ → Option (List ℕ)) → told' ≡ told → (a b c : Option (List Try)) → Extends a b (opened (text_paths o.texts)) → (r : Result Outcome ToolFault)
+        → IfErr r (λ fault. (tries : List Try) × Extends b c tries × IsCompareFault told' broken one two first_failed second_failed o tries fault)
+        → IfErr r (λ fault. (tries : List Try) × Extends a c tries × IsToolFault told broken input o tries fault)
+    whole_faults told' e a b c before (Ok outcome) h = tt
+    whole_faults told' e a b c before (Err fault) h = (
+      opened (text_paths o.texts) ++ h.0,
+      extends_more a b c (opened (text_paths o.texts)) h.0 before h.1,
+      whole_fault h.0 fault (subst (λ t. IsCompareFault t broken one two first_failed second_failed o h.0 fault) e h.2),
+    )
 
 -- ---- two files
 
@@ -130,13 +135,13 @@ module _ (o : Options) (first second : Bor (List ℕ)) (files : o.texts ≡ File
       subst (λ l. Extends a d l) (sym (opened_more (text_paths o.texts) (order_paths o.order))) (extends_more a c d (opened (text_paths o.texts)) (opened (order_paths o.order)) (both_opened a b c e f) h)
   all_opened a b c d (Err fault) e f h = tt
 
-  pub second_unopened : (told : List ℕ → Option (List ℕ)) (input : Option (List ℕ)) (fault : ToolFault) (a b c : Option (List Try)) → (fault ≡ CannotOpen Second) ⊎ (fault ≡ OutOfMemory)
-      → Extends a b ((first.now, true) ∷ []) → Extends b c ((second.now, false) ∷ []) → (tries : List Try) × Extends a c tries × IsToolFault told input o tries fault
-  second_unopened told input fault a b c (inl is) e f =
-      ((first.now, true) ∷ (second.now, false) ∷ [], extends_more a b c ((first.now, true) ∷ []) ((second.now, false) ∷ []) e f, subst (λ x. IsToolFault told input o ((first.now, true) ∷ (second.now, false) ∷ []) x) (sym is) (first, second, files, refl))
-  second_unopened told input fault a b c (inr is) e f = (
+  pub second_unopened : (told : List ℕ → Option (List ℕ)) (broken : List ℕ → Type 0) (input : Option (List ℕ)) (fault : ToolFault) (a b c : Option (List Try)) → (fault ≡ CannotOpen Second) ⊎ (fault ≡ OutOfMemory)
+      → Extends a b ((first.now, true) ∷ []) → Extends b c ((second.now, false) ∷ []) → (tries : List Try) × Extends a c tries × IsToolFault told broken input o tries fault
+  second_unopened told broken input fault a b c (inl is) e f =
+      ((first.now, true) ∷ (second.now, false) ∷ [], extends_more a b c ((first.now, true) ∷ []) ((second.now, false) ∷ []) e f, subst (λ x. IsToolFault told broken input o ((first.now, true) ∷ (second.now, false) ∷ []) x) (sym is) (first, second, files, refl))
+  second_unopened told broken input fault a b c (inr is) e f = (
     (first.now, true) ∷ (second.now, false) ∷ [],
     extends_more a b c ((first.now, true) ∷ []) ((second.now, false) ∷ []) e f,
-    subst (λ x. IsToolFault told input o ((first.now, true) ∷ (second.now, false) ∷ []) x) (sym is)
+    subst (λ x. IsToolFault told broken input o ((first.now, true) ∷ (second.now, false) ∷ []) x) (sym is)
         (subst (λ t. AreTried (text_paths t ++ order_paths o.order) ((first.now, true) ∷ (second.now, false) ∷ [])) (sym files) (refl, (refl, refl))),
   )

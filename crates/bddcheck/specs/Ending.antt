@@ -1,5 +1,5 @@
 -- How a run ends: what it has written, what it says, and its status.
-use Rattle.std.specs.Prelude.{◌≡◌, ◌≢◌, ◌≤◌, ◌⊎◌, ◌↔◌, ℕ, Bool, List, [], Option, IsTrue, string_bytes}
+use Rattle.std.specs.Prelude.{◌≡◌, ◌≢◌, ◌≤◌, ◌⊎◌, ◌↔◌, ℕ, Bool, List, [], Option, IsTrue, string_bytes, codes}
 use Rattle.std.specs.Io.KnownBytes.{Appends, Keeps}
 use Rattle.check_report.specs.declared.outcome.Outcome.{Outcome}
 use Rattle.check_report.specs.declared.fault.CheckFault.TheVariants.{Wave, Write}
@@ -7,23 +7,37 @@ use Rattle.check_report.specs.Writing.{AppendsFront}
 use Rattle.command_line.specs.declared.options.Options.{Options}
 use Rattle.command_line.specs.declared.reading.Refused.{Refused}
 use Rattle.command_line.specs.declared.reading.Refused.TheVariants.{Help, Mistake, OutOfMemory as NoWordMemory}
-use Rattle.command_line.specs.Words.{IsRefusal}
+use Rattle.command_line.specs.declared.options.Texts.TheVariants.{Input}
+use Rattle.command_line.specs.Words.{AskFor, IsRefusal}
 use Rattle.expand_work.specs.declared.fault.WaveFault.TheVariants.{Full}
 use Rattle.bddcheck.specs.declared.fault.ToolFault.{ToolFault}
 use Rattle.bddcheck.specs.declared.fault.ToolFault.TheVariants.{Check, InputUnread, OutOfMemory}
+use Rattle.bddcheck.specs.declared.process.NoWords.{NoWords}
+use Rattle.bddcheck.specs.declared.process.NoWords.TheVariants.{OutOfMemory as NoArguments, NoText}
 use Rattle.bddcheck.specs.Faults.{fault_line, fault_status}
 use Rattle.bddcheck.specs.Opening.{Try, Extends, opened}
 use Rattle.bddcheck.specs.Running.{paths_of, HasReported, HasReportedFront, IsWithin, IsBeyond, IsToolFault}
 
--- a device has taken this text, or a front part of it
-abbrev pub Says : Option (List ℕ) → Option (List ℕ) → Bool → List ℕ → Type 0
-Says before now has_failed text = Appends before now text ⊎ AppendsFront before now has_failed text
+-- what a device held and holds now, and whether it has failed by now, and whether a write has taken nothing of some bytes
+pub record Written : Type 0 where
+  pub held : Option (List ℕ)
+  pub holds : Option (List ℕ)
+  pub has_failed : Bool
+  pub has_stopped : Bool
+
+-- a front part of the bytes was written, for a cause
+abbrev pub HasFront : Written → List ℕ → Type 0
+HasFront w bytes = AppendsFront w.held w.holds w.has_failed w.has_stopped bytes
+
+-- a device has taken this text; or a front part of it, and it has failed or taken nothing of the rest
+abbrev pub Says : Written → List ℕ → Type 0
+Says w text = Appends w.held w.holds text ⊎ HasFront w text
 
 -- the line of this fault was said, and this is its status; where there was no memory for the line, those of want of memory
-pub record IsSaid (before now : Option (List ℕ)) (has_failed : Bool) (fault : ToolFault) (status : ℕ) : Type 0 where
+pub record IsSaid (w : Written) (fault : ToolFault) (status : ℕ) : Type 0 where
   pub said : ToolFault
   pub which : (said ≡ fault) ⊎ (said ≡ OutOfMemory)
-  pub line : Says before now has_failed (fault_line said)
+  pub line : Says w (fault_line said)
   pub code : status ≡ fault_status said
 
 -- the status of a report: 0 where all outputs are paired and equal, else 1
@@ -31,56 +45,60 @@ pub record IsReportStatus (outcome : Outcome) (status : ℕ) : Type 0 where
   pub bound : status ≤ 1
   pub zero : (status ≡ 0) ↔ ((outcome.different ≡ 0) × (outcome.unmatched ≡ 0))
 
--- what a run is given and leaves: the files that are told and the tries before and now, the input, and the bytes of the output and of
--- the error device before and now; and whether each of the three devices has failed now
+-- what a run is given and leaves: the files that are told, the tries before and now, the bytes of the input and whether it has failed
+-- now, and what was written to the output and to the error device
 pub record Scene : Type 0 where
   pub told : List ℕ → Option (List ℕ)
   pub tried : Option (List Try)
   pub tries : Option (List Try)
   pub input : Option (List ℕ)
   pub input_failed : Bool
-  pub held : Option (List ℕ)
-  pub written : Option (List ℕ)
-  pub out_failed : Bool
-  pub heard : Option (List ℕ)
-  pub said : Option (List ℕ)
-  pub errors_failed : Bool
+  pub output : Written
+  pub errors : Written
 
 -- The report of what the options name was written, all files were opened, and nothing was said.
 pub record Reports (s : Scene) (o : Options) (outcome : Outcome) (status : ℕ) : Type 0 where
-  pub report : HasReported s.told s.input o s.held s.written outcome
+  pub report : HasReported s.told s.input o s.output.held s.output.holds outcome
   pub within : IsWithin s.told s.input o
   pub opened_all : Extends s.tried s.tries (opened (paths_of o))
-  pub silent : Keeps s.heard s.said
+  pub silent : Keeps s.errors.held s.errors.holds
   pub code : IsReportStatus outcome status
 
 -- There is a fault: its line was said, and nothing was written but for a front part of the report where the writing failed.
-pub record Refuses (s : Scene) (o : Options) (fault : ToolFault) (status : ℕ) : Type 0 where
+pub record Refuses (broken : List ℕ → Type 0) (s : Scene) (o : Options) (fault : ToolFault) (status : ℕ) : Type 0 where
   pub tries : List Try
   pub tried : Extends s.tried s.tries tries
-  pub cause : IsToolFault s.told s.input o tries fault
+  pub cause : IsToolFault s.told broken s.input o tries fault
   pub unread : fault ≡ InputUnread → IsTrue s.input_failed
   pub full : fault ≡ Check (Wave Full) → IsBeyond s.told s.input o
-  pub line : IsSaid s.heard s.said s.errors_failed fault status
-  pub front : fault ≡ Check Write → HasReportedFront s.told s.input o s.held s.written s.out_failed
-  pub nothing : fault ≢ Check Write → Keeps s.held s.written
+  pub line : IsSaid s.errors fault status
+  pub front : fault ≡ Check Write → HasReportedFront s.told s.input o s.output.held s.output.holds s.output.has_failed s.output.has_stopped
+  pub nothing : fault ≢ Check Write → Keeps s.output.held s.output.holds
 
--- how a run of some options ends
-abbrev pub IsEnding : Scene → Options → ℕ → Type 0
-IsEnding s o status = ((outcome : Outcome) × Reports s o outcome status) ⊎ ((fault : ToolFault) × Refuses s o fault status)
+-- How a run of some options ends. `broken` says of a path that a file that was opened there has failed.
+abbrev pub IsEnding : (broken : List ℕ → Type 0) → Scene → Options → ℕ → Type 0
+IsEnding broken s o status = ((outcome : Outcome) × Reports s o outcome status) ⊎ ((fault : ToolFault) × Refuses broken s o fault status)
 
 -- what is told of words that ask for no options: help on the output, a mistake, or want of memory
-abbrev pub IsWordEnd : (held written : Option (List ℕ)) (out_failed : Bool) (heard said : Option (List ℕ)) (errors_failed : Bool) → Refused → ℕ → Type 0
-IsWordEnd held written out_failed heard said errors_failed (Help text) status =
-    Keeps heard said
-    × ((Appends held written (string_bytes text) × (status ≡ 0)) ⊎ (AppendsFront held written out_failed (string_bytes text) × (status ≡ 3)))
-IsWordEnd held written out_failed heard said errors_failed (Mistake text) status =
-    Keeps held written × Says heard said errors_failed (string_bytes text) × (status ≡ 2)
-IsWordEnd held written out_failed heard said errors_failed NoWordMemory status =
-    Keeps held written × IsSaid heard said errors_failed OutOfMemory status
+abbrev pub IsWordEnd : (output errors : Written) → Refused → ℕ → Type 0
+IsWordEnd output errors (Help text) status =
+    Keeps errors.held errors.holds
+    × ((Appends output.held output.holds (string_bytes text) × (status ≡ 0)) ⊎ (HasFront output (string_bytes text) × (status ≡ 3)))
+IsWordEnd output errors (Mistake text) status = Keeps output.held output.holds × Says errors (string_bytes text) × (status ≡ 2)
+IsWordEnd output errors NoWordMemory status = Keeps output.held output.holds × IsSaid errors OutOfMemory status
 
--- The words are refused for a cause, which is told, and no file was opened.
+-- the words are refused for a cause, which is told
 abbrev pub IsWordEnding : Scene → List (List ℕ) → ℕ → Type 0
-IsWordEnding s words status =
-    Extends s.tried s.tries []
-    × ((refused : Refused) × IsRefusal words refused × IsWordEnd s.held s.written s.out_failed s.heard s.said s.errors_failed refused status)
+IsWordEnding s words status = (refused : Refused) × IsRefusal words refused × IsWordEnd s.output s.errors refused status
+
+-- How a run of the program on some words ends. They ask for options, whose run ends as above, and the input stays unread unless the
+-- texts stand on it; or they are refused, no file is asked for, and the input stays unread.
+abbrev pub IsRun : (broken : List ℕ → Type 0) → Scene → (unopened unread : Type 0) → List (List ℕ) → ℕ → Type 0
+IsRun broken s unopened unread words status =
+    ((o : Options) × AskFor words o × IsEnding broken s o status × (o.texts ≢ Input → unread))
+    ⊎ (IsWordEnding s words status × unopened × unread)
+
+-- what is told where the process has no words for the program
+abbrev pub IsWordless : (errors : Written) → NoWords → ℕ → Type 0
+IsWordless errors NoArguments status = IsSaid errors OutOfMemory status
+IsWordless errors NoText status = Says errors (codes "bddcheck: a word of the command line is no UTF-8\n") × (status ≡ 2)

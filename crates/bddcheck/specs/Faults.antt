@@ -1,7 +1,7 @@
 -- What the program's faults are called in print, and its statuses.
 use Rattle.std.specs.Prelude.{ℕ, List, ◌++◌, codes}
 use Rattle.net_bench.specs.declared.netlist.BenchFault.{BenchFault}
-use Rattle.net_bench.specs.declared.netlist.BenchFault.TheVariants.{TooLong as LongText, BadByte, BadStatement, UnknownGate, WrongOperands, Redefined, TooMany, Sequential, Undefined, Cycle, Read as ReadFailed, OutOfMemory as NoTextMemory}
+use Rattle.net_bench.specs.declared.netlist.BenchFault.TheVariants.{TooLong as LongText, BadByte, BadStatement, UnknownGate, WrongOperands, Redefined, TooMany, Undefined, Cycle, Read as ReadFailed, OutOfMemory as NoTextMemory}
 use Rattle.net_order.specs.declared.order.OrderFault.{OrderFault}
 use Rattle.net_order.specs.declared.order.OrderFault.TheVariants.{CountsDiffer, NotAPermutation, TooManyInputs, OutOfMemory as NoOrderMemory, BadName, TooLong as LongOrder, Read as OrderReadFailed}
 use Rattle.net_order.specs.Fault.{order_fault_text}
@@ -44,7 +44,6 @@ text_status (UnknownGate line) = 2
 text_status (WrongOperands line) = 2
 text_status (Redefined line) = 2
 text_status (TooMany line) = 2
-text_status (Sequential line) = 2
 text_status (Undefined line) = 2
 text_status (Cycle line) = 2
 text_status ReadFailed = 2

@@ -1,5 +1,5 @@
 -- Files that are opened: which paths were asked for, and in which order.
-use Rattle.std.specs.Prelude.{◌≡◌, ℕ, Bool, true, false, List, [], ◌∷◌, ◌++◌, map, Option, Some, None, ⊤}
+use Rattle.std.specs.Prelude.{◌≡◌, ℕ, Bool, true, false, List, [], ◌∷◌, ◌++◌, map, Option, Some, None, IfSome, IsTrue, ⊤}
 
 -- a path that was asked for, and whether its file was opened
 abbrev pub Try : Type 0
@@ -21,3 +21,7 @@ AreTried paths [] = ⊤
 AreTried [] (t ∷ ts) = ⊥
 AreTried (path ∷ paths) ((asked, true) ∷ ts) = (asked ≡ path) × AreTried paths ts
 AreTried (path ∷ paths) ((asked, false) ∷ ts) = (asked ≡ path) × (ts ≡ [])
+
+-- A file that was opened at this path, where files tell their paths, has failed.
+abbrev pub HasFailedAt : {File : Type 0} → (origin : File → Option (List ℕ)) → (has_failed : File → Bool) → List ℕ → Type 0
+HasFailedAt {File} origin has_failed path = (file : File) × IfSome (origin file) (λ from. from ≡ path) × IsTrue (has_failed file)

@@ -4,7 +4,7 @@ use Rattle.std.specs.Borrow.{Bor}
 use Rattle.std.specs.Io.KnownBytes.{Appends}
 use Rattle.check_report.specs.Writing.{AppendsFront}
 use Rattle.net_order.specs.declared.order.Order.{Order}
-use Rattle.net_order.specs.declared.order.Order.TheVariants.{Declared as declared, Depth as depth, Listed}
+use Rattle.net_order.specs.declared.order.Order.TheVariants.{Declared as declared, Depth as depth, Interleave as interleave, Listed}
 use Rattle.net_order.specs.declared.order.OrderFault.{OrderFault}
 use Rattle.net_order.specs.declared.order.OrderFault.TheVariants.{Read as OrderReadFailed, OutOfMemory as NoOrderMemory}
 use Rattle.net_order.specs.OrderText.{IsOrderText, IsBadText}
@@ -13,7 +13,7 @@ use Rattle.check_report.specs.Check.{IsChecked, IsCheckFault}
 use Rattle.check_report.specs.Limits.{AreWithin, AreBeyond}
 use Rattle.command_line.specs.declared.options.Options.{Options}
 use Rattle.command_line.specs.declared.options.OrderChoice.{OrderChoice}
-use Rattle.command_line.specs.declared.options.OrderChoice.TheVariants.{Declared, Depth, File}
+use Rattle.command_line.specs.declared.options.OrderChoice.TheVariants.{Declared, Depth, Interleave, File}
 use Rattle.command_line.specs.declared.options.Texts.{Texts}
 use Rattle.command_line.specs.declared.options.Texts.TheVariants.{Input, Files, One}
 use Rattle.bddcheck.specs.declared.fault.Place.{Place}
@@ -34,6 +34,7 @@ abbrev pub order_paths : OrderChoice → List (List ℕ)
 order_paths (File path) = path.now ∷ []
 order_paths Declared = []
 order_paths Depth = []
+order_paths Interleave = []
 
 -- all files that are opened, in this order
 abbrev pub paths_of : Options → List (List ℕ)
@@ -57,6 +58,7 @@ AreTexts told input One one two = ⊥
 abbrev pub IsOrderOf : (List ℕ → Option (List ℕ)) → OrderChoice → Order → Type 0
 IsOrderOf told Declared order = order ≡ declared
 IsOrderOf told Depth order = order ≡ depth
+IsOrderOf told Interleave order = order ≡ interleave
 IsOrderOf told (File path) order = (names : List (List ℕ)) × (order ≡ Listed names) × IfSome (told path.now) (λ text. IsOrderText text names)
 
 -- the bytes are the report of these two texts under the options, and these are its counts
@@ -76,10 +78,10 @@ pub record IsReported (told : List ℕ → Option (List ℕ)) (input : Option (L
 abbrev pub HasReported : (List ℕ → Option (List ℕ)) → Option (List ℕ) → Options → Option (List ℕ) → Option (List ℕ) → Outcome → Type 0
 HasReported told input o before now outcome = (bytes : List ℕ) × IsReported told input o outcome bytes × Appends before now bytes
 
--- a device has taken a front part of the report; the whole only where it has failed
-abbrev pub HasReportedFront : (List ℕ → Option (List ℕ)) → Option (List ℕ) → Options → Option (List ℕ) → Option (List ℕ) → Bool → Type 0
-HasReportedFront told input o before now has_failed =
-    (outcome : Outcome) × (bytes : List ℕ) × IsReported told input o outcome bytes × AppendsFront before now has_failed bytes
+-- a device has taken a front part of the report, and has failed or taken nothing of the rest
+abbrev pub HasReportedFront : (List ℕ → Option (List ℕ)) → Option (List ℕ) → Options → (before now : Option (List ℕ)) → (has_failed has_stopped : Bool) → Type 0
+HasReportedFront told input o before now has_failed has_stopped =
+    (outcome : Outcome) × (bytes : List ℕ) × IsReported told input o outcome bytes × AppendsFront before now has_failed has_stopped bytes
 
 -- this holds of the texts and the order that the options name
 abbrev pub AreNamed : (List ℕ → Option (List ℕ)) → Option (List ℕ) → Options → (Option (List ℕ) → Option (List ℕ) → Order → Type 0) → Type 0
@@ -99,35 +101,37 @@ HasTexts input (Files first second) = ⊤
 HasTexts input Input = IfSome input (λ text. IsShort text × (parts : List ℕ × List ℕ) × IsSplit text (Some parts))
 HasTexts input One = ⊥
 
--- why the order file was refused
-abbrev pub IsOrderRefused : Option (List ℕ) → OrderFault → Type 0
-IsOrderRefused told fault = (fault ≡ NoOrderMemory) ⊎ (fault ≡ OrderReadFailed) ⊎ IfSome told (λ text. IsBadText text fault)
+-- Why the order file was refused: want of memory, a file that has failed, or what stands in it.
+pub record IsOrderRefused (told : Option (List ℕ)) (has_failed : Type 0) (fault : OrderFault) : Type 0 where
+  pub cause : (fault ≡ NoOrderMemory) ⊎ (fault ≡ OrderReadFailed) ⊎ IfSome told (λ text. IsBadText text fault)
+  pub read : fault ≡ OrderReadFailed → has_failed
 
--- why the order that is asked for was not had, and which files were tried for it
-abbrev pub IsOrderFault : (List ℕ → Option (List ℕ)) → OrderChoice → List Try → ToolFault → Type 0
-IsOrderFault told choice tries (CannotOpen OrderFile) = (path : Bor (List ℕ)) × (choice ≡ File path) × (tries ≡ (path.now, false) ∷ [])
-IsOrderFault told choice tries (BadOrder fault) =
-    (path : Bor (List ℕ)) × (choice ≡ File path) × (tries ≡ opened (order_paths choice)) × IsOrderRefused (told path.now) fault
-IsOrderFault told choice tries OutOfMemory = AreTried (order_paths choice) tries
-IsOrderFault told choice tries (CannotOpen First) = ⊥
-IsOrderFault told choice tries (CannotOpen Second) = ⊥
-IsOrderFault told choice tries OneFile = ⊥
-IsOrderFault told choice tries InputUnread = ⊥
-IsOrderFault told choice tries InputTooLong = ⊥
-IsOrderFault told choice tries InputUndivided = ⊥
-IsOrderFault told choice tries (Check fault) = ⊥
+-- Why the order that is asked for was not had, and which files were tried for it. `broken` says of a path that a file that was
+-- opened there has failed.
+abbrev pub IsOrderFault : (List ℕ → Option (List ℕ)) → (broken : List ℕ → Type 0) → OrderChoice → List Try → ToolFault → Type 0
+IsOrderFault told broken choice tries (CannotOpen OrderFile) = (path : Bor (List ℕ)) × (choice ≡ File path) × (tries ≡ (path.now, false) ∷ [])
+IsOrderFault told broken choice tries (BadOrder fault) =
+    (path : Bor (List ℕ)) × (choice ≡ File path) × (tries ≡ opened (order_paths choice)) × IsOrderRefused (told path.now) (broken path.now) fault
+IsOrderFault told broken choice tries OutOfMemory = AreTried (order_paths choice) tries
+IsOrderFault told broken choice tries (CannotOpen First) = ⊥
+IsOrderFault told broken choice tries (CannotOpen Second) = ⊥
+IsOrderFault told broken choice tries OneFile = ⊥
+IsOrderFault told broken choice tries InputUnread = ⊥
+IsOrderFault told broken choice tries InputTooLong = ⊥
+IsOrderFault told broken choice tries InputUndivided = ⊥
+IsOrderFault told broken choice tries (Check fault) = ⊥
 
--- why two texts have no report: for their order, or by the check
-abbrev pub IsCompareFault : (List ℕ → Option (List ℕ)) → Option (List ℕ) → Option (List ℕ) → Options → List Try → ToolFault → Type 0
-IsCompareFault told one two o tries (Check fault) =
-    (order : Order) × IsOrderOf told o.order order × (tries ≡ opened (order_paths o.order)) × IsCheckFault one two o.matching order fault
-IsCompareFault told one two o tries (CannotOpen place) = IsOrderFault told o.order tries (CannotOpen place)
-IsCompareFault told one two o tries (BadOrder fault) = IsOrderFault told o.order tries (BadOrder fault)
-IsCompareFault told one two o tries OutOfMemory = IsOrderFault told o.order tries OutOfMemory
-IsCompareFault told one two o tries OneFile = ⊥
-IsCompareFault told one two o tries InputUnread = ⊥
-IsCompareFault told one two o tries InputTooLong = ⊥
-IsCompareFault told one two o tries InputUndivided = ⊥
+-- Why two texts have no report: for their order, or by the check. The devices of both texts may have failed.
+abbrev pub IsCompareFault : (List ℕ → Option (List ℕ)) → (broken : List ℕ → Type 0) → (one two : Option (List ℕ)) → (first_failed second_failed : Type 0) → Options → List Try → ToolFault → Type 0
+IsCompareFault told broken one two first_failed second_failed o tries (Check fault) =
+    (order : Order) × IsOrderOf told o.order order × (tries ≡ opened (order_paths o.order)) × IsCheckFault one two first_failed second_failed o.matching order fault
+IsCompareFault told broken one two first_failed second_failed o tries (CannotOpen place) = IsOrderFault told broken o.order tries (CannotOpen place)
+IsCompareFault told broken one two first_failed second_failed o tries (BadOrder fault) = IsOrderFault told broken o.order tries (BadOrder fault)
+IsCompareFault told broken one two first_failed second_failed o tries OutOfMemory = IsOrderFault told broken o.order tries OutOfMemory
+IsCompareFault told broken one two first_failed second_failed o tries OneFile = ⊥
+IsCompareFault told broken one two first_failed second_failed o tries InputUnread = ⊥
+IsCompareFault told broken one two first_failed second_failed o tries InputTooLong = ⊥
+IsCompareFault told broken one two first_failed second_failed o tries InputUndivided = ⊥
 
 -- why the input has no text
 abbrev pub IsInputFault : Option (List ℕ) → ToolFault → Type 0
@@ -147,16 +151,29 @@ IsUnopened input o tries Second = (first second : Bor (List ℕ)) × (o.texts �
 IsUnopened input o tries OrderFile =
     (path : Bor (List ℕ)) × (o.order ≡ File path) × HasTexts input o.texts × (tries ≡ opened (text_paths o.texts) ++ (path.now, false) ∷ [])
 
+-- the device of the first text has failed: its file; a text of the input is read from memory, which cannot fail
+abbrev pub HasFirstFailed : (broken : List ℕ → Type 0) → Texts → Type 0
+HasFirstFailed broken (Files first second) = broken first.now
+HasFirstFailed broken Input = ⊥
+HasFirstFailed broken One = ⊥
+
+-- the same of the second
+abbrev pub HasSecondFailed : (broken : List ℕ → Type 0) → Texts → Type 0
+HasSecondFailed broken (Files first second) = broken second.now
+HasSecondFailed broken Input = ⊥
+HasSecondFailed broken One = ⊥
+
 -- Why there is no report, and which files were tried until then. What comes before in the order of the checks was accepted.
-abbrev pub IsToolFault : (List ℕ → Option (List ℕ)) → Option (List ℕ) → Options → List Try → ToolFault → Type 0
-IsToolFault told input o tries OneFile = (o.texts ≡ One) × (tries ≡ [])
-IsToolFault told input o tries (CannotOpen place) = IsUnopened input o tries place
-IsToolFault told input o tries InputUnread = (o.texts ≡ Input) × (tries ≡ [])
-IsToolFault told input o tries InputTooLong = (o.texts ≡ Input) × (tries ≡ []) × IfSome input (λ text. 134221824 < length text)
-IsToolFault told input o tries InputUndivided = (o.texts ≡ Input) × (tries ≡ []) × IfSome input (λ text. IsShort text × IsSplit text None)
-IsToolFault told input o tries (BadOrder fault) =
-    (path : Bor (List ℕ)) × (o.order ≡ File path) × HasTexts input o.texts × (tries ≡ opened (paths_of o)) × IsOrderRefused (told path.now) fault
-IsToolFault told input o tries (Check fault) =
+-- `broken` says of a path that a file that was opened there has failed.
+abbrev pub IsToolFault : (List ℕ → Option (List ℕ)) → (broken : List ℕ → Type 0) → Option (List ℕ) → Options → List Try → ToolFault → Type 0
+IsToolFault told broken input o tries OneFile = (o.texts ≡ One) × (tries ≡ [])
+IsToolFault told broken input o tries (CannotOpen place) = IsUnopened input o tries place
+IsToolFault told broken input o tries InputUnread = (o.texts ≡ Input) × (tries ≡ [])
+IsToolFault told broken input o tries InputTooLong = (o.texts ≡ Input) × (tries ≡ []) × IfSome input (λ text. 134221824 < length text)
+IsToolFault told broken input o tries InputUndivided = (o.texts ≡ Input) × (tries ≡ []) × IfSome input (λ text. IsShort text × IsSplit text None)
+IsToolFault told broken input o tries (BadOrder fault) =
+    (path : Bor (List ℕ)) × (o.order ≡ File path) × HasTexts input o.texts × (tries ≡ opened (paths_of o)) × IsOrderRefused (told path.now) (broken path.now) fault
+IsToolFault told broken input o tries (Check fault) =
     (one two : Option (List ℕ)) × (order : Order) × AreTexts told input o.texts one two × IsOrderOf told o.order order
-    × (tries ≡ opened (paths_of o)) × IsCheckFault one two o.matching order fault
-IsToolFault told input o tries OutOfMemory = AreTried (paths_of o) tries
+    × (tries ≡ opened (paths_of o)) × IsCheckFault one two (HasFirstFailed broken o.texts) (HasSecondFailed broken o.texts) o.matching order fault
+IsToolFault told broken input o tries OutOfMemory = AreTried (paths_of o) tries

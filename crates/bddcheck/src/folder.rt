@@ -1,5 +1,5 @@
 //! Where files are opened.
-ghost use Rattle.std.specs.Prelude.{◌≡◌, ◌∷◌, [], ℕ, List, Option, Some, None, IfOk, IfSome, is_ok};
+ghost use Rattle.std.specs.Prelude.{◌≡◌, ◌∷◌, [], ℕ, List, Option, Some, None, false, IfOk, IfSome, is_ok};
 ghost use Rattle.bddcheck.specs.Opening.{Extends, Try};
 
 use net_bench::device::{Source, Through};
@@ -28,6 +28,8 @@ pub trait Folder {
     fn open(&mut self, path: &str) -> Result<Self::File, OpenFault>
         ensures tried { Extends (tries self.old) (tries self.new) ((path.now, is_ok result) ∷ []) }
         ensures file { IfOk result (λ file. IfSome (told self.old path.now) (λ text. Self.File.remaining file ≡ Some text)) }
+        ensures fresh { IfOk result (λ file. Self.File.has_failed file ≡ false) }
+        ensures named { IfOk result (λ file. IfSome (Self.File.origin file) (λ from. from ≡ path.now)) }
         ensures kept { told self.new ≡ told self.old };
 }
 

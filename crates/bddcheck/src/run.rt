@@ -7,7 +7,7 @@ ghost use Rattle.check_report.specs.Limits.{AreWithin, AreBeyond};
 ghost use Rattle.check_report.specs.Writing.{AppendsFront};
 ghost use Rattle.expand_work.specs.declared.fault.WaveFault.TheVariants.{Full};
 ghost use Rattle.net_order.specs.declared.order.Order.{Order};
-ghost use Rattle.bddcheck.specs.Opening.{Extends, Try, opened};
+ghost use Rattle.bddcheck.specs.Opening.{Extends, HasFailedAt, Try, opened};
 ghost use Rattle.bddcheck.specs.Running.{order_paths, paths_of, IsShort, IsOrderOf, IsOrderFault, IsCompared, IsCompareFault, IsInputFault, IsToolFault, HasReported, HasReportedFront, IsWithin, IsBeyond};
 
 use crate::fault::{Place, ToolFault};
@@ -16,7 +16,7 @@ use crate::split::split_input;
 use check_report::{Outcome, Settings, check};
 use command_line::{Options, OrderChoice, Texts};
 use expand_work::Free;
-use net_bench::device::{Sink, Source, TextFault, Through, read_text};
+use net_bench::device::{InMemory, Sink, Source, TextFault, read_text};
 use net_order::order::Order;
 use net_order::order_file::read_order;
 use std::alloc::Global;
@@ -30,6 +30,7 @@ const INPUT_LIMIT: usize = 134_221_824;
 fn open<F: Folder>(folder: &mut F, path: &str, place: Place) -> Result<F::File, ToolFault>
     ensures tried { Extends (F.tries folder.old) (F.tries folder.new) ((path.now, is_ok result) ∷ []) }
     ensures file { IfOk result (λ file. IfSome (F.told folder.old path.now) (λ text. F.File.remaining file ≡ Some text)) }
+    ensures named { IfOk result (λ file. IfSome (F.File.origin file) (λ from. from ≡ path.now)) }
     ensures kept { F.told folder.new ≡ F.told folder.old }
     ensures fault { IfErr result (λ fault. (fault ≡ ToolFault.CannotOpen place) ⊎ (fault ≡ ToolFault.OutOfMemory)) }
 {
@@ -48,11 +49,12 @@ fn order_of<F: Folder>(
 ) -> Result<Order, ToolFault>
     ensures order { IfOk result (IsOrderOf (F.told folder.old) choice.entry) }
     ensures opened { OnOk result (Extends (F.tries folder.old) (F.tries folder.new) (opened (order_paths choice.entry))) }
-    ensures fault { IfErr result (λ fault. (tries : List Try) × Extends (F.tries folder.old) (F.tries folder.new) tries × IsOrderFault (F.told folder.old) choice.entry tries fault) }
+    ensures fault { IfErr result (λ fault. (tries : List Try) × Extends (F.tries folder.old) (F.tries folder.new) tries × IsOrderFault (F.told folder.old) (HasFailedAt F.File.origin F.File.has_failed) choice.entry tries fault) }
 {
     match choice {
         OrderChoice::Declared => Ok(Order::Declared),
         OrderChoice::Depth => Ok(Order::Depth),
+        OrderChoice::Interleave => Ok(Order::Interleave),
         OrderChoice::File(path) => {
             let mut file = open(folder, path, Place::Order)?;
             match read_order(alloc, &mut file) {
@@ -76,11 +78,13 @@ fn compare<H: Threads + Wait + Sync, F: Folder, R1: Source, R2: Source, W: Sink>
     ensures report { IfOk result (λ outcome. (bytes : List ℕ) × IsCompared (F.told folder.old) (R1.remaining first.old) (R2.remaining second.old) options.now outcome bytes × Appends (W.contents out.old) (W.contents out.new) bytes) }
     ensures opened { OnOk result (Extends (F.tries folder.old) (F.tries folder.new) (opened (order_paths options.now.order))) }
     ensures within { OnOk result ((order : Order) × IsOrderOf (F.told folder.old) options.now.order order × AreWithin (R1.remaining first.old) (R2.remaining second.old) options.now.matching order options.now.limit) }
-    ensures fault { IfErr result (λ fault. (tries : List Try) × Extends (F.tries folder.old) (F.tries folder.new) tries × IsCompareFault (F.told folder.old) (R1.remaining first.old) (R2.remaining second.old) options.now tries fault) }
+    ensures fault { IfErr result (λ fault. (tries : List Try) × Extends (F.tries folder.old) (F.tries folder.new) tries ×
+        IsCompareFault (F.told folder.old) (HasFailedAt F.File.origin F.File.has_failed) (R1.remaining first.old) (R2.remaining second.old) (IsTrue (R1.has_failed first.new)) (IsTrue (R2.has_failed second.new)) options.now tries fault) }
     ensures full { result ≡ Err (ToolFault.Check (Wave Full)) → (order : Order) × IsOrderOf (F.told folder.old) options.now.order order × AreBeyond (R1.remaining first.old) (R2.remaining second.old) options.now.matching order options.now.limit }
-    ensures unwritten { result ≡ Err (ToolFault.Check Write) → (outcome : Outcome) × (bytes : List ℕ) × IsCompared (F.told folder.old) (R1.remaining first.old) (R2.remaining second.old) options.now outcome bytes × AppendsFront (W.contents out.old) (W.contents out.new) (W.has_failed out.new) bytes }
+    ensures unwritten { result ≡ Err (ToolFault.Check Write) → (outcome : Outcome) × (bytes : List ℕ) × IsCompared (F.told folder.old) (R1.remaining first.old) (R2.remaining second.old) options.now outcome bytes × AppendsFront (W.contents out.old) (W.contents out.new) (W.has_failed out.new) (W.has_stopped out.new) bytes }
     ensures untouched { OnErr result (result ≢ Err (ToolFault.Check Write) → out.new ≡ out.old) }
-    ensures written { OnOk result (W.has_failed out.new ≡ W.has_failed out.old) }
+    ensures written { OnOk result ((W.has_failed out.new ≡ W.has_failed out.old) × (W.has_stopped out.new ≡ W.has_stopped out.old)) }
+    ensures origins { (R1.origin first.new ≡ R1.origin first.old) × (R2.origin second.new ≡ R2.origin second.old) }
 {
     let settings = Settings {
         matching: options.matching,
@@ -128,14 +132,16 @@ pub fn run_options<H: Threads + Wait + Sync, F: Folder, R: Source, W: Sink>(
     ensures within { OnOk result (IsWithin (F.told folder.old) (R.remaining input.old) options.now) }
     ensures full { result ≡ Err (ToolFault.Check (Wave Full)) → IsBeyond (F.told folder.old) (R.remaining input.old) options.now }
     // A fault has its cause, what comes before it was accepted, and no file was tried beyond it.
-    ensures fault { IfErr result (λ fault. (tries : List Try) × Extends (F.tries folder.old) (F.tries folder.new) tries × IsToolFault (F.told folder.old) (R.remaining input.old) options.now tries fault) }
-    // Where the writing failed, a front part of the report was written; the whole only where the device has failed.
-    ensures unwritten { result ≡ Err (ToolFault.Check Write) → HasReportedFront (F.told folder.old) (R.remaining input.old) options.now (W.contents out.old) (W.contents out.new) (W.has_failed out.new) }
+    ensures fault { IfErr result (λ fault. (tries : List Try) × Extends (F.tries folder.old) (F.tries folder.new) tries × IsToolFault (F.told folder.old) (HasFailedAt F.File.origin F.File.has_failed) (R.remaining input.old) options.now tries fault) }
+    // Where the writing failed, a front part of the report was written, and the device has failed or taken nothing of the rest.
+    ensures unwritten { result ≡ Err (ToolFault.Check Write) → HasReportedFront (F.told folder.old) (R.remaining input.old) options.now (W.contents out.old) (W.contents out.new) (W.has_failed out.new) (W.has_stopped out.new) }
     // At any other fault nothing was written.
     ensures untouched { OnErr result (result ≢ Err (ToolFault.Check Write) → out.new ≡ out.old) }
     // An input that is said to have failed has failed, and an output that took the report has not.
     ensures read { result ≡ Err ToolFault.InputUnread → IsTrue (R.has_failed input.new) }
-    ensures written { OnOk result (W.has_failed out.new ≡ W.has_failed out.old) }
+    ensures written { OnOk result ((W.has_failed out.new ≡ W.has_failed out.old) × (W.has_stopped out.new ≡ W.has_stopped out.old)) }
+    // The input is read only where the texts stand on it.
+    ensures unasked { options.now.texts ≢ Texts.Input → input.new ≡ input.old }
 {
     match options.texts {
         Texts::One => Err(ToolFault::OneFile),
@@ -149,8 +155,8 @@ pub fn run_options<H: Threads + Wait + Sync, F: Folder, R: Source, W: Sink>(
             let Some((one, two)) = split_input(text.as_slice()) else {
                 return Err(ToolFault::InputUndivided);
             };
-            let mut first = Through::new(one);
-            let mut second = Through::new(two);
+            let mut first = InMemory::new(one);
+            let mut second = InMemory::new(two);
             compare(rt, alloc, options, folder, &mut first, &mut second, out)
         }
     }

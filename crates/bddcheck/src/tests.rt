@@ -3,5 +3,6 @@ mod devices;
 mod fault_lines;
 mod meetings;
 mod netlists;
+mod processes;
 mod refusals;
 mod reports;

@@ -1,8 +1,7 @@
 //! A run of the program: its words, its folder and its devices to a status.
-ghost use Rattle.std.specs.Prelude.{◌≡◌, ◌≤◌, ◌⊎◌, map, string_bytes};
-ghost use Rattle.command_line.specs.Words.{AskFor};
-ghost use Rattle.command_line.specs.declared.options.Options.{Options};
-ghost use Rattle.bddcheck.specs.Ending.{Says, IsSaid, IsReportStatus, Scene, IsEnding, IsWordEnd, IsWordEnding};
+ghost use Rattle.std.specs.Prelude.{◌≡◌, ◌≤◌, map, string_bytes};
+ghost use Rattle.bddcheck.specs.Ending.{Written, Says, IsSaid, IsReportStatus, Scene, IsRun, IsWordEnd};
+ghost use Rattle.bddcheck.specs.Opening.{HasFailedAt};
 
 use crate::fault::{ToolFault, line_of, status_of_fault};
 use crate::folder::Folder;
@@ -16,14 +15,14 @@ use std::thread::Threads;
 
 /// Writes a text as far as the device takes it. A failure is ignored.
 pub fn say<E: Sink>(errors: &mut E, text: &[u8])
-    ensures { Says (E.contents errors.old) (E.contents errors.new) (E.has_failed errors.new) text.now }
+    ensures { Says (record { held = E.contents errors.old; holds = E.contents errors.new; has_failed = E.has_failed errors.new; has_stopped = E.has_stopped errors.new }) text.now }
 {
     let _ = write_whole(errors, text);
 }
 
 /// Prints the line of a fault, and answers its status. Where there is no memory for the line, it is that of want of memory.
 pub fn refuse<E: Sink>(alloc: Global, fault: ToolFault, errors: &mut E) -> u8
-    ensures said { IsSaid (E.contents errors.old) (E.contents errors.new) (E.has_failed errors.new) fault result }
+    ensures said { IsSaid (record { held = E.contents errors.old; holds = E.contents errors.new; has_failed = E.has_failed errors.new; has_stopped = E.has_stopped errors.new }) fault result }
     ensures bound { result ≤ 3 }
 {
     match line_of(alloc, fault) {
@@ -46,7 +45,8 @@ fn refuse_words<W: Sink, E: Sink>(
     out: &mut W,
     errors: &mut E,
 ) -> u8
-    ensures ending { IsWordEnd (W.contents out.old) (W.contents out.new) (W.has_failed out.new) (E.contents errors.old) (E.contents errors.new) (E.has_failed errors.new) refused.now result }
+    ensures ending { IsWordEnd (record { held = W.contents out.old; holds = W.contents out.new; has_failed = W.has_failed out.new; has_stopped = W.has_stopped out.new })
+        (record { held = E.contents errors.old; holds = E.contents errors.new; has_failed = E.has_failed errors.new; has_stopped = E.has_stopped errors.new }) refused.now result }
     ensures bound { result ≤ 3 }
     ensures untouched { result ≡ 2 → out.new ≡ out.old }
     ensures silent { result ≤ 1 → errors.new ≡ errors.old }
@@ -87,20 +87,17 @@ pub fn run_tool<H: Threads + Wait + Sync, F: Folder, R: Source, W: Sink, E: Sink
     errors: &mut E,
 ) -> u8
     // The words ask for options, and then the run ends with their report and status 0 or 1, or with the line and the status of a
-    // fault that has its cause; or they are refused for a cause, no file is opened, and help, a mistake or want of memory is told.
+    // fault that has its cause, and the input is read only where the texts stand on it; or they are refused for a cause, no file is
+    // opened, nothing is read, and help, a mistake or want of memory is told.
     ensures ending { let scene : Scene = record {
       told = F.told folder.old;
       tried = F.tries folder.old;
       tries = F.tries folder.new;
       input = R.remaining input.old;
       input_failed = R.has_failed input.new;
-      held = W.contents out.old;
-      written = W.contents out.new;
-      out_failed = W.has_failed out.new;
-      heard = E.contents errors.old;
-      said = E.contents errors.new;
-      errors_failed = E.has_failed errors.new;
-    } in ((options : Options) × AskFor (map string_bytes words.now) options × IsEnding scene options result) ⊎ IsWordEnding scene (map string_bytes words.now) result }
+      output = record { held = W.contents out.old; holds = W.contents out.new; has_failed = W.has_failed out.new; has_stopped = W.has_stopped out.new };
+      errors = record { held = E.contents errors.old; holds = E.contents errors.new; has_failed = E.has_failed errors.new; has_stopped = E.has_stopped errors.new };
+    } in IsRun (HasFailedAt F.File.origin F.File.has_failed) scene (folder.new ≡ folder.old) (input.new ≡ input.old) (map string_bytes words.now) result }
     ensures bound { result ≤ 3 }
     // Status 2 says that nothing was written, statuses 0 and 1 that nothing was said.
     ensures untouched { result ≡ 2 → out.new ≡ out.old }

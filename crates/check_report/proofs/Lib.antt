@@ -3,3 +3,7 @@ pub mod Wording
 pub mod Adding
 pub mod Calling
 pub mod Limiting
+pub mod Pigeons
+pub mod Numbering
+pub mod Excluding
+pub mod Determined

@@ -1,6 +1,8 @@
 -- One more write of a list of bytes.
-use Rattle.std.proofs.Common.{◌≡◌, ◌≢◌, ◌∙◌, ap, sym, ℕ, Bool, true, false, refl, ◌||◌, List, [], ◌++◌, ◌⊎◌, Some, None, Option, append_assoc, append-nil, IsTrue}
+use Rattle.std.proofs.Common.{◌≡◌, ◌≢◌, ◌∙◌, ap, sym, ℕ, zero, suc, Bool, true, false, refl, ◌||◌, List, [], ◌∷◌, ◌++◌, ◌⊎◌, Some, None, Option, Ok, append_assoc, append-nil, IsTrue}
 use Rattle.std.specs.Io.KnownBytes.{Appends, Keeps}
+use Rattle.net_bench.specs.Devices.{took_none}
+use Rattle.net_bench.specs.declared.device.Failed.{Failed}
 use Rattle.check_report.specs.Writing.{AppendsFront}
 
 pub appends_more : (held middle now : Option (List ℕ)) (front part bytes rest after : List ℕ) → bytes ≡ front ++ rest → rest ≡ part ++ after
@@ -28,3 +30,15 @@ none_yet (Some held) = sym (append-nil held)
 pub still : (now before : Bool) → now ≡ (before || false) → now ≡ before
 still now true e = e
 still now false e = e
+
+-- a write that took some bytes leaves a device stopped or not
+pub goes_on : (now before : Bool) (n : ℕ) (bytes : List ℕ) → n ≢ 0 → now ≡ (before || took_none {E = Failed} (Ok n) bytes) → now ≡ before
+goes_on now before zero bytes some e = absurd (some refl)
+goes_on now before (suc n) bytes some e = still now before e
+
+-- a write that took none of some bytes leaves a device stopped
+pub has_taken_none : (now before : Bool) (n : ℕ) (bytes : List ℕ) → n ≡ 0 → bytes ≢ [] → now ≡ (before || took_none {E = Failed} (Ok n) bytes) → now ≡ true
+has_taken_none now before zero [] none some e = absurd (some refl)
+has_taken_none now true zero (b ∷ bytes) none some e = e
+has_taken_none now false zero (b ∷ bytes) none some e = e
+has_taken_none now before (suc n) bytes none some e = cc

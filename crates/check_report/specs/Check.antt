@@ -32,9 +32,10 @@ pub record IsChecked (one two : Option (List ℕ)) (how : Match) (order : Order)
   pub paired : ArePaired one two how order a b p
   pub report : IsReport sizes a b p o bytes
 
--- why a text was not accepted: a device that failed, want of memory, or its first fault
-abbrev pub IsUnread : Option (List ℕ) → BenchFault → Type 0
-IsUnread told fault = (fault ≡ NoTextMemory) ⊎ (fault ≡ ReadFailed) ⊎ IfSome told (λ text. IsTextRefused text fault)
+-- Why a text was not accepted: want of memory, a device that has failed, or the text's first fault.
+pub record IsUnread (told : Option (List ℕ)) (has_failed : Type 0) (fault : BenchFault) : Type 0 where
+  pub cause : (fault ≡ NoTextMemory) ⊎ (fault ≡ ReadFailed) ⊎ IfSome told (λ text. IsTextRefused text fault)
+  pub read : fault ≡ ReadFailed → has_failed
 
 -- both devices gave netlists that have a pairing
 abbrev pub AreAccepted : Option (List ℕ) → Option (List ℕ) → Match → Order → Type 0
@@ -49,12 +50,13 @@ IsLate (Wave fault) = Unit {0}
 IsLate Write = ⊥
 IsLate OutOfMemory = Unit {0}
 
--- Why there is no report. What comes before was accepted: the first text, the second, the pairing.
-abbrev pub IsCheckFault : Option (List ℕ) → Option (List ℕ) → Match → Order → CheckFault → Type 0
-IsCheckFault one two how order (First fault) = IsUnread one fault
-IsCheckFault one two how order (Second fault) = (a : Circuit) × Gives one a × IsUnread two fault
-IsCheckFault one two how order (OrderRefused fault) =
+-- Why there is no report, where this says that the first device has failed, and that the second has. What comes before was
+-- accepted: the first text, the second, the pairing.
+abbrev pub IsCheckFault : (one two : Option (List ℕ)) → (first_failed second_failed : Type 0) → Match → Order → CheckFault → Type 0
+IsCheckFault one two first_failed second_failed how order (First fault) = IsUnread one first_failed fault
+IsCheckFault one two first_failed second_failed how order (Second fault) = (a : Circuit) × Gives one a × IsUnread two second_failed fault
+IsCheckFault one two first_failed second_failed how order (OrderRefused fault) =
     (a b : Circuit) × Gives one a × Gives two b × ((fault ≡ NoOrderMemory) ⊎ IsRefused how a b order fault)
-IsCheckFault one two how order (Wave fault) = AreAccepted one two how order
-IsCheckFault one two how order Write = AreAccepted one two how order
-IsCheckFault one two how order OutOfMemory = AreAccepted one two how order
+IsCheckFault one two first_failed second_failed how order (Wave fault) = AreAccepted one two how order
+IsCheckFault one two first_failed second_failed how order Write = AreAccepted one two how order
+IsCheckFault one two first_failed second_failed how order OutOfMemory = AreAccepted one two how order

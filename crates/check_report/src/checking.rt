@@ -18,7 +18,6 @@ use dd_store::Store;
 use expand_work::{Gate, WaveFault};
 use gate_plan::build;
 use net_bench::device::{Sink, Source};
-use net_bench::netlist::BenchFault;
 use net_bench::reader::{Netlist, read_bench};
 use net_order::pairing::{Pairing, pair};
 use std::alloc::Global;
@@ -92,15 +91,14 @@ pub fn check<H: Threads + Wait + Sync, R1: Source, R2: Source, G: Gate, W: Sink>
     ensures within { OnOk result (AreWithin (R1.remaining first.old) (R2.remaining second.old) settings.now.matching settings.now.order settings.now.limit) }
     ensures full { result ≡ Err (CheckFault.Wave WaveFault.Full) → AreBeyond (R1.remaining first.old) (R2.remaining second.old) settings.now.matching settings.now.order settings.now.limit }
     // A fault has its cause, and what comes before it was accepted.
-    ensures fault { IfErr result (IsCheckFault (R1.remaining first.old) (R2.remaining second.old) settings.now.matching settings.now.order) }
-    // Where the writing failed, a front part of the report was written; the whole only where the device has failed.
-    ensures unwritten { result ≡ Err CheckFault.Write → (o : Outcome) × (bytes : List ℕ) × IsChecked (R1.remaining first.old) (R2.remaining second.old) settings.now.matching settings.now.order settings.now.sizes o bytes × AppendsFront (W.contents out.old) (W.contents out.new) (W.has_failed out.new) bytes }
+    ensures fault { IfErr result (IsCheckFault (R1.remaining first.old) (R2.remaining second.old) (IsTrue (R1.has_failed first.new)) (IsTrue (R2.has_failed second.new)) settings.now.matching settings.now.order) }
+    // Where the writing failed, a front part of the report was written, and the device has failed or taken nothing of the rest.
+    ensures unwritten { result ≡ Err CheckFault.Write → (o : Outcome) × (bytes : List ℕ) × IsChecked (R1.remaining first.old) (R2.remaining second.old) settings.now.matching settings.now.order settings.now.sizes o bytes × AppendsFront (W.contents out.old) (W.contents out.new) (W.has_failed out.new) (W.has_stopped out.new) bytes }
     // At any other fault nothing was written.
     ensures untouched { OnErr result (result ≢ Err CheckFault.Write → out.new ≡ out.old) }
-    // A reader that is said to have failed has failed, and a writer that took the report has not.
-    ensures first_read { result ≡ Err (CheckFault.First BenchFault.Read) → IsTrue (R1.has_failed first.new) }
-    ensures second_read { result ≡ Err (CheckFault.Second BenchFault.Read) → IsTrue (R2.has_failed second.new) }
-    ensures written { OnOk result (W.has_failed out.new ≡ W.has_failed out.old) }
+    // A writer that took the report has not failed, and took some bytes at each write.
+    ensures written { OnOk result ((W.has_failed out.new ≡ W.has_failed out.old) × (W.has_stopped out.new ≡ W.has_stopped out.old)) }
+    ensures origins { (R1.origin first.new ≡ R1.origin first.old) × (R2.origin second.new ≡ R2.origin second.old) }
 {
     let one = match read_bench(alloc, first) {
         Ok(net) => net,

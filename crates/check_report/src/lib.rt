@@ -4,6 +4,7 @@
 mod checking;
 mod compare;
 mod fault;
+pub mod laws;
 mod lines;
 mod outcome;
 mod settings;

@@ -8,7 +8,7 @@ use std::alloc::{AllocError, Global};
 
 static MATCHES: [&str; 2] = ["name", "position"];
 
-static ORDERS: [&str; 2] = ["declared", "depth"];
+static ORDERS: [&str; 3] = ["declared", "depth", "interleave"];
 
 static ABOUT: &str =
     "Decides for each pair of outputs of two bench netlists whether both compute the same Boolean function";
@@ -47,7 +47,9 @@ fn order<'a>(alloc: Global) -> Arg<'a>
         .value_name("ORDER")
         .value_parser(ORDERS.as_slice())
         .default_value("declared")
-        .help("Order the variables as declared, or by depth: as met below the outputs")
+        .help(
+            "Order the variables as declared, by depth: as met below the outputs, or interleaved: each behind what was met before it",
+        )
 }
 
 fn order_file<'a>(alloc: Global) -> Arg<'a>

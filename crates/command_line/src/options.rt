@@ -8,6 +8,7 @@ use net_order::order::Match;
 pub enum OrderChoice<'a> {
     Declared,
     Depth,
+    Interleave,
     /// The path of a file with the names.
     File(&'a str),
 }

@@ -108,7 +108,7 @@ fn matching_of(word: Option<&str>) -> Match
     }
 }
 
-/// The file of the order where one is given, else by depth where that word is given.
+/// The file of the order where one is given, else the order that the word names.
 fn order_of<'a>(path: Option<&'a str>, word: Option<&str>) -> OrderChoice<'a>
     ensures { IsChoice (option_map (λ s. s.now) path.entry) (option_map (λ s. s.now) word.entry) result }
 {
@@ -117,6 +117,7 @@ fn order_of<'a>(path: Option<&'a str>, word: Option<&str>) -> OrderChoice<'a>
     }
     match word {
         Some("depth") => OrderChoice::Depth,
+        Some("interleave") => OrderChoice::Interleave,
         _ => OrderChoice::Declared,
     }
 }
@@ -132,16 +133,16 @@ fn texts_of<'a>(first: Option<&'a str>, second: Option<&'a str>) -> Texts<'a>
     }
 }
 
-/// The number of workers. The parser has tested its range.
+/// The number of workers. The parser has its default, and has tested its range.
 fn workers_of(matches: &ArgMatches<'_>) -> u32
     ensures some { 1 ≤ result }
     ensures few { result ≤ 16 }
     ensures number { IsNumberIn 1 16 (one_of (codes "workers") (rows_of (found_of matches.now))) result }
 {
-    matches.get_one("workers").unwrap_or(4).clamp(1, 16)
+    matches.get_one("workers").unwrap_or(0).clamp(1, 16)
 }
 
-/// The limit of nodes. The parser has tested its range.
+/// The limit of nodes. The parser has its default, and has tested its range.
 fn limit_of(matches: &ArgMatches<'_>) -> u64
     ensures some { 1 ≤ result }
     ensures few { result ≤ 4294967295 }
@@ -149,7 +150,7 @@ fn limit_of(matches: &ArgMatches<'_>) -> u64
 {
     matches
         .get_one("limit")
-        .unwrap_or(67_108_864)
+        .unwrap_or(0)
         .clamp(1, 4_294_967_295)
 }
 

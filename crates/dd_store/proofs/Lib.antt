@@ -10,6 +10,8 @@ pub mod LevelGrown
 pub mod OneSize
 pub mod Order
 pub mod Places
+pub mod Placing
+pub mod Probing
 pub mod References
 pub mod Slots
 pub mod Splicing

@@ -35,15 +35,10 @@ impl Slot {
     {
         self.fault = None;
         for pair in list {
-            if self.shard.find(pair.0, pair.1).is_none() {
-                if self.shard.len() as u64 >= limit {
-                    self.fault = Some(StoreFault::Full);
-                    return;
-                }
-                if self.shard.add(pair.0, pair.1).is_err() {
-                    self.fault = Some(StoreFault::OutOfMemory);
-                    return;
-                }
+            let room = limit.saturating_sub(self.shard.len() as u64);
+            if let Err(fault) = self.shard.find_or_add(pair.0, pair.1, room) {
+                self.fault = Some(fault);
+                return;
             }
         }
     }

@@ -6,12 +6,13 @@ ghost use Rattle.dd_store.specs.Graph.{top, bit, IsRef, Pair};
 ghost use Rattle.dd_store.specs.Levels.{list_at};
 ghost use Rattle.dd_store.specs.View.{IsMade, IsFull};
 ghost use Rattle.dd_store.specs.Adding.{AreReady, GrowsLevel, IsLevelFault};
-ghost use Rattle.dd_store.specs.Nodes.{Nodes, node, count_of, children, low_of, high_of, cofactor_of, IsSound, IsFound, Extends, IsBranch, IsCanonical, IsNeeded, fresh, with_node, Makes, empty_nodes, den};
+ghost use Rattle.dd_store.specs.Nodes.{Nodes, node, count_of, children, low_of, high_of, cofactor_of, IsSound, IsFound, Extends, IsBranch, IsCanonical, Makes, empty_nodes, den, shard_at};
+ghost use Rattle.dd_store.specs.Probes.{IsSlotCount};
 
 use crate::StoreFault;
 use crate::level::{Slot, Watch, add_lists, level_count, level_fault};
 use crate::reference::{NodeId, Ref, shard_of};
-use crate::shard::Shard;
+use crate::shard::{Placed, Shard};
 use std::alloc::{AllocError, Global};
 use std::marker::Model;
 use std::thread::Threads;
@@ -149,6 +150,17 @@ impl Store {
         }
     }
 
+    /// How many slots the unique table of a shard has.
+    pub fn slots(&self, level: u16, shard: u8) -> u64
+        requires level { level < self.now.levels }
+        requires shard { shard < 16 }
+        ensures { IsSlotCount (length (shard_at self.now level shard)) result }
+    {
+        let place = 16 * level as usize + shard as usize;
+        let slot = &self.slots[place];
+        slot.shard.slots() as u64
+    }
+
     /// The node of a level with these children, where there is one.
     pub fn find(&self, level: u16, lo: Ref, hi: Ref) -> Option<Ref>
         requires { level < self.now.levels }
@@ -167,52 +179,32 @@ impl Store {
         }
     }
 
-    /// Adds the node, which is not there yet.
-    fn add(&mut self, level: u16, lo: Ref, hi: Ref) -> Result<Ref, StoreFault>
-        requires level { level < self.old.levels }
-        requires lo_here { IsRef (node self.old) lo }
-        requires hi_here { IsRef (node self.old) hi }
-        requires above_lo { level < top self.old.levels lo }
-        requires above_hi { level < top self.old.levels hi }
-        requires needed { IsNeeded self.old level lo hi }
-        requires room { count_of self.old < self.old.limit }
-        ensures { MatchResult result (λ r. (r ≡ Ref.Node (fresh self.old level lo hi)) × (self.new ≡ with_node self.old level lo hi)) (λ e. (e ≡ StoreFault.OutOfMemory) × (self.new ≡ self.old)) }
-    {
-        let shard = shard_of(lo, hi);
-        let place = 16 * level as usize + shard as usize;
-        let slot = &mut self.slots[place];
-        match slot.shard.add(lo, hi) {
-            Ok(index) => {
-                self.count += 1;
-                Ok(Ref::Node(NodeId {
-                    level,
-                    shard,
-                    index,
-                }))
-            }
-            Err(_) => Err(StoreFault::OutOfMemory),
-        }
-    }
-
-    /// The short answer, or the node that is there, or a new node.
+    /// The node with these children, which differ: the one that is there, or a new one.
     fn find_or_add(&mut self, level: u16, lo: Ref, hi: Ref) -> Result<Ref, StoreFault>
         requires level { level < self.old.levels }
         requires lo_here { IsRef (node self.old) lo }
         requires hi_here { IsRef (node self.old) hi }
         requires above_lo { level < top self.old.levels lo }
         requires above_hi { level < top self.old.levels hi }
+        requires differ { lo ≡ hi → ⊥ }
         ensures { Makes self.old level lo hi result self.new }
     {
-        if lo == hi {
-            return Ok(lo);
-        }
-        if let Some(there) = self.find(level, lo, hi) {
-            return Ok(there);
-        }
-        if self.count() >= self.limit() {
-            return Err(StoreFault::Full);
-        }
-        self.add(level, lo, hi)
+        let shard = shard_of(lo, hi);
+        let place = 16 * level as usize + shard as usize;
+        let room = self.limit.saturating_sub(self.count);
+        let slot = &mut self.slots[place];
+        let index = match slot.shard.find_or_add(lo, hi, room)? {
+            Placed::Found(index) => index,
+            Placed::Added(index) => {
+                self.count += 1;
+                index
+            }
+        };
+        Ok(Ref::Node(NodeId {
+            level,
+            shard,
+            index,
+        }))
     }
 
     /// The reference whose function is that of `lo` where the bit of the level is 0, and that of `hi` where it is 1. Equal
@@ -233,6 +225,9 @@ impl Store {
         ensures full { IfErr result (λ e. IsFull self.old level lo hi e) }
     {
         let _ = &self.levels;
+        if lo == hi {
+            return Ok(lo);
+        }
         self.find_or_add(level, lo, hi)
     }
 

@@ -19,7 +19,7 @@ use std::sync::atomic::{AtomicBool, Ordering};
 use std::thread;
 use std::thread::{Promise, PromisedHandle, Threads};
 
-// What a worker's thread promises: the worker's part of the wave.
+/// What a worker's thread promises: the worker's part of the wave.
 #[derive(Clone, Copy)]
 pub struct PartOf<'a> {
     lanes: &'a Lanes,

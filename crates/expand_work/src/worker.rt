@@ -19,8 +19,8 @@ use std::alloc::Global;
 use std::sync::Wait;
 use std::sync::atomic::{AtomicBool, Ordering};
 
-// What a worker has between two levels: its port, how many levels each sender has ended, the keys that it was asked
-// for and its records, by level, and the keys that it has to ask for next, by owner.
+/// What a worker has between two levels: its port, how many levels each sender has ended, the keys that it was asked
+/// for and its records, by level, and the keys that it has to ask for next, by owner.
 #[derive(Drop)]
 pub struct Worker {
     pub port: Port,

@@ -4,7 +4,7 @@ use Rattle.std.proofs.lemmas.Bool.{eq-eqb, ne_eqb}
 use Rattle.std.proofs.lemmas.Bool.Decides.{eqb_tells}
 use Rattle.net_bench.specs.declared.netlist.Kind.{Kind}
 use Rattle.net_bench.specs.Labels.{all_ones, some_one, odd, folded, is_complemented, value_of}
-use Rattle.net_bench.specs.declared.netlist.Kind.TheVariants.{And, Nand, Or, Nor, Xor, Xnor, Not, Buff}
+use Rattle.net_bench.specs.declared.netlist.Kind.TheVariants.{And, Nand, Or, Nor, Xor, Xnor, Not, Buff, Dff}
 use Rattle.gate_plan.specs.Folds.{value_so_far, plain_step, last_step, step_at}
 
 ones_snoc : (xs : List Bool) (b : Bool) → all_ones (xs ++ b ∷ []) ≡ (all_ones xs && b)
@@ -36,6 +36,7 @@ folded_snoc And xs b = ones_snoc xs b
 folded_snoc Nand xs b = ones_snoc xs b
 folded_snoc Not xs b = ones_snoc xs b
 folded_snoc Buff xs b = ones_snoc xs b
+folded_snoc Dff xs b = ones_snoc xs b
 folded_snoc Or xs b = one_snoc xs b
 folded_snoc Nor xs b = one_snoc xs b
 folded_snoc Xor xs b = odd_snoc xs b
@@ -100,6 +101,7 @@ fold_start kind bits h =
     one_bit Nand b = refl
     one_bit Not b = refl
     one_bit Buff b = refl
+    one_bit Dff b = refl
     one_bit Or b = refl
     one_bit Nor b = refl
     one_bit Xor b = refl
@@ -119,6 +121,8 @@ one_operand Not true = refl
 one_operand Not false = refl
 one_operand Buff true = refl
 one_operand Buff false = refl
+one_operand Dff true = refl
+one_operand Dff false = refl
 one_operand Or true = refl
 one_operand Or false = refl
 one_operand Nor true = refl

@@ -3,7 +3,7 @@ use Rattle.std.proofs.Common.{◌≡◌, ℕ, zero, suc, ◌+◌, ◌<◌, ◌�
 use Rattle.std.specs.Prelude.{Contains, All, slice_index, IsTrue}
 use Rattle.net_bench.specs.declared.netlist.GateLine.{GateLine}
 use Rattle.net_bench.specs.Statement.{takes_one}
-use Rattle.net_bench.specs.Circuit.{Net, circuit, IsNet, greatest}
+use Rattle.net_bench.specs.Circuit.{Net, circuit, IsNet, greatest, variables_of}
 use Rattle.net_bench.proofs.OneLabelling.{at_contained}
 use Rattle.net_bench.proofs.Chains.{greatest_above, lower}
 use Rattle.gate_plan.specs.Plans.{rank_of}
@@ -22,8 +22,8 @@ module _ (net : Net) (h : IsNet net) where
   pub above_none : (g : GateLine) → Contains net.gates g → 0 < rank_of net g
   above_none g among = let e = gate_rank g among in omega arith
 
-  pub input_rank : (s : ℕ) → Contains net.inputs s → slice_index net.ranks s ≡ 0
-  input_rank s among = at_contained (λ s. slice_index net.ranks s ≡ 0) net.inputs s h.ranks.inputs among
+  pub input_rank : (s : ℕ) → Contains (variables_of (circuit net)) s → slice_index net.ranks s ≡ 0
+  input_rank s among = at_contained (λ s. slice_index net.ranks s ≡ 0) (variables_of (circuit net)) s h.ranks.variables among
 
   pub operand_lower : (g : GateLine) (s : ℕ) → Contains net.gates g → Contains g.operands s → slice_index net.ranks s < rank_of net g
   operand_lower g s among operand = lower (circuit net) net.ranks h.ranks s g.out (g, among, refl, operand)

@@ -12,9 +12,9 @@ use Rattle.dd_store.specs.Nodes.{Nodes, den, IsSound, IsDiagram}
 use Rattle.dd_store.specs.View.{Has, Keeps}
 use Rattle.dd_store.proofs.View.{kept_den}
 use Rattle.net_bench.specs.declared.netlist.Kind.{Kind}
-use Rattle.net_bench.specs.declared.netlist.Kind.TheVariants.{And, Nand, Or, Nor, Xor, Xnor, Not, Buff}
+use Rattle.net_bench.specs.declared.netlist.Kind.TheVariants.{And, Nand, Or, Nor, Xor, Xnor, Not, Buff, Dff}
 use Rattle.net_bench.specs.declared.netlist.GateLine.{GateLine}
-use Rattle.net_bench.specs.Circuit.{Net, IsNet, circuit, greatest, IsDefined}
+use Rattle.net_bench.specs.Circuit.{Net, IsNet, circuit, greatest, IsDefined, variables_of}
 use Rattle.net_bench.specs.Labels.{bit_of, is_complemented, value_of, IsLabelling}
 use Rattle.net_bench.proofs.OneLabelling.{at_contained}
 use Rattle.net_bench.proofs.Built.{has_labelling}
@@ -40,6 +40,7 @@ plain_right And a b = refl
 plain_right Nand a b = refl
 plain_right Not a b = refl
 plain_right Buff a b = refl
+plain_right Dff a b = refl
 plain_right Or a b = refl
 plain_right Nor a b = refl
 plain_right Xor true b = refl
@@ -52,6 +53,7 @@ last_right And a b = refl
 last_right Nand a b = refl
 last_right Not a b = refl
 last_right Buff a b = refl
+last_right Dff a b = refl
 last_right Or a b = refl
 last_right Nor a b = refl
 last_right Xor true b = refl
@@ -384,7 +386,7 @@ module _ (net : Net) (h : IsNet net) (level : ℕ → ℕ) where
           w.values g among rank (begun_after g among j few) i pos (omega arith)
 
   -- the inputs denote their labels
-  pub inputs_right : (S : Nodes) (variables refs : List Ref) → AreVariables S variables → AreInputs net level variables refs → ((s : ℕ) → Contains net.inputs s → level s < length variables) → AreRight net level S refs 1
+  pub inputs_right : (S : Nodes) (variables refs : List Ref) → AreVariables S variables → AreInputs net level variables refs → ((s : ℕ) → Contains (variables_of (circuit net)) s → level s < length variables) → AreRight net level S refs 1
   inputs_right S variables refs v w fit = record {
     each = w.each;
     known = λ s. known s;
@@ -392,7 +394,7 @@ module _ (net : Net) (h : IsNet net) (level : ℕ → ℕ) where
     values = λ g among low i pos all. absurd (let p = above_none net h g among in omega arith);
   }
     where
-      input : (s : ℕ) → Contains net.inputs s → level s < S.levels
+      input : (s : ℕ) → Contains (variables_of (circuit net)) s → level s < S.levels
       input s among = let f = fit s among in let e = v.each in omega arith
 
       known : (s : ℕ) → Has S (reference_of refs s)
@@ -400,7 +402,7 @@ module _ (net : Net) (h : IsNet net) (level : ℕ → ℕ) where
         where
           inside : IsDefined (circuit net) s → Has S (reference_of refs s)
           inside (inl among) = subst (Has S) (sym (w.inputs s among)) (v.has (level s) (input s among))
-          inside (inr (g, among, out)) = subst (Has S) (sym (w.others s (λ is_input. at_contained (λ g. g.out ≢ s) net.gates g (at_contained (λ s. All (λ g. g.out ≢ s) net.gates) net.inputs s h.apart is_input) among out))) tt
+          inside (inr (g, among, out)) = subst (Has S) (sym (w.others s (λ is_input. at_contained (λ g. g.out ≢ s) net.gates g (at_contained (λ s. All (λ g. g.out ≢ s) net.gates) (variables_of (circuit net)) s h.apart is_input) among out))) tt
 
           by : (s < length net.names) ⊎ (length net.names ≤ s) → Has S (reference_of refs s)
           by (inl lt) = inside (h.defined s lt)
@@ -410,7 +412,7 @@ module _ (net : Net) (h : IsNet net) (level : ℕ → ℕ) where
       below s lt low (inr (g, among, out)) = absurd (let p = above_none net h g among in let e : rank_of net g ≡ slice_index net.ranks s = ap (slice_index net.ranks) out in omega arith)
       below s lt low (inl among) = λ x bits hx l.
           ap (λ z. den S z x) (w.inputs s among) ∙ v.bits (level s) (input s among) x
-          ∙ sym (at_contained (λ s. bit_of bits s ≡ bit_of x (level s)) net.inputs s l.inputs among)
+          ∙ sym (at_contained (λ s. bit_of bits s ≡ bit_of x (level s)) (variables_of (circuit net)) s l.variables among)
 
   -- when all ranks are done each signal has the diagram of its function
   pub all_right : (S : Nodes) (refs : List Ref) (r : ℕ) → greatest (map (rank_of net) net.gates) < r → 0 < r → AreRight net level S refs r → AreDiagrams (circuit net) level S refs
@@ -544,7 +546,7 @@ variables_kept S T vs sound kept v = record {
   bits = λ w lt x. let low : w < S.levels = (let e = kept.levels in omega arith) in kept_den S T sound kept (reference_of vs w) (v.has w low) x ∙ v.bits w low x;
 }
 
-pub inputs_all : (net : Net) (level : ℕ → ℕ) (variables refs : List Ref) (items : List ℕ) (i : ℕ) → items ≡ net.inputs → length items ≤ i → i ≤ length items → length refs ≡ length net.names →
+pub inputs_all : (net : Net) (level : ℕ → ℕ) (variables refs : List Ref) (items : List ℕ) (i : ℕ) → items ≡ variables_of (circuit net) → length items ≤ i → i ≤ length items → length refs ≡ length net.names →
     ((k : ℕ) → k < i → reference_of refs (get_or items k 0) ≡ reference_of variables (level (get_or items k 0))) →
     ((s : ℕ) → ((k : ℕ) → k < i → get_or items k 0 ≡ s → ⊥) → reference_of refs s ≡ False) → AreInputs net level variables refs
 inputs_all net level variables refs items i e long short each ins others = record {

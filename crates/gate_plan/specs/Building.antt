@@ -11,7 +11,7 @@ use Rattle.expand_work.specs.declared.fault.WaveFault.{WaveFault}
 use Rattle.expand_work.specs.declared.fault.WaveFault.TheVariants as wave_faults
 use Rattle.req_table.specs.declared.Op.{Op}
 use Rattle.net_bench.specs.declared.netlist.GateLine.{GateLine}
-use Rattle.net_bench.specs.Circuit.{Circuit, Net, circuit}
+use Rattle.net_bench.specs.Circuit.{Circuit, Net, circuit, variables_of}
 use Rattle.net_bench.specs.Labels.{bit_of, is_complemented, IsLabelling, IsFunctionOf}
 use Rattle.net_order.specs.declared.order.Match.{Match}
 use Rattle.net_order.specs.declared.order.Order.{Order}
@@ -105,11 +105,11 @@ pub record AreVariables (S : Nodes) (variables : List Ref) : Type 0 where
   pub has : (v : ℕ) → v < S.levels → Has S (reference_of variables v)
   pub bits : (v : ℕ) → v < S.levels → (x : List Bool) → den S (reference_of variables v) x ≡ bit x v
 
--- a reference for each signal, that of an input being its variable
+-- a reference for each signal, that of an input or register being its variable
 pub record AreInputs (net : Net) (level : ℕ → ℕ) (variables refs : List Ref) : Type 0 where
   pub each : length refs ≡ length net.names
-  pub inputs : (s : ℕ) → Contains net.inputs s → reference_of refs s ≡ reference_of variables (level s)
-  pub others : (s : ℕ) → (Contains net.inputs s → ⊥) → reference_of refs s ≡ False
+  pub inputs : (s : ℕ) → Contains (variables_of (circuit net)) s → reference_of refs s ≡ reference_of variables (level s)
+  pub others : (s : ℕ) → (Contains (variables_of (circuit net)) s → ⊥) → reference_of refs s ≡ False
 
 -- whatever the labelling, r denotes at each assignment what `value` says of the labels
 abbrev pub Denotes : Circuit → (ℕ → ℕ) → Nodes → Ref → (List Bool → Bool) → Type 0

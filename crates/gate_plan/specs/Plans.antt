@@ -2,7 +2,7 @@
 use Rattle.std.specs.Prelude.{◌≡◌, ℕ, ◌+◌, ◌-◌, ◌<◌, ◌≤◌, ◌==◌, ◌&&◌, cond, not, List, [], ◌∷◌, ◌++◌, map, flat_map, length, Option, Some, None, max, nat_lt, slice_index, slice_index_or}
 use Rattle.std.specs.Option.{option_map_or}
 use Rattle.net_bench.specs.declared.netlist.Kind.{Kind}
-use Rattle.net_bench.specs.declared.netlist.Kind.TheVariants.{And, Nand, Or, Nor, Xor, Xnor, Not, Buff}
+use Rattle.net_bench.specs.declared.netlist.Kind.TheVariants.{And, Nand, Or, Nor, Xor, Xnor, Not, Buff, Dff}
 use Rattle.net_bench.specs.declared.netlist.GateLine.{GateLine}
 use Rattle.net_bench.specs.Circuit.{Net, IsNet, greatest}
 use Rattle.net_bench.specs.Labels.{is_complemented}
@@ -17,6 +17,7 @@ plain_op And = ops.And
 plain_op Nand = ops.And
 plain_op Not = ops.And
 plain_op Buff = ops.And
+plain_op Dff = ops.And
 plain_op Or = ops.Or
 plain_op Nor = ops.Or
 plain_op Xor = ops.Xor
@@ -28,6 +29,7 @@ last_op And = ops.And
 last_op Nand = ops.Nand
 last_op Not = ops.Nand
 last_op Buff = ops.And
+last_op Dff = ops.And
 last_op Or = ops.Or
 last_op Nor = ops.Nor
 last_op Xor = ops.Xor

@@ -2,7 +2,7 @@
 ghost use Rattle.std.specs.Prelude.{◌≡◌, ◌≢◌, ◌+◌, ◌<◌, ◌≤◌, ℕ, Contains, length, IfOk, IfErr, OnOk, All, map, ◌++◌, slice_get, Some};
 ghost use Rattle.dd_store.specs.Nodes.{IsSound, count_of};
 ghost use Rattle.dd_store.specs.View.{Keeps};
-ghost use Rattle.net_bench.specs.Circuit.{circuit};
+ghost use Rattle.net_bench.specs.Circuit.{circuit, variables_of};
 ghost use Rattle.reduce_up.specs.Reducing.{AddsDescribed};
 ghost use Rattle.gate_plan.specs.Need.{IsCounted};
 ghost use Rattle.gate_plan.specs.Needing.{IsNeeded, IsNeededValue, HasNeed, IsBuildFault, IsStillWithin, IsPlacedValue};
@@ -12,18 +12,17 @@ ghost use Rattle.gate_plan.specs.Building.{IsPaired, first_level, second_level, 
 use crate::folds::{add_entries, copy_all, take_answers};
 use crate::inputs::{Which, input_references, make_variables};
 use crate::steps::{Copied, Plan, Step};
-use crate::team::Team;
 use dd_store::{Ref, Store};
 use expand_work::{Gate, WaveFault};
 use net_bench::netlist::Signal;
 use net_bench::reader::Netlist;
 use net_order::pairing::Pairing;
-use reduce_up::wave;
 use req_table::Op;
 use std::alloc::{AllocError, Global};
 use std::marker::Model;
 use std::sync::Wait;
 use std::thread::Threads;
+use wave_engine::{Engine, Workers};
 
 /// A reference for each signal of two netlists.
 #[derive(Drop)]
@@ -149,7 +148,7 @@ fn fold_entries(
 
 /// The wave of one fold number of a rank: the steps of both netlists are asked for together.
 fn build_fold<R: Threads + Wait + Sync, G: Gate>(
-    team: &Team<'_, R, G>,
+    engine: &mut Engine<'_, R, G>,
     store: &mut Store,
     sides: &Sides<'_>,
     built: &mut Built,
@@ -171,18 +170,11 @@ fn build_fold<R: Threads + Wait + Sync, G: Gate>(
     let ours = sides.first.steps(rank, fold);
     let theirs = sides.second.steps(rank, fold);
     let _ = store.levels();
-    let entries = match fold_entries(team.alloc, built, ours, theirs) {
+    let entries = match fold_entries(engine.alloc(), built, ours, theirs) {
         Ok(entries) => entries,
         Err(_) => return Err(WaveFault::OutOfMemory),
     };
-    let answers = wave(
-        team.rt,
-        team.alloc,
-        store,
-        entries.as_slice(),
-        team.workers,
-        team.gate,
-    )?;
+    let answers = engine.wave(store, entries.as_slice())?;
     let (one, two) = answers.as_slice().split_at(ours.len());
     take_answers(&mut built.first, ours, one);
     take_answers(&mut built.second, theirs, two);
@@ -191,7 +183,7 @@ fn build_fold<R: Threads + Wait + Sync, G: Gate>(
 
 /// The copies and all folds of one rank.
 fn build_rank<R: Threads + Wait + Sync, G: Gate>(
-    team: &Team<'_, R, G>,
+    engine: &mut Engine<'_, R, G>,
     store: &mut Store,
     sides: &Sides<'_>,
     built: &mut Built,
@@ -213,15 +205,15 @@ fn build_rank<R: Threads + Wait + Sync, G: Gate>(
     copy_all(&mut built.first, sides.first.copies(rank));
     copy_all(&mut built.second, sides.second.copies(rank));
     for fold in 0..sides.first.folds(rank).max(sides.second.folds(rank)) {
-        build_fold(team, store, sides, built, rank, fold)?;
+        build_fold(engine, store, sides, built, rank, fold)?;
     }
     Ok(())
 }
 
-/// The inputs' diagrams of both netlists.
+/// The diagrams of the inputs and registers of both netlists.
 fn start(alloc: Global, sides: &Sides<'_>, variables: &[Ref]) -> Result<Built, AllocError>
-    requires first { (s : ℕ) → Contains sides.now.first.net.inputs s → input_level sides.now.first s < length variables.now }
-    requires second { (s : ℕ) → Contains sides.now.second.net.inputs s → input_level sides.now.second s < length variables.now }
+    requires first { (s : ℕ) → Contains (variables_of (circuit sides.now.first.net)) s → input_level sides.now.first s < length variables.now }
+    requires second { (s : ℕ) → Contains (variables_of (circuit sides.now.second.net)) s → input_level sides.now.second s < length variables.now }
     ensures first { IfOk result (λ b. AreInputs sides.now.first.net (input_level sides.now.first) variables.now b.first) }
     ensures second { IfOk result (λ b. AreInputs sides.now.second.net (input_level sides.now.second) variables.now b.second) }
 {
@@ -292,14 +284,9 @@ pub fn build<R: Threads + Wait + Sync, G: Gate>(
     let Ok(mut built) = start(alloc, &sides, variables.as_slice()) else {
         return Err(WaveFault::OutOfMemory);
     };
-    let team = Team {
-        rt,
-        alloc,
-        workers,
-        gate,
-    };
+    let mut engine = Engine::new(rt, alloc, Workers::new(workers), gate);
     for below in 0..sides.first.ranks().max(sides.second.ranks()) {
-        build_rank(&team, store, &sides, &mut built, below + 1)?;
+        build_rank(&mut engine, store, &sides, &mut built, below + 1)?;
     }
     Ok(built)
 }

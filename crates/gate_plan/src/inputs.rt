@@ -1,6 +1,7 @@
-//! The diagrams of the variables, and of the inputs of a netlist.
+//! The diagrams of the variables, and of the inputs and registers of a netlist.
 ghost use Rattle.std.specs.Prelude.{◌≡◌, ◌≢◌, ℕ, ◌<◌, Contains, IfOk, IfErr, length};
 ghost use Rattle.dd_store.specs.Nodes.{IsSound};
+ghost use Rattle.net_bench.specs.Circuit.{circuit, variables_of};
 ghost use Rattle.reduce_up.specs.Reducing.{AddsDescribed};
 ghost use Rattle.gate_plan.specs.Folds.{IsVariable};
 ghost use Rattle.gate_plan.specs.Need.{IsCounted};
@@ -21,7 +22,7 @@ pub enum Which {
     Second,
 }
 
-/// The level of an input of one of the two netlists.
+/// The level of an input or register of one of the two netlists.
 fn level_of(pairing: &Pairing, which: Which, input: Signal) -> u32
     ensures { result ≡ level_in which pairing.now input }
 {
@@ -62,7 +63,7 @@ pub fn make_variables(alloc: Global, store: &mut Store) -> Result<Vec<Ref>, Wave
     Ok(variables)
 }
 
-/// A reference for each signal of a netlist: an input's variable, and False for each gate.
+/// A reference for each signal of a netlist: the variable of an input or register, and False for each gate.
 pub fn input_references(
     alloc: Global,
     netlist: &Netlist,
@@ -70,11 +71,11 @@ pub fn input_references(
     which: Which,
     variables: &[Ref],
 ) -> Result<Vec<Ref>, AllocError>
-    requires { (s : ℕ) → Contains netlist.now.inputs s → level_in which pairing.now s < length variables.now }
+    requires { (s : ℕ) → Contains (variables_of (circuit netlist.now)) s → level_in which pairing.now s < length variables.now }
     ensures { IfOk result (λ v. AreInputs netlist.now (level_in which pairing.now) variables.now v.items) }
 {
     let mut references = Vec::from_elem(alloc, Ref::False, netlist.count())?;
-    for input in netlist.inputs() {
+    for input in netlist.variables() {
         let level = level_of(pairing, which, *input);
         references[input.number() as usize] = variables[level as usize];
     }

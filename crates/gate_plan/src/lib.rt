@@ -5,7 +5,6 @@ mod building;
 mod folds;
 mod inputs;
 mod steps;
-mod team;
 
 pub use building::{Built, build};
 pub use steps::{Copied, Plan, Step};

@@ -32,7 +32,7 @@ fn plain_op(kind: Kind) -> Op
     ensures { result ≡ plain_op kind }
 {
     match kind {
-        Kind::And | Kind::Nand | Kind::Not | Kind::Buff => Op::And,
+        Kind::And | Kind::Nand | Kind::Not | Kind::Buff | Kind::Dff => Op::And,
         Kind::Or | Kind::Nor => Op::Or,
         Kind::Xor | Kind::Xnor => Op::Xor,
     }
@@ -43,7 +43,7 @@ fn last_op(kind: Kind) -> Op
     ensures { result ≡ last_op kind }
 {
     match kind {
-        Kind::And | Kind::Buff => Op::And,
+        Kind::And | Kind::Buff | Kind::Dff => Op::And,
         Kind::Nand | Kind::Not => Op::Nand,
         Kind::Or => Op::Or,
         Kind::Nor => Op::Nor,

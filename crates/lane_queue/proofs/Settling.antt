@@ -19,7 +19,7 @@ use Rattle.lane_queue.specs.Rule.{port, own_sent, IsPort}
 use Rattle.lane_queue.specs.Line.{line_view, IsLiveOn}
 use Rattle.lane_queue.specs.PortView.{PortView, sent_to}
 use Rattle.lane_queue.specs.Ports.{terms_of, hold_on, IsAtHand, line_on, line_sent, line_taken, LineOk, PortOk, view_of}
-use Rattle.lane_queue.specs.Joining.{root_view, Retired, MayJoinAll, JoinedTo, HaveJoined, HaveBegun, AllLive, taken_on, retired, RootsOf, RootsBelow, RootsWith}
+use Rattle.lane_queue.specs.Joining.{root_view, Retired, MayJoinAll, JoinedTo, HaveJoined, HaveBegun, AllLive, taken_on, pass_view, retired, RootsOf, RootsBelow, RootsWith}
 use Rattle.lane_queue.proofs.Making.{map-twice}
 use Rattle.lane_queue.proofs.Rounds.{element}
 
@@ -60,7 +60,7 @@ module _ (number : ℕ) (sizes : Sizes) (lines : List Line) (p : PortView) (work
       (λ q. (line_at i f lt).other q ∙ sym (ap (λ b. cond b p.taken []) (ne_eqb i p.number (λ e. q (e ∙ sym n)))))
 
   -- the view of the line, told of the port
-  view_at : (i : ℕ) (f : Line) → i < workers → line_view (get_or lines i f) ≡ port (terms_of workers i p.sizes) p.number (sent_to p i) (taken_on p i)
+  pub view_at : (i : ℕ) (f : Line) → i < workers → line_view (get_or lines i f) ≡ pass_view workers p i
   view_at i f lt = let h = line_at i f lt in
       h.line.0 ∙ (λ j. port ((h.terms ∙ ap (λ (u : PortView). terms_of workers i u.sizes) is) j) ((h.low ∙ ap (λ (u : PortView). u.number) is) j) (sent_at i f lt j) (taken_at i f lt j))
 

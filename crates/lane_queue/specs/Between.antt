@@ -18,16 +18,16 @@ abbrev pub AreTerms : List View → Terms → Type 0
 AreTerms views c =
     (i p : ℕ) (v : View) → get_elem? views i ≡ some v → Has v p → (v.terms ≡ c) × (p < c.workers)
 
--- The passes have common terms, by which the lane's owner is a worker. Each worker's port has a pass, and whatever the
+-- The passes have these terms, by which the lane's owner is a worker. Each worker's port has a pass, and whatever the
 -- passes say that the ports sent obeys the law and is fair, with what the owner's pass says that it took.
-abbrev pub Lawful : List Item → List View → Type 0
-Lawful items views =
-    (c : Terms) × (c.owner < c.workers) × AreTerms views c
+abbrev pub Lawful : Terms → List Item → List View → Type 0
+Lawful c items views =
+    (c.owner < c.workers) × AreTerms views c
     × ((p : ℕ) → p < c.workers → (xs : List Item) × HasSent views p xs)
     × ((sent : ℕ → List Item) (i : ℕ) (o : View) → ((p : ℕ) → p < c.workers → HasSent views p (sent p))
     → get_elem? views i ≡ some o → Has o c.owner
     → LaneLaw (scope c) sent o.taken (o.left ++ items) × FairLane (scope c) sent)
 
--- Nothing has begun in the lane, or it is lawful.
+-- Nothing has begun in the lane, or it is lawful, by some terms.
 abbrev pub Between : List Item → List View → Type 0
-Between items views = ((items ≡ []) × (views ≡ blank ∷ [])) ⊎ Lawful items views
+Between items views = ((items ≡ []) × (views ≡ blank ∷ [])) ⊎ ((c : Terms) × Lawful c items views)

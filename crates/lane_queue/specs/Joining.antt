@@ -77,6 +77,10 @@ AllLive n lanes lines =
 abbrev pub taken_on : PortView → ℕ → List Item
 taken_on p i = cond (eqb i p.number) p.taken []
 
+-- What the port's pass of the lane i knows, of this many workers.
+abbrev pub pass_view : ℕ → PortView → ℕ → View
+pass_view workers p i = port (terms_of workers i p.sizes) p.number (sent_to p i) (taken_on p i)
+
 -- The port once it was joined: it goes with no lanes.
 abbrev pub retired : PortView → PortView
 retired p = record p { lanes = map (λ q. None) p.lanes }
@@ -86,7 +90,7 @@ abbrev pub RootsOf : ℕ → PortView → List Lane → List Root → Type 0
 RootsOf workers p lanes roots =
     (i : ℕ) (d : Lane) (e : Root) → i < workers
     → IsSegPassOf (slice_index_or lanes i d).queue (slice_index_or roots i e).pass
-    × (root_view (slice_index_or roots i e) ≡ port (terms_of workers i p.sizes) p.number (sent_to p i) (taken_on p i))
+    × (root_view (slice_index_or roots i e) ≡ pass_view workers p i)
 
 -- The joined pass of the lane i, of the ports below this one.
 abbrev pub IsBelow : ℕ → PortView → ℕ → View → Type 0

@@ -4,10 +4,12 @@ ghost use Rattle.req_table.specs.Lanes.{from_of, sent_by, ends, MayFollow};
 ghost use Rattle.lane_queue.specs.PortView.{PortView, sent_to, IsPortOf, IsTaken, MayLeave, IsOpen, lanes_scope};
 ghost use Rattle.req_table.specs.Sizes.{sizes_of};
 ghost use Rattle.lane_queue.specs.Make.{new_port};
-ghost use Rattle.lane_queue.specs.Joining.{ArePorts, AreRetired, LawOfAll};
+ghost use Rattle.crossbeam_queue.specs.SegTies.{SegId, IsSegPassOf};
+ghost use Rattle.std.specs.declared.alloc.Global.{Global};
+ghost use Rattle.lane_queue.specs.Joining.{pass_view, ArePorts, AreRetired, LawOfAll};
 
 use crate::port::Port;
-use crate::rule::Lane;
+use crate::rule::{Lane, LanePass, Queue};
 use crate::{make, settle};
 use dd_store::Store;
 use req_table::Item;
@@ -88,6 +90,17 @@ impl Lanes {
             (λ x. (x ≡ item) × (port.new ≡ port.old)) }
     {
         port.send_on(rt, &self.lanes[to as usize], to as usize, item)
+    }
+
+    /// The pass with which a port steps on the lane of the worker `owner`, whose queue has the lanes' rule.
+    pub(crate) fn pass_of<'a>(&self, port: &'a Port, owner: u32) -> &'a LanePass
+        requires port { IsPortOf self.now port.now }
+        requires owner { owner < length self.now.lanes }
+        ensures queue { (q : SegId Global) → IsSegPassOf (slice_index_or self.now.lanes owner q) result.now }
+        ensures knows { result.now.me.view.client ≡ pass_view (length self.now.lanes) port.now owner }
+    {
+        let _queue: &Queue = &self.lanes[owner as usize].queue;
+        port.pass_on(&self.lanes, self.lanes.len() as u32, owner)
     }
 
     /// Takes the front of the port's own lane, or answers that the lane held nothing at some moment of the call. It takes

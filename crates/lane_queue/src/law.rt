@@ -1,16 +1,37 @@
 //! What holds of a lane between any two steps.
-ghost use Rattle.std.specs.Prelude.{List};
+ghost use Rattle.std.specs.Prelude.{◌≡◌, ◌<◌, List, length, slice_index_or};
+ghost use Rattle.std.specs.declared.alloc.Global.{Global};
+ghost use mathlib.Core.Option.{some};
+ghost use lib.ListN.{get_elem?};
+ghost use Rattle.crossbeam_queue.specs.SegTies.{SegId, IsSegPassOf};
 ghost use Rattle.req_table.specs.declared.Item.{Item};
 ghost use Rattle.lane_queue.specs.declared.rule.View.{View};
-ghost use Rattle.lane_queue.specs.Between.{Between};
+ghost use Rattle.lane_queue.specs.Ports.{terms_of};
+ghost use Rattle.lane_queue.specs.PortView.{IsPortOf};
+ghost use Rattle.lane_queue.specs.Joining.{pass_view};
+ghost use Rattle.lane_queue.specs.Between.{Lawful, Between};
 
-use crate::rule::{LaneRule, View};
-use crossbeam_queue::protocol::Protocol;
-use req_table::Item;
+use crate::rule::{HasRule, LanePass, Queue};
+use crate::{Lanes, Port};
 
-/// Whatever the threads did, between any two steps each port has its pass, the passes' lists obey the law with what
-/// waits in the lane, and they are fair. Nothing runs: the contract is the fact.
-pub fn between_steps()
-    ensures { (items : List Item) (views : List View)
-        → ⟦<LaneRule as Protocol<Item, View>>⟧.holds items views → Between items views }
-{}
+/// Whatever the threads did, between any two steps the rule of a lane's queue holds of what waits there and of what the
+/// passes know. By that rule each port has its pass, the passes' lists obey the law with what waits in the lane, and they
+/// are fair (`always`). So it is with the lane's own terms (the number of workers, the owner, the lanes' store), wherever a
+/// port's pass, under its number, knows what contracts see of the port (`lawful`).
+///
+/// It answers that pass, which is of the lane's queue, so that its number and what it knows are those of the real one.
+/// Nothing runs.
+pub fn between_steps<'a>(lanes: &Lanes, port: &'a Port, owner: u32) -> &'a LanePass
+    requires port { IsPortOf lanes.now port.now }
+    requires owner { owner < length lanes.now.lanes }
+    ensures queue { (q : SegId Global) → IsSegPassOf (slice_index_or lanes.now.lanes owner q) result.now }
+    ensures knows { result.now.me.view.client ≡ pass_view (length lanes.now.lanes) port.now owner }
+    ensures always { (items : List Item) (views : List View)
+        → ⟦<Queue as HasRule>⟧.rule items views → Between items views }
+    ensures lawful { (items : List Item) (views : List View)
+        → ⟦<Queue as HasRule>⟧.rule items views
+        → get_elem? views result.now.id ≡ some result.now.me.view.client
+        → Lawful (terms_of (length lanes.now.lanes) owner lanes.now.sizes) items views }
+{
+    lanes.pass_of(port, owner)
+}

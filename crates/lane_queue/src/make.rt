@@ -13,7 +13,7 @@ use dd_store::Store;
 use std::alloc::{AllocError, Global};
 use std::marker::Brand;
 
-// The pass that issues a lane's passes.
+/// The pass that issues a lane's passes.
 #[derive(Drop)]
 pub struct Root {
     pub pass: LanePass,

@@ -1,14 +1,15 @@
 //! One worker's end of all lanes.
-ghost use Rattle.std.specs.Prelude.{◌≡◌, ◌≢◌, ◌<◌, ◌+◌, ◌^◌, [], ◌∷◌, ◌++◌, length, Some, None};
-ghost use Rattle.std.specs.Prelude.{OnOk, OnErr, IfErr, IfOk, MatchResult, MatchOption, slice_index_or, slice_set, map};
+ghost use Rattle.std.specs.Prelude.{◌≡◌, ◌≢◌, ◌<◌, ◌≤◌, ◌+◌, ◌^◌, [], ◌∷◌, ◌++◌, length, Some, None};
+ghost use Rattle.std.specs.Prelude.{OnOk, OnErr, IfErr, IfOk, MatchResult, MatchOption, MatchBool, slice_index_or, slice_set, map};
 ghost use Rattle.req_table.specs.Lanes.{from_of, sent_by, ends, MayFollow};
+ghost use Rattle.crossbeam_queue.specs.SegTies.{IsSegPassOf};
 ghost use Rattle.lane_queue.specs.Rule.{scope, port, own_sent, IsNext, Owns};
 ghost use Rattle.lane_queue.specs.PortView.{sent_to, IsTaken, port_scope};
 ghost use Rattle.req_table.specs.Sizes.{sizes_of};
 ghost use Rattle.std.specs.List.{sum_by};
 ghost use Rattle.lane_queue.specs.declared.port.Line.{Line};
 ghost use Rattle.lane_queue.specs.declared.rule.Lane.{Lane};
-ghost use Rattle.lane_queue.specs.Joining.{retired, RootsOf, RootsBelow, RootsWith};
+ghost use Rattle.lane_queue.specs.Joining.{pass_view, retired, RootsOf, RootsBelow, RootsWith};
 ghost use Rattle.lane_queue.specs.Make.{NewLines, new_port};
 ghost use Rattle.lane_queue.specs.Line.{line_view, IsLine, IsLiveOn};
 
@@ -22,17 +23,17 @@ use std::marker::Model;
 use std::snapshot::Snapshot;
 use std::sync::Wait;
 
-// A port hands an item back once it has put so many on one lane.
+// The most items that a port puts on one lane.
 const MOST: u64 = 1 << 62;
 
-// The pass of one lane, or what it knew when it was joined.
+/// The pass of one lane, or what it knew when it was joined.
 #[derive(Drop)]
 pub enum Hold {
     Live(LanePass),
     Joined(Snapshot<LanePass>),
 }
 
-// One port's end of one lane: its pass, and how many Ends and how many items it put there.
+/// One port's end of one lane: its pass, and how many Ends and how many items it put there.
 #[derive(Drop)]
 pub struct Line {
     pub hold: Hold,
@@ -41,7 +42,14 @@ pub struct Line {
 }
 
 impl Line {
-    // Puts an item at the back of the lane.
+    // Whether the port has put as many items on the lane as it may.
+    fn is_full(&self) -> bool
+        ensures { MatchBool result (2 ^ 62 ≤ self.now.put) (self.now.put < 2 ^ 62) }
+    {
+        self.put >= MOST
+    }
+
+    /// Puts an item at the back of the lane.
     pub fn send<R: Wait>(&mut self, rt: &R, lane: &Lane, item: Item) -> Result<(), Item>
         requires live { IsLiveOn lane.now.queue self.old.hold }
         requires line { IsLine self.old }
@@ -55,7 +63,7 @@ impl Line {
             (λ _. line_view self.new ≡ port v.terms v.low (own_sent v ++ item ∷ []) v.taken)
             (λ x. (x ≡ item) × (line_view self.new ≡ v)) }
     {
-        if self.put >= MOST {
+        if self.is_full() {
             return Err(item);
         }
         let is_end = matches!(item, Item::End { .. });
@@ -70,7 +78,7 @@ impl Line {
         Ok(())
     }
 
-    // Takes the front of the lane.
+    /// Takes the front of the lane.
     pub fn take<R: Wait>(&mut self, rt: &R, lane: &Lane) -> Option<Item>
         requires live { IsLiveOn lane.now.queue self.old.hold }
         requires line { IsLine self.old }
@@ -86,6 +94,19 @@ impl Line {
             unreachable!();
         };
         steps::take(rt, lane, pass)
+    }
+
+    // The pass.
+    fn pass(&self, lane: &Lane) -> &LanePass
+        requires { IsLiveOn lane.now.queue self.now.hold }
+        ensures queue { IsSegPassOf lane.now.queue result.now }
+        ensures knows { result.now.me.view.client ≡ line_view self.now }
+    {
+        let _lane = lane;
+        match &self.hold {
+            Hold::Live(pass) => pass,
+            Hold::Joined(_) => unreachable!(),
+        }
     }
 }
 
@@ -124,7 +145,7 @@ fn added(lines: &Vec<Line>) -> u128
 
 impl Port {
     /// The port of these lines.
-    pub fn of_lines(
+    pub(crate) fn of_lines(
         number: u32,
         lines: Vec<Line>,
         lanes: &Vec<Lane>,
@@ -172,7 +193,7 @@ impl Port {
     }
 
     /// Puts an item on this lane, which is that of the worker `to`.
-    pub fn send_on<R: Wait>(
+    pub(crate) fn send_on<R: Wait>(
         &mut self,
         rt: &R,
         lane: &Lane,
@@ -190,7 +211,7 @@ impl Port {
     }
 
     /// Takes the front of this lane, which is the port's own.
-    pub fn take_on<R: Wait>(&mut self, rt: &R, lane: &Lane) -> Option<Item>
+    pub(crate) fn take_on<R: Wait>(&mut self, rt: &R, lane: &Lane) -> Option<Item>
         requires { slice_index_or self.old.lanes self.old.number None ≡ Some lane.now.queue }
         ensures { MatchOption result
             ((self.new ≡ self.old)
@@ -201,8 +222,20 @@ impl Port {
         self.lines[own].take(rt, lane)
     }
 
+    /// The pass with which the port steps on the lane of the worker `owner`.
+    pub(crate) fn pass_on(&self, lanes: &Vec<Lane>, workers: u32, owner: u32) -> &LanePass
+        requires long { length lanes.now.items ≡ workers }
+        requires lanes { self.now.lanes ≡ map (λ q. Some q) (map (λ (x : Lane). x.queue) lanes.now.items) }
+        requires owner { owner < workers }
+        ensures queue { (d : Lane) → IsSegPassOf (slice_index_or lanes.now.items owner d).queue result.now }
+        ensures knows { result.now.me.view.client ≡ pass_view workers self.now owner }
+    {
+        let at = owner as usize;
+        self.lines[at].pass(&lanes[at])
+    }
+
     /// Gives the passes of the first port away, to begin the joined ones.
-    pub fn begin_join(
+    pub(crate) fn begin_join(
         &mut self,
         alloc: Global,
         lanes: &Vec<Lane>,
@@ -217,7 +250,7 @@ impl Port {
     }
 
     /// Joins the port's passes to those of the ports below it.
-    pub fn join_to(&mut self, lanes: &Vec<Lane>, roots: &mut Vec<Root>, workers: u32)
+    pub(crate) fn join_to(&mut self, lanes: &Vec<Lane>, roots: &mut Vec<Root>, workers: u32)
         requires long { (length lanes.now.items ≡ workers) × (length roots.old.items ≡ workers) }
         requires lanes { self.old.lanes ≡ map (λ q. Some q) (map (λ (x : Lane). x.queue) lanes.now.items) }
         requires below { RootsBelow workers self.old lanes.now.items roots.old.items }

@@ -5,16 +5,16 @@ use req_table::{Item, Sizes};
 use std::collections::LinkedList;
 use std::marker::{Brand, PhantomData};
 
-// What never changes of a lane: how many workers there are, which of them takes from this lane, and the store's sizes.
-// No value of it is made.
+/// What never changes of a lane: how many workers there are, which of them takes from this lane, and the store's sizes.
+/// No value of it is made.
 pub struct Terms {
     pub workers: u32,
     pub owner: u32,
     pub sizes: Sizes,
 }
 
-// What a pass knows: it stands for the ports from `low` on and below `high`, and has what each of them sent, what the
-// owner took if it is among them, and what was read out at the end. No value of it is made.
+/// What a pass knows: it stands for the ports from `low` on and below `high`, and has what each of them sent, what the
+/// owner took if it is among them, and what was read out at the end. No value of it is made.
 pub struct View {
     pub begun: bool,
     pub terms: Terms,
@@ -25,7 +25,7 @@ pub struct View {
     pub left: LinkedList<Item>,
 }
 
-// The rule of a lane: what was taken and then what waits is, of each port, what that port sent, which is fair.
+/// The rule of a lane: what was taken and then what waits is, of each port, what that port sent, which is fair.
 pub struct LaneRule;
 
 impl Protocol<Item, View> for LaneRule {
@@ -36,7 +36,7 @@ impl Protocol<Item, View> for LaneRule {
     ghost first = { blank };
 }
 
-// The terms of the lane whose passes are issued. Each call picks them.
+/// The terms of the lane whose passes are issued. Each call picks them.
 pub trait Naming {
     ghost use Rattle.lane_queue.specs.declared.rule.Terms.{Terms};
 
@@ -49,7 +49,7 @@ impl Naming for Brand {
     ghost terms = { no_terms };
 }
 
-// A pass is issued for the next port.
+/// A pass is issued for the next port.
 pub struct Issue<J> {
     of: PhantomData<J>,
 }
@@ -63,7 +63,7 @@ impl<J: Naming> Split<View> for Issue<J> {
     ghost right = { λ v. port J.terms v.low [] [] };
 }
 
-// A port's pass goes into that of the ports below it.
+/// A port's pass goes into that of the ports below it.
 pub struct Merge;
 
 impl Join<View> for Merge {
@@ -75,7 +75,7 @@ impl Join<View> for Merge {
     ghost spent = { spent };
 }
 
-// A port puts an item on the lane.
+/// A port puts an item on the lane.
 pub struct Put;
 
 impl Outcome<Item, View> for Put {
@@ -84,7 +84,7 @@ impl Outcome<Item, View> for Put {
     ghost then = { Sends };
 }
 
-// The owner takes the front.
+/// The owner takes the front.
 pub struct Take;
 
 impl Outcome<Item, View> for Take {
@@ -99,7 +99,7 @@ impl Lesson<Item, View> for Take {
     ghost fact = { Owns };
 }
 
-// What is left is read out, once all ports are joined.
+/// What is left is read out, once all ports are joined.
 pub struct Read;
 
 impl Outcome<Item, View> for Read {
@@ -114,13 +114,26 @@ impl Lesson<Item, View> for Read {
     ghost fact = { Whole };
 }
 
-// One lane's queue.
+/// One lane's queue.
 pub type Queue = RuledSegQueue<Item, View, LaneRule>;
 
-// What a port needs to step on one lane.
+/// What a port needs to step on one lane.
 pub type LanePass = SegPass<Item, View>;
 
-// One worker's lane.
+/// A queue that has a rule: what holds of its content and of what its passes know, between any two steps.
+pub trait HasRule {
+    ghost use Rattle.std.specs.Prelude.{List};
+    ghost use Rattle.req_table.specs.declared.Item.{Item};
+    ghost use Rattle.lane_queue.specs.declared.rule.View.{View};
+
+    ghost rule: { List Item → List View → Type 0 };
+}
+
+impl<P: Protocol<Item, View>> HasRule for RuledSegQueue<Item, View, P> {
+    ghost rule = { P.holds };
+}
+
+/// One worker's lane.
 pub struct Lane {
     pub queue: Queue,
 }

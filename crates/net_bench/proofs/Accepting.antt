@@ -7,7 +7,7 @@ use Rattle.net_bench.specs.Pieces.{tokens_at}
 use Rattle.net_bench.specs.Statement.{Statement}
 use Rattle.net_bench.specs.Machine.{Between, Finished}
 use Rattle.net_bench.specs.Circuit.{Net, IsNet, AreRanks, circuit, circuit_of}
-use Rattle.net_bench.specs.Fault.{Cause, StrayByte, LongName, Misplaced, NoGateWord, Register, OperandCount, SecondDefinition, Crowded, max_text, fault_of, IsFaultless, IsPlaced, IsRefused, ReadsWell, MakesNetlist}
+use Rattle.net_bench.specs.Fault.{Cause, StrayByte, LongName, Misplaced, NoGateWord, OperandCount, SecondDefinition, Crowded, max_text, fault_of, IsFaultless, IsPlaced, IsRefused, ReadsWell, MakesNetlist}
 use Rattle.net_bench.specs.Judge.{Found, told, judge}
 use Rattle.net_bench.specs.Sound.{IsLate, AreDefined}
 use Rattle.net_bench.proofs.PiecesOf.{one_reading, has_tokens}
@@ -26,7 +26,6 @@ refused_at text StrayByte line h = h
 refused_at text LongName line h = h
 refused_at text Misplaced line h = h
 refused_at text NoGateWord line h = h
-refused_at text Register line h = h
 refused_at text OperandCount line h = h
 refused_at text SecondDefinition line h = h
 refused_at text Crowded line h = h

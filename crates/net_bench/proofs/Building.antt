@@ -1,6 +1,6 @@
 -- A netlist put together from its parts.
 use Rattle.std.proofs.Common.{◌≡◌, inl, inr, ℕ, List, [], ◌∷◌, Bool, true, false, refl, sym, ap, ◌∙◌, map}
-use Rattle.std.specs.Prelude.{cond, ◌||◌, bytes_eq, flat_map, filter_map, Some, None}
+use Rattle.std.specs.Prelude.{cond, ◌||◌, bytes_eq, flat_map, filter, filter_map, Some, None}
 use Rattle.std.proofs.lemmas.List.Folds.{list_any-append}
 use Rattle.net_bench.specs.declared.symbols.SymbolTable.{SymbolTable}
 use Rattle.net_bench.specs.Machine.{Between}
@@ -9,7 +9,7 @@ use Rattle.net_bench.specs.declared.netlist.GateLine.{GateLine}
 use Rattle.net_bench.specs.declared.netlist.BenchFault.TheVariants.{Undefined}
 use Rattle.net_bench.specs.Text.{Word}
 use Rattle.net_bench.specs.Statement.{Statement, input_name, output_name, gate_name, defined, uses}
-use Rattle.net_bench.specs.Circuit.{Net, distinct, names_of, number_of, gate_line, is_name_in}
+use Rattle.net_bench.specs.Circuit.{Net, distinct, names_of, number_of, gate_line, is_gate, is_register, is_name_in}
 use Rattle.net_bench.specs.Fault.{is_defined}
 use Rattle.net_bench.specs.Judge.{undefined_line}
 use Rattle.net_bench.specs.Sound.{AreDefined, IsLate, net_of}
@@ -61,12 +61,14 @@ pub all_defined : (ss : List Statement) (table : SymbolTable) → IsOf ss table 
     None ≡ undefined_line (λ w. is_known table w.text) (flat_map uses ss) → AreDefined ss
 all_defined ss table h e = undefined_none (is_defined ss) (flat_map uses ss) (sym (e ∙ by_table ss table h))
 
-pub same_net : (ss : List Statement) (table : SymbolTable) (inputs outputs : List ℕ) (gates : List GateLine) (ranks : List ℕ) → IsOf ss table →
-    inputs ≡ map (number_of table.names) table.inputs → outputs ≡ map (number_of table.names) table.outputs → gates ≡ filter_map (gate_line table.names) ss →
-    (let n : Net = record { names = table.names; inputs = inputs; outputs = outputs; gates = gates; ranks = ranks } in n) ≡ net_of ss ranks
-same_net ss table inputs outputs gates ranks h d e f =
+pub same_net : (ss : List Statement) (table : SymbolTable) (inputs outputs : List ℕ) (gates registers : List GateLine) (ranks : List ℕ) → IsOf ss table →
+    inputs ≡ map (number_of table.names) table.inputs → outputs ≡ map (number_of table.names) table.outputs → gates ≡ filter is_gate (filter_map (gate_line table.names) ss) →
+    registers ≡ filter is_register (filter_map (gate_line table.names) ss) →
+    (let n : Net = record { names = table.names; inputs = inputs; outputs = outputs; gates = gates; registers = registers; ranks = ranks } in n) ≡ net_of ss ranks
+same_net ss table inputs outputs gates registers ranks h d e f k =
     let a : table.names ≡ names_of ss = h.names in
     let i : inputs ≡ map (number_of (names_of ss)) (distinct (flat_map input_name ss)) = d ∙ ap (λ n. map (number_of n) table.inputs) a ∙ ap (map (number_of (names_of ss))) h.inputs in
     let o : outputs ≡ map (number_of (names_of ss)) (distinct (flat_map output_name ss)) = e ∙ ap (λ n. map (number_of n) table.outputs) a ∙ ap (map (number_of (names_of ss))) h.outputs in
-    let g : gates ≡ filter_map (gate_line (names_of ss)) ss = f ∙ ap (λ n. filter_map (gate_line n) ss) a in
+    let g : gates ≡ filter is_gate (filter_map (gate_line (names_of ss)) ss) = f ∙ ap (λ n. filter is_gate (filter_map (gate_line n) ss)) a in
+    let r : registers ≡ filter is_register (filter_map (gate_line (names_of ss)) ss) = k ∙ ap (λ n. filter is_register (filter_map (gate_line n) ss)) a in
     cc

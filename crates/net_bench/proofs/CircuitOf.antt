@@ -1,15 +1,16 @@
 -- The circuit of sound statements.
 use Rattle.std.proofs.Common.{◌≡◌, ◌≢◌, ◌⊎◌, inl, inr, ℕ, zero, suc, ◌<◌, ◌≤◌, List, [], ◌∷◌, Bool, true, false, refl, sym, ap, ◌∙◌, subst, IsTrue, map, length, get_or, take, arith}
-use Rattle.std.specs.Prelude.{cond, ◌||◌, bytes_eq, flat_map, filter_map, Contains, All, Option, Some, None, option_map, is_some, not}
+use Rattle.std.specs.Prelude.{cond, ◌||◌, ◌++◌, bytes_eq, flat_map, filter, filter_map, Contains, All, Option, Some, None, option_map, is_some, not}
 use Rattle.std.specs.List.{list_any, list_all}
 use Rattle.std.proofs.lemmas.List.{get_or-take, get_or_default}
 use Rattle.std.proofs.lemmas.List.Folds.{list_any-append, list_all-append}
 use Rattle.std.proofs.lemmas.Bool.{cases_lt}
 use Rattle.net_bench.specs.declared.netlist.Kind.{Kind}
+use Rattle.net_bench.specs.declared.netlist.Kind.TheVariants.{Dff}
 use Rattle.net_bench.specs.declared.netlist.GateLine.{GateLine}
 use Rattle.net_bench.specs.Text.{Word}
 use Rattle.net_bench.specs.Statement.{Statement, Input, Output, Gate, kind_of, takes_one, counted, input_name, output_name, gate_name, uses, defined}
-use Rattle.net_bench.specs.Circuit.{is_name_in, distinct, number_of, names_of, gate_with, gate_line, circuit_of, AreRanks, AreOnce, IsNet}
+use Rattle.net_bench.specs.Circuit.{is_name_in, distinct, number_of, names_of, gate_with, gate_line, is_register_kind, is_register, is_gate, circuit_of, AreRanks, AreOnce, IsNet}
 use Rattle.net_bench.specs.Fault.{redefines, is_among, has_wrong_operands, is_one_operand_kind, is_defined}
 use Rattle.net_bench.specs.Marks.{HasOneGateEach}
 use Rattle.net_bench.specs.Sound.{IsSound, has_kind}
@@ -174,7 +175,7 @@ one_operand names (Output word name) g h good one = absurd h
 one_operand names (Gate out word first []) g (kind, is, e) good one = ap (λ x. length x.operands) e
 one_operand names (Gate out word first (second ∷ others)) g (kind, is, e) good one =
     let here : is_one_operand_kind (kind_of word.text) ≡ true = ap is_one_operand_kind is ∙ ap takes_one (sym (ap (λ x. x.kind) e)) ∙ one in
-    let bad : has_wrong_operands (Gate out word first (second ∷ others)) ≡ true = or_right _ (is_one_operand_kind (kind_of word.text)) here in
+    let bad : has_wrong_operands (Gate out word first (second ∷ others)) ≡ true = here in
     cc
 
 -- ---- order of statements
@@ -297,12 +298,124 @@ number_back xs s low =
       ]
     ]
 
+-- ---- what a test keeps of a list
+
+abbrev Kept : {X : Type 0} → (X → Bool) → List X → X → Type 0
+Kept {X} t xs y = (p : ℕ) × (p < length xs) × ((d : X) → get_or xs p d ≡ y) × (t y ≡ true)
+
+abbrev KeptTwo : {X : Type 0} → List X → X → X → Type 0
+KeptTwo {X} xs y z = (p q : ℕ) × (p < q) × (q < length xs) × ((d : X) → get_or xs p d ≡ y) × ((d : X) → get_or xs q d ≡ z)
+
+on_kept : {X : Type 0} (t : X → Bool) (x : X) (xs : List X) (y : X) → Kept t xs y → Kept t (x ∷ xs) y
+on_kept t x xs y (p, low, at, is) = (suc p, omega arith, (λ d. at d), is)
+
+on_two : {X : Type 0} (x : X) (xs : List X) (y z : X) → KeptTwo xs y z → KeptTwo (x ∷ xs) y z
+on_two x xs y z (p, q, lt, low, at, there) = (suc p, suc q, omega arith, omega arith, (λ d. at d), (λ d. there d))
+
+first_two : {X : Type 0} (t : X → Bool) (x : X) (xs : List X) (z : X) → Kept t xs z → KeptTwo (x ∷ xs) x z
+first_two t x xs z (q, low, there, is) = (0, suc q, omega arith, omega arith, (λ d. refl), (λ d. there d))
+
+kept_from : {X : Type 0} (t : X → Bool) (x : X) (xs : List X) (b : Bool) → t x ≡ b → ((i : ℕ) (e : X) → i < length (filter t xs) → Kept t xs (get_or (filter t xs) i e)) →
+    (i : ℕ) (e : X) → i < length (cond b (x ∷ filter t xs) (filter t xs)) → Kept t (x ∷ xs) (get_or (cond b (x ∷ filter t xs) (filter t xs)) i e)
+kept_from t x xs false is more i e low = on_kept t x xs _ (more i e low)
+kept_from t x xs true is more zero e low = (0, omega arith, (λ d. refl), is)
+kept_from t x xs true is more (suc i) e low = on_kept t x xs _ (more i e (omega arith))
+
+kept_at : {X : Type 0} (t : X → Bool) (xs : List X) (i : ℕ) (e : X) → i < length (filter t xs) → Kept t xs (get_or (filter t xs) i e)
+kept_at t [] i e low = absurd (omega arith)
+kept_at t (x ∷ xs) i e low = kept_from t x xs (t x) refl (kept_at t xs) i e low
+
+two_from : {X : Type 0} (t : X → Bool) (x : X) (xs : List X) (b : Bool) →
+    ((i j : ℕ) (e : X) → i < j → j < length (filter t xs) → KeptTwo xs (get_or (filter t xs) i e) (get_or (filter t xs) j e)) →
+    (i j : ℕ) (e : X) → i < j → j < length (cond b (x ∷ filter t xs) (filter t xs)) → KeptTwo (x ∷ xs) (get_or (cond b (x ∷ filter t xs) (filter t xs)) i e) (get_or (cond b (x ∷ filter t xs) (filter t xs)) j e)
+two_from t x xs false more i j e lt low = on_two x xs _ _ (more i j e lt low)
+two_from t x xs true more i zero e lt low = absurd (omega arith)
+two_from t x xs true more zero (suc j) e lt low = first_two t x xs _ (kept_at t xs j e (omega arith))
+two_from t x xs true more (suc i) (suc j) e lt low = on_two x xs _ _ (more i j e (omega arith) (omega arith))
+
+kept_two : {X : Type 0} (t : X → Bool) (xs : List X) (i j : ℕ) (e : X) → i < j → j < length (filter t xs) → KeptTwo xs (get_or (filter t xs) i e) (get_or (filter t xs) j e)
+kept_two t [] i j e lt low = absurd (omega arith)
+kept_two t (x ∷ xs) i j e lt low = two_from t x xs (t x) (kept_two t xs) i j e lt low
+
+all_kept : {X : Type 0} (P : X → Type 0) (t : X → Bool) (xs : List X) → All P xs → All P (filter t xs)
+all_kept P t xs all i e low = let o : Kept t xs (get_or (filter t xs) i e) = kept_at t xs i e low in subst P (o.2 e) (all o.0 e o.1)
+
+all_true : {X : Type 0} (t : X → Bool) (xs : List X) → All (λ x. IsTrue (t x)) (filter t xs)
+all_true t xs i e low = (kept_at t xs i e low).3
+
+kept_once : (t : GateLine → Bool) (gs : List GateLine) → HasOneGateEach gs → HasOneGateEach (filter t gs)
+kept_once t gs once i j e lt low same =
+    let two : KeptTwo gs (get_or (filter t gs) i e) (get_or (filter t gs) j e) = kept_two t gs i j e lt low in
+    once two.0 two.1 e two.2 two.3 (ap (λ (g : GateLine). g.out) (two.4 e) ∙ same ∙ sym (ap (λ (g : GateLine). g.out) (two.5 e)))
+
+kept_this : {X : Type 0} (b : Bool) (ys : List X) (x y : X) → x ≡ y → b ≡ true → Contains (cond b (x ∷ ys) ys) y
+kept_this true ys x y e is = (0, omega arith, e)
+kept_this false ys x y e is = cc
+
+kept_later : {X : Type 0} (b : Bool) (ys : List X) (x y : X) → Contains ys y → Contains (cond b (x ∷ ys) ys) y
+kept_later true ys x y (k, low, at) = (suc k, omega arith, at)
+kept_later false ys x y m = m
+
+contains_kept : {X : Type 0} (t : X → Bool) (xs : List X) (y : X) (k : ℕ) → k < length xs → get_or xs k y ≡ y → t y ≡ true → Contains (filter t xs) y
+contains_kept t [] y k low at is = absurd (omega arith)
+contains_kept t (x ∷ xs) y zero low at is = kept_this (t x) (filter t xs) x y at (ap t at ∙ is)
+contains_kept t (x ∷ xs) y (suc k) low at is = kept_later (t x) (filter t xs) x y (contains_kept t xs y k (omega arith) at is)
+
+-- ---- lists one behind the other
+
+all_append : {X : Type 0} (P : X → Type 0) (xs ys : List X) → All P xs → All P ys → All P (xs ++ ys)
+all_append P [] ys a b k d low = b k d low
+all_append P (x ∷ xs) ys a b zero d low = a 0 d (omega arith)
+all_append P (x ∷ xs) ys a b (suc k) d low = all_append P xs ys (λ i e lt. a (suc i) e (omega arith)) b k d (omega arith)
+
+all_map : {X Y : Type 0} (P : Y → Type 0) (f : X → Y) (xs : List X) → All (λ x. P (f x)) xs → All P (map f xs)
+all_map P f [] a k d low = absurd (omega arith)
+all_map P f (x ∷ xs) a zero d low = a 0 x (omega arith)
+all_map P f (x ∷ xs) a (suc k) d low = all_map P f xs (λ i e lt. a (suc i) e (omega arith)) k d (omega arith)
+
+in_front : (xs ys : List ℕ) (s : ℕ) → Contains xs s → Contains (xs ++ ys) s
+in_front [] ys s (k, low, at) = absurd (omega arith)
+in_front (x ∷ xs) ys s (zero, low, at) = (0, omega arith, at)
+in_front (x ∷ xs) ys s (suc k, low, at) = let m : Contains (xs ++ ys) s = in_front xs ys s (k, omega arith, at) in (suc m.0, omega (arith, m.1), m.2)
+
+in_back : (xs ys : List ℕ) (s : ℕ) → Contains ys s → Contains (xs ++ ys) s
+in_back [] ys s m = m
+in_back (x ∷ xs) ys s m = let more : Contains (xs ++ ys) s = in_back xs ys s m in (suc more.0, omega (arith, more.1), more.2)
+
+once_append : (xs ys : List ℕ) → AreOnce xs → AreOnce ys → All (λ x. All (λ y. y ≢ x) ys) xs → AreOnce (xs ++ ys)
+once_append [] ys a b c i j lt low e = b i j lt low e
+once_append (x ∷ xs) ys a b c i zero lt low e = absurd (omega arith)
+once_append (x ∷ xs) ys a b c zero (suc j) lt low e =
+    all_append (λ y. y ≢ x) xs ys (λ k d inside f. a 0 (suc k) (omega arith) (omega arith) (sym f ∙ get_or_default xs k d 0 inside)) (c 0 x (omega arith)) j 0 (omega arith) (sym e)
+once_append (x ∷ xs) ys a b c (suc i) (suc j) lt low e =
+    once_append xs ys (λ k l before inside f. a (suc k) (suc l) (omega arith) (omega arith) f) b (λ k d inside. c (suc k) d (omega arith)) i j (omega arith) (omega arith) e
+
+blank_line : GateLine
+blank_line = record { out = 0; kind = Dff; operands = []; line = 0 }
+
+once_map : (gs : List GateLine) → HasOneGateEach gs → AreOnce (map (λ g. g.out) gs)
+once_map gs once i j lt low e =
+    let second : (j < length gs) × (get_or (map (λ (g : GateLine). g.out) gs) j 0 ≡ (get_or gs j blank_line).out) = at_map (λ (g : GateLine). g.out) gs j blank_line 0 low in
+    let first : (i < length gs) × (get_or (map (λ (g : GateLine). g.out) gs) i 0 ≡ (get_or gs i blank_line).out) = at_map (λ (g : GateLine). g.out) gs i blank_line 0 (omega arith) in
+    once i j blank_line lt second.0 (sym first.1 ∙ e ∙ second.1)
+
+-- ---- registers
+
+not_both : (b : Bool) → b ≡ true → not b ≡ true → ⊥
+not_both true e f = cc
+not_both false e f = cc
+
+register_takes_one : (k : Kind) → is_register_kind k ≡ true → takes_one k ≡ true
+register_takes_one Dff e = refl
+register_takes_one k e = cc
+
 module _ (ss : List Statement) (sound : IsSound ss) where
   abbrev names : List (List ℕ)
   names = names_of ss
 
-  abbrev gates : List GateLine
-  gates = filter_map (gate_line names) ss
+  -- gates and registers together
+  abbrev lines : List GateLine
+  lines = filter_map (gate_line names) ss
 
   never : (q : ℕ) (X : Type 0) → q < length ss → redefines (take q ss) (get_or ss q blank) ≡ true → X
   never q X low h = let e : redefines (take q ss) (get_or ss q blank) ≡ false = sound.once q blank low in cc
@@ -318,11 +431,11 @@ module _ (ss : List Statement) (sound : IsSound ss) where
       let here : is_name_in (gate_name (get_or ss p blank)) o.0 ≡ true = single gate_name (get_or ss p blank) o.0 o.2 in
       (o.0, o.1, here, in_names gate_name ss o.0 gates_counted (in_one gate_name ss (get_or ss p blank) o.0 (p, low, get_or_default ss p (get_or ss p blank) blank low) here), is)
 
-  pub one_gate : HasOneGateEach gates
-  one_gate i j d lt low e =
-      let two : Pair (gate_line names) ss (get_or gates i d) (get_or gates j d) = pair (gate_line names) ss i j d lt low in
-      let first : Out two.0 (get_or gates i d) = out_at two.0 (get_or gates i d) (omega arith) (two.4 blank) in
-      let second : Out two.1 (get_or gates j d) = out_at two.1 (get_or gates j d) two.3 (two.5 blank) in
+  one_line : HasOneGateEach lines
+  one_line i j d lt low e =
+      let two : Pair (gate_line names) ss (get_or lines i d) (get_or lines j d) = pair (gate_line names) ss i j d lt low in
+      let first : Out two.0 (get_or lines i d) = out_at two.0 (get_or lines i d) (omega arith) (two.4 blank) in
+      let second : Out two.1 (get_or lines j d) = out_at two.1 (get_or lines j d) two.3 (two.5 blank) in
       let same : first.0 ≡ second.0 = numbers_differ names first.0 second.0 first.3 second.3 (sym first.1 ∙ e ∙ second.1) in
       never two.1 ⊥ two.3 (again_gate (take two.1 ss) (get_or ss two.0 blank) (get_or ss two.1 blank) second.0 (before ss two.0 two.1 two.2 two.3)
       (subst (λ n. is_name_in (gate_name (get_or ss two.0 blank)) n ≡ true) same first.2) (defined_gate (get_or ss two.1 blank) second.0 second.2))
@@ -361,7 +474,7 @@ module _ (ss : List Statement) (sound : IsSound ss) where
       at_map (number_of names) (distinct (flat_map f ss)) k [] d low in
       subst (λ i. i < length names) (sym at.1) (number_low names (get_or (distinct (flat_map f ss)) k []) (in_list f k h at.0).1)
 
-  pub inputs_inside : All (λ i. i < length names) inputs
+  inputs_inside : All (λ i. i < length names) inputs
   inputs_inside = numbers_inside input_name inputs_counted
 
   pub outputs_inside : All (λ i. i < length names) (map (number_of names) (distinct (flat_map output_name ss)))
@@ -381,48 +494,124 @@ module _ (ss : List Statement) (sound : IsSound ss) where
   abbrev Origin' : GateLine → Type 0
   Origin' g = (p : ℕ) × (p < length ss) × Out p g
 
-  gate_at : (k : ℕ) (d : GateLine) → k < length gates → Origin' (get_or gates k d)
-  gate_at k d low =
-      let o : Origin (gate_line names) ss (get_or gates k d) = origin (gate_line names) ss k d low in
-      (o.0, o.1, out_at o.0 (get_or gates k d) o.1 (o.2 blank))
+  line_at : (k : ℕ) (d : GateLine) → k < length lines → Origin' (get_or lines k d)
+  line_at k d low =
+      let o : Origin (gate_line names) ss (get_or lines k d) = origin (gate_line names) ss k d low in
+      (o.0, o.1, out_at o.0 (get_or lines k d) o.1 (o.2 blank))
 
-  pub outs_inside : All (λ g. g.out < length names) gates
-  outs_inside k d low =
-      let o : Origin' (get_or gates k d) = gate_at k d low in
+  lines_outs_inside : All (λ g. g.out < length names) lines
+  lines_outs_inside k d low =
+      let o : Origin' (get_or lines k d) = line_at k d low in
       subst (λ i. i < length names) (sym o.2.1) (number_low names o.2.0 o.2.3)
 
   counted_inside : (p : ℕ) (n : List ℕ) → p < length ss → is_name_in (counted (get_or ss p blank)) n ≡ true → is_name_in names n ≡ true
   counted_inside p n low h = in_names counted ss n (λ s m e. e) (in_one counted ss (get_or ss p blank) n (p, low, get_or_default ss p (get_or ss p blank) blank low) h)
 
-  pub operands_inside : All (λ g. All (λ s. s < length names) g.operands) gates
-  operands_inside k d low =
-      let o : Origin' (get_or gates k d) = gate_at k d low in
-      operands_counted names (get_or ss o.0 blank) (get_or gates k d) o.2.4 (λ n h. counted_inside o.0 n o.1 h)
+  lines_operands_inside : All (λ g. All (λ s. s < length names) g.operands) lines
+  lines_operands_inside k d low =
+      let o : Origin' (get_or lines k d) = line_at k d low in
+      operands_counted names (get_or ss o.0 blank) (get_or lines k d) o.2.4 (λ n h. counted_inside o.0 n o.1 h)
 
-  pub operands_some : All (λ g. 0 < length g.operands) gates
-  operands_some k d low = let o : Origin' (get_or gates k d) = gate_at k d low in has_operand names (get_or ss o.0 blank) (get_or gates k d) o.2.4
+  lines_operands_some : All (λ g. 0 < length g.operands) lines
+  lines_operands_some k d low = let o : Origin' (get_or lines k d) = line_at k d low in has_operand names (get_or ss o.0 blank) (get_or lines k d) o.2.4
 
-  pub operands_one : All (λ g. IsTrue (takes_one g.kind) → length g.operands ≡ 1) gates
-  operands_one k d low =
-      let o : Origin' (get_or gates k d) = gate_at k d low in
-      one_operand names (get_or ss o.0 blank) (get_or gates k d) o.2.4 (sound.counts o.0 blank o.1)
+  lines_operands_one : All (λ g. IsTrue (takes_one g.kind) → length g.operands ≡ 1) lines
+  lines_operands_one k d low =
+      let o : Origin' (get_or lines k d) = line_at k d low in
+      one_operand names (get_or ss o.0 blank) (get_or lines k d) o.2.4 (sound.counts o.0 blank o.1)
 
-  pub apart : All (λ i. All (λ g. g.out ≢ i) gates) inputs
-  apart j i low k d inside e =
+  lines_apart : All (λ i. All (λ g. g.out ≢ i) lines) inputs
+  lines_apart j i low k d inside e =
       let at : (j < length input_names) × (get_or inputs j i ≡ number_of names (get_or input_names j [])) = at_map (number_of names) input_names j [] i low in
       let m : (is_name_in (flat_map input_name ss) (get_or input_names j []) ≡ true) × (is_name_in names (get_or input_names j []) ≡ true) = in_list input_name j inputs_counted at.0 in
       let h : Holder input_name ss (get_or input_names j []) = holder input_name ss (get_or input_names j []) m.0 in
-      let o : Origin' (get_or gates k d) = gate_at k d inside in
+      let o : Origin' (get_or lines k d) = line_at k d inside in
       let same : o.2.0 ≡ get_or input_names j [] = numbers_differ names o.2.0 (get_or input_names j []) o.2.3 m.1 (sym o.2.1 ∙ e ∙ at.1) in
       let stands : get_or ss h.1.0 blank ≡ h.0 = get_or_default ss h.1.0 blank h.0 h.1.1 ∙ h.1.2 in
-      conflict h.1.0 o.0 (get_or input_names j []) (get_or gates k d) h.1.1 o.1
+      conflict h.1.0 o.0 (get_or input_names j []) (get_or lines k d) h.1.1 o.1
       (ap (λ s. is_name_in (input_name s) (get_or input_names j [])) stands ∙ h.2)
       (ap (λ n. is_name_in (gate_name (get_or ss o.0 blank)) n) (sym same) ∙ o.2.2) o.2.4
 
-  -- ---- where each use is defined, each signal is an input or has a gate
+  -- ---- gates, registers, variables
+
+  abbrev pub gates : List GateLine
+  gates = filter is_gate lines
+
+  abbrev pub registers : List GateLine
+  registers = filter is_register lines
+
+  abbrev pub variables : List ℕ
+  variables = inputs ++ map (λ g. g.out) registers
+
+  pub one_gate : HasOneGateEach gates
+  one_gate = kept_once is_gate lines one_line
+
+  pub outs_inside : All (λ g. g.out < length names) gates
+  outs_inside = all_kept (λ g. g.out < length names) is_gate lines lines_outs_inside
+
+  pub operands_inside : All (λ g. All (λ s. s < length names) g.operands) gates
+  operands_inside = all_kept (λ g. All (λ s. s < length names) g.operands) is_gate lines lines_operands_inside
+
+  pub operands_some : All (λ g. 0 < length g.operands) gates
+  operands_some = all_kept (λ g. 0 < length g.operands) is_gate lines lines_operands_some
+
+  operands_one : All (λ g. IsTrue (takes_one g.kind) → length g.operands ≡ 1) gates
+  operands_one = all_kept (λ g. IsTrue (takes_one g.kind) → length g.operands ≡ 1) is_gate lines lines_operands_one
+
+  next_inside : All (λ g. All (λ s. s < length names) g.operands) registers
+  next_inside = all_kept (λ g. All (λ s. s < length names) g.operands) is_register lines lines_operands_inside
+
+  next_one : All (λ g. length g.operands ≡ 1) registers
+  next_one k d low =
+      let o : Kept is_register lines (get_or registers k d) = kept_at is_register lines k d low in
+      subst (λ (g : GateLine). length g.operands ≡ 1) (o.2 d)
+      (lines_operands_one o.0 d o.1 (register_takes_one (get_or lines o.0 d).kind (ap is_register (o.2 d) ∙ o.3)))
+
+  pub variables_inside : All (λ i. i < length names) variables
+  variables_inside =
+      all_append (λ i. i < length names) inputs (map (λ g. g.out) registers) inputs_inside
+      (all_map (λ i. i < length names) (λ (g : GateLine). g.out) registers (all_kept (λ g. g.out < length names) is_register lines lines_outs_inside))
+
+  -- a register and a gate have two signals
+  two_signals : (r p : ℕ) (d : GateLine) → r < length lines → p < length lines → is_register (get_or lines r d) ≡ true → is_gate (get_or lines p d) ≡ true →
+      (get_or lines p d).out ≢ (get_or lines r d).out
+  two_signals r p d inside there register gate e =
+      elim (cases_lt p r) [
+        | inl lt ↦ one_line p r d lt inside e
+        | inr le ↦ elim (cases_lt r p) [
+          | inl lt ↦ one_line r p d lt there (sym e)
+          | inr ge ↦ let same : r ≡ p = omega arith in
+              let other : not (is_register (get_or lines r d)) ≡ true = ap (λ k. is_gate (get_or lines k d)) same ∙ gate in
+              not_both (is_register (get_or lines r d)) register other
+        ]
+      ]
+
+  registers_apart : All (λ g. All (λ h. h.out ≢ g.out) gates) registers
+  registers_apart k d low j e inside =
+      let o : Kept is_register lines (get_or registers k d) = kept_at is_register lines k d low in
+      let p : Kept is_gate lines (get_or gates j e) = kept_at is_gate lines j e inside in
+      (λ same. two_signals o.0 p.0 d o.1 p.1 (ap is_register (o.2 d) ∙ o.3) (ap is_gate (p.2 d) ∙ p.3)
+      (ap (λ (g : GateLine). g.out) (p.2 d) ∙ same ∙ sym (ap (λ (g : GateLine). g.out) (o.2 d))))
+
+  pub apart : All (λ i. All (λ g. g.out ≢ i) gates) variables
+  apart =
+      all_append (λ i. All (λ (g : GateLine). g.out ≢ i) gates) inputs (map (λ g. g.out) registers)
+      (λ k d low. all_kept (λ (g : GateLine). g.out ≢ get_or inputs k d) is_gate lines (lines_apart k d low))
+      (all_map (λ i. All (λ (g : GateLine). g.out ≢ i) gates) (λ (g : GateLine). g.out) registers registers_apart)
+
+  -- an input is no register, and no signal is two
+  pub variables_once : AreOnce variables
+  variables_once =
+      once_append inputs (map (λ g. g.out) registers) (numbers_once input_name inputs_counted)
+      (once_map registers (kept_once is_register lines one_line))
+      (λ k d low.
+      all_map (λ s. s ≢ get_or inputs k d) (λ (g : GateLine). g.out) registers
+      (all_kept (λ (g : GateLine). g.out ≢ get_or inputs k d) is_register lines (lines_apart k d low)))
+
+  -- ---- where each use is defined, each signal is a variable or has a gate
 
   abbrev Signal' : ℕ → Type 0
-  Signal' s = Contains inputs s ⊎ ((g : GateLine) × Contains gates g × (g.out ≡ s))
+  Signal' s = Contains variables s ⊎ ((g : GateLine) × Contains gates g × (g.out ≡ s))
 
   module _ (all : IsTrue (list_all (is_defined ss) (flat_map uses ss))) where
     name_defined : (n : List ℕ) → is_name_in names n ≡ true → is_name_in (flat_map defined ss) n ≡ true
@@ -430,16 +619,24 @@ module _ (ss : List Statement) (sound : IsSound ss) where
         let t : Holder counted ss n = holder counted ss n (sym (in_distinct (flat_map counted ss) n) ∙ h) in
         counted_defined (flat_map defined ss) t.0 n (λ m e. in_one defined ss t.0 m t.1 e) (all_of_flat (is_defined ss) uses ss t.0 all t.1) t.2
 
+    -- by its kind, a line's signal is a variable or a gate's
+    driven_by : (s : ℕ) (g : GateLine) → Contains lines g → g.out ≡ s → (b : Bool) → is_register g ≡ b → Signal' s
+    driven_by s g among out true e =
+        let m : Contains registers g = contains_kept is_register lines g among.0 among.1 among.2 e in
+        inl (in_back inputs (map (λ g. g.out) registers) s (subst (Contains (map (λ g. g.out) registers)) out (contains_map (λ (h : GateLine). h.out) registers m.0 g m.1 m.2)))
+    driven_by s g among out false e = inr (g, contains_kept is_gate lines g among.0 among.1 among.2 (ap not e), out)
+
     drive : (s : ℕ) (n : List ℕ) → number_of names n ≡ s → (t : Statement) → Contains ss t → is_name_in (defined t) n ≡ true → Signal' s
     drive s n is t among e =
         elim (or_cases (is_name_in (input_name t) n) (is_name_in (gate_name t) n) (sym (list_any-append (λ m. bytes_eq m n) (input_name t) (gate_name t)) ∙ e)) [
           | inl f ↦
               let there : is_name_in input_names n ≡ true = in_distinct (flat_map input_name ss) n ∙ in_one input_name ss t n among f in
-              inl (subst (Contains inputs) is (contains_map (number_of names) input_names (number_of input_names n) n (number_low input_names n there) (number_at input_names n n there)))
+              inl (in_front inputs (map (λ g. g.out) registers) s
+              (subst (Contains inputs) is (contains_map (number_of names) input_names (number_of input_names n) n (number_low input_names n there) (number_at input_names n n there))))
           | inr f ↦
               let kind : has_kind t ≡ true = subst (λ u. has_kind u ≡ true) among.2 (sound.kinds among.0 t among.1) in
               let g : GateOf names t n = gate_of names t n kind f in
-              inr (g.0, contains_filtered (gate_line names) ss among.0 t g.0 among.1 among.2 g.1, g.2 ∙ is)
+              driven_by s g.0 (contains_filtered (gate_line names) ss among.0 t g.0 among.1 among.2 g.1) (g.2 ∙ is) (is_register g.0) refl
         ]
 
     pub driven : (s : ℕ) → s < length names → Signal' s
@@ -450,18 +647,21 @@ module _ (ss : List Statement) (sound : IsSound ss) where
         drive s (get_or names s []) (number_back (flat_map counted ss) s low) t.0 t.1 t.2
 
     pub net : (ranks : List ℕ) → AreRanks (circuit_of ss) ranks →
-        IsNet (record { names = names; inputs = inputs; outputs = map (number_of names) (distinct (flat_map output_name ss)); gates = gates; ranks = ranks })
+        IsNet (record { names = names; inputs = inputs; outputs = map (number_of names) (distinct (flat_map output_name ss)); gates = gates; registers = registers; ranks = ranks })
     net ranks ranked = record {
       names = apart_distinct (flat_map counted ss);
       few = sound.signals;
-      inputs = inputs_inside;
+      variables = variables_inside;
       outs = outs_inside;
       apart = apart;
       one_gate = one_gate;
       defined = driven;
       outputs = outputs_inside;
-      inputs_once = numbers_once input_name inputs_counted;
+      variables_once = variables_once;
       outputs_once = numbers_once output_name outputs_counted;
+      gates = all_true is_gate lines;
+      registers = all_true is_register lines;
+      next = (λ k d low. (next_inside k d low, next_one k d low));
       operands = (λ k d low. (operands_inside k d low, operands_some k d low, operands_one k d low));
       ranks = ranked;
     }

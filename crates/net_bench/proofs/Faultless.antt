@@ -8,9 +8,9 @@ use Rattle.std.proofs.Math.Seq.{take-append_seam}
 use Rattle.std.proofs.lemmas.Grind.{flat_map-append}
 use Rattle.net_bench.specs.declared.netlist.Kind.{Kind}
 use Rattle.net_bench.specs.Text.{Word, Token, Open, Close, Equals, Name, End, Tokens}
-use Rattle.net_bench.specs.Statement.{Statement, Input, Output, Gate, spelled, after_comma, spelling, token_of, kind_of, is_register_word, counted, line_of, IsSpelledRight, AreSpelledRight}
+use Rattle.net_bench.specs.Statement.{Statement, Input, Output, Gate, spelled, after_comma, spelling, token_of, kind_of, counted, line_of, IsSpelledRight, AreSpelledRight}
 use Rattle.net_bench.specs.Circuit.{distinct, names_of}
-use Rattle.net_bench.specs.Fault.{NoGateWord, Register, OperandCount, SecondDefinition, Crowded, max_signals, counted_in, has_wrong_operands, redefines, up_to, IsFaultless, ReadsWell}
+use Rattle.net_bench.specs.Fault.{NoGateWord, OperandCount, SecondDefinition, Crowded, max_signals, counted_in, has_wrong_operands, redefines, up_to, IsFaultless, ReadsWell}
 use Rattle.net_bench.specs.Sound.{IsSound, has_kind}
 use Rattle.net_bench.proofs.Counting.{counted_all}
 
@@ -103,13 +103,12 @@ module _ (ts : Tokens) (ss : List Statement) (right : AreSpelledRight ss) (reads
     front_right : AreSpelledRight front
     front_right = (right_cut front back (Gate out word first others) (subst AreSpelledRight e right)).0
 
-    no_kind : (o : Option Kind) (r : Bool) → kind_of word.text ≡ o → is_register_word word.text ≡ r → is_some o ≡ true
-    no_kind (Some kind) r is reg = refl
-    no_kind None true is reg = absurd (clean (length (flat_map spelled front) + 2) out.line Register at_word.inside (front, out, word, (front_right, at_word.whole), refl, reg))
-    no_kind None false is reg = absurd (clean (length (flat_map spelled front) + 2) out.line NoGateWord at_word.inside (front, out, word, (front_right, at_word.whole), refl, is, reg))
+    no_kind : (o : Option Kind) → kind_of word.text ≡ o → is_some o ≡ true
+    no_kind (Some kind) is = refl
+    no_kind None is = absurd (clean (length (flat_map spelled front) + 2) out.line NoGateWord at_word.inside (front, out, word, (front_right, at_word.whole), refl, is))
 
     good_word : is_some (kind_of word.text) ≡ true
-    good_word = no_kind (kind_of word.text) (is_register_word word.text) refl refl
+    good_word = no_kind (kind_of word.text) refl
 
   good_kind : (front back : List Statement) (x : Statement) → ss ≡ front ++ x ∷ back → has_kind x ≡ true
   good_kind front back (Input word name) e = refl

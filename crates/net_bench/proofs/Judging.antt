@@ -1,15 +1,15 @@
 -- The judge finds the first fault.
 use Rattle.std.proofs.Common.{◌≡◌, ◌≢◌, ◌⊎◌, inl, inr, ℕ, ◌+◌, ◌<◌, ◌≤◌, List, [], ◌∷◌, ◌++◌, Bool, true, false, refl, sym, ap, ◌∙◌, subst, append_assoc, append-nil, arith, length, length-append, take, zero, suc, add-one}
-use Rattle.std.specs.Prelude.{◌||◌, if◌then◌else◌, flat_map, map, slice_get, Option, Some, None, Result, Ok, Err, nat_lt, cond}
+use Rattle.std.specs.Prelude.{◌||◌, if◌then◌else◌, flat_map, map, slice_get, Option, Some, None, Result, Ok, Err, nat_lt}
 use Rattle.std.proofs.lemmas.List.Sums.{fold-append}
 use Rattle.std.proofs.lemmas.Bool.{cases_lt}
 use Rattle.std.proofs.lemmas.List.{map-append}
 use Rattle.net_bench.specs.declared.netlist.Kind.{Kind}
 use Rattle.net_bench.specs.Text.{Word, Token, Open, Close, Equals, Name, Unknown, End, Tokens}
-use Rattle.net_bench.specs.Statement.{Statement, Gate, spelled, token_of, kind_of, is_register_word, line_of, IsSpelledRight, AreSpelledRight}
+use Rattle.net_bench.specs.Statement.{Statement, Gate, spelled, token_of, kind_of, line_of, IsSpelledRight, AreSpelledRight}
 use Rattle.net_bench.specs.Machine.{State, Between, First, Opened, Named, Defining, AtWord, Operands, AfterOperand, AfterComma, Finished, Failed, is_port_word, port, step, run, tokens_of, IsRight}
 use Rattle.net_bench.specs.Circuit.{distinct}
-use Rattle.net_bench.specs.Fault.{Cause, StrayByte, LongName, Misplaced, NoGateWord, Register, OperandCount, SecondDefinition, Crowded, order_of, max_name, max_signals, max_operands, counted_in, operands_in, has_wrong_operands, redefines, up_to, Begins, StandsAfter, IsFaulty, IsFirst, IsFaultless}
+use Rattle.net_bench.specs.Fault.{Cause, StrayByte, LongName, Misplaced, NoGateWord, OperandCount, SecondDefinition, Crowded, order_of, max_name, max_signals, max_operands, counted_in, operands_in, has_wrong_operands, redefines, up_to, Begins, StandsAfter, IsFaulty, IsFirst, IsFaultless}
 use Rattle.net_bench.specs.Judge.{Found, lexical, syntactic, without_kind, gate_word, closed, wrong_count, second, crowded, tests, first_of, unless, judge}
 use Rattle.net_bench.proofs.Machine.{run_all, run_one, Goes, go, can_begin, cannot_begin, spelled_snoc}
 
@@ -174,13 +174,8 @@ shows ts place line t s front at Misplaced l h =
     let same : (line ≡ l) × (t ≡ h.0) = same_place at l h.0 h.1 in
     let fails : step s t ≡ Failed = sym at.reached ∙ failing front (λ b. h.2 (subst Begins (sym at.whole) b)) in
     ap Some (ap (syntactic line) fails ∙ ap (λ n. Some (Misplaced, n)) same.0)
-shows ts place line t s front at NoGateWord l (ss, out, word, stands, on, none, other) =
-    ap Some (ap gate_word (word_state at ss out word stands) ∙
-    ap (λ b. cond b (Some (Register, out.line)) (without_kind out.line (kind_of word.text))) other ∙
-    ap (without_kind out.line) none ∙ ap (λ n. Some (NoGateWord, n)) (sym on))
-shows ts place line t s front at Register l (ss, out, word, stands, on, is_one) =
-    ap Some (ap gate_word (word_state at ss out word stands) ∙
-    ap (λ b. cond b (Some (Register, out.line)) (without_kind out.line (kind_of word.text))) is_one ∙ ap (λ n. Some (Register, n)) (sym on))
+shows ts place line t s front at NoGateWord l (ss, out, word, stands, on, none) =
+    ap Some (ap gate_word (word_state at ss out word stands) ∙ ap (without_kind out.line) none ∙ ap (λ n. Some (NoGateWord, n)) (sym on))
 shows ts place line t s front at OperandCount l (ss, x, stands, right, on, wrong) =
     ap Some (ap wrong_count (statement_closed at ss x stands right) ∙ not_none (has_wrong_operands x) (OperandCount, line_of x) wrong ∙ ap (λ n. Some (OperandCount, n)) (sym on))
 shows ts place line t s front at SecondDefinition l (ss, x, stands, right, on, again) =
@@ -231,23 +226,20 @@ syntactic_is line (AfterComma done out g a others) f e = cc
 syntactic_is line (Finished done) f e = cc
 
 abbrev IsNoWord : Word → Word → Found → Type 0
-IsNoWord out g f =
-    ((found Register out.line ≡ f) × (is_register_word g.text ≡ true)) ⊎
-    ((found NoGateWord out.line ≡ f) × (kind_of g.text ≡ None) × (is_register_word g.text ≡ false))
+IsNoWord out g f = (found NoGateWord out.line ≡ f) × (kind_of g.text ≡ None)
 
 kind_found : (line : ℕ) (k : Option Kind) (f : Found) → without_kind line k ≡ Some f → (k ≡ None) × (found NoGateWord line ≡ f)
 kind_found line None f e = (refl, some_of _ _ e)
 kind_found line (Some k) f e = cc
 
-word_is : (out g : Word) (b : Bool) (f : Found) → is_register_word g.text ≡ b → (if b then Some (found Register out.line) else without_kind out.line (kind_of g.text)) ≡ Some f → IsNoWord out g f
-word_is out g true f h e = inl (some_of _ _ e, h)
-word_is out g false f h e = let k : (kind_of g.text ≡ None) × (found NoGateWord out.line ≡ f) = kind_found out.line (kind_of g.text) f e in inr (k.1, k.0, h)
+word_is : (out g : Word) (f : Found) → without_kind out.line (kind_of g.text) ≡ Some f → IsNoWord out g f
+word_is out g f e = let k : (kind_of g.text ≡ None) × (found NoGateWord out.line ≡ f) = kind_found out.line (kind_of g.text) f e in (k.1, k.0)
 
 abbrev IsWordFault : State → Found → Type 0
 IsWordFault x f = (done : List Statement) × (out g : Word) × (x ≡ AtWord done out g) × IsNoWord out g f
 
 gate_word_is : (x : State) (f : Found) → gate_word x ≡ Some f → IsWordFault x f
-gate_word_is (AtWord done out g) f e = (done, out, g, refl, word_is out g (is_register_word g.text) f refl e)
+gate_word_is (AtWord done out g) f e = (done, out, g, refl, word_is out g f e)
 gate_word_is Failed f e = cc
 gate_word_is (Between done) f e = cc
 gate_word_is (First done w) f e = cc
@@ -302,10 +294,7 @@ module _ (ts : Tokens) (place line : ℕ) (t : Token) (s : State) (front : List 
   word_shows : (f : Found) → gate_word (step s t) ≡ Some f → Is ts place 2 f
   word_shows f h =
       let k : IsWordFault (step s t) f = gate_word_is (step s t) f h in
-      elim k.4 [
-        | inl r ↦ subst (Is ts place 2) r.0 (refl, (k.0, k.1, k.2, stands_at_word k.0 k.1 k.2 k.3, refl, r.1))
-        | inr r ↦ subst (Is ts place 2) r.0 (refl, (k.0, k.1, k.2, stands_at_word k.0 k.1 k.2 k.3, refl, r.1, r.2))
-      ]
+      subst (Is ts place 2) k.4.0 (refl, (k.0, k.1, k.2, stands_at_word k.0 k.1 k.2 k.3, refl, k.4.1))
 
   count_shows : (f : Found) → wrong_count (closed s t) ≡ Some f → Is ts place 3 f
   count_shows f h =

@@ -4,7 +4,9 @@ pub mod PiecesOf
 pub mod Judging
 pub mod Reading
 pub mod Chains
-pub mod VecKeys
+pub mod Slices
+pub mod Probing
+pub mod Names
 pub mod Places
 pub mod NameMap
 pub mod OneLabelling

@@ -1,7 +1,8 @@
 -- The netlist that statements make.
-use Rattle.std.specs.Prelude.{◌≡◌, ◌≢◌, ◌⊎◌, ℕ, zero, suc, ◌+◌, ◌<◌, ◌≤◌, Bool, true, false, not, if◌then◌else◌, IsTrue, List, [], ◌∷◌, ◌++◌, map, length, flat_map, filter_map, fold, position, unwrap_or, Option, Some, None, option_map, bytes_eq, Contains, slice_index, slice_index_or, All}
+use Rattle.std.specs.Prelude.{◌≡◌, ◌≢◌, ◌⊎◌, ℕ, zero, suc, ◌+◌, ◌<◌, ◌≤◌, Bool, true, false, not, if◌then◌else◌, IsTrue, List, [], ◌∷◌, ◌++◌, map, length, flat_map, filter, filter_map, fold, position, unwrap_or, Option, Some, None, option_map, bytes_eq, Contains, slice_index, slice_index_or, All}
 use Rattle.std.specs.List.{list_any}
 use Rattle.net_bench.specs.declared.netlist.Kind.{Kind}
+use Rattle.net_bench.specs.declared.netlist.Kind.TheVariants.{And, Nand, Or, Nor, Xor, Xnor, Not, Buff, Dff}
 use Rattle.net_bench.specs.declared.netlist.GateLine.{GateLine}
 use Rattle.net_bench.specs.Text.{Word}
 use Rattle.net_bench.specs.Statement.{Statement, Input, Output, Gate, kind_of, takes_one, counted, input_name, output_name, operands}
@@ -26,19 +27,43 @@ find names n = position (λ m. bytes_eq m n) names
 abbrev pub number_of : List (List ℕ) → List ℕ → ℕ
 number_of names n = unwrap_or (find names n) 0
 
--- A netlist, its signals by number.
+-- A netlist, its signals by number. The gates are those that are no registers.
 pub record Circuit : Type 0 where
   pub names : List (List ℕ)
   pub inputs : List ℕ
   pub outputs : List ℕ
   pub gates : List GateLine
+  pub registers : List GateLine
 
--- the gate of this kind, its operands by number
+-- the signals whose values are free: the inputs, then the registers in their order
+abbrev pub variables_of : Circuit → List ℕ
+variables_of c = c.inputs ++ map (λ g. g.out) c.registers
+
+-- the kind of a register
+abbrev pub is_register_kind : Kind → Bool
+is_register_kind And = false
+is_register_kind Nand = false
+is_register_kind Or = false
+is_register_kind Nor = false
+is_register_kind Xor = false
+is_register_kind Xnor = false
+is_register_kind Not = false
+is_register_kind Buff = false
+is_register_kind Dff = true
+
+-- a register, and a gate that is none
+abbrev pub is_register : GateLine → Bool
+is_register g = is_register_kind g.kind
+
+abbrev pub is_gate : GateLine → Bool
+is_gate g = not (is_register g)
+
+-- the gate or register of this kind, its operands by number
 abbrev pub gate_with : List (List ℕ) → Word → Kind → List Word → GateLine
 gate_with names out kind operands =
     record { out = number_of names out.text; kind = kind; operands = map (λ w. number_of names w.text) operands; line = out.line }
 
--- the gate of a statement whose word names a kind
+-- the gate or register of a statement whose word names a kind
 abbrev pub gate_line : List (List ℕ) → Statement → Option GateLine
 gate_line names (Input word name) = None
 gate_line names (Output word name) = None
@@ -56,10 +81,11 @@ circuit_of ss =
       names = names;
       inputs = map (number_of names) (distinct (flat_map input_name ss));
       outputs = map (number_of names) (distinct (flat_map output_name ss));
-      gates = filter_map (gate_line names) ss;
+      gates = filter is_gate (filter_map (gate_line names) ss);
+      registers = filter is_register (filter_map (gate_line names) ss);
     }
 
--- ---- chains of operands
+-- ---- chains of operands: they end at variables
 
 -- the signal's gate has this operand
 abbrev pub Feeds : Circuit → ℕ → ℕ → Type 0
@@ -74,10 +100,10 @@ abbrev pub greatest : List ℕ → ℕ
 greatest [] = 0
 greatest (x ∷ xs) = if Rattle.std.specs.Prelude.nat_le x (greatest xs) then greatest xs else x
 
--- one rank for each signal: 0 for an input, 1 more than the greatest of the operands for a gate
+-- one rank for each signal: 0 for a variable, 1 more than the greatest of the operands for a gate
 pub record AreRanks (c : Circuit) (ranks : List ℕ) : Type 0 where
   pub each : length ranks ≡ length c.names
-  pub inputs : All (λ s. slice_index ranks s ≡ 0) c.inputs
+  pub variables : All (λ s. slice_index ranks s ≡ 0) (variables_of c)
   pub gates : All (λ g. slice_index ranks g.out ≡ greatest (map (slice_index ranks) g.operands) + 1) c.gates
 
 -- A netlist as its users see it.
@@ -86,15 +112,16 @@ pub record Net : Type 0 where
   pub inputs : List ℕ
   pub outputs : List ℕ
   pub gates : List GateLine
+  pub registers : List GateLine
   pub ranks : List ℕ
 
 -- the netlist without its ranks
 abbrev pub circuit : Net → Circuit
-circuit n = record { names = n.names; inputs = n.inputs; outputs = n.outputs; gates = n.gates }
+circuit n = record { names = n.names; inputs = n.inputs; outputs = n.outputs; gates = n.gates; registers = n.registers }
 
--- the signal has an INPUT or a gate
+-- the signal is a variable or has a gate
 abbrev pub IsDefined : Circuit → ℕ → Type 0
-IsDefined c s = Contains c.inputs s ⊎ ((g : GateLine) × Contains c.gates g × (g.out ≡ s))
+IsDefined c s = Contains (variables_of c) s ⊎ ((g : GateLine) × Contains c.gates g × (g.out ≡ s))
 
 -- no number stands twice
 abbrev pub AreOnce : List ℕ → Type 0
@@ -104,15 +131,19 @@ AreOnce xs = (i j : ℕ) → i < j → j < length xs → slice_index xs i ≢ sl
 pub record IsNet (n : Net) : Type 0 where
   pub names : (i j : ℕ) → i < j → j < length n.names → slice_index_or n.names i [] ≢ slice_index_or n.names j []
   pub few : length n.names ≤ 1000000
-  pub inputs : All (λ s. s < length n.names) n.inputs
+  pub variables : All (λ s. s < length n.names) (variables_of (circuit n))
   pub outs : All (λ g. g.out < length n.names) n.gates
-  -- no input has a gate, and no signal two
-  pub apart : All (λ s. All (λ g. g.out ≢ s) n.gates) n.inputs
+  -- no variable has a gate, and no signal two
+  pub apart : All (λ s. All (λ g. g.out ≢ s) n.gates) (variables_of (circuit n))
   pub one_gate : (i j : ℕ) (d : GateLine) → i < j → j < length n.gates → (slice_index_or n.gates i d).out ≢ (slice_index_or n.gates j d).out
   pub defined : (s : ℕ) → s < length n.names → IsDefined (circuit n) s
   pub outputs : All (λ s. s < length n.names) n.outputs
-  -- an input stands once among the inputs, an output once among the outputs
-  pub inputs_once : AreOnce n.inputs
+  -- a variable is one input or one register, and an output stands once among the outputs
+  pub variables_once : AreOnce (variables_of (circuit n))
   pub outputs_once : AreOnce n.outputs
+  pub gates : All (λ g. IsTrue (is_gate g)) n.gates
+  pub registers : All (λ g. IsTrue (is_register g)) n.registers
+  -- a register has one operand, its next state
+  pub next : All (λ g. All (λ s. s < length n.names) g.operands × (length g.operands ≡ 1)) n.registers
   pub operands : All (λ g. All (λ s. s < length n.names) g.operands × (0 < length g.operands) × (IsTrue (takes_one g.kind) → length g.operands ≡ 1)) n.gates
   pub ranks : AreRanks (circuit n) n.ranks

@@ -4,9 +4,9 @@ use Rattle.std.specs.List.{list_any, list_all}
 use Rattle.net_bench.specs.declared.netlist.Kind.{Kind}
 use Rattle.net_bench.specs.declared.netlist.GateLine.{GateLine}
 use Rattle.net_bench.specs.declared.netlist.BenchFault.{BenchFault}
-use Rattle.net_bench.specs.declared.netlist.BenchFault.TheVariants.{TooLong, BadByte, BadStatement, UnknownGate, WrongOperands, Redefined, TooMany, Sequential, Undefined, Cycle, Read, OutOfMemory}
+use Rattle.net_bench.specs.declared.netlist.BenchFault.TheVariants.{TooLong, BadByte, BadStatement, UnknownGate, WrongOperands, Redefined, TooMany, Undefined, Cycle, Read, OutOfMemory}
 use Rattle.net_bench.specs.Text.{Word, Token, Open, Comma, Equals, Name, Unknown, HasTokens}
-use Rattle.net_bench.specs.Statement.{Statement, Input, Output, Gate, spelled, IsSpelledRight, AreSpelledRight, spelling, token_of, Reads, kind_of, takes_one, is_register_word, line_of, input_name, gate_name, uses, defined}
+use Rattle.net_bench.specs.Statement.{Statement, Input, Output, Gate, spelled, IsSpelledRight, AreSpelledRight, spelling, token_of, Reads, kind_of, takes_one, line_of, input_name, gate_name, uses, defined}
 use Rattle.net_bench.specs.Circuit.{Circuit, is_name_in, circuit_of, distinct, IsEndless}
 
 -- the most bytes of a text
@@ -54,7 +54,6 @@ pub data Cause : Type 0 where
   LongName : Cause
   Misplaced : Cause
   NoGateWord : Cause
-  Register : Cause
   OperandCount : Cause
   SecondDefinition : Cause
   Crowded : Cause
@@ -65,7 +64,6 @@ order_of StrayByte = 0
 order_of LongName = 0
 order_of Misplaced = 1
 order_of NoGateWord = 2
-order_of Register = 2
 order_of OperandCount = 3
 order_of SecondDefinition = 4
 order_of Crowded = 5
@@ -76,7 +74,6 @@ fault_of StrayByte line = BadByte line
 fault_of LongName line = TooMany line
 fault_of Misplaced line = BadStatement line
 fault_of NoGateWord line = UnknownGate line
-fault_of Register line = Sequential line
 fault_of OperandCount line = WrongOperands line
 fault_of SecondDefinition line = Redefined line
 fault_of Crowded line = TooMany line
@@ -91,13 +88,13 @@ abbrev pub has_wrong_operands : Statement → Bool
 has_wrong_operands (Input word name) = false
 has_wrong_operands (Output word name) = false
 has_wrong_operands (Gate out word first []) = false
-has_wrong_operands (Gate out word first (second ∷ others)) = is_register_word word.text || is_one_operand_kind (kind_of word.text)
+has_wrong_operands (Gate out word first (second ∷ others)) = is_one_operand_kind (kind_of word.text)
 
 -- whether the name is one of the names
 abbrev pub is_among : List ℕ → List (List ℕ) → Bool
 is_among name names = is_name_in names name
 
--- the statement's signal has a gate before it, or has an INPUT before it and the statement is a gate
+-- the statement's signal has a gate or register before it, or has an INPUT before it and the statement is a gate or register
 abbrev pub redefines : List Statement → Statement → Bool
 redefines before s =
     list_any (λ n. is_among n (flat_map gate_name before)) (defined s) || list_any (λ n. is_among n (flat_map input_name before)) (gate_name s)
@@ -113,10 +110,7 @@ IsFaulty ts place LongName line = (w : Word) × (slice_get ts place ≡ Some (li
 IsFaulty ts place Misplaced line = (t : Token) × (slice_get ts place ≡ Some (line, t)) × (Begins (up_to ts place) → ⊥)
 IsFaulty ts place NoGateWord line =
     (ss : List Statement) × (out word : Word) × StandsAfter ss ts place (Name out ∷ Equals ∷ Name word ∷ []) ×
-    (line ≡ out.line) × (kind_of word.text ≡ None) × (is_register_word word.text ≡ false)
-IsFaulty ts place Register line =
-    (ss : List Statement) × (out word : Word) × StandsAfter ss ts place (Name out ∷ Equals ∷ Name word ∷ []) ×
-    (line ≡ out.line) × IsTrue (is_register_word word.text)
+    (line ≡ out.line) × (kind_of word.text ≡ None)
 IsFaulty ts place OperandCount line =
     (ss : List Statement) × (s : Statement) × StandsAfter ss ts place (spelled s) × IsSpelledRight s ×
     (line ≡ line_of s) × IsTrue (has_wrong_operands s)
@@ -138,7 +132,7 @@ pub record IsFirst (ts : List (ℕ × Token)) (place : ℕ) (cause : Cause) (lin
 abbrev pub IsFaultless : List (ℕ × Token) → Type 0
 IsFaultless ts = (place line : ℕ) (cause : Cause) → place < length ts → IsFaulty ts place cause line → ⊥
 
--- the word's name has an INPUT or a gate
+-- the word's name has an INPUT, a gate or a register
 abbrev pub is_defined : List Statement → Word → Bool
 is_defined ss w = is_among w.text (flat_map defined ss)
 
@@ -186,7 +180,6 @@ IsRefused text (UnknownGate line) = IsPlaced text (UnknownGate line)
 IsRefused text (WrongOperands line) = IsPlaced text (WrongOperands line)
 IsRefused text (Redefined line) = IsPlaced text (Redefined line)
 IsRefused text (TooMany line) = IsPlaced text (TooMany line)
-IsRefused text (Sequential line) = IsPlaced text (Sequential line)
 
 -- the text is a netlist of some statements, and this is what they make
 abbrev pub MakesNetlist : List ℕ → Circuit → Type 0

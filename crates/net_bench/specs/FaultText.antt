@@ -1,7 +1,7 @@
 -- How the faults of a netlist text are printed.
 use Rattle.std.specs.Prelude.{ℕ, List, ◌++◌, codes, decimal}
 use Rattle.net_bench.specs.declared.netlist.BenchFault.{BenchFault}
-use Rattle.net_bench.specs.declared.netlist.BenchFault.TheVariants.{TooLong, BadByte, BadStatement, UnknownGate, WrongOperands, Redefined, TooMany, Sequential, Undefined, Cycle, Read, OutOfMemory}
+use Rattle.net_bench.specs.declared.netlist.BenchFault.TheVariants.{TooLong, BadByte, BadStatement, UnknownGate, WrongOperands, Redefined, TooMany, Undefined, Cycle, Read, OutOfMemory}
 
 -- what is wrong, behind the line on which it stands
 abbrev pub on_line : ℕ → List ℕ → List ℕ
@@ -16,7 +16,6 @@ fault_text (UnknownGate line) = on_line line (codes ": unknown gate")
 fault_text (WrongOperands line) = on_line line (codes ": wrong number of operands")
 fault_text (Redefined line) = on_line line (codes ": signal defined twice")
 fault_text (TooMany line) = on_line line (codes ": too many signals or operands, or a name too long")
-fault_text (Sequential line) = on_line line (codes ": register in a combinational netlist")
 fault_text (Undefined line) = on_line line (codes ": signal without definition")
 fault_text (Cycle line) = on_line line (codes ": gate that depends on a cycle")
 fault_text Read = codes "cannot be read"

@@ -7,10 +7,10 @@ use Rattle.net_bench.specs.declared.netlist.BenchFault.{BenchFault}
 use Rattle.net_bench.specs.declared.netlist.BenchFault.TheVariants.{Undefined, Cycle}
 use Rattle.net_bench.specs.Text.{Word, Token, Close, Name, Unknown, Tokens}
 use Rattle.net_bench.specs.Pieces.{tokens_at}
-use Rattle.net_bench.specs.Statement.{Statement, Gate, kind_of, is_register_word, line_of, uses}
+use Rattle.net_bench.specs.Statement.{Statement, Gate, kind_of, line_of, uses}
 use Rattle.net_bench.specs.Machine.{State, Between, Named, AtWord, AfterOperand, Finished, Failed, port, step}
-use Rattle.net_bench.specs.Circuit.{circuit_of, distinct}
-use Rattle.net_bench.specs.Fault.{Cause, StrayByte, LongName, Misplaced, NoGateWord, Register, OperandCount, SecondDefinition, Crowded, fault_of, max_name, max_signals, max_operands, counted_in, operands_in, has_wrong_operands, redefines, is_defined}
+use Rattle.net_bench.specs.Circuit.{circuit_of, distinct, variables_of}
+use Rattle.net_bench.specs.Fault.{Cause, StrayByte, LongName, Misplaced, NoGateWord, OperandCount, SecondDefinition, Crowded, fault_of, max_name, max_signals, max_operands, counted_in, operands_in, has_wrong_operands, redefines, is_defined}
 
 -- a fault and its line
 abbrev pub Found : Type 0
@@ -36,9 +36,9 @@ abbrev pub without_kind : ℕ → Option Kind → Option Found
 without_kind line None = Some (NoGateWord, line)
 without_kind line (Some kind) = None
 
--- the gate word at which the state stands is a register or none
+-- the gate word at which the state stands names no kind
 abbrev pub gate_word : State → Option Found
-gate_word (AtWord done out g) = if is_register_word g.text then Some (Register, out.line) else without_kind out.line (kind_of g.text)
+gate_word (AtWord done out g) = without_kind out.line (kind_of g.text)
 gate_word s = None
 
 -- the statement that the token closes, with those before it
@@ -117,7 +117,7 @@ on_endless ss None = Ok ss
 abbrev pub on_undefined : List Statement → Option ℕ → Result (List Statement) BenchFault
 on_undefined ss (Some line) = Err (Undefined line)
 on_undefined ss None =
-    let c = circuit_of ss in on_endless ss (endless_line (sweeps c.gates c.gates c.inputs) c.gates)
+    let c = circuit_of ss in on_endless ss (endless_line (sweeps c.gates c.gates (variables_of c)) c.gates)
 
 -- looks for undefined uses, unless the judge has found a fault
 abbrev pub on_judged : Result State Found → Result (List Statement) BenchFault

@@ -1,8 +1,8 @@
 -- What a netlist computes: its gates as equations between the bits of its signals.
 use Rattle.std.specs.Prelude.{◌≡◌, ℕ, Bool, true, false, cond, not, ◌&&◌, ◌||◌, List, [], ◌∷◌, map, length, slice_index_or, All}
 use Rattle.net_bench.specs.declared.netlist.Kind.{Kind}
-use Rattle.net_bench.specs.declared.netlist.Kind.TheVariants.{And, Nand, Or, Nor, Xor, Xnor, Not, Buff}
-use Rattle.net_bench.specs.Circuit.{Circuit}
+use Rattle.net_bench.specs.declared.netlist.Kind.TheVariants.{And, Nand, Or, Nor, Xor, Xnor, Not, Buff, Dff}
+use Rattle.net_bench.specs.Circuit.{Circuit, variables_of}
 
 -- a signal's bit
 abbrev pub bit_of : List Bool → ℕ → Bool
@@ -23,12 +23,13 @@ abbrev pub odd : List Bool → Bool
 odd [] = false
 odd (b ∷ bs) = cond b (not (odd bs)) (odd bs)
 
--- the value of the operation that a gate folds with: of AND, NAND, NOT and BUFF it is And
+-- the value of the operation that a gate folds with: of AND, NAND, NOT and BUFF it is And (and of DFF, which no gate has)
 abbrev pub folded : Kind → List Bool → Bool
 folded And bits = all_ones bits
 folded Nand bits = all_ones bits
 folded Not bits = all_ones bits
 folded Buff bits = all_ones bits
+folded Dff bits = all_ones bits
 folded Or bits = some_one bits
 folded Nor bits = some_one bits
 folded Xor bits = odd bits
@@ -40,6 +41,7 @@ is_complemented And = false
 is_complemented Or = false
 is_complemented Xor = false
 is_complemented Buff = false
+is_complemented Dff = false
 is_complemented Nand = true
 is_complemented Nor = true
 is_complemented Xnor = true
@@ -49,13 +51,13 @@ is_complemented Not = true
 abbrev pub value_of : Kind → List Bool → Bool
 value_of kind bits = cond (is_complemented kind) (not (folded kind bits)) (folded kind bits)
 
--- One bit for each signal: each input has the bit of its level, and each gate its kind's value of its operands' bits.
+-- One bit for each signal: each variable has the bit of its level, and each gate its kind's value of its operands' bits. A register has no equation.
 pub record IsLabelling (c : Circuit) (level : ℕ → ℕ) (x bits : List Bool) : Type 0 where
   pub each : length bits ≡ length c.names
-  pub inputs : All (λ s. bit_of bits s ≡ bit_of x (level s)) c.inputs
+  pub variables : All (λ s. bit_of bits s ≡ bit_of x (level s)) (variables_of c)
   pub gates : All (λ g. bit_of bits g.out ≡ value_of g.kind (map (bit_of bits) g.operands)) c.gates
 
--- the signal's function: its bit in the labelling whose inputs have the bits of x
+-- the signal's function: its bit in the labelling whose variables have the bits of x
 abbrev pub Computes : Circuit → (ℕ → ℕ) → ℕ → List Bool → Bool → Type 0
 Computes c level s x b = (bits : List Bool) × IsLabelling c level x bits × (bit_of bits s ≡ b)
 

@@ -12,5 +12,6 @@ pub mod FaultText
 pub mod Judge
 pub mod Labels
 pub mod Marks
+pub mod NameTable
 pub mod Sound
 pub mod Symbols

@@ -29,7 +29,7 @@ AreDefined ss = IsTrue (list_all (is_defined ss) (flat_map uses ss))
 abbrev pub net_of : List Statement → List ℕ → Net
 net_of ss ranks =
     let c = circuit_of ss in
-    record { names = c.names; inputs = c.inputs; outputs = c.outputs; gates = c.gates; ranks = ranks }
+    record { names = c.names; inputs = c.inputs; outputs = c.outputs; gates = c.gates; registers = c.registers; ranks = ranks }
 
 -- what may be wrong with sound statements, or memory ran out
 abbrev pub IsLate : List Statement → BenchFault → Type 0

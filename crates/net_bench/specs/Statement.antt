@@ -2,7 +2,7 @@
 use Rattle.std.specs.Prelude.{true, false, ◌≡◌, ℕ, Bool, if◌then◌else◌, IsTrue, List, [], ◌∷◌, ◌++◌, map, flat_map, Option, Some, None, codes}
 use Rattle.std.specs.Str.{str_eq_ignore_ascii_case}
 use Rattle.net_bench.specs.declared.netlist.Kind.{Kind}
-use Rattle.net_bench.specs.declared.netlist.Kind.TheVariants.{And, Nand, Or, Nor, Xor, Xnor, Not, Buff}
+use Rattle.net_bench.specs.declared.netlist.Kind.TheVariants.{And, Nand, Or, Nor, Xor, Xnor, Not, Buff, Dff}
 use Rattle.net_bench.specs.Text.{Word, Token, Open, Close, Comma, Equals, Name, End, HasTokens}
 
 -- INPUT ( name ), OUTPUT ( name ), out = word ( first , .. )
@@ -61,9 +61,10 @@ kind_of w =
     if is_word w (codes "XNOR") then Some Xnor else (
     if is_word w (codes "NOT") then Some Not else (
     if is_word w (codes "BUFF") then Some Buff else (
-    if is_word w (codes "BUF") then Some Buff else None))))))))
+    if is_word w (codes "BUF") then Some Buff else (
+    if is_word w (codes "DFF") then Some Dff else None)))))))))
 
--- NOT and BUFF take one operand
+-- NOT, BUFF and DFF take one operand
 abbrev pub takes_one : Kind → Bool
 takes_one And = false
 takes_one Nand = false
@@ -73,10 +74,7 @@ takes_one Xor = false
 takes_one Xnor = false
 takes_one Not = true
 takes_one Buff = true
-
--- the word of a register, in either case
-abbrev pub is_register_word : List ℕ → Bool
-is_register_word w = is_word w (codes "DFF")
+takes_one Dff = true
 
 -- the line of a statement's first token
 abbrev pub line_of : Statement → ℕ
@@ -102,13 +100,13 @@ output_name (Input word name) = []
 output_name (Output word name) = name.text ∷ []
 output_name (Gate out word first others) = []
 
--- the name that a gate defines
+-- the name that a gate or register defines
 abbrev pub gate_name : Statement → List (List ℕ)
 gate_name (Input word name) = []
 gate_name (Output word name) = []
 gate_name (Gate out word first others) = out.text ∷ []
 
--- a gate's operands
+-- the operands of a gate or register
 abbrev pub operands : Statement → List Word
 operands (Input word name) = []
 operands (Output word name) = []

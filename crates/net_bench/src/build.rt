@@ -1,8 +1,8 @@
 // The parts of a netlist, from the statements of its text.
-ghost use Rattle.std.specs.Prelude.{◌≡◌, List, ◌∷◌, ◌++◌, map, flat_map, filter_map, IfOk, OnOk, option_to_list};
+ghost use Rattle.std.specs.Prelude.{◌≡◌, List, [], ◌∷◌, ◌++◌, map, flat_map, filter, filter_map, IfOk, OnOk, option_to_list};
 ghost use Rattle.net_bench.specs.Said.{word_of, statement_of, statements_of};
 ghost use Rattle.net_bench.specs.Statement.{uses};
-ghost use Rattle.net_bench.specs.Circuit.{number_of, gate_line};
+ghost use Rattle.net_bench.specs.Circuit.{number_of, gate_line, is_gate, is_register};
 ghost use Rattle.net_bench.specs.Judge.{undefined_line};
 ghost use Rattle.net_bench.specs.Symbols.{is_known};
 
@@ -66,7 +66,14 @@ fn operands_of(
     Ok(Operands::of(signals))
 }
 
-/// The gate of a statement, where it has one.
+/// The gates and the registers of a netlist, each in text order.
+#[derive(Drop)]
+pub struct Lines {
+    pub gates: Vec<GateLine>,
+    pub registers: Vec<GateLine>,
+}
+
+/// The gate or register of a statement, where it has one.
 fn gate_of(
     alloc: Global,
     names: &NameTable,
@@ -91,38 +98,63 @@ fn gate_of(
     }
 }
 
-/// Puts the gate of a statement, where it has one, at the end.
-fn add_gate(
+/// Puts a gate at the end of the gates, and a register at the end of the registers.
+fn add_line(lines: &mut Lines, line: GateLine) -> Result<(), AllocError>
+    ensures gates { OnOk result (lines.new.gates.items ≡ lines.old.gates.items ++ filter is_gate (line ∷ [])) }
+    ensures registers { OnOk result (lines.new.registers.items ≡ lines.old.registers.items ++ filter is_register (line ∷ [])) }
+{
+    if line.kind.is_register() {
+        lines.registers.push(line)?;
+    } else {
+        lines.gates.push(line)?;
+    }
+    Ok(())
+}
+
+/// Puts the gate or register of a statement, where it has one, at the end.
+fn add_statement(
     alloc: Global,
     names: &NameTable,
     said: &Said<'_>,
-    gates: &mut Vec<GateLine>,
+    lines: &mut Lines,
 ) -> Result<(), AllocError>
-    ensures { OnOk result (gates.new.items ≡ gates.old.items ++ option_to_list (gate_line names.now (statement_of said.now))) }
+    ensures gates { OnOk result (lines.new.gates.items ≡ lines.old.gates.items ++ filter is_gate (option_to_list (gate_line names.now (statement_of said.now)))) }
+    ensures registers { OnOk result (lines.new.registers.items ≡ lines.old.registers.items ++ filter is_register (option_to_list (gate_line names.now (statement_of said.now)))) }
 {
-    match gate_of(alloc, names, said) {
-        Ok(Some(gate)) => {
-            gates.push(gate)?;
-            return Ok(());
-        }
-        Ok(None) => return Ok(()),
-        Err(error) => return Err(error),
+    match gate_of(alloc, names, said)? {
+        Some(line) => add_line(lines, line),
+        None => Ok(()),
     }
 }
 
-/// The gates of the statements.
-pub fn gates_of(
-    alloc: Global,
-    names: &NameTable,
-    said: &[Said<'_>],
-) -> Result<Vec<GateLine>, AllocError>
-    ensures { IfOk result (λ v. v.items ≡ filter_map (gate_line names.now) (statements_of said.now)) }
+/// The gates and registers of the statements.
+pub fn lines_of(alloc: Global, names: &NameTable, said: &[Said<'_>]) -> Result<Lines, AllocError>
+    ensures gates { IfOk result (λ v. v.gates.items ≡ filter is_gate (filter_map (gate_line names.now) (statements_of said.now))) }
+    ensures registers { IfOk result (λ v. v.registers.items ≡ filter is_register (filter_map (gate_line names.now) (statements_of said.now))) }
 {
-    let mut gates = Vec::new(alloc);
+    let mut lines = Lines {
+        gates: Vec::new(alloc),
+        registers: Vec::new(alloc),
+    };
     for statement in said {
-        add_gate(alloc, names, statement, &mut gates)?;
+        add_statement(alloc, names, statement, &mut lines)?;
     }
-    Ok(gates)
+    Ok(lines)
+}
+
+/// The inputs, then the registers' signals.
+pub fn variables_of(
+    alloc: Global,
+    inputs: &[Signal],
+    registers: &[GateLine],
+) -> Result<Vec<Signal>, AllocError>
+    ensures { IfOk result (λ v. v.items ≡ inputs.now ++ map (λ g. g.out) registers.now) }
+{
+    let mut variables = Vec::from_slice(alloc, inputs)?;
+    for register in registers {
+        variables.push(register.out)?;
+    }
+    Ok(variables)
 }
 
 /// The line of the first use of a name that is not defined.

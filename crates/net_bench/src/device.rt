@@ -1,7 +1,7 @@
 //! What a text comes from, and what a report goes to.
-ghost use Rattle.std.specs.Prelude.{◌≡◌, ℕ, ◌+◌, ◌<◌, ◌≤◌, ◌^◌, ◌||◌, Bool, false, List, length, Option, IfOk, IfSome, IsTrue, is_err, Err, Some};
+ghost use Rattle.std.specs.Prelude.{◌≡◌, ℕ, ◌+◌, ◌<◌, ◌≤◌, ◌^◌, ◌||◌, Bool, false, List, length, Option, IfOk, IfSome, IsTrue, is_err, Err, Some, None};
 ghost use Rattle.std.specs.Io.KnownBytes.{ReadConsumes, WriteAppends, Keeps};
-ghost use Rattle.net_bench.specs.Devices.{TakesAtMost, failed_text, text_fault_text};
+ghost use Rattle.net_bench.specs.Devices.{TakesAtMost, took_none, failed_text, text_fault_text};
 
 use std::alloc::Global;
 use std::fmt;
@@ -27,12 +27,15 @@ pub trait Source {
     ghost remaining: { Self → Option (List ℕ) };
     // Whether a call has answered `Failed`.
     ghost has_failed: { Self → Bool };
+    // The path that the device was opened at, where it tells one.
+    ghost origin: { Self → Option (List ℕ) } = { λ _. None };
 
     /// Reads bytes to the front of the buffer, and answers how many; 0 in a buffer with room is the end.
     fn read(&mut self, buf: &mut [u8]) -> Result<usize, Failed>
         ensures count { IfOk result (λ n. n ≤ length buf.new) }
         ensures bytes { ReadConsumes (remaining self.old) (remaining self.new) result buf.new }
-        ensures failed { has_failed self.new ≡ (has_failed self.old || is_err result) };
+        ensures failed { has_failed self.new ≡ (has_failed self.old || is_err result) }
+        ensures origin { origin self.new ≡ origin self.old };
 }
 
 /// Something that bytes are written to. A write that answers `Failed` takes no bytes.
@@ -41,17 +44,21 @@ pub trait Sink {
     ghost contents: { Self → Option (List ℕ) };
     // Whether a call has answered `Failed`.
     ghost has_failed: { Self → Bool };
+    // Whether a write has taken no byte of some that it was handed.
+    ghost has_stopped: { Self → Bool };
 
     /// Takes bytes from the front of these, and answers how many.
     fn write(&mut self, bytes: &[u8]) -> Result<usize, Failed>
         ensures count { IfOk result (λ n. n ≤ length bytes.now) }
         ensures bytes { WriteAppends (contents self.old) (contents self.new) result bytes.now }
-        ensures failed { has_failed self.new ≡ (has_failed self.old || is_err result) };
+        ensures failed { has_failed self.new ≡ (has_failed self.old || is_err result) }
+        ensures stopped { has_stopped self.new ≡ (has_stopped self.old || took_none result bytes.now) };
 
     /// Passes on what is held back.
     fn flush(&mut self) -> Result<(), Failed>
         ensures bytes { Keeps (contents self.old) (contents self.new) }
-        ensures failed { has_failed self.new ≡ (has_failed self.old || is_err result) };
+        ensures failed { has_failed self.new ≡ (has_failed self.old || is_err result) }
+        ensures stopped { has_stopped self.new ≡ has_stopped self.old };
 }
 
 /// A std reader or writer as a device.
@@ -59,24 +66,26 @@ pub trait Sink {
 pub struct Through<T> {
     inner: T,
     failed: bool,
+    stopped: bool,
 }
 
 impl<T> Model for Through<T> {
     ghost use Rattle.std.specs.Prelude.{Bool};
 
-    ghost Value = { T × Bool };
+    ghost Value = { T × Bool × Bool };
 
-    ghost view = { λ d. (d.inner, d.failed) };
+    ghost view = { λ d. (d.inner, d.failed, d.stopped) };
 }
 
 impl<T> Through<T> {
-    /// The device over this reader or writer. It has not failed yet.
+    /// The device over this reader or writer. It has neither failed nor stopped yet.
     pub fn new(inner: T) -> Through<T>
-        ensures fresh { result ≡ (inner, false) }
+        ensures fresh { result ≡ (inner, false, false) }
     {
         Through {
             inner,
             failed: false,
+            stopped: false,
         }
     }
 }
@@ -102,9 +111,16 @@ impl<T: Write> Sink for Through<T> {
 
     ghost has_failed = { λ d. d.1 };
 
+    ghost has_stopped = { λ d. d.2 };
+
     fn write(&mut self, bytes: &[u8]) -> Result<usize, Failed> {
         match self.inner.write(bytes) {
-            Ok(n) => Ok(n),
+            Ok(n) => {
+                if n == 0 && !bytes.is_empty() {
+                    self.stopped = true;
+                }
+                Ok(n)
+            }
             Err(_) => {
                 self.failed = true;
                 Err(Failed)
@@ -119,6 +135,42 @@ impl<T: Write> Sink for Through<T> {
                 self.failed = true;
                 Err(Failed)
             }
+        }
+    }
+}
+
+/// A text in memory, as a device that cannot fail.
+#[derive(Drop)]
+pub struct InMemory<'a> {
+    rest: &'a [u8],
+}
+
+impl<'a> Model for InMemory<'a> {
+    ghost use Rattle.std.specs.Prelude.{List, ℕ};
+
+    ghost Value = { List ℕ };
+
+    ghost view = { λ d. d.rest.now };
+}
+
+impl<'a> InMemory<'a> {
+    /// The device that gives this text.
+    pub fn new(text: &'a [u8]) -> InMemory<'a>
+        ensures { result ≡ text.now }
+    {
+        InMemory { rest: text }
+    }
+}
+
+impl<'a> Source for InMemory<'a> {
+    ghost remaining = { λ d. Some d };
+
+    ghost has_failed = { λ _. false };
+
+    fn read(&mut self, buf: &mut [u8]) -> Result<usize, Failed> {
+        match self.rest.read(buf) {
+            Ok(n) => Ok(n),
+            Err(_) => unreachable!(),
         }
     }
 }
@@ -162,6 +214,7 @@ pub fn read_text<R: Source>(
     ensures taken { TakesAtMost (limit + 1) (R.remaining device.old) (R.remaining device.new) }
     ensures read { result ≡ Err TextFault.Read → IsTrue (R.has_failed device.new) }
     ensures kept { (result ≡ Err TextFault.Read → ⊥) → R.has_failed device.new ≡ R.has_failed device.old }
+    ensures origin { R.origin device.new ≡ R.origin device.old }
 {
     let mut text = Vec::new(alloc);
     let mut chunk = [0u8; CHUNK];

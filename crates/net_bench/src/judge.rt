@@ -9,7 +9,7 @@ ghost use Rattle.net_bench.specs.Pieces.{tokens_at};
 ghost use Rattle.net_bench.specs.Judge.{Found, first_of, gate_word, judge, lexical, told};
 ghost use Rattle.net_bench.specs.Symbols.{IsTold, Tells, defining, statement_fault, token_tests};
 
-use crate::kinds::{is_register, kind_of};
+use crate::kinds::kind_of;
 use crate::netlist::BenchFault;
 use crate::scan::{Scanner, Token};
 use crate::symbols::SymbolTable;
@@ -49,9 +49,6 @@ fn word_fault(part: &Part<'_>) -> Option<BenchFault>
     let Part::AtWord { out, word } = part else {
         return None;
     };
-    if is_register(word.text) {
-        return Some(BenchFault::Sequential { line: out.line });
-    }
     match kind_of(word.text) {
         Some(_) => None,
         None => Some(BenchFault::UnknownGate { line: out.line }),

@@ -1,15 +1,8 @@
 // The words of gates.
 ghost use Rattle.std.specs.Prelude.{◌≡◌};
-ghost use Rattle.net_bench.specs.Statement.{is_register_word, kind_of};
+ghost use Rattle.net_bench.specs.Statement.{kind_of};
 
 use crate::netlist::Kind;
-
-/// DFF, in either case.
-pub fn is_register(word: &[u8]) -> bool
-    ensures { result ≡ is_register_word word.now }
-{
-    word.eq_ignore_ascii_case(b"DFF")
-}
 
 /// The kind that a word names, in either case.
 pub fn kind_of(word: &[u8]) -> Option<Kind>
@@ -41,6 +34,9 @@ pub fn kind_of(word: &[u8]) -> Option<Kind>
     }
     if word.eq_ignore_ascii_case(b"BUF") {
         return Some(Kind::Buff);
+    }
+    if word.eq_ignore_ascii_case(b"DFF") {
+        return Some(Kind::Dff);
     }
     None
 }

@@ -1,31 +1,182 @@
-//! Names by number, with a map for look-ups.
-ghost use Rattle.std.specs.Prelude.{◌≡◌, ℕ, ◌+◌, ◌<◌, ◌≤◌, ◌^◌, List, [], ◌∷◌, ◌++◌, map, length, slice_get, slice_index_or, IfOk, OnOk, OnErr, Some, None};
+//! Names by number. Each name's bytes are held once, one name behind the other; a name is found by open addressing.
+ghost use Rattle.std.specs.Prelude.{◌≡◌, ℕ, ◌+◌, ◌*◌, ◌<◌, ◌≤◌, ◌==◌, ◌^◌, List, [], ◌∷◌, ◌++◌, All, bytes_eq, fold, map, length, slice_get, slice_index_or, if◌then◌else◌, IfOk, OnOk, OnErr, Some, None};
 ghost use Rattle.net_bench.specs.Circuit.{with_name, find, number_of, is_name_in};
+ghost use Rattle.net_bench.specs.NameTable.{HasFree, IsEachOnce, IsFree, IsInside, IsSought, IsTable, Probes, hash_of, home_of, name_in, names_in};
 
 use std::alloc::{AllocError, Global};
-use std::collections::BTreeMap;
 use std::marker::Model;
+
+/// Where a name lies among the bytes.
+#[derive(Clone, Copy)]
+pub struct Span {
+    start: u32,
+    len: u32,
+}
+
+/// What a search of the slots ends at.
+pub enum Sought {
+    /// The number of the name.
+    Number(u32),
+    /// The first empty slot, if the name has no number.
+    Slot(usize),
+}
 
 /// Names, each once, in the order in which they came.
 #[derive(Drop)]
 pub struct NameTable {
-    names: Vec<Vec<u8>>,
-    numbers: BTreeMap<Vec<u8>, u32>,
+    bytes: Vec<u8>,
+    spans: Vec<Span>,
+    /// 0 where a slot is empty, else a number and 1. Their number is 0 or a power of two, and at most half are taken.
+    slots: Vec<u32>,
 }
 
 impl Model for NameTable {
-    ghost use Rattle.std.specs.Prelude.{◌≡◌, ◌<◌, ◌^◌, List, ℕ, map, length, bytes_eq};
-    ghost use Rattle.std.specs.BTreeMap.{get_by};
-    ghost use Rattle.std.specs.Ordering.{nat_cmp};
-    ghost use Rattle.std.specs.Cmp.Lexicographic.{slice_cmp};
+    ghost use Rattle.std.specs.Prelude.{List, ℕ};
+    ghost use Rattle.net_bench.specs.NameTable.{IsTable, names_in};
 
     ghost Value = { List (List ℕ) };
 
-    ghost use Rattle.net_bench.specs.Circuit.{find};
+    ghost view = { λ a. names_in a.bytes.items a.spans.items };
 
-    ghost view = { λ a. map (λ v. v.items) a.names.items };
+    ghost invariant = { λ a. IsTable a.bytes.items a.spans.items a.slots.items };
+}
 
-    ghost invariant = { λ a. (bs : List ℕ) → get_by (λ k. slice_cmp nat_cmp bs k.items) a.numbers ≡ find (map (λ v. v.items) a.names.items) bs };
+/// A number of 32 bits, where it is one.
+fn narrow(number: usize) -> Result<u32, AllocError>
+    ensures { IfOk result (λ n. n ≡ number) }
+{
+    match u32::try_from(number) {
+        Ok(narrow) => Ok(narrow),
+        Err(_) => Err(AllocError),
+    }
+}
+
+/// A number that spreads names over the slots.
+fn hash(name: &[u8]) -> u64
+    ensures { result ≡ hash_of name.now }
+{
+    let mut hash = 14695981039346656037u64;
+    for byte in name {
+        hash = (hash ^ *byte as u64).wrapping_mul(1099511628211);
+    }
+    hash
+}
+
+/// The slot, of `count`, in which the search for a name begins.
+fn home(name: &[u8], count: usize) -> usize
+    requires { 0 < count }
+    ensures value { result ≡ home_of count name.now }
+    ensures within { result < count }
+{
+    let hash = hash(name);
+    (hash ^ (hash >> 32)) as usize & (count - 1)
+}
+
+/// The slot after this one: the first comes after the last.
+fn next_slot(slot: usize, count: usize) -> usize
+    requires { slot < count }
+    ensures { result ≡ (if slot + 1 == count then 0 else slot + 1) }
+{
+    if slot + 1 == count { 0 } else { slot + 1 }
+}
+
+/// The name in a span.
+fn name_in<'a>(bytes: &'a [u8], span: Span) -> &'a [u8]
+    requires { IsInside bytes.now span }
+    ensures { result.now ≡ name_in bytes.now span }
+{
+    let start = span.start as usize;
+    let (_, rest) = bytes.split_at(start);
+    let (name, _) = rest.split_at(span.len as usize);
+    name
+}
+
+/// The first empty slot from `home`.
+fn free_slot(slots: &[u32], home: usize) -> usize
+    requires home { home < length slots.now }
+    requires free { HasFree (length slots.now) slots.now }
+    ensures { IsFree (length slots.now) home slots.now result }
+{
+    let mut slot = home;
+    for _distance in 0..slots.len() {
+        if slots[slot] == 0 {
+            return slot;
+        }
+        slot = next_slot(slot, slots.len());
+    }
+    unreachable!()
+}
+
+/// Slots that find each of the names.
+fn slots_of(
+    alloc: Global,
+    bytes: &[u8],
+    spans: &[Span],
+    count: usize,
+) -> Result<Vec<u32>, AllocError>
+    requires inside { All (IsInside bytes.now) spans.now }
+    requires count { length spans.now < count }
+    requires numbers { length spans.now < 2 ^ 32 }
+    ensures { IfOk result (λ ts. Probes count (names_in bytes.now spans.now) ts.items) }
+{
+    let mut slots = Vec::with_capacity(alloc, count)?;
+    slots.resize(count, 0u32)?;
+    for number in 0..spans.len() {
+        let home = home(name_in(bytes, spans[number]), count);
+        let slot = free_slot(slots.as_slice(), home);
+        slots[slot] = number as u32 + 1;
+    }
+    Ok(slots)
+}
+
+/// Gives the slots room for one name more, all names in their slots anew where they need twice as many. After an error
+/// the slots are as before.
+fn grow_slots(bytes: &[u8], spans: &[Span], slots: &mut Vec<u32>) -> Result<(), AllocError>
+    requires inside { All (IsInside bytes.now) spans.now }
+    requires probes { Probes (length slots.old.items) (names_in bytes.now spans.now) slots.old.items }
+    requires half { 2 * length spans.now ≤ length slots.old.items }
+    requires numbers { length spans.now < 2 ^ 32 }
+    ensures probes { Probes (length slots.new.items) (names_in bytes.now spans.now) slots.new.items }
+    ensures half { 2 * length spans.now ≤ length slots.new.items }
+    ensures room { OnOk result (2 * (length spans.now + 1) ≤ length slots.new.items) }
+{
+    let count = slots.len();
+    if spans.len() < count / 2 {
+        return Ok(());
+    }
+    let more = if count == 0 { 16 } else { 2 * count };
+    let grown = slots_of(*slots.allocator(), bytes, spans, more)?;
+    *slots = grown;
+    Ok(())
+}
+
+/// Whether two names are the same.
+fn is_same(left: &[u8], right: &[u8]) -> bool
+    ensures { result ≡ bytes_eq left.now right.now }
+{
+    left == right
+}
+
+/// Where the search for a name ends.
+fn seek(bytes: &[u8], spans: &[Span], slots: &[u32], name: &[u8]) -> Sought
+    requires inside { All (IsInside bytes.now) spans.now }
+    requires probes { Probes (length slots.now) (names_in bytes.now spans.now) slots.now }
+    requires room { length spans.now < length slots.now }
+    ensures { IsSought (names_in bytes.now spans.now) slots.now name.now result }
+{
+    let mut slot = home(name, slots.len());
+    for _distance in 0..slots.len() {
+        let held = slots[slot];
+        if held == 0 {
+            return Sought::Slot(slot);
+        }
+        let other = name_in(bytes, spans[held as usize - 1]);
+        if is_same(other, name) {
+            return Sought::Number(held - 1);
+        }
+        slot = next_slot(slot, slots.len());
+    }
+    unreachable!()
 }
 
 impl NameTable {
@@ -34,8 +185,9 @@ impl NameTable {
         ensures { result ≡ [] }
     {
         NameTable {
-            names: Vec::new(alloc),
-            numbers: BTreeMap::new(alloc),
+            bytes: Vec::new(alloc),
+            spans: Vec::new(alloc),
+            slots: Vec::new(alloc),
         }
     }
 
@@ -43,26 +195,49 @@ impl NameTable {
     pub fn find(&self, name: &[u8]) -> Option<u32>
         ensures { result ≡ find self.now name.now }
     {
-        self.numbers.get(name).copied()
+        if self.slots.len() == 0 {
+            return None;
+        }
+        match seek(
+            self.bytes.as_slice(),
+            self.spans.as_slice(),
+            self.slots.as_slice(),
+            name,
+        ) {
+            Sought::Number(number) => Some(number),
+            Sought::Slot(_) => None,
+        }
     }
 
-    /// Puts a new name at the end, and answers its number. No table holds more than 4,294,967,295 names.
-    pub fn add(&mut self, alloc: Global, name: &[u8]) -> Result<u32, AllocError>
-        requires new { find self.old name.now ≡ None }
-        ensures added { IfOk result (λ n. (self.new ≡ self.old ++ name.now ∷ []) × (n ≡ length self.old)) }
+    /// Puts the name at the end, where it is not there yet, and answers its number. A table holds less than 4,294,967,296 names and
+    /// bytes of names.
+    pub fn count(&mut self, alloc: Global, name: &[u8]) -> Result<u32, AllocError>
+        ensures added { OnOk result (self.new ≡ with_name self.old name.now) }
+        ensures number { IfOk result (λ n. find self.new name.now ≡ Some n) }
         ensures err { OnErr result (self.new ≡ self.old) }
     {
-        let Ok(number) = u32::try_from(self.names.len()) else {
-            return Err(AllocError);
-        };
-        let text = Vec::from_slice(alloc, name)?;
-        let key = Vec::from_slice(alloc, name)?;
-        self.names.push(text)?;
-        match self.numbers.insert(key, number) {
-            Ok(_) => return Ok(number),
-            Err(_) => {
-                self.names.pop();
-                return Err(AllocError);
+        let _ = alloc;
+        let held = narrow(self.spans.len() + 1)?;
+        let start = narrow(self.bytes.len())?;
+        let len = narrow(name.len())?;
+        grow_slots(
+            self.bytes.as_slice(),
+            self.spans.as_slice(),
+            &mut self.slots,
+        )?;
+        match seek(
+            self.bytes.as_slice(),
+            self.spans.as_slice(),
+            self.slots.as_slice(),
+            name,
+        ) {
+            Sought::Number(number) => Ok(number),
+            Sought::Slot(slot) => {
+                self.spans.reserve(1)?;
+                self.bytes.extend_from_slice(name)?;
+                self.slots[slot] = held;
+                let _ = self.spans.push(Span { start, len });
+                Ok(held - 1)
             }
         }
     }
@@ -71,7 +246,7 @@ impl NameTable {
     pub fn len(&self) -> usize
         ensures { result ≡ length self.now }
     {
-        self.names.len()
+        self.spans.len()
     }
 
     /// The name at this place.
@@ -79,7 +254,7 @@ impl NameTable {
         requires { place < length self.now }
         ensures { result.now ≡ slice_index_or self.now place result.now }
     {
-        self.names[place].as_slice()
+        name_in(self.bytes.as_slice(), self.spans[place])
     }
 
     /// Whether the name is there.
@@ -93,34 +268,22 @@ impl NameTable {
         }
     }
 
-    /// Puts the name at the end, where it is not there yet, and answers its number.
-    #[tactic(auto, using(crate::proofs::NameMap::counted_there, crate::proofs::NameMap::counted_new, crate::proofs::NameMap::new_number))]
-    pub fn count(&mut self, alloc: Global, name: &[u8]) -> Result<u32, AllocError>
-        ensures added { OnOk result (self.new ≡ with_name self.old name.now) }
-        ensures number { IfOk result (λ n. find self.new name.now ≡ Some n) }
-        ensures err { OnErr result (self.new ≡ self.old) }
-    {
-        match self.find(name) {
-            Some(number) => Ok(number),
-            None => match self.add(alloc, name) {
-                Ok(number) => Ok(number),
-                Err(error) => Err(error),
-            },
-        }
-    }
-
     /// The name of this number.
     pub fn name(&self, number: u32) -> &[u8]
         requires { number < length self.now }
         ensures { slice_get self.now number ≡ Some result.now }
     {
-        self.names[number as usize].as_slice()
+        name_in(self.bytes.as_slice(), self.spans[number as usize])
     }
+
     /// The names alone, in their order.
-    pub fn into_names(self) -> Vec<Vec<u8>>
-        ensures { map (λ v. v.items) result.items ≡ self }
+    pub fn to_names(&self, alloc: Global) -> Result<Vec<Vec<u8>>, AllocError>
+        ensures { IfOk result (λ v. map (λ w. w.items) v.items ≡ self.now) }
     {
-        let NameTable { names, numbers: _ } = self;
-        names
+        let mut names = Vec::new(alloc);
+        for place in 0..self.len() {
+            names.push(Vec::from_slice(alloc, self.name_at(place))?)?;
+        }
+        Ok(names)
     }
 }

@@ -1,12 +1,13 @@
 //! The parts of a netlist, and why a text is none.
 ghost use Rattle.std.specs.Prelude.{◌≡◌, Some};
+ghost use Rattle.net_bench.specs.Circuit.{is_register_kind};
 ghost use Rattle.net_bench.specs.FaultText.{fault_text};
 
 use std::fmt;
 use std::marker::Model;
 use thiserror::Error;
 
-/// What a gate computes of its operands.
+/// What a gate computes of its operands; `Dff` is a register, whose signal is a variable and whose operand is its next state.
 #[derive(Clone, Copy, Debug, PartialEq, Eq)]
 pub enum Kind {
     And,
@@ -17,9 +18,19 @@ pub enum Kind {
     Xnor,
     Not,
     Buff,
+    Dff,
 }
 
-/// Why a text is no netlist. Lines are counted from 1.
+impl Kind {
+    /// Whether it is the kind of registers.
+    pub fn is_register(self) -> bool
+        ensures { result ≡ is_register_kind self }
+    {
+        matches!(self, Kind::Dff)
+    }
+}
+
+/// Why a text is no netlist. Lines are counted from 1. The faults are numbered from 1 to 12 in this order; number 8 is not used.
 #[derive(Clone, Copy, Debug, PartialEq, Eq, Error)]
 pub enum BenchFault {
     /// The text has more than 67,108,864 bytes.
@@ -32,13 +43,11 @@ pub enum BenchFault {
     UnknownGate { line: u32 },
     /// NOT, BUFF or DFF with two operands or more.
     WrongOperands { line: u32 },
-    /// The signal has a gate already, or an INPUT and a gate.
+    /// The signal has a gate or register already, or an INPUT and one of these.
     Redefined { line: u32 },
     /// A name over 255 bytes, the 1,000,001st signal, or the 4,000,001st operand.
     TooMany { line: u32 },
-    /// The gate word DFF.
-    Sequential { line: u32 },
-    /// An operand or an OUTPUT name without INPUT and gate.
+    /// An operand or an OUTPUT name without INPUT, gate and register.
     Undefined { line: u32 },
     /// An endless chain of operands starts at the gate.
     Cycle { line: u32 },
@@ -65,10 +74,6 @@ impl fmt::Display for BenchFault {
             BenchFault::TooMany { line } => write!(
                 f,
                 "line {line}: too many signals or operands, or a name too long"
-            ),
-            BenchFault::Sequential { line } => write!(
-                f,
-                "line {line}: register in a combinational netlist"
             ),
             BenchFault::Undefined { line } => write!(f, "line {line}: signal without definition"),
             BenchFault::Cycle { line } => write!(f, "line {line}: gate that depends on a cycle"),
@@ -140,7 +145,7 @@ impl Operands {
     }
 }
 
-/// A gate, and the line of its statement's first token.
+/// A gate or a register, and the line of its statement's first token.
 #[derive(Debug, Drop)]
 pub struct GateLine {
     pub out: Signal,

@@ -1,7 +1,7 @@
 // The ranks of the signals, or the first gate at which an endless chain of operands starts.
 ghost use Rattle.std.specs.Prelude.{◌≡◌, ◌≢◌, ◌⊎◌, ℕ, ◌+◌, ◌-◌, ◌<◌, ◌≤◌, List, [], map, length, Contains, slice_index, slice_index_or, vec_len, All, Some, None, IfOk, IfErr, IfSome, OnOk, IsTrue, true, false};
 ghost use Rattle.net_bench.specs.declared.netlist.GateLine.{GateLine};
-ghost use Rattle.net_bench.specs.Circuit.{Circuit, AreRanks, IsDefined};
+ghost use Rattle.net_bench.specs.Circuit.{Circuit, AreRanks, variables_of};
 ghost use Rattle.net_bench.specs.Fault.{FirstEndless};
 ghost use Rattle.net_bench.specs.declared.netlist.BenchFault.TheVariants.{Cycle};
 ghost use Rattle.net_bench.specs.Marks.{greatest_mark, unmarked, unmarked_line, AreMarks, HasOneGateEach, IsSettled};
@@ -214,7 +214,7 @@ fn unmarked_line(marks: &[u32], gates: &[GateLine]) -> Option<u32>
 
 /// The signal gets the mark 1.
 #[tactic(auto, using(crate::proofs::Marks::input_low))]
-fn mark_input(marks: &mut [u32], signal: Signal)
+fn mark_variable(marks: &mut [u32], signal: Signal)
     requires inside { signal < length marks.old }
     requires one { (s : ℕ) → slice_index marks.old s ≤ 1 }
     requires low { (s : ℕ) → slice_index marks.old s + unmarked marks.old ≤ length marks.old }
@@ -229,17 +229,17 @@ fn mark_input(marks: &mut [u32], signal: Signal)
     }
 }
 
-/// Each input gets the mark 1, and nothing else a mark.
-fn mark_inputs(marks: &mut [u32], inputs: &[Signal])
-    requires inside { All (λ s. s < length marks.old) inputs.now }
+/// Each variable gets the mark 1, and nothing else a mark.
+fn mark_variables(marks: &mut [u32], variables: &[Signal])
+    requires inside { All (λ s. s < length marks.old) variables.now }
     requires none { (s : ℕ) → slice_index marks.old s ≡ 0 }
     requires count { unmarked marks.old ≤ length marks.old }
-    ensures inputs { All (λ s. slice_index marks.new s ≡ 1) inputs.now }
-    ensures others { (s : ℕ) → All (λ i. s ≢ i) inputs.now → slice_index marks.new s ≡ 0 }
+    ensures variables { All (λ s. slice_index marks.new s ≡ 1) variables.now }
+    ensures others { (s : ℕ) → All (λ i. s ≢ i) variables.now → slice_index marks.new s ≡ 0 }
     ensures low { (s : ℕ) → slice_index marks.new s + unmarked marks.new ≤ length marks.new }
 {
-    for input in inputs {
-        mark_input(marks, *input);
+    for variable in variables {
+        mark_variable(marks, *variable);
     }
 }
 
@@ -257,25 +257,25 @@ fn lower(marks: &mut [u32])
 pub fn ranks_of(
     alloc: Global,
     count: usize,
-    inputs: &[Signal],
+    variables: &[Signal],
     gates: &[GateLine],
 ) -> Result<Vec<u32>, BenchFault>
     requires few { count ≤ 1000000 }
-    requires inputs { All (λ s. s < count) inputs.now }
+    requires variables { All (λ s. s < count) variables.now }
     requires outs { All (λ g. g.out < count) gates.now }
     requires operands { All (λ g. All (λ s. s < count) g.operands) gates.now }
     requires some { All (λ g. 0 < length g.operands) gates.now }
-    requires apart { All (λ i. All (λ g. g.out ≢ i) gates.now) inputs.now }
+    requires apart { All (λ i. All (λ g. g.out ≢ i) gates.now) variables.now }
     requires one_gate { HasOneGateEach gates.now }
-    requires defined { (s : ℕ) → s < count → Contains inputs.now s ⊎ ((g : GateLine) × Contains gates.now g × (g.out ≡ s)) }
-    ensures ranks { IfOk result (λ v. (c : Circuit) → length c.names ≡ count → c.inputs ≡ inputs.now → c.gates ≡ gates.now → AreRanks c v.items) }
+    requires defined { (s : ℕ) → s < count → Contains variables.now s ⊎ ((g : GateLine) × Contains gates.now g × (g.out ≡ s)) }
+    ensures ranks { IfOk result (λ v. (c : Circuit) → length c.names ≡ count → variables_of c ≡ variables.now → c.gates ≡ gates.now → AreRanks c v.items) }
     ensures cycle { IfErr result (λ e. (e ≡ BenchFault.OutOfMemory) ⊎ ((line : ℕ) × (e ≡ Cycle line) × ((c : Circuit) → c.gates ≡ gates.now → FirstEndless c line))) }
 {
     let mut marks: Vec<u32> = match vec![in alloc; 0; count] {
         Ok(marks) => marks,
         Err(_) => return Err(BenchFault::OutOfMemory),
     };
-    match rank_all(alloc, marks.as_mut_slice(), inputs, gates) {
+    match rank_all(alloc, marks.as_mut_slice(), variables, gates) {
         Ok(()) => Ok(marks),
         Err(fault) => Err(fault),
     }
@@ -286,23 +286,23 @@ pub fn ranks_of(
 fn rank_all(
     alloc: Global,
     ranks: &mut [u32],
-    inputs: &[Signal],
+    variables: &[Signal],
     gates: &[GateLine],
 ) -> Result<(), BenchFault>
     requires none { (s : ℕ) → slice_index ranks.old s ≡ 0 }
     requires count { unmarked ranks.old ≤ length ranks.old }
     requires few { length ranks.old ≤ 1000000 }
-    requires inputs { All (λ s. s < length ranks.old) inputs.now }
+    requires variables { All (λ s. s < length ranks.old) variables.now }
     requires outs { All (λ g. g.out < length ranks.old) gates.now }
     requires operands { All (λ g. All (λ s. s < length ranks.old) g.operands) gates.now }
     requires some { All (λ g. 0 < length g.operands) gates.now }
-    requires apart { All (λ i. All (λ g. g.out ≢ i) gates.now) inputs.now }
+    requires apart { All (λ i. All (λ g. g.out ≢ i) gates.now) variables.now }
     requires one_gate { HasOneGateEach gates.now }
-    requires defined { (s : ℕ) → s < length ranks.old → Contains inputs.now s ⊎ ((g : GateLine) × Contains gates.now g × (g.out ≡ s)) }
-    ensures ranks { OnOk result ((c : Circuit) → length c.names ≡ length ranks.old → c.inputs ≡ inputs.now → c.gates ≡ gates.now → AreRanks c ranks.new) }
+    requires defined { (s : ℕ) → s < length ranks.old → Contains variables.now s ⊎ ((g : GateLine) × Contains gates.now g × (g.out ≡ s)) }
+    ensures ranks { OnOk result ((c : Circuit) → length c.names ≡ length ranks.old → variables_of c ≡ variables.now → c.gates ≡ gates.now → AreRanks c ranks.new) }
     ensures cycle { IfErr result (λ e. (e ≡ BenchFault.OutOfMemory) ⊎ ((line : ℕ) × (e ≡ Cycle line) × ((c : Circuit) → c.gates ≡ gates.now → FirstEndless c line))) }
 {
-    mark_inputs(ranks, inputs);
+    mark_variables(ranks, variables);
     match settle(alloc, gates, ranks) {
         Ok(()) => {}
         Err(_) => return Err(BenchFault::OutOfMemory),

@@ -1,6 +1,6 @@
 //! The netlist of a text.
 ghost use Rattle.std.specs.Prelude.{◌≡◌, ◌+◌, ◌<◌, ◌⊎◌, length, IfOk, IfErr, IfSome, IsTrue, slice_index, slice_get, Some, Err};
-ghost use Rattle.net_bench.specs.Circuit.{circuit, circuit_of, find, IsNet, AreRanks};
+ghost use Rattle.net_bench.specs.Circuit.{circuit, circuit_of, find, variables_of, IsNet, AreRanks};
 ghost use Rattle.net_bench.specs.Fault.{IsRefused, MakesNetlist, max_text};
 ghost use Rattle.net_bench.specs.Devices.{TakesAtMost};
 ghost use Rattle.net_bench.specs.Said.{statements_of};
@@ -8,7 +8,7 @@ ghost use Rattle.net_bench.specs.Sound.{IsSound, AreDefined, IsLate};
 ghost use Rattle.net_bench.specs.Machine.{Between};
 ghost use Rattle.net_bench.specs.Symbols.{IsTold};
 
-use crate::build::{first_undefined, gates_of, numbers_of};
+use crate::build::{Lines, first_undefined, lines_of, numbers_of, variables_of};
 use crate::device::{Source, TextFault, read_text};
 use crate::judge::{Judged, judge_text};
 use crate::name_table::NameTable;
@@ -29,10 +29,13 @@ pub struct Netlist {
     inputs: Vec<Signal>,
     outputs: Vec<Signal>,
     gates: Vec<GateLine>,
+    registers: Vec<GateLine>,
+    variables: Vec<Signal>,
     ranks: Vec<u32>,
 }
 
 impl Model for Netlist {
+    ghost use Rattle.std.specs.Prelude.{◌≡◌, ◌++◌, map};
     ghost use Rattle.net_bench.specs.Circuit.{Net, IsNet};
 
     ghost Value = { Net };
@@ -42,6 +45,7 @@ impl Model for Netlist {
       inputs = a.inputs.items;
       outputs = a.outputs.items;
       gates = a.gates.items;
+      registers = a.registers.items;
       ranks = a.ranks.items;
     } };
 
@@ -50,8 +54,9 @@ impl Model for Netlist {
       inputs = a.inputs.items;
       outputs = a.outputs.items;
       gates = a.gates.items;
+      registers = a.registers.items;
       ranks = a.ranks.items;
-    }) };
+    }) × (a.variables.items ≡ a.inputs.items ++ map (λ g. g.out) a.registers.items) };
 }
 
 impl Netlist {
@@ -71,7 +76,23 @@ impl Netlist {
         self.outputs.as_slice()
     }
 
-    /// The gates, in text order.
+    /// The registers, in text order, each with its next state as its operand. Their signals are variables.
+    pub fn registers(&self) -> &[GateLine]
+        ensures value { result.now ≡ self.now.registers }
+        ensures sound { IsNet self.now }
+    {
+        self.registers.as_slice()
+    }
+
+    /// The variables: the inputs, then the registers' signals, each in its order.
+    pub fn variables(&self) -> &[Signal]
+        ensures value { result.now ≡ variables_of (circuit self.now) }
+        ensures sound { IsNet self.now }
+    {
+        self.variables.as_slice()
+    }
+
+    /// The gates that are no registers, in text order.
     pub fn gates(&self) -> &[GateLine]
         ensures value { result.now ≡ self.now.gates }
         ensures sound { IsNet self.now }
@@ -107,7 +128,7 @@ impl Netlist {
         self.names.name(signal.number())
     }
 
-    /// 0 for an input, 1 more than the greatest of its operands for a gate.
+    /// 0 for a variable, 1 more than the greatest of its operands for a gate.
     pub fn rank(&self, signal: Signal) -> u32
         requires { signal < length self.now.names }
         ensures value { result ≡ slice_index self.now.ranks signal }
@@ -122,19 +143,19 @@ fn ranks_for(
     alloc: Global,
     said: &[Said<'_>],
     count: usize,
-    inputs: &[Signal],
+    variables: &[Signal],
     gates: &[GateLine],
 ) -> Result<Vec<u32>, BenchFault>
     requires sound { IsSound (statements_of said.now) }
     requires defined { AreDefined (statements_of said.now) }
     requires count { count ≡ length (circuit_of (statements_of said.now)).names }
-    requires inputs { inputs.now ≡ (circuit_of (statements_of said.now)).inputs }
+    requires variables { variables.now ≡ variables_of (circuit_of (statements_of said.now)) }
     requires gates { gates.now ≡ (circuit_of (statements_of said.now)).gates }
     ensures ranks { IfOk result (λ v. AreRanks (circuit_of (statements_of said.now)) v.items) }
     ensures refused { IfErr result (IsLate (statements_of said.now)) }
 {
     let _ = said;
-    match ranks_of(alloc, count, inputs, gates) {
+    match ranks_of(alloc, count, variables, gates) {
         Ok(ranks) => Ok(ranks),
         Err(fault) => Err(fault),
     }
@@ -162,14 +183,18 @@ fn netlist_of(alloc: Global, said: &[Said<'_>], symbols: SymbolTable) -> Result<
     let Ok(outputs) = numbers_of(alloc, &names, &outputs) else {
         return Err(BenchFault::OutOfMemory);
     };
-    let Ok(gates) = gates_of(alloc, &names, said) else {
+    let Ok(lines) = lines_of(alloc, &names, said) else {
+        return Err(BenchFault::OutOfMemory);
+    };
+    let Lines { gates, registers } = lines;
+    let Ok(variables) = variables_of(alloc, inputs.as_slice(), registers.as_slice()) else {
         return Err(BenchFault::OutOfMemory);
     };
     match ranks_for(
         alloc,
         said,
         names.len(),
-        inputs.as_slice(),
+        variables.as_slice(),
         gates.as_slice(),
     ) {
         Ok(ranks) => Ok(Netlist {
@@ -177,13 +202,15 @@ fn netlist_of(alloc: Global, said: &[Said<'_>], symbols: SymbolTable) -> Result<
             inputs,
             outputs,
             gates,
+            registers,
+            variables,
             ranks,
         }),
         Err(fault) => Err(fault),
     }
 }
 
-/// The netlist of a text in the bench format: INPUT, OUTPUT and gates, as ISCAS 1985 and 1989 benchmarks are distributed.
+/// The netlist of a text in the bench format: INPUT, OUTPUT, gates and registers, as ISCAS 1985 and 1989 benchmarks are distributed.
 /// A text is one pass over its tokens; then undefined uses are sought, then endless chains of operands. Never answers `Read`.
 pub fn parse_bench(alloc: Global, text: &[u8]) -> Result<Netlist, BenchFault>
     // What is accepted is a netlist, and the answer is the netlist of its statements.
@@ -215,6 +242,7 @@ pub fn read_bench<R: Source>(alloc: Global, device: &mut R) -> Result<Netlist, B
     // Read says that the device has failed, and nothing else does.
     ensures read { result ≡ Err BenchFault.Read → IsTrue (R.has_failed device.new) }
     ensures kept { (result ≡ Err BenchFault.Read → ⊥) → R.has_failed device.new ≡ R.has_failed device.old }
+    ensures origin { R.origin device.new ≡ R.origin device.old }
 {
     match read_text(alloc, device, MAX_TEXT) {
         Ok(text) => parse_bench(alloc, text.as_slice()),

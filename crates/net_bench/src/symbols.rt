@@ -5,10 +5,10 @@ ghost use Rattle.net_bench.specs.Fault.{has_wrong_operands, is_one_operand_kind}
 ghost use Rattle.net_bench.specs.Judge.{told};
 ghost use Rattle.net_bench.specs.Said.{statement_of, state_of};
 ghost use Rattle.net_bench.specs.Scan.{seen};
-ghost use Rattle.net_bench.specs.Statement.{is_register_word, kind_of};
+ghost use Rattle.net_bench.specs.Statement.{kind_of};
 ghost use Rattle.net_bench.specs.Symbols.{CountsMore, IsCrowding, defining, is_known, newest, newest_operands, redefines_by, statement_fault};
 
-use crate::kinds::{is_register, kind_of};
+use crate::kinds::kind_of;
 use crate::name_table::NameTable;
 use crate::netlist::{BenchFault, Kind};
 use crate::scan::Token;
@@ -152,13 +152,10 @@ impl SymbolTable {
 
 /// Whether a gate of this word takes one operand.
 fn takes_one(word: &[u8]) -> bool
-    ensures { result ≡ (is_register_word word.now || is_one_operand_kind (kind_of word.now)) }
+    ensures { result ≡ is_one_operand_kind (kind_of word.now) }
 {
-    if is_register(word) {
-        return true;
-    }
     match kind_of(word) {
-        Some(Kind::Not) | Some(Kind::Buff) => true,
+        Some(Kind::Not) | Some(Kind::Buff) | Some(Kind::Dff) => true,
         _ => false,
     }
 }

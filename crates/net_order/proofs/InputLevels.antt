@@ -2,13 +2,15 @@
 use Rattle.std.proofs.Common.{◌≡◌, ◌≢◌, ℕ, zero, suc, ◌<◌, ◌≤◌, inl, inr, List, [], ◌∷◌, true, false, refl, sym, ap, ◌∙◌, subst, length, arith}
 use Rattle.std.specs.Prelude.{cond, ◌||◌, ◌==◌, Contains, slice_index, slice_index_or}
 use Rattle.std.proofs.lemmas.Bool.{cases_lt}
-use Rattle.net_bench.specs.Circuit.{Circuit, Net, IsNet, AreOnce, circuit, is_name_in}
+use Rattle.net_bench.specs.Circuit.{Circuit, Net, IsNet, AreOnce, circuit, is_name_in, variables_of}
 use Rattle.net_bench.proofs.Numbers.{in_distinct, or_left, or_right, number_low, numbers_differ}
 use Rattle.net_order.specs.declared.order.Match.{Match}
 use Rattle.net_order.specs.declared.order.Match.TheVariants.{Name, Position}
 use Rattle.net_order.specs.declared.order.Order.{Order}
 use Rattle.net_order.specs.Order.{is_member, AreCounted, IsPairing, Paired, declared, input_names, level_of, name_of, names_of, ordered, partner, second_name, second_names}
-use Rattle.net_order.proofs.Orders.{left_names, right_names, named_member, ordered_all, ordered_count}
+use Rattle.net_order.proofs.Members.{left_names, right_names, named_member}
+use Rattle.net_order.proofs.Orders.{ordered_all, ordered_count}
+use Rattle.net_order.proofs.Seconds.{same_counts}
 
 same_number : (x : ℕ) → (x == x) ≡ true
 same_number x = grind arith
@@ -38,26 +40,26 @@ module _ (how : Match) (a b : Circuit) (order : Order) (p : Paired) (h : IsPairi
       let low : level_of (ordered how a b order) n < length (ordered how a b order) = number_low (ordered how a b order) n there in
       subst (λ k. level_of (ordered how a b order) n < k) (sym (ap length h.names)) low
 
-  first_named : (s : ℕ) → is_member s a.inputs ≡ true → is_name_in (input_names how a b) (name_of a s) ≡ true
-  first_named s e = left_names (names_of a a.inputs) (names_of a a.inputs) (second_names how a b b.inputs) (λ n k. k) (name_of a s) (named_member (name_of a) a.inputs s e)
+  first_named : (s : ℕ) → is_member s (variables_of a) ≡ true → is_name_in (input_names how a b) (name_of a s) ≡ true
+  first_named s e = left_names (names_of a (variables_of a)) (names_of a (variables_of a)) (second_names how a b (variables_of b)) (λ n k. k) (name_of a s) (named_member (name_of a) (variables_of a) s e)
 
-  second_named : (s : ℕ) → is_member s b.inputs ≡ true → is_name_in (input_names how a b) (second_name how a b s) ≡ true
+  second_named : (s : ℕ) → is_member s (variables_of b) ≡ true → is_name_in (input_names how a b) (second_name how a b s) ≡ true
   second_named s e =
-      right_names (second_names how a b b.inputs) (names_of a a.inputs) (second_names how a b b.inputs) (λ n k. k) (second_name how a b s)
-      (named_member (second_name how a b) b.inputs s e)
+      right_names (second_names how a b (variables_of b)) (names_of a (variables_of a)) (second_names how a b (variables_of b)) (λ n k. k) (second_name how a b s)
+      (named_member (second_name how a b) (variables_of b) s e)
 
-  first_is : (s : ℕ) → Contains a.inputs s → slice_index p.first s ≡ level_of (ordered how a b order) (name_of a s)
+  first_is : (s : ℕ) → Contains (variables_of a) s → slice_index p.first s ≡ level_of (ordered how a b order) (name_of a s)
   first_is s (i, low, at) = rw at at (h.first i s low)
 
-  second_is : (s : ℕ) → Contains b.inputs s → slice_index p.second s ≡ level_of (ordered how a b order) (second_name how a b s)
+  second_is : (s : ℕ) → Contains (variables_of b) s → slice_index p.second s ≡ level_of (ordered how a b order) (second_name how a b s)
   second_is s (i, low, at) = rw at at (h.second i s low)
 
   -- the level of an input is one of the levels
-  pub first_below : (s : ℕ) → Contains a.inputs s → slice_index p.first s < length p.names
-  first_below s e = subst (λ k. k < length p.names) (sym (first_is s e)) (level_low (name_of a s) (first_named s (contains_member a.inputs s e)))
+  pub first_below : (s : ℕ) → Contains (variables_of a) s → slice_index p.first s < length p.names
+  first_below s e = subst (λ k. k < length p.names) (sym (first_is s e)) (level_low (name_of a s) (first_named s (contains_member (variables_of a) s e)))
 
-  pub second_below : (s : ℕ) → Contains b.inputs s → slice_index p.second s < length p.names
-  second_below s e = subst (λ k. k < length p.names) (sym (second_is s e)) (level_low (second_name how a b s) (second_named s (contains_member b.inputs s e)))
+  pub second_below : (s : ℕ) → Contains (variables_of b) s → slice_index p.second s < length p.names
+  second_below s e = subst (λ k. k < length p.names) (sym (second_is s e)) (level_low (second_name how a b s) (second_named s (contains_member (variables_of b) s e)))
 
   same_level : (m n : List ℕ) → is_name_in (input_names how a b) m ≡ true → is_name_in (input_names how a b) n ≡ true →
       level_of (ordered how a b order) m ≡ level_of (ordered how a b order) n → m ≡ n
@@ -66,14 +68,14 @@ module _ (how : Match) (a b : Circuit) (order : Order) (p : Paired) (h : IsPairi
       (ordered_all how a b order h.fit n (in_distinct (input_names how a b) n ∙ f)) same
 
   -- inputs at one level have one name
-  pub first_name : (s t : ℕ) → Contains a.inputs s → Contains a.inputs t → slice_index p.first s ≡ slice_index p.first t → name_of a s ≡ name_of a t
+  pub first_name : (s t : ℕ) → Contains (variables_of a) s → Contains (variables_of a) t → slice_index p.first s ≡ slice_index p.first t → name_of a s ≡ name_of a t
   first_name s t e f same =
-      same_level (name_of a s) (name_of a t) (first_named s (contains_member a.inputs s e)) (first_named t (contains_member a.inputs t f))
+      same_level (name_of a s) (name_of a t) (first_named s (contains_member (variables_of a) s e)) (first_named t (contains_member (variables_of a) t f))
       (sym (first_is s e) ∙ same ∙ first_is t f)
 
-  pub second_same : (s t : ℕ) → Contains b.inputs s → Contains b.inputs t → slice_index p.second s ≡ slice_index p.second t → second_name how a b s ≡ second_name how a b t
+  pub second_same : (s t : ℕ) → Contains (variables_of b) s → Contains (variables_of b) t → slice_index p.second s ≡ slice_index p.second t → second_name how a b s ≡ second_name how a b t
   second_same s t e f same =
-      same_level (second_name how a b s) (second_name how a b t) (second_named s (contains_member b.inputs s e)) (second_named t (contains_member b.inputs t f))
+      same_level (second_name how a b s) (second_name how a b t) (second_named s (contains_member (variables_of b) s e)) (second_named t (contains_member (variables_of b) t f))
       (sym (second_is s e) ∙ same ∙ second_is t f)
 
 -- ---- different inputs
@@ -86,8 +88,8 @@ one_signal n sound s t low high same =
       | inr more ↦ elim (cases_lt t s) [ inl less ↦ absurd (sound.names t s less low (sym same)) | inr equal ↦ omega arith ]
     ]
 
-input_low : (n : Net) → IsNet n → (s : ℕ) → Contains n.inputs s → s < length n.names
-input_low n sound s (i, low, at) = rw at at (sound.inputs i s low)
+input_low : (n : Net) → IsNet n → (s : ℕ) → Contains (variables_of (circuit n)) s → s < length n.names
+input_low n sound s (i, low, at) = rw at at (sound.variables i s low)
 
 one_place : (xs : List ℕ) → AreOnce xs → (i j : ℕ) → i < length xs → j < length xs → slice_index xs i ≡ slice_index xs j → i ≡ j
 one_place xs once i j low high same =
@@ -113,26 +115,27 @@ default (x ∷ xs) (suc i) low = default xs i (omega arith)
 
 module _ (how : Match) (n m : Net) (order : Order) (p : Paired) (first : IsNet n) (second : IsNet m) (h : IsPairing how (circuit n) (circuit m) order p) where
   -- different inputs of the first netlist have different levels
-  pub first_apart : (s t : ℕ) → Contains n.inputs s → Contains n.inputs t → slice_index p.first s ≡ slice_index p.first t → s ≡ t
+  pub first_apart : (s t : ℕ) → Contains (variables_of (circuit n)) s → Contains (variables_of (circuit n)) t → slice_index p.first s ≡ slice_index p.first t → s ≡ t
   first_apart s t e f same =
       one_signal n first s t (input_low n first s e) (input_low n first t f) (first_name how (circuit n) (circuit m) order p h s t e f same)
 
-  second_one : (how : Match) (s t : ℕ) → AreCounted how (circuit n) (circuit m) → Contains m.inputs s → Contains m.inputs t →
+  second_one : (how : Match) (s t : ℕ) → AreCounted how (circuit n) (circuit m) → Contains (variables_of (circuit m)) s → Contains (variables_of (circuit m)) t →
       second_name how (circuit n) (circuit m) s ≡ second_name how (circuit n) (circuit m) t → s ≡ t
   second_one Name s t counted e f same = one_signal m second s t (input_low m second s e) (input_low m second t f) same
   second_one Position s t counted e f same =
-      let at = partner_at m.inputs n.inputs s (sym counted.0) (contains_member m.inputs s e) in
-      let also = partner_at m.inputs n.inputs t (sym counted.0) (contains_member m.inputs t f) in
-      let here : at.0 < length n.inputs = omega (arith, at.1, counted.0) in
-      let there : also.0 < length n.inputs = omega (arith, also.1, counted.0) in
-      let low : partner m.inputs n.inputs s < length n.names = subst (λ k. k < length n.names) (sym at.3) (first.inputs at.0 0 here) in
-      let high : partner m.inputs n.inputs t < length n.names = subst (λ k. k < length n.names) (sym also.3) (first.inputs also.0 0 there) in
-      let equal : partner m.inputs n.inputs s ≡ partner m.inputs n.inputs t = one_signal n first (partner m.inputs n.inputs s) (partner m.inputs n.inputs t) low high same in
-      let place : at.0 ≡ also.0 = one_place n.inputs first.inputs_once at.0 also.0 here there (sym at.3 ∙ equal ∙ also.3) in
-      sym at.2 ∙ ap (slice_index m.inputs) place ∙ also.2
+      let counts : length (variables_of (circuit m)) ≡ length (variables_of (circuit n)) = same_counts Position (circuit n) (circuit m) refl counted in
+      let at = partner_at (variables_of (circuit m)) (variables_of (circuit n)) s counts (contains_member (variables_of (circuit m)) s e) in
+      let also = partner_at (variables_of (circuit m)) (variables_of (circuit n)) t counts (contains_member (variables_of (circuit m)) t f) in
+      let here : at.0 < length (variables_of (circuit n)) = omega (arith, at.1, counts) in
+      let there : also.0 < length (variables_of (circuit n)) = omega (arith, also.1, counts) in
+      let low : partner (variables_of (circuit m)) (variables_of (circuit n)) s < length n.names = subst (λ k. k < length n.names) (sym at.3) (first.variables at.0 0 here) in
+      let high : partner (variables_of (circuit m)) (variables_of (circuit n)) t < length n.names = subst (λ k. k < length n.names) (sym also.3) (first.variables also.0 0 there) in
+      let equal : partner (variables_of (circuit m)) (variables_of (circuit n)) s ≡ partner (variables_of (circuit m)) (variables_of (circuit n)) t = one_signal n first (partner (variables_of (circuit m)) (variables_of (circuit n)) s) (partner (variables_of (circuit m)) (variables_of (circuit n)) t) low high same in
+      let place : at.0 ≡ also.0 = one_place (variables_of (circuit n)) first.variables_once at.0 also.0 here there (sym at.3 ∙ equal ∙ also.3) in
+      sym at.2 ∙ ap (slice_index (variables_of (circuit m))) place ∙ also.2
 
   -- different inputs of the second netlist have different levels
-  pub second_apart : (s t : ℕ) → Contains m.inputs s → Contains m.inputs t → slice_index p.second s ≡ slice_index p.second t → s ≡ t
+  pub second_apart : (s t : ℕ) → Contains (variables_of (circuit m)) s → Contains (variables_of (circuit m)) t → slice_index p.second s ≡ slice_index p.second t → s ≡ t
   second_apart s t e f same = second_one how s t h.counted e f (second_same how (circuit n) (circuit m) order p h s t e f same)
 
   level_once : (levels inputs : List ℕ) → AreOnce inputs → ((s t : ℕ) → Contains inputs s → Contains inputs t → slice_index levels s ≡ slice_index levels t → s ≡ t) →
@@ -141,8 +144,8 @@ module _ (how : Match) (n m : Net) (order : Order) (p : Paired) (first : IsNet n
       once i j less high (apart (slice_index inputs i) (slice_index inputs j) (i, omega arith, default inputs i (omega arith)) (j, high, default inputs j high) same)
 
   -- inputs at different places have different levels
-  pub first_places : (i j : ℕ) → i < j → j < length n.inputs → slice_index p.first (slice_index n.inputs i) ≢ slice_index p.first (slice_index n.inputs j)
-  first_places = level_once p.first n.inputs first.inputs_once first_apart
+  pub first_places : (i j : ℕ) → i < j → j < length (variables_of (circuit n)) → slice_index p.first (slice_index (variables_of (circuit n)) i) ≢ slice_index p.first (slice_index (variables_of (circuit n)) j)
+  first_places = level_once p.first (variables_of (circuit n)) first.variables_once first_apart
 
-  pub second_places : (i j : ℕ) → i < j → j < length m.inputs → slice_index p.second (slice_index m.inputs i) ≢ slice_index p.second (slice_index m.inputs j)
-  second_places = level_once p.second m.inputs second.inputs_once second_apart
+  pub second_places : (i j : ℕ) → i < j → j < length (variables_of (circuit m)) → slice_index p.second (slice_index (variables_of (circuit m)) i) ≢ slice_index p.second (slice_index (variables_of (circuit m)) j)
+  second_places = level_once p.second (variables_of (circuit m)) second.variables_once second_apart

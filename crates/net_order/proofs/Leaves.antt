@@ -2,18 +2,21 @@
 use Rattle.std.proofs.Common.{◌≡◌, ℕ, zero, suc, ◌+◌, ◌<◌, ◌≤◌, List, [], ◌∷◌, ◌++◌, Bool, true, false, refl, sym, ap, ◌∙◌, subst, length, arith, add-one, ◌⊎◌, inl, inr, All}
 use Rattle.std.specs.Prelude.{cond, ◌||◌, ◌==◌, flat_map, find, Option, Some, None, Contains, slice_index, slice_index_or}
 use Rattle.net_bench.specs.declared.netlist.GateLine.{GateLine}
-use Rattle.net_bench.specs.Circuit.{Circuit, Feeds, AreRanks, Net, IsNet, circuit}
+use Rattle.net_bench.specs.Circuit.{Circuit, Feeds, AreRanks, Net, IsNet, circuit, variables_of}
 use Rattle.net_bench.proofs.Chains.{lower}
 use Rattle.std.specs.List.{sum_by}
 use Rattle.std.proofs.lemmas.List.Sums.{sum_by-cons}
-use Rattle.net_order.specs.Order.{is_member, leaves, below, operands_of, gate_operands}
+use Rattle.net_order.specs.declared.walk.Way.{Way}
+use Rattle.net_order.specs.declared.walk.Way.TheVariants.{Written, ByRank}
+use Rattle.net_order.specs.Order.{is_member, leaves, below, operands_of, gate_operands, taken, steps_of, rank_of}
 use Rattle.net_order.specs.Walk.{steps_within, steps_below}
 use Rattle.net_order.proofs.Ranks.{deep}
+use Rattle.net_order.proofs.Falling.{falling_contains}
 
 deeper : (x : ℕ) (xs : List ℕ) (s : ℕ) (among : Contains xs s) → slice_index_or (x ∷ xs) (among.0 + 1) s ≡ s
 deeper x xs s among = rw add-one among.2
 
-flat_map_same : (f g : ℕ → List ℕ) (xs : List ℕ) → ((x : ℕ) → Contains xs x → f x ≡ g x) → flat_map f xs ≡ flat_map g xs
+pub flat_map_same : (f g : ℕ → List ℕ) (xs : List ℕ) → ((x : ℕ) → Contains xs x → f x ≡ g x) → flat_map f xs ≡ flat_map g xs
 flat_map_same f g [] h = refl
 flat_map_same f g (x ∷ xs) h =
     ap (λ ys. ys ++ flat_map f xs) (h x (0, omega arith, refl)) ∙
@@ -31,28 +34,28 @@ empty (x ∷ xs) h = absurd (h x (0, omega arith, refl))
 
 -- A value that is computed from a signal's operands down to a bound on depth: `value depth s`. With a bound that no rank passes it
 -- computes the same one step further down.
-module _ (c : Circuit) (ranks : List ℕ) (ranked : AreRanks c ranks) (feeds : (s o : ℕ) → Contains (operands_of c s) o → Feeds c o s) (A : Type 0) (value : ℕ → ℕ → A) (at_input : ℕ → A) (at_gate : (ℕ → A) → List ℕ → A)
+module _ (c : Circuit) (ranks : List ℕ) (ranked : AreRanks c ranks) (steps : ℕ → List ℕ) (feeds : (s o : ℕ) → Contains (steps s) o → Feeds c o s) (A : Type 0) (value : ℕ → ℕ → A) (at_input : ℕ → A) (at_gate : (ℕ → A) → List ℕ → A)
     (same : (f g : ℕ → A) (xs : List ℕ) → ((x : ℕ) → Contains xs x → f x ≡ g x) → at_gate f xs ≡ at_gate g xs)
-    (start : (s : ℕ) → value zero s ≡ cond (is_member s c.inputs) (at_input s) (at_gate (value zero) []))
-    (step : (depth s : ℕ) → value (suc depth) s ≡ cond (is_member s c.inputs) (at_input s) (at_gate (value depth) (operands_of c s))) where
-  lower_rank : (s o : ℕ) → Contains (operands_of c s) o → slice_index ranks o < slice_index ranks s
+    (start : (s : ℕ) → value zero s ≡ cond (is_member s (variables_of c)) (at_input s) (at_gate (value zero) []))
+    (step : (depth s : ℕ) → value (suc depth) s ≡ cond (is_member s (variables_of c)) (at_input s) (at_gate (value depth) (steps s))) where
+  lower_rank : (s o : ℕ) → Contains (steps s) o → slice_index ranks o < slice_index ranks s
   lower_rank s o among = lower c ranks ranked o s (feeds s o among)
 
   -- a bound that is not below the rank makes no difference
   stable : (depth s : ℕ) → slice_index ranks s ≤ depth → value depth s ≡ value (suc depth) s
   stable zero s h =
-      let none : operands_of c s ≡ [] = empty (operands_of c s) (λ o among. let low : slice_index ranks o < slice_index ranks s = lower_rank s o among in absurd (omega arith)) in
-      start s ∙ ap (λ xs. cond (is_member s c.inputs) (at_input s) (at_gate (value zero) xs)) (sym none) ∙ sym (step zero s)
+      let none : steps s ≡ [] = empty (steps s) (λ o among. let low : slice_index ranks o < slice_index ranks s = lower_rank s o among in absurd (omega arith)) in
+      start s ∙ ap (λ xs. cond (is_member s (variables_of c)) (at_input s) (at_gate (value zero) xs)) (sym none) ∙ sym (step zero s)
   stable (suc depth) s h =
       step depth s ∙
-      ap (cond (is_member s c.inputs) (at_input s))
-      (same (value depth) (value (suc depth)) (operands_of c s)
+      ap (cond (is_member s (variables_of c)) (at_input s))
+      (same (value depth) (value (suc depth)) (steps s)
       (λ o among. let low : slice_index ranks o < slice_index ranks s = lower_rank s o among in stable depth o (omega arith))) ∙
       sym (step (suc depth) s)
 
   -- with a bound that no rank passes, a gate's value is that of its operands, with the same bound
-  pub unfolds : (bound s : ℕ) → slice_index ranks s ≤ bound → is_member s c.inputs ≡ false → value bound s ≡ at_gate (value bound) (operands_of c s)
-  unfolds bound s h e = stable bound s h ∙ step bound s ∙ ap (λ b. cond b (at_input s) (at_gate (value bound) (operands_of c s))) e
+  pub unfolds : (bound s : ℕ) → slice_index ranks s ≤ bound → is_member s (variables_of c) ≡ false → value bound s ≡ at_gate (value bound) (steps s)
+  unfolds bound s h e = stable bound s h ∙ step bound s ∙ ap (λ b. cond b (at_input s) (at_gate (value bound) (steps s))) e
 
 -- ---- gates and inputs of a netlist
 
@@ -61,6 +64,11 @@ same_number x = grind arith
 
 equal_numbers : (x y : ℕ) → (x == y) ≡ true → x ≡ y
 equal_numbers x y e = grind arith
+
+at_any : (xs : List ℕ) (i d e : ℕ) → i < length xs → slice_index_or xs i e ≡ slice_index_or xs i d
+at_any [] i d e low = absurd (omega arith)
+at_any (x ∷ xs) zero d e low = refl
+at_any (x ∷ xs) (suc i) d e low = at_any xs i d e (omega arith)
 
 some_same : (g h : GateLine) → Some g ≡ Some h → g ≡ h
 some_same g h e = cc
@@ -106,36 +114,52 @@ among_operands c s o (Some g) e among = let a = found_gate s c.gates g e in (g, 
 pub feeds_of : (c : Circuit) (s o : ℕ) → Contains (operands_of c s) o → Feeds c o s
 feeds_of c s o among = among_operands c s o (find (λ x. x.out == s) c.gates) refl among
 
+taken_contains : (way : Way) (c : Circuit) (os : List ℕ) (o : ℕ) → Contains (taken way c os) o → Contains os o
+taken_contains Written c os o among = among
+taken_contains ByRank c os o among = falling_contains (rank_of c) os o among
+
+steps_feed : (way : Way) (c : Circuit) (s o : ℕ) → Contains (steps_of way c s) o → Feeds c o s
+steps_feed way c s o among = feeds_of c s o (taken_contains way c (operands_of c s) o among)
+
 false_or_true : (b : Bool) → (b ≡ true → ⊥) → b ≡ false
 false_or_true true h = absurd (h refl)
 false_or_true false h = refl
 
+pub taken_all : (way : Way) (c : Circuit) (P : ℕ → Type 0) (os : List ℕ) → All P os → All P (taken way c os)
+taken_all way c P os h i d low =
+    let o = slice_index_or (taken way c os) i d in
+    let among = taken_contains way c os o (i, low, at_any (taken way c os) i d o low) in
+    subst P among.2 (h among.0 o among.1)
+
 module _ (n : Net) (sound : IsNet n) where
-  no_input : (s : ℕ) (g : GateLine) → find (λ x. x.out == s) n.gates ≡ Some g → is_member s n.inputs ≡ false
+  pub no_input : (s : ℕ) (g : GateLine) → find (λ x. x.out == s) n.gates ≡ Some g → is_member s (variables_of (circuit n)) ≡ false
   no_input s g e =
       let a = found_gate s n.gates g e in
-      false_or_true (is_member s n.inputs) (λ is.
-      let i = member_at s n.inputs is in
+      false_or_true (is_member s (variables_of (circuit n))) (λ is.
+      let i = member_at s (variables_of (circuit n)) is in
       sound.apart i.0 s i.1 a.0.0 g a.0.1 (ap (λ x. x.out) a.0.2 ∙ a.1 ∙ sym i.2))
 
   -- the leaves of a gate are its operands' leaves
-  pub gate_leaves : (s : ℕ) (g : GateLine) → find (λ x. x.out == s) n.gates ≡ Some g → below (circuit n) s ≡ flat_map (below (circuit n)) g.operands
-  gate_leaves s g e =
-      unfolds (circuit n) n.ranks sound.ranks (feeds_of (circuit n)) (List ℕ) (leaves (circuit n)) (λ t. t ∷ []) (λ f xs. flat_map f xs) flat_map_same (λ t. refl) (λ depth t. refl)
+  pub gate_leaves : (way : Way) (s : ℕ) (g : GateLine) → find (λ x. x.out == s) n.gates ≡ Some g → below way (circuit n) s ≡ flat_map (below way (circuit n)) (taken way (circuit n) g.operands)
+  gate_leaves way s g e =
+      unfolds (circuit n) n.ranks sound.ranks (steps_of way (circuit n)) (steps_feed way (circuit n)) (List ℕ) (leaves way (circuit n)) (λ t. t ∷ []) (λ f xs. flat_map f xs) flat_map_same (λ t. refl) (λ depth t. refl)
       (length n.gates) s (deep n sound s) (no_input s g e) ∙
-      ap (λ f. flat_map (below (circuit n)) (gate_operands f)) e
+      ap (λ f. flat_map (below way (circuit n)) (taken way (circuit n) (gate_operands f))) e
 
   -- walking a gate takes two steps beside those of its operands
-  pub gate_steps : (s : ℕ) (g : GateLine) → find (λ x. x.out == s) n.gates ≡ Some g → steps_below (circuit n) s ≡ sum_by (steps_below (circuit n)) g.operands + 2
-  gate_steps s g e =
-      unfolds (circuit n) n.ranks sound.ranks (feeds_of (circuit n)) ℕ (steps_within (circuit n)) (λ t. 1) (λ f xs. sum_by f xs + 2) (λ f h xs same. ap (λ k. k + 2) (sum_by_same f h xs same)) (λ t. refl) (λ depth t. refl)
+  pub gate_steps : (way : Way) (s : ℕ) (g : GateLine) → find (λ x. x.out == s) n.gates ≡ Some g → steps_below way (circuit n) s ≡ sum_by (steps_below way (circuit n)) (taken way (circuit n) g.operands) + 2
+  gate_steps way s g e =
+      unfolds (circuit n) n.ranks sound.ranks (steps_of way (circuit n)) (steps_feed way (circuit n)) ℕ (steps_within way (circuit n)) (λ t. 1) (λ f xs. sum_by f xs + 2) (λ f h xs same. ap (λ k. k + 2) (sum_by_same f h xs same)) (λ t. refl) (λ depth t. refl)
       (length n.gates) s (deep n sound s) (no_input s g e) ∙
-      ap (λ f. sum_by (steps_below (circuit n)) (gate_operands f) + 2) e
+      ap (λ f. sum_by (steps_below way (circuit n)) (taken way (circuit n) (gate_operands f)) + 2) e
 
   pub gate_inside : (s : ℕ) (g : GateLine) → find (λ x. x.out == s) n.gates ≡ Some g → All (λ o. o < length n.names) g.operands
   gate_inside s g e =
       let a = found_gate s n.gates g e in
       subst (λ x. All (λ o. o < length n.names) x.operands) a.0.2 (sound.operands a.0.0 g a.0.1).0
+
+  pub steps_inside : (way : Way) (s : ℕ) (g : GateLine) → find (λ x. x.out == s) n.gates ≡ Some g → All (λ o. o < length n.names) (taken way (circuit n) g.operands)
+  steps_inside way s g e = taken_all way (circuit n) (λ o. o < length n.names) g.operands (gate_inside s g e)
 
   none_here : (b : Bool) (h : GateLine) (x : Option GateLine) → cond b (Some h) x ≡ None → b ≡ false
   none_here true h x e = cc
@@ -161,25 +185,25 @@ module _ (n : Net) (sound : IsNet n) where
   contains_member (x ∷ xs) s zero low at = ap (λ b. b || is_member s xs) (ap (λ y. y == s) at ∙ same_number s)
   contains_member (x ∷ xs) s (suc i) low at = either_right (x == s) (is_member s xs) (contains_member xs s i (omega (arith, low)) at)
 
-  is_input : (s : ℕ) → s < length n.names → find (λ x. x.out == s) n.gates ≡ None → is_member s n.inputs ≡ true
+  pub is_input : (s : ℕ) → s < length n.names → find (λ x. x.out == s) n.gates ≡ None → is_member s (variables_of (circuit n)) ≡ true
   is_input s low e =
       elim (sound.defined s low) [
-        | inl among ↦ contains_member n.inputs s among.0 among.1 among.2
+        | inl among ↦ contains_member (variables_of (circuit n)) s among.0 among.1 among.2
         | inr (g, among, out) ↦ absurd (none_left n.gates s g e among.0 among.1 among.2 out)
       ]
 
-  leaf : (depth s : ℕ) → is_member s n.inputs ≡ true → leaves (circuit n) depth s ≡ s ∷ []
-  leaf zero s e = ap (λ b. cond b (s ∷ []) []) e
-  leaf (suc depth) s e = ap (λ b. cond b (s ∷ []) (flat_map (leaves (circuit n) depth) (operands_of (circuit n) s))) e
+  leaf : (way : Way) (depth s : ℕ) → is_member s (variables_of (circuit n)) ≡ true → leaves way (circuit n) depth s ≡ s ∷ []
+  leaf way zero s e = ap (λ b. cond b (s ∷ []) []) e
+  leaf way (suc depth) s e = ap (λ b. cond b (s ∷ []) (flat_map (leaves way (circuit n) depth) (steps_of way (circuit n) s))) e
 
   -- an input is its own leaf
-  pub input_leaves : (s : ℕ) → s < length n.names → find (λ x. x.out == s) n.gates ≡ None → below (circuit n) s ≡ s ∷ []
-  input_leaves s low e = leaf (length n.gates) s (is_input s low e)
+  pub input_leaves : (way : Way) (s : ℕ) → s < length n.names → find (λ x. x.out == s) n.gates ≡ None → below way (circuit n) s ≡ s ∷ []
+  input_leaves way s low e = leaf way (length n.gates) s (is_input s low e)
 
 at_least_one : (b : Bool) (k : ℕ) → 0 < cond b 1 (k + 2)
 at_least_one true k = omega arith
 at_least_one false k = omega arith
 
-pub some_steps : (c : Circuit) (depth s : ℕ) → 0 < steps_within c depth s
-some_steps c zero s = at_least_one (is_member s c.inputs) 0
-some_steps c (suc depth) s = at_least_one (is_member s c.inputs) (sum_by (steps_within c depth) (operands_of c s))
+pub some_steps : (way : Way) (c : Circuit) (depth s : ℕ) → 0 < steps_within way c depth s
+some_steps way c zero s = at_least_one (is_member s (variables_of c)) 0
+some_steps way c (suc depth) s = at_least_one (is_member s (variables_of c)) (sum_by (steps_within way c depth) (steps_of way c s))

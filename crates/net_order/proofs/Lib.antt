@@ -3,9 +3,14 @@ pub mod Named
 pub mod Steps
 pub mod Seconds
 pub mod Walking
+pub mod Falling
 pub mod Leaves
+pub mod Ranking
 pub mod Walks
 pub mod Different
+pub mod Members
+pub mod Weaving
+pub mod Woven
 pub mod Orders
 pub mod InputLevels
 pub mod OutputPairs

@@ -1,8 +1,10 @@
 -- Lists of names that grow, each name once.
-use Rattle.std.proofs.Common.{◌≡◌, ℕ, ◌+◌, ◌<◌, ◌≤◌, List, [], ◌∷◌, ◌++◌, Bool, true, false, sym, ap, ◌∙◌, suc, length, drop, get_or, arith, length-append, drop-cons}
+use Rattle.std.proofs.Common.{◌≡◌, ℕ, zero, refl, ◌+◌, ◌<◌, ◌≤◌, List, [], ◌∷◌, ◌++◌, Bool, true, false, sym, ap, ◌∙◌, suc, length, map, drop, get_or, arith, length-append, drop-cons}
 use Rattle.std.specs.Prelude.{cond, Some, Result, Ok, Err, OnOk, IfOk, is_err, slice_get}
 use Rattle.std.proofs.lemmas.List.Sums.{fold-append}
+use Rattle.std.proofs.lemmas.List.{drop_more}
 use Rattle.std.proofs.lemmas.Option.{get_or_from_slice_get}
+use Rattle.std.specs.List.{slice_index_or}
 use Rattle.net_bench.specs.Circuit.{Circuit, with_name, is_name_in}
 use Rattle.net_order.specs.Order.{name_of, names_of}
 use Rattle.net_order.specs.Tables.{with_names}
@@ -46,3 +48,16 @@ if_ok (Err b) P h e = cc
 -- names on top of names
 pub joined : (old xs ys : List (List ℕ)) → with_names (with_names old xs) ys ≡ with_names old (xs ++ ys)
 joined old xs ys = sym (fold-append with_name old xs ys)
+
+-- one more variable of an order
+pub one_variable : (names : List (List ℕ)) (vs : List ℕ) (i v : ℕ) (n : List ℕ) (old new : List (List ℕ)) → i < length vs → v ≡ get_or vs i v → slice_get names v ≡ Some n → new ≡ with_name old n →
+    with_names new (map (λ k. slice_index_or names k []) (drop (i + 1) vs)) ≡ with_names old (map (λ k. slice_index_or names k []) (drop i vs))
+one_variable names vs i v n old new h at e f =
+    let rest : drop i vs ≡ v ∷ drop (i + 1) vs = drop_more vs i v h ∙ ap (λ x. x ∷ drop (i + 1) vs) (sym at) in
+    ap (λ t. with_names t (map (λ k. slice_index_or names k []) (drop (i + 1) vs))) f ∙
+    sym (ap (λ xs. with_names old (map (λ k. slice_index_or names k []) xs)) rest ∙ ap (λ m. with_names (with_name old m) (map (λ k. slice_index_or names k []) (drop (i + 1) vs))) (get_or_from_slice_get names v n [] e))
+
+pub same_item : (xs : List ℕ) (i d e : ℕ) → i < length xs → get_or xs i d ≡ get_or xs i e
+same_item [] i d e h = absurd (omega (arith, h))
+same_item (x ∷ xs) zero d e h = refl
+same_item (x ∷ xs) (suc i) d e h = same_item xs i d e (omega (arith, h))

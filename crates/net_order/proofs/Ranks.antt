@@ -72,7 +72,7 @@ module _ (n : Net) (sound : IsNet n) where
       elim (cases_lt s (length n.names)) [
         | inl low ↦ elim (sound.defined s low) [
           | inl among ↦
-              let none : slice_index n.ranks s ≡ 0 = rw among.2 at (sound.ranks.inputs among.0 s among.1) in
+              let none : slice_index n.ranks s ≡ 0 = rw among.2 at (sound.ranks.variables among.0 s among.1) in
               absurd (omega arith)
           | inr gate ↦ gate
         ]
@@ -80,7 +80,7 @@ module _ (n : Net) (sound : IsNet n) where
       ]
 
   -- one more than the greatest rank of its operands
-  gate_rank : (g : GateLine) → Contains n.gates g → slice_index n.ranks g.out ≡ greatest (map (slice_index n.ranks) g.operands) + 1
+  pub gate_rank : (g : GateLine) → Contains n.gates g → slice_index n.ranks g.out ≡ greatest (map (slice_index n.ranks) g.operands) + 1
   gate_rank g among = rw among.2 at (sound.ranks.gates among.0 g among.1)
 
   -- below a signal of rank r there is a gate of each lower rank but 0, and at the signal one of rank r

@@ -3,8 +3,9 @@ use Rattle.std.proofs.Common.{◌≡◌, ℕ, zero, ◌+◌, ◌<◌, ◌≤◌,
 use Rattle.std.specs.Prelude.{cond, ◌||◌, ◌==◌, All, IsTrue, Result, Ok, Err, IfErr, IfOk, slice_index_or, Vec}
 use Rattle.std.specs.Global.{Global}
 use Rattle.std.proofs.lemmas.Grind.{common_steps}
+use Rattle.std.proofs.lemmas.List.{length-append, length-map}
 use Rattle.std.proofs.lemmas.List.Elements.{All-map, All-from_get_or}
-use Rattle.net_bench.specs.Circuit.{Circuit}
+use Rattle.net_bench.specs.Circuit.{Circuit, variables_of}
 use Rattle.net_order.specs.declared.order.Match.{Match}
 use Rattle.net_order.specs.declared.order.Match.TheVariants.{Name, Position}
 use Rattle.net_order.specs.declared.order.OrderFault.{OrderFault}
@@ -37,8 +38,8 @@ map_map f g (x ∷ xs) = ap (λ ys. f (g x) ∷ ys) (map_map f g xs)
 pub by_name : (how : Match) (a b : Circuit) (ss : List ℕ) → how ≡ Name → names_of b ss ≡ second_names how a b ss
 by_name how a b ss e = ap (λ h. second_names h a b ss) (sym e)
 
-pub by_position : (how : Match) (a b : Circuit) (ss called : List ℕ) → how ≡ Position → called ≡ map (partner b.inputs a.inputs) ss → names_of a called ≡ second_names how a b ss
-by_position how a b ss called e is_called = ap (names_of a) is_called ∙ map_map (name_of a) (partner b.inputs a.inputs) ss ∙ ap (λ h. second_names h a b ss) (sym e)
+pub by_position : (how : Match) (a b : Circuit) (ss called : List ℕ) → how ≡ Position → called ≡ map (partner (variables_of b) (variables_of a)) ss → names_of a called ≡ second_names how a b ss
+by_position how a b ss called e is_called = ap (names_of a) is_called ∙ map_map (name_of a) (partner (variables_of b) (variables_of a)) ss ∙ ap (λ h. second_names h a b ss) (sym e)
 
 pub all_called : (P : ℕ → Type 0) (from to ss called : List ℕ) → called ≡ map (partner from to) ss → All P to → length from ≡ length to → All (λ s. IsTrue (is_member s from)) ss → All P called
 all_called P from to ss called e ps same inside =
@@ -62,8 +63,13 @@ pub no_overflow : (f : OrderFault) (names : List (List ℕ)) → length names �
 no_overflow f names few (inl e) = e
 no_overflow f names few (inr (e, h)) = absurd (omega arith)
 
-pub same_counts : (how : Match) (a b : Circuit) → how ≡ Position → AreCounted how a b → length b.inputs ≡ length a.inputs
-same_counts how a b e h = let both : AreCounted Position a b = subst (λ m. AreCounted m a b) e h in sym both.0
+variables_count : (c : Circuit) → length (variables_of c) ≡ length c.inputs + length c.registers
+variables_count c = length-append c.inputs (map (λ g. g.out) c.registers) ∙ ap (λ k. length c.inputs + k) (length-map c.registers (λ g. g.out))
+
+pub same_counts : (how : Match) (a b : Circuit) → how ≡ Position → AreCounted how a b → length (variables_of b) ≡ length (variables_of a)
+same_counts how a b e h =
+    let both : AreCounted Position a b = subst (λ m. AreCounted m a b) e h in
+    omega (arith, both.0, both.2, both.3, variables_count a, variables_count b)
 
 -- ---- levels
 

@@ -254,3 +254,8 @@ pub same_mark : (marks : List Bool) (i : ℕ) (d e : Bool) → i < length marks 
 same_mark [] i d e h = absurd (omega (arith, h))
 same_mark (m ∷ ms) zero d e h = refl
 same_mark (m ∷ ms) (suc i) d e h = same_mark ms i d e (omega (arith, h))
+
+-- one frame alone
+pub top_low : (count s : ℕ) → s < count → All (λ f. signal_of f < count) (Enter s ∷ [])
+top_low count s low zero d h = low
+top_low count s low (suc i) d h = absurd (omega (arith, h))

@@ -1,93 +1,214 @@
--- The walk below the outputs of a netlist: its start, and each of its steps.
-use Rattle.std.proofs.Common.{◌≡◌, ℕ, ◌+◌, ◌<◌, List, [], ◌∷◌, ◌++◌, Bool, true, false, refl, sym, ap, ◌∙◌, subst, length, replicate, arith, get_or, set, All}
-use Rattle.std.specs.Prelude.{◌==◌, find, reverse, Some, None}
+-- The walk below a signal of a netlist: its start, and each of its steps.
+use Rattle.std.proofs.Common.{◌≡◌, ℕ, zero, suc, ◌+◌, ◌-◌, ◌<◌, ◌≤◌, List, [], ◌∷◌, ◌++◌, Bool, true, false, refl, sym, ap, ◌∙◌, subst, length, map, replicate, take, drop, arith, get_or, set, All}
+use Rattle.std.specs.Prelude.{◌==◌, find, flat_map, reverse, nat_lt, Some, None, slice_get, fold}
 use Rattle.std.specs.List.{sum_by}
-use Rattle.std.proofs.lemmas.List.Sums.{sum_by-cons}
-use Rattle.std.proofs.lemmas.List.{reverse-append}
+use Rattle.std.proofs.lemmas.Bool.Decides.{nat_tests}
+use Rattle.std.proofs.lemmas.Grind.{get_or_default_zero}
+use Rattle.std.proofs.lemmas.List.Sums.{sum_by-cons, fold-append}
+use Rattle.std.proofs.lemmas.List.{reverse-append, append-nil, take_more, drop_more}
 use Rattle.net_bench.specs.declared.netlist.GateLine.{GateLine}
 use Rattle.net_bench.specs.Circuit.{Circuit, Net, IsNet, circuit}
 use Rattle.net_order.specs.declared.walk.Frame.{Frame}
 use Rattle.net_order.specs.declared.walk.Frame.TheVariants.{Enter, Leave}
-use Rattle.net_order.specs.Order.{below, met}
-use Rattle.net_order.specs.Walk.{IsWalk, entered, frame_steps, steps_below, steps_left}
-use Rattle.net_order.proofs.Leaves.{gate_leaves, gate_inside, gate_steps, input_leaves, some_steps}
-use Rattle.net_order.proofs.Walking.{started, left, passed, opened, found_input, same_mark}
+use Rattle.net_order.specs.declared.walk.Way.{Way}
+use Rattle.net_order.specs.declared.walk.Way.TheVariants.{ByRank}
+use Rattle.net_order.specs.Order.{below, taken, with_number}
+use Rattle.net_order.specs.Walk.{ArePaths, IsGoing, IsSettled, IsStepsOf, IsWalk, entered, frame_steps, outcome, picked, steps_below, steps_left}
+use Rattle.net_order.proofs.Leaves.{gate_leaves, steps_inside, gate_steps, input_leaves, some_steps, taken_all}
+use Rattle.net_order.proofs.Walking.{started, left, passed, opened, found_input, same_mark, top_low}
 
--- ---- steps
+-- ---- the operands that are kept for each gate
 
-steps_more : (c : Circuit) (f : Frame) (todo : List Frame) → steps_left c (f ∷ todo) ≡ frame_steps (steps_below c) f + steps_left c todo
-steps_more c f todo = sum_by-cons (frame_steps (steps_below c)) f todo
+next_of : (k : ℕ) → (k ≡ 0 → ⊥) → k ≡ suc (k - 1)
+next_of zero h = absurd (h refl)
+next_of (suc k) h = omega arith
 
-steps_entered : (c : Circuit) (os : List ℕ) (todo : List Frame) → steps_left c (entered os todo) ≡ sum_by (steps_below c) os + steps_left c todo
-steps_entered c [] todo = omega arith
-steps_entered c (o ∷ os) todo = omega (arith, steps_more c (Enter o) (entered os todo), steps_entered c os todo, sum_by-cons (steps_below c) o os)
+no_list : (os : List ℕ) → None ≡ Some os → ⊥
+no_list os e = cc
 
--- what was to be entered or left is gone
-pub fewer : (c : Circuit) (f : Frame) (todo : List Frame) → steps_left c todo < steps_left c (f ∷ todo)
-fewer c (Enter s) todo = omega (arith, steps_more c (Enter s) todo, some_steps c (length c.gates) s)
-fewer c (Leave s) todo = omega (arith, steps_more c (Leave s) todo)
+same_list : (xs os : List ℕ) → Some xs ≡ Some os → os ≡ xs
+same_list xs os e = cc
 
--- ---- the three ways to enter a signal
+pub list_at : (f : GateLine → List ℕ) (gates : List GateLine) (k : ℕ) (os : List ℕ) → slice_get (map f gates) k ≡ Some os → (g : GateLine) × (slice_get gates k ≡ Some g) × (os ≡ f g)
+list_at f [] k os e = absurd (no_list os e)
+list_at f (g ∷ gates) zero os e = (g, refl, same_list (f g) os e)
+list_at f (g ∷ gates) (suc k) os e = list_at f gates k os e
 
-mark_is : (c : Circuit) (found : List ℕ) (marks : List Bool) (s : ℕ) (todo : List Frame) → IsWalk c found marks (Enter s ∷ todo) →
-    (r : Bool) → r ≡ get_or marks s r → r ≡ get_or marks s false
-mark_is c found marks s todo w r at =
-    let low : s < length c.names = w.inside 0 (Enter s) (omega arith) in
-    at ∙ same_mark marks s r false (omega (arith, w.len, low))
+no_list_at : (f : GateLine → List ℕ) (gates : List GateLine) (k : ℕ) → slice_get (map f gates) k ≡ None → slice_get gates k ≡ None
+no_list_at f [] k e = refl
+no_list_at f (g ∷ gates) zero e = absurd (no_list (f g) (sym e))
+no_list_at f (g ∷ gates) (suc k) e = no_list_at f gates k e
 
--- a signal with a mark is passed
-pub enter_marked : (c : Circuit) (found : List ℕ) (marks : List Bool) (s : ℕ) (todo : List Frame) → IsWalk c found marks (Enter s ∷ todo) →
-    (r : Bool) → r ≡ get_or marks s r → r ≡ true → IsWalk c found marks todo
-enter_marked c found marks s todo w r at e = passed (below c) (length c.names) (met c) found marks s todo (sym (mark_is c found marks s todo w r at) ∙ e) w
+-- the table names the gate whose operands are these
+pub listed_steps : (way : Way) (n : Net) (table : List ℕ) (lists : List (List ℕ)) → ArePaths way n table lists → (s place : ℕ) (os : List ℕ) → s < length table → place ≡ get_or table s place → (place ≡ 0 → ⊥) →
+    slice_get lists (place - 1) ≡ Some os → IsStepsOf way (circuit n) s os
+listed_steps way n table lists h s place os low at some e =
+    let here = list_at (λ g. taken way (circuit n) g.operands) n.gates (place - 1) os (subst (λ xs. slice_get xs (place - 1) ≡ Some os) h.each e) in
+    let is_place : get_or table s 0 ≡ suc (place - 1) = sym (at ∙ get_or_default_zero table s place low) ∙ next_of place some in
+    record { gate = here.0; found = h.gates s low ∙ ap (picked n.gates) is_place ∙ here.1; is = here.2 }
 
-module _ (n : Net) (sound : IsNet n) (found : List ℕ) (marks : List Bool) (s : ℕ) (todo : List Frame) (w : IsWalk (circuit n) found marks (Enter s ∷ todo)) where
-  abbrev c : Circuit
-  c = circuit n
+pub no_steps : (way : Way) (n : Net) (table : List ℕ) (lists : List (List ℕ)) → ArePaths way n table lists → (s place : ℕ) → s < length table → place ≡ get_or table s place → (place ≡ 0 → ⊥) →
+    slice_get lists (place - 1) ≡ None → find (λ g. g.out == s) n.gates ≡ None
+no_steps way n table lists h s place low at some e =
+    let here = no_list_at (λ g. taken way (circuit n) g.operands) n.gates (place - 1) (subst (λ xs. slice_get xs (place - 1) ≡ None) h.each e) in
+    let is_place : get_or table s 0 ≡ suc (place - 1) = sym (at ∙ get_or_default_zero table s place low) ∙ next_of place some in
+    h.gates s low ∙ ap (picked n.gates) is_place ∙ here
 
-  -- an input without a mark is found
-  pub enter_input : (r : Bool) → r ≡ get_or marks s r → r ≡ false → find (λ x. x.out == s) n.gates ≡ None → (new : List ℕ) → new ≡ found ++ s ∷ [] →
-      IsWalk c new (set marks s true) todo
-  enter_input r at e none new grown =
-      let low : s < length n.names = w.inside 0 (Enter s) (omega arith) in
-      subst (λ xs. IsWalk c xs (set marks s true) todo) (sym grown)
-      (found_input (below c) (length n.names) (met c) found marks s todo (input_leaves n sound s low none) (sym (mark_is c found marks s todo w r at) ∙ e) w)
+module _ (way : Way) where
+  -- ---- steps
 
-  module _ (g : GateLine) (found_gate : find (λ x. x.out == s) n.gates ≡ Some g) (old pushed new : List Frame) (os : List ℕ) (is_old : reverse old ≡ todo) (is_pushed : pushed ≡ old ++ Leave s ∷ [])
-      (is_os : os ≡ g.operands) (is_new : reverse new ≡ entered os (reverse pushed)) where
-    stack_is : entered g.operands (Leave s ∷ todo) ≡ reverse new
-    stack_is =
-        ap (λ t. entered g.operands (Leave s ∷ t)) (sym is_old) ∙
-        sym (is_new ∙ ap (λ xs. entered xs (reverse pushed)) is_os ∙ ap (λ t. entered g.operands (reverse t)) is_pushed ∙ ap (entered g.operands) (reverse-append old (Leave s ∷ [])))
+  steps_more : (c : Circuit) (f : Frame) (todo : List Frame) → steps_left way c (f ∷ todo) ≡ frame_steps (steps_below way c) f + steps_left way c todo
+  steps_more c f todo = sum_by-cons (frame_steps (steps_below way c)) f todo
 
-    -- a gate is opened
-    pub enter_gate : IsWalk c found marks (reverse new)
-    enter_gate =
-        subst (IsWalk c found marks) stack_is
-        (opened (below c) (length n.names) (met c) found marks s g.operands todo (gate_leaves n sound s g found_gate) (gate_inside n sound s g found_gate) w)
+  steps_entered : (c : Circuit) (os : List ℕ) (todo : List Frame) → steps_left way c (entered os todo) ≡ sum_by (steps_below way c) os + steps_left way c todo
+  steps_entered c [] todo = omega arith
+  steps_entered c (o ∷ os) todo = omega (arith, steps_more c (Enter o) (entered os todo), steps_entered c os todo, sum_by-cons (steps_below way c) o os)
 
-    -- a gate stands for more steps than its operands and its end
-    pub fewer_opened : steps_left c (reverse new) < steps_left c (Enter s ∷ todo)
-    fewer_opened =
-        subst (λ t. steps_left c t < steps_left c (Enter s ∷ todo)) stack_is
-        (omega (arith, steps_more c (Enter s) todo, steps_entered c g.operands (Leave s ∷ todo), steps_more c (Leave s) todo, gate_steps n sound s g found_gate))
+  -- what was to be entered or left is gone
+  pub fewer : (c : Circuit) (f : Frame) (todo : List Frame) → steps_left way c todo < steps_left way c (f ∷ todo)
+  fewer c (Enter s) todo = omega (arith, steps_more c (Enter s) todo, some_steps way c (length c.gates) s)
+  fewer c (Leave s) todo = omega (arith, steps_more c (Leave s) todo)
 
--- ---- the start, and a frame that is taken
+  -- ---- what is to be found
 
-pub begun : (c : Circuit) (found outs : List ℕ) (marks : List Bool) (stack new : List Frame) → found ≡ [] → marks ≡ replicate (length c.names) false → outs ≡ c.outputs →
-    stack ≡ [] → reverse new ≡ entered outs (reverse stack) → All (λ s. s < length c.names) c.outputs → IsWalk c found marks (reverse new)
-begun c found outs marks stack new is_found is_marks is_outs is_stack is_new inside =
-    let todo : entered c.outputs [] ≡ reverse new = sym (is_new ∙ ap (λ xs. entered xs (reverse stack)) is_outs ∙ ap (λ t. entered c.outputs (reverse t)) is_stack) in
-    subst (IsWalk c found marks) todo
-    (subst (λ xs. IsWalk c xs marks (entered c.outputs [])) (sym is_found)
-    (subst (λ ms. IsWalk c [] ms (entered c.outputs [])) (sym is_marks)
-    (started (below c) (length c.names) (met c) c.outputs refl inside)))
+  -- a walk finds what is left to be found
+  pub going : (c : Circuit) (goal found : List ℕ) (marks : List Bool) (todo : List Frame) → IsWalk way c goal found marks todo → IsGoing way c found marks todo
+  going c goal found marks todo w = subst (λ g. IsWalk way c g found marks todo) (sym w.leads) w
 
-pub taken : (c : Circuit) (found : List ℕ) (marks : List Bool) (old new : List Frame) (f g : Frame) → old ≡ new ++ f ∷ [] → f ≡ g → IsWalk c found marks (reverse old) → IsWalk c found marks (g ∷ reverse new)
-taken c found marks old new f g e same w =
-    subst (IsWalk c found marks) (ap reverse e ∙ reverse-append new (f ∷ []) ∙ ap (λ h. h ∷ reverse new) same) w
+  pub towards : (c : Circuit) (goal old found : List ℕ) (marks was : List Bool) (before todo : List Frame) → IsWalk way c goal old was before → IsWalk way c (outcome way c old before) found marks todo → IsWalk way c goal found marks todo
+  towards c goal old found marks was before todo w v = subst (λ g. IsWalk way c g found marks todo) w.leads v
 
-pub marked_left : (c : Circuit) (found : List ℕ) (marks : List Bool) (s : ℕ) (todo : List Frame) → IsWalk c found marks (Leave s ∷ todo) → IsWalk c found (set marks s true) todo
-marked_left c found marks s todo w = left (below c) (length c.names) (met c) found marks s todo w
+  -- ---- the three ways to enter a signal
 
-pub leave_low : (c : Circuit) (found : List ℕ) (marks : List Bool) (s : ℕ) (todo : List Frame) → IsWalk c found marks (Leave s ∷ todo) → s < length marks
-leave_low c found marks s todo w = let low : s < length c.names = w.inside 0 (Leave s) (omega arith) in omega (arith, low, w.len)
+  mark_is : (c : Circuit) (goal found : List ℕ) (marks : List Bool) (s : ℕ) (todo : List Frame) → IsWalk way c goal found marks (Enter s ∷ todo) →
+      (r : Bool) → r ≡ get_or marks s r → r ≡ get_or marks s false
+  mark_is c goal found marks s todo w r at =
+      let low : s < length c.names = w.inside 0 (Enter s) (omega arith) in
+      at ∙ same_mark marks s r false (omega (arith, w.len, low))
+
+  -- a signal with a mark is passed
+  pub enter_marked : (c : Circuit) (goal found : List ℕ) (marks : List Bool) (s : ℕ) (todo : List Frame) → IsWalk way c goal found marks (Enter s ∷ todo) →
+      (r : Bool) → r ≡ get_or marks s r → r ≡ true → IsWalk way c goal found marks todo
+  enter_marked c goal found marks s todo w r at e = passed (below way c) (length c.names) goal found marks s todo (sym (mark_is c goal found marks s todo w r at) ∙ e) w
+
+  module _ (n : Net) (sound : IsNet n) (goal found : List ℕ) (marks : List Bool) (s : ℕ) (todo : List Frame) (w : IsWalk way (circuit n) goal found marks (Enter s ∷ todo)) where
+    abbrev c : Circuit
+    c = circuit n
+
+    -- an input without a mark is found
+    pub enter_input : (r : Bool) → r ≡ get_or marks s r → r ≡ false → find (λ x. x.out == s) n.gates ≡ None → (new : List ℕ) → new ≡ found ++ s ∷ [] →
+        IsWalk way c goal new (set marks s true) todo
+    enter_input r at e none new grown =
+        let low : s < length n.names = w.inside 0 (Enter s) (omega arith) in
+        subst (λ xs. IsWalk way c goal xs (set marks s true) todo) (sym grown)
+        (found_input (below way c) (length n.names) goal found marks s todo (input_leaves n sound way s low none) (sym (mark_is c goal found marks s todo w r at) ∙ e) w)
+
+    module _ (os : List ℕ) (steps : IsStepsOf way (circuit n) s os) (old pushed new : List Frame) (is_old : reverse old ≡ todo) (is_pushed : pushed ≡ old ++ Leave s ∷ [])
+        (is_new : reverse new ≡ entered os (reverse pushed)) where
+      stack_is : entered (taken way c steps.gate.operands) (Leave s ∷ todo) ≡ reverse new
+      stack_is =
+          ap (λ t. entered (taken way c steps.gate.operands) (Leave s ∷ t)) (sym is_old) ∙
+          sym (is_new ∙ ap (λ xs. entered xs (reverse pushed)) steps.is ∙ ap (λ t. entered (taken way c steps.gate.operands) (reverse t)) is_pushed ∙ ap (entered (taken way c steps.gate.operands)) (reverse-append old (Leave s ∷ [])))
+
+      -- a gate is opened
+      pub enter_gate : IsWalk way c goal found marks (reverse new)
+      enter_gate =
+          subst (IsWalk way c goal found marks) stack_is
+          (opened (below way c) (length n.names) goal found marks s (taken way c steps.gate.operands) todo (gate_leaves n sound way s steps.gate steps.found) (steps_inside n sound way s steps.gate steps.found) w)
+
+      -- a gate stands for more steps than its operands and its end
+      pub fewer_opened : steps_left way c (reverse new) < steps_left way c (Enter s ∷ todo)
+      fewer_opened =
+          subst (λ t. steps_left way c t < steps_left way c (Enter s ∷ todo)) stack_is
+          (omega (arith, steps_more c (Enter s) todo, steps_entered c (taken way c steps.gate.operands) (Leave s ∷ todo), steps_more c (Leave s) todo, gate_steps n sound way s steps.gate steps.found))
+
+  -- ---- the start, a frame that is taken, and the end
+
+  -- a signal is to be walked
+  pub rooted : (c : Circuit) (found : List ℕ) (marks : List Bool) (s : ℕ) (stack new : List Frame) → IsSettled way c found marks → s < length c.names → stack ≡ [] → new ≡ stack ++ Enter s ∷ [] →
+      IsWalk way c (fold with_number found (below way c s)) found marks (reverse new)
+  rooted c found marks s stack new w low is_stack is_new =
+      let todo : Enter s ∷ [] ≡ reverse new = ap reverse (sym (is_new ∙ ap (λ t. t ++ Enter s ∷ []) is_stack)) in
+      subst (IsWalk way c (fold with_number found (below way c s)) found marks) todo
+      (record {
+        len = w.len;
+        leads = ap (fold with_number found) (append-nil (below way c s));
+        marked = w.marked;
+        kept = w.kept;
+        well = tt;
+        inside = λ i d h. top_low (length c.names) s low i d h;
+      })
+
+  -- nothing is to do any more
+  pub ended : (c : Circuit) (goal found : List ℕ) (marks : List Bool) (stack : List Frame) → stack ≡ [] → IsWalk way c goal found marks (reverse stack) → IsSettled way c found marks × (found ≡ goal)
+  ended c goal found marks stack e w =
+      let v = subst (λ t. IsWalk way c goal found marks (reverse t)) e w in
+      (subst (λ g. IsWalk way c g found marks []) (sym v.leads) v, v.leads)
+
+  -- no walk has begun
+  pub fresh : (c : Circuit) (marks : List Bool) → marks ≡ replicate (length c.names) false → IsSettled way c [] marks
+  fresh c marks e = subst (IsSettled way c []) (sym e) (started (below way c) (length c.names) [] [] refl (λ i d low. absurd (omega (arith, low))))
+
+  pub taken_frame : (c : Circuit) (goal found : List ℕ) (marks : List Bool) (old new : List Frame) (f g : Frame) → old ≡ new ++ f ∷ [] → f ≡ g → IsWalk way c goal found marks (reverse old) → IsWalk way c goal found marks (g ∷ reverse new)
+  taken_frame c goal found marks old new f g e same w =
+      subst (IsWalk way c goal found marks) (ap reverse e ∙ reverse-append new (f ∷ []) ∙ ap (λ h. h ∷ reverse new) same) w
+
+  pub marked_left : (c : Circuit) (goal found : List ℕ) (marks : List Bool) (s : ℕ) (todo : List Frame) → IsWalk way c goal found marks (Leave s ∷ todo) → IsWalk way c goal found (set marks s true) todo
+  marked_left c goal found marks s todo w = left (below way c) (length c.names) goal found marks s todo w
+
+  pub leave_low : (c : Circuit) (goal found : List ℕ) (marks : List Bool) (s : ℕ) (todo : List Frame) → IsWalk way c goal found marks (Leave s ∷ todo) → s < length marks
+  leave_low c goal found marks s todo w = let low : s < length c.names = w.inside 0 (Leave s) (omega arith) in omega (arith, low, w.len)
+
+  pub enter_low : (c : Circuit) (goal found : List ℕ) (marks : List Bool) (s : ℕ) (todo : List Frame) → IsWalk way c goal found marks (Enter s ∷ todo) → s < length marks
+  enter_low c goal found marks s todo w = let low : s < length c.names = w.inside 0 (Enter s) (omega arith) in omega (arith, low, w.len)
+
+-- ---- lists of operands, gate by gate
+
+pub low_operands : (n : Net) → IsNet n → (gates : List GateLine) (i : ℕ) (g : GateLine) (os : List ℕ) → gates ≡ n.gates → i < length gates → g ≡ get_or gates i g → os ≡ g.operands → All (λ s. s < length n.names) os
+low_operands n sound gates i g os e low at is_os =
+    let there : i < length n.gates = subst (λ gs. i < length gs) e low in
+    let here : g ≡ get_or n.gates i g = at ∙ ap (λ gs. get_or gs i g) e in
+    subst (All (λ s. s < length n.names)) (sym is_os) (subst (λ h. All (λ s. s < length n.names) h.operands) (sym here) (sound.operands i g there).0)
+
+map_more : (f : GateLine → List ℕ) (xs : List GateLine) (x : GateLine) → map f (xs ++ x ∷ []) ≡ map f xs ++ f x ∷ []
+map_more f [] x = refl
+map_more f (y ∷ xs) x = ap (λ ys. f y ∷ ys) (map_more f xs x)
+
+pub lists_more : (f : GateLine → List ℕ) (gates : List GateLine) (i : ℕ) (g : GateLine) (old new : List (List ℕ)) (l : List ℕ) → i < length gates → g ≡ get_or gates i g → l ≡ f g → new ≡ old ++ l ∷ [] → old ≡ map f (take i gates) →
+    new ≡ map f (take (i + 1) gates)
+lists_more f gates i g old new l low at is_l is_new before =
+    is_new ∙ ap (λ xs. xs ++ l ∷ []) before ∙ ap (λ x. map f (take i gates) ++ x ∷ []) is_l ∙ sym (map_more f (take i gates) g) ∙
+    ap (map f) (sym (take_more gates i g low ∙ ap (λ y. take i gates ++ y ∷ []) (sym at)))
+
+-- ---- outputs, one after the other
+
+pub next_output : (below_it : ℕ → List ℕ) (outs found new total : List ℕ) (i s : ℕ) → i < length outs → s ≡ get_or outs i s → new ≡ fold with_number found (below_it s) →
+    fold with_number found (flat_map below_it (drop i outs)) ≡ total → fold with_number new (flat_map below_it (drop (i + 1) outs)) ≡ total
+next_output below_it outs found new total i s low at is_new e =
+    ap (λ xs. fold with_number xs (flat_map below_it (drop (i + 1) outs))) is_new ∙ sym (fold-append with_number found (below_it s) (flat_map below_it (drop (i + 1) outs))) ∙
+    sym (ap (λ xs. fold with_number found (flat_map below_it xs)) (drop_more outs i s low ∙ ap (λ x. x ∷ drop (i + 1) outs) (sym at))) ∙ e
+
+pub low_ranked : (n : Net) (sound : IsNet n) (outs ranked listed : List ℕ) (i s v count : ℕ) → outs ≡ n.outputs → ranked ≡ taken ByRank (circuit n) outs → listed ≡ ranked → i < length listed → s ≡ get_or listed i s → v ≡ s →
+    count ≡ length n.names → v < count
+low_ranked n sound outs ranked listed i s v count is_outs is_ranked is_listed low at is_v is_count =
+    let all : All (λ t. t < length n.names) listed =
+    subst (All (λ t. t < length n.names)) (sym (is_listed ∙ is_ranked)) (taken_all ByRank (circuit n) (λ t. t < length n.names) outs (subst (All (λ t. t < length n.names)) (sym is_outs) sound.outputs)) in
+    let here : s < length n.names = subst (λ t. t < length n.names) (sym at) (all i s low) in
+    omega (arith, here, is_v, is_count)
+
+none_left : (xs : List ℕ) (i : ℕ) → length xs ≤ i → drop i xs ≡ []
+none_left [] zero h = refl
+none_left [] (suc i) h = refl
+none_left (x ∷ xs) zero h = absurd (omega (arith, h))
+none_left (x ∷ xs) (suc i) h = none_left xs i (omega (arith, h))
+
+pub no_output : (below_it : ℕ → List ℕ) (outs found total : List ℕ) (i : ℕ) → length outs ≤ i → fold with_number found (flat_map below_it (drop i outs)) ≡ total → found ≡ total
+no_output below_it outs found total i h e = sym (ap (λ xs. fold with_number found (flat_map below_it xs)) (none_left outs i h)) ∙ e
+
+-- ---- what a look-up says
+
+pub inside_from : (k n : ℕ) → true ≡ nat_lt k n → k < n
+inside_from k n e = let yes : nat_lt k n ≡ true = sym e in grind (arith, nat_tests)
+
+pub past_from : (k n : ℕ) → false ≡ nat_lt k n → n ≤ k
+past_from k n e = let out : nat_lt k n ≡ false = sym e in grind (arith, nat_tests)

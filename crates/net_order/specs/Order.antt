@@ -1,14 +1,16 @@
 -- The order of the variables of two netlists.
-use Rattle.std.specs.Prelude.{◌≡◌, ◌<◌, ◌≤◌, ℕ, zero, suc, ◌+◌, ◌==◌, Bool, not, ◌&&◌, if◌then◌else◌, List, [], ◌∷◌, ◌++◌, map, fold, length, flat_map, find, zip, unwrap_or, Option, Some, None, nat_lt, slice_index, All}
+use Rattle.std.specs.Prelude.{◌≡◌, ◌<◌, ◌≤◌, ℕ, zero, suc, ◌+◌, ◌==◌, Bool, not, ◌&&◌, if◌then◌else◌, List, [], ◌∷◌, ◌++◌, map, fold, length, flat_map, find, zip, unwrap_or, Option, Some, None, nat_lt, nat_le, slice_index, All}
 use Rattle.std.specs.List.{list_any, slice_index_or}
 use Rattle.net_bench.specs.declared.netlist.GateLine.{GateLine}
-use Rattle.net_bench.specs.Circuit.{Circuit, is_name_in, distinct, find as number}
+use Rattle.net_bench.specs.Circuit.{Circuit, is_name_in, distinct, greatest, find as number, variables_of}
 use Rattle.net_order.specs.declared.order.Match.{Match}
 use Rattle.net_order.specs.declared.order.Match.TheVariants.{Name, Position}
 use Rattle.net_order.specs.declared.order.Order.{Order}
-use Rattle.net_order.specs.declared.order.Order.TheVariants.{Declared, Depth, Listed}
+use Rattle.net_order.specs.declared.order.Order.TheVariants.{Declared, Depth, Interleave, Listed}
 use Rattle.net_order.specs.declared.order.OrderFault.{OrderFault}
 use Rattle.net_order.specs.declared.order.OrderFault.TheVariants.{CountsDiffer, NotAPermutation, TooManyInputs, OutOfMemory, BadName, TooLong, Read}
+use Rattle.net_order.specs.declared.walk.Way.{Way}
+use Rattle.net_order.specs.declared.walk.Way.TheVariants.{Written, ByRank}
 
 -- The name of a signal.
 abbrev pub name_of : Circuit → ℕ → List ℕ
@@ -22,37 +24,69 @@ names_of c ss = map (name_of c) ss
 abbrev pub is_member : ℕ → List ℕ → Bool
 is_member s ss = list_any (λ t. t == s) ss
 
--- ---- the inputs below the outputs
+-- ---- walks below the outputs
+
+-- Whether a signal is a variable of its netlist, an input or a register: a walk meets it and goes no further.
+abbrev pub is_variable : Circuit → ℕ → Bool
+is_variable c s = is_member s (variables_of c)
 
 -- The operands of a gate that was looked for, none where there is no gate.
 abbrev pub gate_operands : Option GateLine → List ℕ
 gate_operands None = []
 gate_operands (Some g) = g.operands
 
--- The operands of the signal's gate, none for an input.
+-- The operands of the signal's gate, none for an input or register.
 abbrev pub operands_of : Circuit → ℕ → List ℕ
 operands_of c s = gate_operands (find (λ g. g.out == s) c.gates)
 
--- The inputs below a signal, operands from left to right, as often as they are met. The first number bounds the depth.
-abbrev pub leaves : Circuit → ℕ → ℕ → List ℕ
-leaves c zero s = if is_member s c.inputs then s ∷ [] else []
-leaves c (suc depth) s = if is_member s c.inputs then s ∷ [] else flat_map (leaves c depth) (operands_of c s)
+-- The rank of a signal: 0 for a variable, and for a gate 1 more than the greatest of its operands. The first number bounds the depth.
+abbrev pub rank_within : Circuit → ℕ → ℕ → ℕ
+rank_within c zero s = if is_variable c s then 0 else 1
+rank_within c (suc depth) s = if is_variable c s then 0 else greatest (map (rank_within c depth) (operands_of c s)) + 1
 
--- The inputs below a signal: no chain of operands is longer than the number of gates.
-abbrev pub below : Circuit → ℕ → List ℕ
-below c s = leaves c (length c.gates) s
+-- The rank of a signal: no chain of operands is longer than the number of gates.
+abbrev pub rank_of : Circuit → ℕ → ℕ
+rank_of c s = rank_within c (length c.gates) s
 
--- The inputs below the outputs, as often as they are met.
-abbrev pub all_leaves : Circuit → List ℕ
-all_leaves c = flat_map (below c) c.outputs
+-- The signal before the first one of the list whose rank is not greater.
+abbrev pub put_by_rank : (ℕ → ℕ) → ℕ → List ℕ → List ℕ
+put_by_rank rank s [] = s ∷ []
+put_by_rank rank s (t ∷ ts) = if nat_le (rank t) (rank s) then s ∷ t ∷ ts else t ∷ put_by_rank rank s ts
+
+-- The signals by falling rank, equal ranks from left to right.
+abbrev pub falling : (ℕ → ℕ) → List ℕ → List ℕ
+falling rank [] = []
+falling rank (s ∷ ss) = put_by_rank rank s (falling rank ss)
+
+-- Operands as a walk takes them: from left to right as they are written, or by falling rank.
+abbrev pub taken : Way → Circuit → List ℕ → List ℕ
+taken Written c os = os
+taken ByRank c os = falling (rank_of c) os
+
+-- The operands of the signal's gate as a walk takes them, none for an input or register.
+abbrev pub steps_of : Way → Circuit → ℕ → List ℕ
+steps_of way c s = taken way c (operands_of c s)
+
+-- The variables below a signal, as often as a walk meets them. The first number bounds the depth.
+abbrev pub leaves : Way → Circuit → ℕ → ℕ → List ℕ
+leaves way c zero s = if is_variable c s then s ∷ [] else []
+leaves way c (suc depth) s = if is_variable c s then s ∷ [] else flat_map (leaves way c depth) (steps_of way c s)
+
+-- The variables below a signal: no chain of operands is longer than the number of gates.
+abbrev pub below : Way → Circuit → ℕ → List ℕ
+below way c s = leaves way c (length c.gates) s
 
 -- The list with the number at its end, unless it is there.
 abbrev pub with_number : List ℕ → ℕ → List ℕ
 with_number ss s = if is_member s ss then ss else ss ++ s ∷ []
 
--- The inputs below the outputs, each where it is met first.
+-- The variables below one signal, each where a walk meets it first.
+abbrev pub met_below : Way → Circuit → ℕ → List ℕ
+met_below way c s = fold with_number [] (below way c s)
+
+-- The variables below all outputs, each where it is met first, operands from left to right.
 abbrev pub met : Circuit → List ℕ
-met c = fold with_number [] (all_leaves c)
+met c = fold with_number [] (flat_map (below Written c) c.outputs)
 
 -- ---- variables
 
@@ -69,7 +103,7 @@ partner (x ∷ xs) (t ∷ ts) s = if x == s then t else partner xs ts s
 -- The variable of an input of the second netlist. By position, input i of both is one variable, with the first netlist's name.
 abbrev pub second_name : Match → Circuit → Circuit → ℕ → List ℕ
 second_name Name a b s = name_of b s
-second_name Position a b s = name_of a (partner b.inputs a.inputs s)
+second_name Position a b s = name_of a (partner (variables_of b) (variables_of a) s)
 
 -- The variables of inputs of the second netlist, in their order.
 abbrev pub second_names : Match → Circuit → Circuit → List ℕ → List (List ℕ)
@@ -77,7 +111,7 @@ second_names how a b ss = map (second_name how a b) ss
 
 -- The names of all inputs, the first netlist's and then the second's, as often as they stand.
 abbrev pub input_names : Match → Circuit → Circuit → List (List ℕ)
-input_names how a b = names_of a a.inputs ++ second_names how a b b.inputs
+input_names how a b = names_of a (variables_of a) ++ second_names how a b (variables_of b)
 
 -- The variables: the first netlist's inputs, then the second's that are not there yet.
 abbrev pub declared : Match → Circuit → Circuit → List (List ℕ)
@@ -87,10 +121,62 @@ declared how a b = distinct (input_names how a b)
 abbrev pub by_depth : Match → Circuit → Circuit → List (List ℕ)
 by_depth how a b = distinct (names_of a (met a) ++ second_names how a b (met b) ++ input_names how a b)
 
+-- A variable's level in an order of names is its place among them.
+abbrev pub level_of : List (List ℕ) → List ℕ → ℕ
+level_of names n = unwrap_or (number names n) 0
+
+-- ---- interleaving: after Fujii, Ootomo and Hori, ICCAD 1993
+
+-- The variable right behind the other one, or at the front where there is none.
+abbrev pub put_behind : Option ℕ → ℕ → List ℕ → List ℕ
+put_behind None v order = v ∷ order
+put_behind (Some last) v [] = v ∷ []
+put_behind (Some last) v (x ∷ order) = if x == last then x ∷ v ∷ order else x ∷ put_behind (Some last) v order
+
+-- The order with a variable, unless it is there: right behind the other one, or at the front.
+abbrev pub with_variable : Option ℕ → ℕ → List ℕ → List ℕ
+with_variable last v order = if is_member v order then order else put_behind last v order
+
+-- What a walk meets is put into an order: a variable that is not there yet goes right behind the one that the walk met before it,
+-- whether that was new or not, and to the front where it is the walk's first.
+abbrev pub weave : List ℕ → Option ℕ → List ℕ → List ℕ
+weave order last [] = order
+weave order last (v ∷ vs) = weave (with_variable last v order) (Some v) vs
+
+-- A netlist is woven into an order: one walk below each output, the outputs and the operands of each gate by falling rank. The
+-- function gives a signal's variable.
+abbrev pub weave_below : Circuit → (ℕ → ℕ) → List ℕ → ℕ → List ℕ
+weave_below c variable order s = weave order None (map variable (met_below ByRank c s))
+
+abbrev pub weave_netlist : Circuit → (ℕ → ℕ) → List ℕ → List ℕ
+weave_netlist c variable order = fold (weave_below c variable) order (falling (rank_of c) c.outputs)
+
+-- A variable's number is its place among the declared ones.
+abbrev pub first_variable : Match → Circuit → Circuit → ℕ → ℕ
+first_variable how a b s = level_of (declared how a b) (name_of a s)
+
+abbrev pub second_variable : Match → Circuit → Circuit → ℕ → ℕ
+second_variable how a b s = level_of (declared how a b) (second_name how a b s)
+
+-- The variables that walks meet, by number: the first netlist is woven into the empty order, then the second.
+abbrev pub woven : Match → Circuit → Circuit → List ℕ
+woven how a b = weave_netlist b (second_variable how a b) (weave_netlist a (first_variable how a b) [])
+
+-- The name of a variable.
+abbrev pub variable_name : Match → Circuit → Circuit → ℕ → List ℕ
+variable_name how a b v = slice_index_or (declared how a b) v []
+
+-- The variables that walks meet, then the others as they are declared.
+abbrev pub interleaved : Match → Circuit → Circuit → List (List ℕ)
+interleaved how a b = distinct (map (variable_name how a b) (woven how a b) ++ input_names how a b)
+
+-- ---- the orders
+
 -- The names of the variables in the order that is asked for, from level 0 on.
 abbrev pub ordered : Match → Circuit → Circuit → Order → List (List ℕ)
 ordered how a b Declared = declared how a b
 ordered how a b Depth = by_depth how a b
+ordered how a b Interleave = interleaved how a b
 ordered how a b (Listed names) = names
 
 -- ---- a list of names
@@ -146,23 +232,19 @@ abbrev pub only_in : Match → Circuit → Circuit → List ℕ
 only_in Name a b = unmatched a b a.outputs
 only_in Position a b = []
 
--- ---- levels
-
--- A variable's level is its place among the names.
-abbrev pub level_of : List (List ℕ) → List ℕ → ℕ
-level_of names n = unwrap_or (number names n) 0
-
 -- ---- what is answered
 
--- By position, the numbers of inputs and of outputs agree.
+-- Neither netlist has a register, since their next states are not compared yet; and by position, the numbers of inputs and of outputs agree.
 abbrev pub AreCounted : Match → Circuit → Circuit → Type 0
-AreCounted Name a b = Unit {0}
-AreCounted Position a b = (length a.inputs ≡ length b.inputs) × (length a.outputs ≡ length b.outputs)
+AreCounted Name a b = (length a.registers ≡ 0) × (length b.registers ≡ 0)
+AreCounted Position a b =
+    (length a.inputs ≡ length b.inputs) × (length a.outputs ≡ length b.outputs) × (length a.registers ≡ 0) × (length b.registers ≡ 0)
 
 -- A list that is asked for has each variable's name exactly once.
 abbrev pub IsFit : Match → Circuit → Circuit → Order → Type 0
 IsFit how a b Declared = Unit {0}
 IsFit how a b Depth = Unit {0}
+IsFit how a b Interleave = Unit {0}
 IsFit how a b (Listed names) = IsListing (declared how a b) names
 
 -- A pairing as its users see it: the variables by level, and by signal the level of an input of each netlist.
@@ -181,8 +263,8 @@ pub record IsPairing (how : Match) (a b : Circuit) (order : Order) (p : Paired) 
   pub few : length (declared how a b) ≤ max_variables
   pub fit : IsFit how a b order
   pub names : p.names ≡ ordered how a b order
-  pub first : All (λ s. slice_index p.first s ≡ level_of (ordered how a b order) (name_of a s)) a.inputs
-  pub second : All (λ s. slice_index p.second s ≡ level_of (ordered how a b order) (second_name how a b s)) b.inputs
+  pub first : All (λ s. slice_index p.first s ≡ level_of (ordered how a b order) (name_of a s)) (variables_of a)
+  pub second : All (λ s. slice_index p.second s ≡ level_of (ordered how a b order) (second_name how a b s)) (variables_of b)
   pub pairs : p.pairs ≡ output_pairs how a b
   pub only_first : p.only_first ≡ only_in how a b
   pub only_second : p.only_second ≡ only_in how b a

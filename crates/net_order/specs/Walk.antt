@@ -1,11 +1,12 @@
 -- A walk below the outputs with a stack: what holds between its steps.
-use Rattle.std.specs.Prelude.{◌≡◌, ◌==◌, ◌+◌, ◌<◌, ℕ, zero, suc, Bool, true, false, if◌then◌else◌, List, [], ◌∷◌, ◌++◌, fold, find, flat_map, length, slice_index, slice_index_or, slice_get, Option, None, All}
+use Rattle.std.specs.Prelude.{◌≡◌, ◌==◌, ◌+◌, ◌<◌, ℕ, zero, suc, Bool, true, false, if◌then◌else◌, List, [], ◌∷◌, ◌++◌, fold, find, flat_map, map, length, slice_index, slice_index_or, slice_get, Option, Some, None, All}
 use Rattle.std.specs.List.{sum_by}
 use Rattle.net_bench.specs.declared.netlist.GateLine.{GateLine}
-use Rattle.net_bench.specs.Circuit.{Circuit}
+use Rattle.net_bench.specs.Circuit.{Circuit, Net, IsNet, circuit}
 use Rattle.net_order.specs.declared.walk.Frame.{Frame}
 use Rattle.net_order.specs.declared.walk.Frame.TheVariants.{Enter, Leave}
-use Rattle.net_order.specs.Order.{is_member, with_number, operands_of, below, met}
+use Rattle.net_order.specs.declared.walk.Way.{Way}
+use Rattle.net_order.specs.Order.{is_member, is_variable, with_number, taken, steps_of, below}
 
 -- What stands in the one list stands in the other.
 abbrev pub Among : List ℕ → List ℕ → Type 0
@@ -46,19 +47,27 @@ pub record IsWalking (leaves : ℕ → List ℕ) (count : ℕ) (goal found : Lis
   pub well : IsWell leaves todo found
   pub inside : All (λ f. signal_of f < count) todo
 
--- Between two steps of the walk below the outputs of a netlist.
-abbrev pub IsWalk : Circuit → List ℕ → List Bool → List Frame → Type 0
-IsWalk c found marks todo = IsWalking (below c) (length c.names) (met c) found marks todo
+-- What will have been found when all that is to do is done.
+abbrev pub outcome : Way → Circuit → List ℕ → List Frame → List ℕ
+outcome way c found todo = fold with_number found (pending (below way c) todo)
+
+-- Between two steps of a walk that is to find `goal` in a netlist.
+abbrev pub IsWalk : Way → Circuit → List ℕ → List ℕ → List Bool → List Frame → Type 0
+IsWalk way c goal found marks todo = IsWalking (below way c) (length c.names) goal found marks todo
+
+-- Between two walks: nothing is to do.
+abbrev pub IsSettled : Way → Circuit → List ℕ → List Bool → Type 0
+IsSettled way c found marks = IsWalk way c found found marks []
 
 -- How many steps a walk below a signal takes where no mark cuts it short: one for an input, and for a gate two beside its operands'.
 -- The first number bounds the depth.
-abbrev pub steps_within : Circuit → ℕ → ℕ → ℕ
-steps_within c zero s = if is_member s c.inputs then 1 else 2
-steps_within c (suc depth) s = if is_member s c.inputs then 1 else sum_by (steps_within c depth) (operands_of c s) + 2
+abbrev pub steps_within : Way → Circuit → ℕ → ℕ → ℕ
+steps_within way c zero s = if is_variable c s then 1 else 2
+steps_within way c (suc depth) s = if is_variable c s then 1 else sum_by (steps_within way c depth) (steps_of way c s) + 2
 
 -- How many steps a walk below a signal takes at most.
-abbrev pub steps_below : Circuit → ℕ → ℕ
-steps_below c s = steps_within c (length c.gates) s
+abbrev pub steps_below : Way → Circuit → ℕ → ℕ
+steps_below way c s = steps_within way c (length c.gates) s
 
 -- The steps for a frame, where the first argument gives those below a signal.
 abbrev pub frame_steps : (ℕ → ℕ) → Frame → ℕ
@@ -66,8 +75,8 @@ frame_steps steps (Enter s) = steps s
 frame_steps steps (Leave s) = 1
 
 -- The steps that are still to come, at most.
-abbrev pub steps_left : Circuit → List Frame → ℕ
-steps_left c todo = sum_by (frame_steps (steps_below c)) todo
+abbrev pub steps_left : Way → Circuit → List Frame → ℕ
+steps_left way c todo = sum_by (frame_steps (steps_below way c)) todo
 
 -- The gate at a place, counted from 1, and none at 0.
 abbrev pub picked : List GateLine → ℕ → Option GateLine
@@ -77,3 +86,20 @@ picked gates (suc k) = slice_get gates k
 -- The table has for each signal the place of its gate, counted from 1, or 0.
 abbrev pub HasGates : List GateLine → List ℕ → Type 0
 HasGates gates table = (s : ℕ) → s < length table → find (λ g. g.out == s) gates ≡ picked gates (slice_index table s)
+
+-- A walk goes on: it is to find what is left to be found.
+abbrev pub IsGoing : Way → Circuit → List ℕ → List Bool → List Frame → Type 0
+IsGoing way c found marks todo = IsWalk way c (outcome way c found todo) found marks todo
+
+-- These are the operands of the signal's gate as a walk takes them.
+pub record IsStepsOf (way : Way) (c : Circuit) (s : ℕ) (steps : List ℕ) : Type 0 where
+  pub gate : GateLine
+  pub found : find (λ g. g.out == s) c.gates ≡ Some gate
+  pub is : steps ≡ taken way c gate.operands
+
+-- What walks have at hand of a netlist: the table of its gates, and for each gate its operands as walks take them.
+pub record ArePaths (way : Way) (n : Net) (table : List ℕ) (steps : List (List ℕ)) : Type 0 where
+  pub sound : IsNet n
+  pub len : length table ≡ length n.names
+  pub gates : HasGates n.gates table
+  pub each : steps ≡ map (λ g. taken way (circuit n) g.operands) n.gates

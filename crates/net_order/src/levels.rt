@@ -1,15 +1,17 @@
 //! The levels of inputs.
 ghost use Rattle.std.specs.Prelude.{◌≡◌, ℕ, ◌<◌, length, All, IfOk, slice_index};
-ghost use Rattle.net_bench.specs.Circuit.{circuit};
-ghost use Rattle.net_order.specs.Order.{name_of, level_of};
+ghost use Rattle.net_bench.specs.Circuit.{circuit, variables_of};
+ghost use Rattle.net_order.specs.Order.{AreCounted, name_of, second_name, level_of};
 
+use crate::order::Match;
+use crate::partners::partners;
 use net_bench::name_table::NameTable;
 use net_bench::netlist::Signal;
 use net_bench::reader::Netlist;
 use std::alloc::{AllocError, Global};
 
 /// By signal below `count`, the level of the variable that it is. Input i has the variable that `called[i]` of `net` names.
-pub fn levels(
+fn levels(
     alloc: Global,
     table: &NameTable,
     count: usize,
@@ -31,4 +33,39 @@ pub fn levels(
         levels[inputs[i].number() as usize] = level;
     }
     Ok(levels)
+}
+
+/// The levels of the second netlist's inputs and registers, by signal.
+pub fn second_levels(
+    alloc: Global,
+    table: &NameTable,
+    first: &Netlist,
+    second: &Netlist,
+    how: Match,
+) -> Result<Vec<u32>, AllocError>
+    requires { AreCounted how (circuit first.now) (circuit second.now) }
+    ensures { IfOk result (λ v. All (λ s. slice_index v.items s ≡ level_of table.now (second_name how (circuit first.now) (circuit second.now) s)) (variables_of (circuit second.now))) }
+{
+    let variables = second.variables();
+    let count = second.count();
+    match how {
+        Match::Name => levels(alloc, table, count, variables, second, variables),
+        Match::Position => {
+            let called = partners(alloc, count, variables, first.variables(), variables)?;
+            levels(alloc, table, count, variables, first, called.as_slice())
+        }
+    }
+}
+
+/// The levels of the first netlist's inputs and registers, by signal.
+pub fn first_levels(
+    alloc: Global,
+    table: &NameTable,
+    first: &Netlist,
+) -> Result<Vec<u32>, AllocError>
+    ensures { IfOk result (λ v. All (λ s. slice_index v.items s ≡ level_of table.now (name_of (circuit first.now) s)) (variables_of (circuit first.now))) }
+{
+    let variables = first.variables();
+    let count = first.count();
+    levels(alloc, table, count, variables, first, variables)
 }

@@ -24,6 +24,9 @@ pub enum Order {
     Declared,
     /// The inputs as they are met below the outputs, operands from left to right, then the others as they are declared.
     Depth,
+    /// As walks below the outputs interleave them, each with what it met last: outputs and operands by falling rank. Then the others
+    /// as they are declared.
+    Interleave,
     /// The names of a list, which must have each variable once.
     Listed(Names),
 }
@@ -31,7 +34,7 @@ pub enum Order {
 /// Why two netlists were not paired, or an order file not read.
 #[derive(Clone, Copy, Debug, PartialEq, Eq, Error)]
 pub enum OrderFault {
-    /// By position: the netlists have different numbers of inputs or of outputs.
+    /// By position: the netlists have different numbers of inputs or of outputs. Until next states are paired also: a netlist has a register.
     CountsDiffer,
     /// The list does not have each variable once. The place, counted from 1, is that of the first name that is no variable or
     /// stood before, or one past the end of a list that is short.

@@ -73,6 +73,7 @@ pub fn read_order<R: Source>(alloc: Global, device: &mut R) -> Result<Names, Ord
     // Read says that the device has failed, and nothing else does.
     ensures read { result ≡ Err OrderFault.Read → IsTrue (R.has_failed device.new) }
     ensures kept { (result ≡ Err OrderFault.Read → ⊥) → R.has_failed device.new ≡ R.has_failed device.old }
+    ensures origin { R.origin device.new ≡ R.origin device.old }
 {
     match read_text(alloc, device, MAX_TEXT) {
         Ok(text) => match names_in(alloc, text.as_slice()) {

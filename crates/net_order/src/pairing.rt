@@ -1,14 +1,14 @@
 //! The pairing of two netlists.
 ghost use Rattle.std.specs.Prelude.{◌≡◌, ◌≤◌, ◌⊎◌, ◌↔◌, length, All, IfOk, IfErr, IsTrue, slice_index, zip};
-ghost use Rattle.net_bench.specs.Circuit.{circuit};
+ghost use Rattle.net_bench.specs.Circuit.{circuit, variables_of};
 ghost use Rattle.net_order.specs.Order.{AreCounted, IsFit, IsPairing, IsRefused, Paired, max_variables, declared, ordered, output_pairs, only_in, level_of, name_of, second_name};
 
-use crate::levels::levels;
+use crate::interleave::interleaved_table;
+use crate::levels::{first_levels, second_levels};
 use crate::listed::listed;
 use crate::names::Names;
 use crate::order::{Match, Order, OrderFault};
 use crate::outputs::{lone_outputs, marked, pairs_of};
-use crate::partners::partners;
 use crate::variables::{declared_table, depth_table};
 use net_bench::name_table::NameTable;
 use net_bench::netlist::Signal;
@@ -54,7 +54,7 @@ impl Pairing {
         &self.names
     }
 
-    /// The level of an input of the first netlist.
+    /// The level of an input or register of the first netlist.
     pub fn first_level(&self, input: Signal) -> u32
         ensures { result ≡ slice_index self.now.first input }
     {
@@ -64,7 +64,7 @@ impl Pairing {
             .unwrap_or(0)
     }
 
-    /// The level of an input of the second netlist.
+    /// The level of an input or register of the second netlist.
     pub fn second_level(&self, input: Signal) -> u32
         ensures { result ≡ slice_index self.now.second input }
     {
@@ -96,10 +96,13 @@ impl Pairing {
     }
 }
 
-/// By position, whether the numbers of inputs and of outputs agree.
+/// Whether neither netlist has a register; and by position, whether the numbers of inputs and of outputs agree.
 fn are_counted(first: &Netlist, second: &Netlist, how: Match) -> bool
     ensures { IsTrue result ↔ AreCounted how (circuit first.now) (circuit second.now) }
 {
+    if !first.registers().is_empty() || !second.registers().is_empty() {
+        return false;
+    }
     match how {
         Match::Name => true,
         Match::Position => {
@@ -129,39 +132,9 @@ fn ordered_table(
     match order {
         Order::Declared => Ok(variables),
         Order::Depth => depth_table(alloc, first, second, how),
+        Order::Interleave => interleaved_table(alloc, first, second, how, &variables),
         Order::Listed(list) => listed(alloc, &variables, list),
     }
-}
-
-/// The levels of the second netlist's inputs, by signal.
-fn second_levels(
-    alloc: Global,
-    table: &NameTable,
-    first: &Netlist,
-    second: &Netlist,
-    how: Match,
-) -> Result<Vec<u32>, AllocError>
-    requires { AreCounted how (circuit first.now) (circuit second.now) }
-    ensures { IfOk result (λ v. All (λ s. slice_index v.items s ≡ level_of table.now (second_name how (circuit first.now) (circuit second.now) s)) second.now.inputs) }
-{
-    let inputs = second.inputs();
-    let count = second.count();
-    match how {
-        Match::Name => levels(alloc, table, count, inputs, second, inputs),
-        Match::Position => {
-            let called = partners(alloc, count, inputs, first.inputs(), inputs)?;
-            levels(alloc, table, count, inputs, first, called.as_slice())
-        }
-    }
-}
-
-/// The levels of the first netlist's inputs, by signal.
-fn first_levels(alloc: Global, table: &NameTable, first: &Netlist) -> Result<Vec<u32>, AllocError>
-    ensures { IfOk result (λ v. All (λ s. slice_index v.items s ≡ level_of table.now (name_of (circuit first.now) s)) first.now.inputs) }
-{
-    let inputs = first.inputs();
-    let count = first.count();
-    levels(alloc, table, count, inputs, first, inputs)
 }
 
 /// The outputs that are compared.
@@ -228,8 +201,8 @@ fn finish(
     requires counted { AreCounted how (circuit first.now) (circuit second.now) }
     requires few { length table ≤ max_variables }
     ensures names { IfOk result (λ p. p.names ≡ table) }
-    ensures first { IfOk result (λ p. All (λ s. slice_index p.first s ≡ level_of table (name_of (circuit first.now) s)) first.now.inputs) }
-    ensures second { IfOk result (λ p. All (λ s. slice_index p.second s ≡ level_of table (second_name how (circuit first.now) (circuit second.now) s)) second.now.inputs) }
+    ensures first { IfOk result (λ p. All (λ s. slice_index p.first s ≡ level_of table (name_of (circuit first.now) s)) (variables_of (circuit first.now))) }
+    ensures second { IfOk result (λ p. All (λ s. slice_index p.second s ≡ level_of table (second_name how (circuit first.now) (circuit second.now) s)) (variables_of (circuit second.now))) }
     ensures pairs { IfOk result (λ p. p.pairs ≡ output_pairs how (circuit first.now) (circuit second.now)) }
     ensures only_first { IfOk result (λ p. p.only_first ≡ only_in how (circuit first.now) (circuit second.now)) }
     ensures only_second { IfOk result (λ p. p.only_second ≡ only_in how (circuit second.now) (circuit first.now)) }
@@ -239,8 +212,9 @@ fn finish(
     let pairs = all_pairs(alloc, first, second, how)?;
     let only_first = all_lone(alloc, first, second, how)?;
     let only_second = all_lone(alloc, second, first, how)?;
+    let names = table.to_names(alloc)?;
     Ok(Pairing {
-        names: Names::of(table.into_names()),
+        names: Names::of(names),
         first: first_levels,
         second: second_levels,
         pairs,
@@ -249,7 +223,7 @@ fn finish(
     })
 }
 
-/// Pairs two netlists, their variables in the order that is asked for.
+/// Pairs two netlists, their variables in the order that is asked for. A netlist with registers is refused as `CountsDiffer` until next states are paired.
 pub fn pair(
     alloc: Global,
     first: &Netlist,

@@ -1,6 +1,6 @@
 //! The variables of two netlists, as they are declared and as they are met below the outputs.
 ghost use Rattle.std.specs.Prelude.{◌≡◌, ◌<◌, ◌≤◌, length, All, IsTrue, OnOk, IfOk, IfErr};
-ghost use Rattle.net_bench.specs.Circuit.{circuit};
+ghost use Rattle.net_bench.specs.Circuit.{circuit, variables_of};
 ghost use Rattle.net_order.specs.Order.{AreCounted, by_depth, declared, input_names, is_member, names_of, second_names};
 ghost use Rattle.net_order.specs.Tables.{IsOverflow, with_names};
 
@@ -13,7 +13,7 @@ use net_bench::reader::Netlist;
 use std::alloc::Global;
 
 /// The most variables.
-const MAX_VARIABLES: usize = 4_096;
+pub const MAX_VARIABLES: usize = 4_096;
 
 /// Puts the signals' names into the table, each where it is not there yet.
 fn add_names(
@@ -50,7 +50,7 @@ fn add_second(
     requires counted { AreCounted how (circuit first.now) (circuit second.now) }
     requires room { length table.old ≤ MAX_VARIABLES }
     requires known { All (λ s. s < length second.now.names) signals.now }
-    requires inputs { All (λ s. IsTrue (is_member s second.now.inputs)) signals.now }
+    requires inputs { All (λ s. IsTrue (is_member s (variables_of (circuit second.now)))) signals.now }
     ensures ok { OnOk result (table.new ≡ with_names table.old (second_names how (circuit first.now) (circuit second.now) signals.now)) }
     ensures few { OnOk result (length table.new ≤ MAX_VARIABLES) }
     ensures err { IfErr result (IsOverflow (with_names table.old (second_names how (circuit first.now) (circuit second.now) signals.now))) }
@@ -61,8 +61,8 @@ fn add_second(
             let called = partners(
                 alloc,
                 second.count(),
-                second.inputs(),
-                first.inputs(),
+                second.variables(),
+                first.variables(),
                 signals,
             )?;
             add_names(alloc, table, first, called.as_slice())
@@ -71,7 +71,7 @@ fn add_second(
 }
 
 /// Puts the variables of all inputs into the table, as they are declared, each where it is not there yet.
-fn add_inputs(
+pub fn add_inputs(
     alloc: Global,
     table: &mut NameTable,
     first: &Netlist,
@@ -84,8 +84,8 @@ fn add_inputs(
     ensures few { OnOk result (length table.new ≤ MAX_VARIABLES) }
     ensures err { IfErr result (IsOverflow (with_names table.old (input_names how (circuit first.now) (circuit second.now)))) }
 {
-    add_names(alloc, table, first, first.inputs())?;
-    add_second(alloc, table, first, second, how, second.inputs())
+    add_names(alloc, table, first, first.variables())?;
+    add_second(alloc, table, first, second, how, second.variables())
 }
 
 /// The variables in declared order.

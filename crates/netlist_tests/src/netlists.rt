@@ -2,7 +2,7 @@
 use crate::devices::{Endless, OneByte, Refusing};
 use net_bench::device::{Failed, Sink, Source, Through};
 use net_bench::name_table::NameTable;
-use net_bench::netlist::{BenchFault, Kind, Signal};
+use net_bench::netlist::{BenchFault, GateLine, Kind, Signal};
 use net_bench::reader::{Netlist, parse_bench, read_bench};
 use std::alloc::{AllocError, Global};
 use std::test::Fail;
@@ -20,7 +20,7 @@ fn fault_of(alloc: Global, text: &[u8]) -> Option<BenchFault> {
 
 #[test]
 fn refusals(rt: HostRuntime) -> Result<(), Fail> {
-    let table: [(&str, Option<BenchFault>); 36] = [
+    let table: [(&str, Option<BenchFault>); 42] = [
         ("", None),
         ("# only a comment", None),
         ("OUTPUT(z)", Some(BenchFault::Undefined { line: 1 })),
@@ -52,8 +52,23 @@ fn refusals(rt: HostRuntime) -> Result<(), Fail> {
         ("x = FOO(a)", Some(BenchFault::UnknownGate { line: 1 })),
         ("x =\nFOO(", Some(BenchFault::UnknownGate { line: 1 })),
         ("x = INPUT(a)", Some(BenchFault::UnknownGate { line: 1 })),
-        ("q = DFF(d)", Some(BenchFault::Sequential { line: 1 })),
-        ("q = dff(d, e)", Some(BenchFault::Sequential { line: 1 })),
+        ("q = DFF(d)", Some(BenchFault::Undefined { line: 1 })),
+        ("q = dff(d, e)", Some(BenchFault::WrongOperands { line: 1 })),
+        (
+            "INPUT(q)\nq = DFF(q)",
+            Some(BenchFault::Redefined { line: 2 }),
+        ),
+        (
+            "q = DFF(q)\nq = NOT(q)",
+            Some(BenchFault::Redefined { line: 2 }),
+        ),
+        ("q = DFF(q)", None),
+        ("q = DFF(r) r = DFF(q)", None),
+        ("OUTPUT(q)\nq = DFF(n)\nn = NOT(q)", None),
+        (
+            "q = DFF(a)\nOUTPUT(q)\na = AND(b, q)\nb = NOT(a)",
+            Some(BenchFault::Cycle { line: 3 }),
+        ),
         (
             "INPUT(a)\nOUTPUT(x)\n10 = NAND(1,",
             Some(BenchFault::BadStatement { line: 3 }),
@@ -231,10 +246,6 @@ fn printed_faults(rt: HostRuntime) -> Result<(), Fail> {
             "line 1000001: too many signals or operands, or a name too long",
         ),
         (
-            BenchFault::Sequential { line: 8 },
-            "line 8: register in a combinational netlist",
-        ),
-        (
             BenchFault::Undefined { line: 9 },
             "line 9: signal without definition",
         ),
@@ -276,13 +287,30 @@ fn add_names(text: &mut Vec<u8>, net: &Netlist, signals: &[Signal]) -> Result<()
     Ok(())
 }
 
-/// Inputs, outputs, and each gate with its kind, operands and rank; and with its line, if that is asked for.
+/// Inputs, outputs, and each gate, then each register, with its kind, operands and rank; and with its line, if that is asked for.
 fn described(alloc: Global, net: &Netlist, with_lines: bool) -> Result<Vec<u8>, AllocError> {
     let mut text = b"in".to_vec(alloc)?;
     add_names(&mut text, net, net.inputs())?;
     text.extend_from_slice(b" out")?;
     add_names(&mut text, net, net.outputs())?;
-    for gate in net.gates() {
+    add_lines(&mut text, alloc, net, net.gates(), with_lines)?;
+    add_lines(&mut text, alloc, net, net.registers(), with_lines)?;
+    if !net.registers().is_empty() {
+        text.extend_from_slice(b"; variables")?;
+        add_names(&mut text, net, net.variables())?;
+    }
+    Ok(text)
+}
+
+/// Each gate or register, behind a semicolon.
+fn add_lines(
+    text: &mut Vec<u8>,
+    alloc: Global,
+    net: &Netlist,
+    lines: &[GateLine],
+    with_lines: bool,
+) -> Result<(), AllocError> {
+    for gate in lines {
         text.extend_from_slice(b";")?;
         add_names(&mut text, net, &[gate.out])?;
         text.extend_from_slice(format!(in alloc; " {:?}", gate.kind)?.as_bytes())?;
@@ -295,7 +323,7 @@ fn described(alloc: Global, net: &Netlist, with_lines: bool) -> Result<Vec<u8>, 
             text.extend_from_slice(format!(in alloc; " line {}", gate.line)?.as_bytes())?;
         }
     }
-    Ok(text)
+    Ok(())
 }
 
 /// The netlist of a text, described.
@@ -313,6 +341,8 @@ fn read_netlist(alloc: Global, text: &[u8], with_lines: bool) -> Result<Vec<u8>,
 const CHAIN: &str =
     "OUTPUT(z) OUTPUT(y) OUTPUT(z)\nz = Not(y)\ny = XOR(x, x,w)\nINPUT(w) INPUT(x) INPUT(w)";
 
+const TOGGLE: &str = "OUTPUT(q)\nq = DFF(n)\nn = NOT(q)\nr = dff(r)\nm = AND(n, q)\nINPUT(d)";
+
 const C17_OTHERWISE: &str =
     "input(1)\r\nInput(2)\r\nINPUT(3)INPUT(6)\r\nINPUT(7)\r\nOUTPUT(22)\r\nOUTPUT\r\n(23)\r\n10=nand(1,3)\r\n11=nand(3,6)\r\n16=nand(2,11)\r\n19=nand(11,7)\r\n22=nand(10,16)#out\r\n23=nand(16,19)";
 
@@ -328,6 +358,11 @@ fn netlists(rt: HostRuntime) -> Result<(), Fail> {
             CHAIN,
             true,
             "in w x out z y; z Not y rank Some(2) line 2; y Xor x x w rank Some(1) line 3",
+        ),
+        (
+            TOGGLE,
+            true,
+            "in d out q; n Not q rank Some(1) line 3; m And n q rank Some(2) line 5; q Dff n rank Some(0) line 2; r Dff r rank Some(0) line 4; variables d q r",
         ),
     ];
     for (text, with_lines, want) in table {
@@ -443,7 +478,7 @@ fn name_tables(rt: HostRuntime) -> Result<(), Fail> {
     assert_eq!(rt; table.find(b"a"), Some(1));
     assert_eq!(rt; table.find(b"c"), None);
     assert!(rt; table.has(b"b"));
-    let names = table.into_names();
+    let names = table.to_names(alloc)?;
     assert_eq!(rt; names.len(), 3);
     assert_eq!(rt; names[1].as_slice(), b"a".as_slice());
     Ok(())

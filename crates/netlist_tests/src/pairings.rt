@@ -108,18 +108,17 @@ fn refused_lists(rt: HostRuntime) -> Result<(), Fail> {
     Ok(())
 }
 
-/// The names of the variables of two texts, in declared or in depth order.
+/// The names of the variables of two texts, by level.
 fn ordered(
     alloc: Global,
     first: &str,
     second: &str,
     how: Match,
-    depth: bool,
+    order: &Order,
 ) -> Result<Vec<u8>, Fail> {
     let first = netlist(alloc, first)?;
     let second = netlist(alloc, second)?;
-    let order = if depth { Order::Depth } else { Order::Declared };
-    let pairing = pair(alloc, &first, &second, how, &order)?;
+    let pairing = pair(alloc, &first, &second, how, order)?;
     Ok(spelled(alloc, pairing.names())?)
 }
 
@@ -136,7 +135,40 @@ fn declared_and_depth(rt: HostRuntime) -> Result<(), Fail> {
         (BUFFERED, THROUGH, Match::Position, true, "x "),
     ];
     for (first, second, how, depth, names) in rows {
-        let found = ordered(alloc, first, second, how, depth)?;
+        let order = if depth { Order::Depth } else { Order::Declared };
+        let found = ordered(alloc, first, second, how, &order)?;
+        assert_eq!(rt; found.as_slice(), names.as_bytes());
+    }
+    Ok(())
+}
+
+/// Two outputs that share a variable, and an input that none is above.
+const SHARED: &str =
+    "INPUT(a) INPUT(b) INPUT(x) INPUT(y) OUTPUT(o) OUTPUT(p) o = AND(a, b) p = AND(a, x)";
+
+/// An output that is an input, of a lower rank than the output behind it.
+const WIRED: &str = "INPUT(c) INPUT(a) INPUT(b) OUTPUT(b) OUTPUT(f) f = AND(a, b)";
+
+const CONJUNCTION: &str = "INPUT(a) INPUT(b) OUTPUT(o) o = AND(a, b)";
+
+/// The same function of other inputs: the new one is met first, or last.
+const NEW_FIRST: &str = "INPUT(b) INPUT(n) OUTPUT(o) o = AND(n, b)";
+
+const NEW_LAST: &str = "INPUT(n) INPUT(b) OUTPUT(o) o = AND(b, n)";
+
+#[test]
+fn interleaved(rt: HostRuntime) -> Result<(), Fail> {
+    let alloc = rt.alloc();
+    let rows = [
+        (C17, C17, Match::Name, "3 6 2 7 1 "),
+        (SHARED, SHARED, Match::Name, "a x b y "),
+        (WIRED, WIRED, Match::Name, "a b c "),
+        (CONJUNCTION, NEW_FIRST, Match::Name, "n a b "),
+        (CONJUNCTION, NEW_LAST, Match::Name, "a b n "),
+        (CONJUNCTION, NEW_FIRST, Match::Position, "a b "),
+    ];
+    for (first, second, how, names) in rows {
+        let found = ordered(alloc, first, second, how, &Order::Interleave)?;
         assert_eq!(rt; found.as_slice(), names.as_bytes());
     }
     Ok(())

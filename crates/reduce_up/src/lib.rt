@@ -9,4 +9,4 @@ mod waves;
 
 pub use levels::reduce;
 pub use results::Results;
-pub use waves::{wave, wave_one};
+pub use waves::{shared_wave, wave_one};

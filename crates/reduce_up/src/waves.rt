@@ -146,7 +146,7 @@ pub fn wave_one<R: Threads + Sync>(
 /// The requests of all operations together are expanded by workers in threads, and reduced from the last level up (Ochi,
 /// Yasuoka and Yajima 1993). NoWorker is answered where a worker's thread could not be started;
 /// what no other thread could be started for, the caller's thread does.
-pub fn wave<R: Threads + Wait + Sync, G: Gate>(
+pub fn shared_wave<R: Threads + Wait + Sync, G: Gate>(
     rt: &R,
     alloc: Global,
     store: &mut Store,

@@ -7,6 +7,7 @@ pub mod Expands
 pub mod Runs
 pub mod Finished
 pub mod Sums
+pub mod Counted
 pub mod Falls
 pub mod Progress
 pub mod Keeps

@@ -15,7 +15,9 @@ use Rattle.wave_core.specs.declared.Event.TheVariants.{Send, End, Take, Expand, 
 use Rattle.wave_core.specs.Step.{State, IsStep, IsRun, IsAllowed}
 use Rattle.wave_core.specs.Drive.{IsTurn}
 use Rattle.wave_core.specs.View.{wave_of_view, list_of}
-use Rattle.wave_core.specs.Cores.{CoreView, core_wave, core_state, IsSoundCore, IsSameWave, HasStep, IsRefusal, IsStopped, Reaches, TakesOpen}
+use Rattle.wave_core.specs.Cores.{CoreView, core_wave, core_state, IsSoundCore, IsSameWave, events_done, HasStep, IsRefusal, IsStopped, Reaches, TakesOpen}
+use Rattle.wave_core.specs.Counting.{done_of}
+use Rattle.wave_core.proofs.Counted.{counts_step, counts_run}
 use Rattle.wave_core.proofs.Cores.{wave_is}
 use Rattle.wave_core.proofs.Drives.{same_wave}
 use Rattle.wave_core.proofs.Progress.{allowed_of_step, step_of_allowed}
@@ -55,14 +57,22 @@ reaches_then v x y same r q = (r.0 ++ q.0, joined (core_wave v) (core_state v) (
     joined w c b d [] fs r q = subst (λ z. IsRun w z fs d) (sym r) q
     joined w c b d (e ∷ es) fs r q = (r.0, r.1, joined w r.0 b d es fs r.2 q)
 
+-- a step counts as one event, and a run as its events
+pub core_counts : (v y : CoreView) (e : Event) → IsSameWave v y → IsStep (core_wave v) (core_state v) e (core_state y) → events_done y ≡ events_done v + 1
+core_counts v y e same s = (λ i. done_of (same.workers i) (same.store i).levels (core_state y)) ∙ counts_step (core_wave v) (core_state v) (core_state y) e s
+
+pub core_counts_run : (v y : CoreView) (es : List Event) → IsSameWave v y → IsRun (core_wave v) (core_state v) es (core_state y) → events_done y ≡ events_done v + length es
+core_counts_run v y es same r = (λ i. done_of (same.workers i) (same.store i).levels (core_state y)) ∙ counts_run (core_wave v) (core_state v) (core_state y) es r
+
 -- the events before a place were done, and the one at it was refused
-pub stopped_at : (old x y : CoreView) (events : List Event) (i : ℕ) (fault : CoreFault) → i < length events → IsRun (core_wave old) (core_state old) (take i events) (core_state x) → y ≡ x → IsRefusal x (get_or events i (Send 0 0)) fault → IsStopped old events y fault
-stopped_at old x y events i fault l r e h = subst (λ (z : CoreView). IsStopped old events z fault) (sym e) (record {
+pub stopped_at : (old x y : CoreView) (events : List Event) (i : ℕ) (fault : CoreFault) → i < length events → IsSameWave old x → IsRun (core_wave old) (core_state old) (take i events) (core_state x) → y ≡ x → IsRefusal x (get_or events i (Send 0 0)) fault → IsStopped old events y fault
+stopped_at old x y events i fault l same r e h = subst (λ (z : CoreView). IsStopped old events z fault) (sym e) (record {
   before = take i events;
   event = get_or events i (Send 0 0);
   after = drop (i + 1) events;
   split = sym (take-append-drop i events) ∙ ap (λ xs. take i events ++ xs) (drop_more events i (Send 0 0) l);
   run = r;
+  counts = core_counts_run old x (take i events) same r;
   refused = h;
 })
 

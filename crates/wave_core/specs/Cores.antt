@@ -1,6 +1,5 @@
 -- What contracts see of a core: its store, its roots, and the lists of all workers.
-use Rattle.std.specs.Prelude.{◌≡◌, ℕ, ◌+◌, List, ◌∷◌, ◌++◌, length, sum}
-use Rattle.std.specs.List.{sum_by}
+use Rattle.std.specs.Prelude.{◌≡◌, ℕ, ◌+◌, List, ◌∷◌, ◌++◌, length}
 use Rattle.dd_store.specs.Nodes.{Nodes}
 use Rattle.req_table.specs.declared.Key.{Key}
 use Rattle.req_table.specs.declared.Item.{Item}
@@ -16,6 +15,7 @@ use Rattle.wave_core.specs.declared.CoreFault.TheVariants.{NotAllowed, OutOfMemo
 use Rattle.wave_core.specs.Step.{State, IsStart, IsStep, IsRun}
 use Rattle.wave_core.specs.Sound.{IsSound}
 use Rattle.wave_core.specs.View.{View, state_of}
+use Rattle.wave_core.specs.Counting.{done_of}
 
 pub record CoreView : Type 0 where
   pub store : Nodes
@@ -50,9 +50,9 @@ pub record IsSameWave (old new : CoreView) : Type 0 where
 abbrev pub IsSettledCore : CoreView → Type 0
 IsSettledCore v = IsSettled (core_wave v) v.roots (core_state v).sent (core_state v).taken (core_state v).rows
 
--- The number of events done: what was sent, taken and recorded, and the levels that were passed.
+-- The number of events done.
 abbrev pub events_done : CoreView → ℕ
-events_done v = sum_by length v.machine.sent + sum_by length v.machine.taken + sum_by length v.machine.rows + sum v.machine.at
+events_done v = done_of v.machine.workers v.store.levels (core_state v)
 
 -- some state follows by the event
 abbrev pub HasStep : CoreView → Event → Type 0
@@ -80,4 +80,5 @@ pub record IsStopped (old : CoreView) (events : List Event) (new : CoreView) (fa
   pub after : List Event
   pub split : events ≡ before ++ event ∷ after
   pub run : IsRun (core_wave old) (core_state old) before (core_state new)
+  pub counts : events_done new ≡ events_done old + length before
   pub refused : IsRefusal new event fault

@@ -1,4 +1,4 @@
-// Lists that grow at the end; two of them also shrink at the front.
+//! Lists that grow at the end; two of them also shrink at the front.
 ghost use Rattle.std.specs.Prelude.{◌≡◌, ℕ, List, [], ◌∷◌, ◌++◌, length, replicate, sum, ◌≤◌, ◌*◌, ◌^◌, MatchOption, MatchBool, IfOk, OnOk, OnErr};
 ghost use Rattle.std.specs.List.{sum_by};
 ghost use Rattle.req_table.specs.declared.Item.{Item as ItemValue};
@@ -10,7 +10,7 @@ use std::alloc::{AllocError, Global};
 use std::collections::VecDeque;
 use std::marker::Model;
 
-// Items that were sent or taken.
+/// Items that were sent or taken, in order.
 #[derive(Drop)]
 pub struct Items {
     items: Vec<Item>,
@@ -26,6 +26,7 @@ impl Model for Items {
 }
 
 impl Items {
+    /// An empty list.
     pub fn new(alloc: Global) -> Items
         ensures { result ≡ [] }
     {
@@ -45,18 +46,21 @@ impl Items {
         Ok(lists)
     }
 
+    /// How many there are.
     pub fn len(&self) -> usize
         ensures { result ≡ length self.now }
     {
         self.items.len()
     }
 
+    /// All of them, in order.
     pub fn as_slice(&self) -> &[Item]
         ensures { result.now ≡ self.now }
     {
         self.items.as_slice()
     }
 
+    /// Puts one at the end. After want of memory the list is as before.
     pub fn put(&mut self, item: &Item) -> Result<(), AllocError>
         ensures ok { OnOk result (self.new ≡ self.old ++ item.now ∷ []) }
         ensures err { OnErr result (self.new ≡ self.old) }
@@ -65,7 +69,7 @@ impl Items {
         Ok(())
     }
 
-    // Takes the last item back.
+    /// Takes the last item back.
     pub fn undo(&mut self)
         ensures { (xs : List ItemValue) (x : ItemValue) → self.old ≡ xs ++ x ∷ [] → self.new ≡ xs }
     {
@@ -73,7 +77,7 @@ impl Items {
     }
 }
 
-// Records of one worker and level.
+/// Records of one worker and level, in order.
 #[derive(Drop)]
 pub struct Row {
     records: Vec<Record>,
@@ -89,6 +93,7 @@ impl Model for Row {
 }
 
 impl Row {
+    /// An empty list.
     pub fn new(alloc: Global) -> Row
         ensures { result ≡ [] }
     {
@@ -108,18 +113,21 @@ impl Row {
         Ok(lists)
     }
 
+    /// How many there are.
     pub fn len(&self) -> usize
         ensures { result ≡ length self.now }
     {
         self.records.len()
     }
 
+    /// All of them, in order.
     pub fn as_slice(&self) -> &[Record]
         ensures { result.now ≡ self.now }
     {
         self.records.as_slice()
     }
 
+    /// Puts one at the end. After want of memory the list is as before.
     pub fn put(&mut self, added: &Record) -> Result<(), AllocError>
         ensures ok { OnOk result (self.new ≡ self.old ++ added.now ∷ []) }
         ensures err { OnErr result (self.new ≡ self.old) }
@@ -130,7 +138,7 @@ impl Row {
     }
 }
 
-// Keys that are due.
+/// Keys that are due from one worker to another, in order.
 #[derive(Drop)]
 pub struct Keys {
     keys: VecDeque<Key>,
@@ -146,6 +154,7 @@ impl Model for Keys {
 }
 
 impl Keys {
+    /// An empty list.
     pub fn new(alloc: Global) -> Keys
         ensures { result ≡ [] }
     {
@@ -165,24 +174,28 @@ impl Keys {
         Ok(lists)
     }
 
+    /// The one at the front.
     pub fn first(&self) -> Option<Key>
         ensures { MatchOption result (self.now ≡ []) (λ x. (rest : List KeyValue) × (self.now ≡ x ∷ rest)) }
     {
         self.keys.front().copied()
     }
 
+    /// Whether there is none.
     pub fn is_empty(&self) -> bool
         ensures { MatchBool result (self.now ≡ []) (¬ (self.now ≡ [])) }
     {
         self.keys.is_empty()
     }
 
+    /// Takes the one at the front away.
     pub fn pop(&mut self)
         ensures { (xs : List KeyValue) (x : KeyValue) → self.old ≡ x ∷ xs → self.new ≡ xs }
     {
         let _ = self.keys.pop_front();
     }
 
+    /// Puts one at the end. After want of memory the list is as before.
     pub fn put(&mut self, key: Key) -> Result<(), AllocError>
         ensures ok { OnOk result (self.new ≡ self.old ++ key ∷ []) }
         ensures err { OnErr result (self.new ≡ self.old) }
@@ -191,7 +204,7 @@ impl Keys {
         Ok(())
     }
 
-    // Takes the last key back.
+    /// Takes the last key back.
     pub fn undo(&mut self)
         ensures { (xs : List KeyValue) (x : KeyValue) → self.old ≡ xs ++ x ∷ [] → self.new ≡ xs }
     {
@@ -199,7 +212,7 @@ impl Keys {
     }
 }
 
-// Items that wait.
+/// Items that wait on one lane, in order.
 #[derive(Drop)]
 pub struct Lane {
     items: VecDeque<Item>,
@@ -215,6 +228,7 @@ impl Model for Lane {
 }
 
 impl Lane {
+    /// An empty list.
     pub fn new(alloc: Global) -> Lane
         ensures { result ≡ [] }
     {
@@ -234,18 +248,21 @@ impl Lane {
         Ok(lists)
     }
 
+    /// The one at the front.
     pub fn first(&self) -> Option<Item>
         ensures { MatchOption result (self.now ≡ []) (λ x. (rest : List ItemValue) × (self.now ≡ x ∷ rest)) }
     {
         self.items.front().copied()
     }
 
+    /// Takes the one at the front away.
     pub fn pop(&mut self)
         ensures { (xs : List ItemValue) (x : ItemValue) → self.old ≡ x ∷ xs → self.new ≡ xs }
     {
         let _ = self.items.pop_front();
     }
 
+    /// Puts one at the end. After want of memory the list is as before.
     pub fn put(&mut self, item: &Item) -> Result<(), AllocError>
         ensures ok { OnOk result (self.new ≡ self.old ++ item.now ∷ []) }
         ensures err { OnErr result (self.new ≡ self.old) }

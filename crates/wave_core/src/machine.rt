@@ -1,12 +1,12 @@
 //! The lists of all workers, and the events on them.
-ghost use Rattle.std.specs.Prelude.{◌≡◌, ℕ, ◌+◌, ◌*◌, ◌<◌, ◌≤◌, List, [], ◌∷◌, ◌++◌, length, slice_index_or, slice_set, sum, map, All, Contains, MatchOption, IfSome, IfOk, OnOk, OnErr, MatchBool};
-ghost use Rattle.std.specs.List.{sum_by};
+ghost use Rattle.std.specs.Prelude.{◌≡◌, ℕ, ◌+◌, ◌*◌, ◌<◌, ◌≤◌, List, [], ◌∷◌, ◌++◌, length, slice_index_or, slice_set, map, All, Contains, MatchOption, IfSome, IfOk, OnOk, OnErr, MatchBool};
 ghost use Rattle.req_table.specs.Lanes.{sent_by, IsFair, IsClosed, asks_at};
 ghost use Rattle.req_table.specs.Keys.{IsKey, wave_at};
 ghost use Rattle.req_table.specs.declared.Key.{Key as KeyValue};
 ghost use Rattle.wave_core.specs.View.{View, IsKept, state_of, wave_of_view, number_of, owe_of, owe_all, list_of, by_place};
 ghost use Rattle.req_table.specs.Settled.{key_of, level_of_rows};
 ghost use Rattle.req_table.specs.Tables.{row_at};
+ghost use Rattle.wave_core.specs.Counting.{done_of};
 ghost use Rattle.wave_core.specs.Step.{IsStart, IsStep, IsAllowed, IsAtWork, asks_here, row_here};
 ghost use Rattle.wave_core.specs.declared.Event.TheVariants.{Send, End, Take, Expand, Advance};
 
@@ -18,6 +18,8 @@ use req_table::{Child, Item, Key, Record, Records, Table};
 use std::alloc::{AllocError, Global};
 use std::marker::Model;
 
+/// What each worker has sent, taken and recorded, what is due from it and waits for it, and its level. A list of pairs of
+/// workers has the pair (s, k) at the place s * workers + k; a list by worker and level has (k, v) at k * levels + v.
 #[derive(Drop)]
 pub struct Machine {
     workers: u32,
@@ -491,7 +493,7 @@ impl Machine {
 
     /// How many events were done: each sent an item, took one, made a record or passed a level.
     pub fn events_done(&self) -> u128
-        ensures { result ≡ sum_by length self.now.sent + sum_by length self.now.taken + sum_by length self.now.rows + sum self.now.at }
+        ensures { result ≡ done_of self.now.workers self.now.levels (state_of self.now) }
     {
         let lanes = count_items(&self.sent) + count_items(&self.taken);
         lanes + count_records(&self.rows) + count_levels(&self.at)

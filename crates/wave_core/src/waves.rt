@@ -1,5 +1,5 @@
 //! A core: the workers of one wave on one thread.
-ghost use Rattle.std.specs.Prelude.{◌≡◌, ℕ, ◌<◌, ◌≤◌, List, [], ◌++◌, All, AllPairs, length, IfOk, IfErr, OnOk, OnErr, MatchBool, IsTrue};
+ghost use Rattle.std.specs.Prelude.{◌≡◌, ℕ, ◌+◌, ◌<◌, ◌≤◌, List, [], ◌++◌, All, AllPairs, length, IfOk, IfErr, OnOk, OnErr, MatchBool, IsTrue};
 ghost use Rattle.req_table.specs.Keys.{IsKey};
 ghost use Rattle.req_table.specs.declared.Item.{Item as ItemValue};
 ghost use Rattle.req_table.specs.declared.Record.{Record as RecordValue};
@@ -49,7 +49,8 @@ impl<'a> Core<'a> {
         requires some { 0 < workers }
         requires few { workers ≤ 16 }
         requires roots { All (IsKey store.now) roots.now }
-        ensures { IfOk result (λ c. IsNew store.now workers roots.now c) }
+        ensures new { IfOk result (λ c. IsNew store.now workers roots.now c) }
+        ensures counts { IfOk result (λ c. events_done c ≡ 0) }
     {
         let _ = store.levels();
         let machine = Machine::new(alloc, store, workers, roots)?;
@@ -88,6 +89,7 @@ impl<'a> Core<'a> {
         ensures same { IsSameWave self.old self.new }
         ensures ok { OnOk result (IsStep (core_wave self.old) (core_state self.old) event (core_state self.new)) }
         ensures open { OnOk result (TakesOpen self.old event) }
+        ensures counts { OnOk result (events_done self.new ≡ events_done self.old + 1) }
         ensures refused { IfErr result (λ fault. IsRefusal self.old event fault) }
         ensures unchanged { OnErr result (self.new ≡ self.old) }
     {
@@ -107,6 +109,7 @@ impl<'a> Core<'a> {
     pub fn run(&mut self, events: &[Event]) -> Result<usize, CoreFault>
         ensures same { IsSameWave self.old self.new }
         ensures count { IfOk result (λ n. n ≡ length events.now) }
+        ensures counts { OnOk result (events_done self.new ≡ events_done self.old + length events.now) }
         ensures ok { OnOk result (IsRun (core_wave self.old) (core_state self.old) events.now (core_state self.new)) }
         ensures refused { IfErr result (λ fault. IsStopped self.old events.now self.new fault) }
     {

@@ -1,19 +1,9 @@
-//! Tests of the crates of waves, by their public calls alone.
+//! Tests of reduction, of waves and of plans, by their public calls alone.
 #![tactic(auto)]
 
 #[cfg(test)]
-mod cores;
-#[cfg(test)]
-mod expanded;
-#[cfg(test)]
-mod lanes;
-#[cfg(test)]
 mod plans;
-#[cfg(test)]
-mod requests;
 #[cfg(test)]
 mod waves;
 #[cfg(test)]
 mod wide;
-#[cfg(test)]
-mod workers;

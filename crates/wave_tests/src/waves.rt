@@ -7,18 +7,20 @@ ghost use Rattle.req_table.specs.Tables.{row_at};
 ghost use Rattle.reduce_up.specs.Reducing.{HasAnswer};
 ghost use Rattle.reduce_up.specs.Waves.{IsEntry, IsClosureOf};
 
-use dd_store::{Ref, Store};
-use expand_work::{Free, WaveFault};
+use dd_store::{Ref, Store, Watch};
+use expand_work::{Free, Gate, WaveFault};
 use reduce_up::law::closures_are_records;
-use reduce_up::{Results, reduce, wave, wave_one};
+use reduce_up::{Results, reduce, wave_one};
 use req_table::requests::{normal, short};
 use req_table::{Key, Op, Records};
 use std::alloc::Global;
 use std::process::Abort;
 use std::sync::Wait;
+use std::sync::atomic::{AtomicU32, Ordering};
 use std::test::Fail;
 use std::thread::Threads;
 use wave_core::Core;
+use wave_engine::wave;
 
 // Operands are places in a list of known references: the constants, the variables by level, and the answers so far.
 const ZERO: usize = 0;
@@ -36,19 +38,55 @@ const D: usize = 5;
 /// An operation on two known references.
 pub(crate) type Step = (Op, usize, usize);
 
-/// How a wave is run: on the test's thread by a core with these choices, or by workers in threads.
+/// How a wave is run: on the test's thread by a core with these choices, as the program does it, or with workers who are called in at
+/// a level with more requests than this.
 #[derive(Clone, Copy)]
 pub(crate) enum Way {
     Alone(&'static [u8]),
     Threads,
+    Upto(usize),
+}
+
+/// Lets the caller's thread have so many requests of a level, and counts how often a worker comes to a level.
+#[derive(Drop)]
+pub(crate) struct Narrow {
+    pub(crate) most: usize,
+    pub(crate) told: AtomicU32,
+}
+
+impl Narrow {
+    pub(crate) fn new(most: usize) -> Narrow {
+        Narrow {
+            most,
+            told: AtomicU32::new(0),
+        }
+    }
+}
+
+impl Watch for Narrow {
+    fn at_shard(&self, _shard: u8, _level: u16) {}
+}
+
+impl Gate for Narrow {
+    fn at_level(&self, _worker: u32, _level: u16) {
+        self.told.fetch_add(1, Ordering::SeqCst);
+    }
+
+    fn most_alone(&self, _workers: u32) -> usize {
+        self.most
+    }
 }
 
 /// The choices are none, few, and more than a small wave has events.
-const WAYS: [Way; 4] = [
+const WAYS: [Way; 8] = [
     Way::Alone(&[]),
     Way::Alone(&[0, 1, 2]),
     Way::Alone(&[255; 200]),
     Way::Threads,
+    Way::Upto(0),
+    Way::Upto(1),
+    Way::Upto(5),
+    Way::Upto(usize::MAX),
 ];
 
 /// The constants and all variables of a store.
@@ -110,6 +148,10 @@ fn answers_of<R: Threads + Wait + Sync>(
     match way {
         Way::Alone(choices) => wave_one(rt, alloc, store, entries, workers, choices),
         Way::Threads => wave(rt, alloc, store, entries, workers, &Free),
+        Way::Upto(most) => {
+            let gate = Narrow::new(most);
+            wave(rt, alloc, store, entries, workers, &gate)
+        }
     }
 }
 

@@ -2,12 +2,13 @@
 use crate::waves::{Step, Way, entries_of, node, run, start};
 use dd_store::{Ref, Store, Watch};
 use expand_work::{Gate, WaveFault};
-use reduce_up::wave;
 use req_table::Op;
 use std::alloc::Global;
 use std::process::Abort;
-use std::sync::atomic::{AtomicBool, AtomicU64, Ordering};
+use std::sync::atomic::{AtomicBool, AtomicU32, AtomicU64, Ordering};
 use std::test::Fail;
+use std::thread;
+use wave_engine::wave;
 
 // The first variable is the factor of all products; the constants stand before it, and the products behind all variables.
 const FACTOR: usize = 2;
@@ -62,7 +63,7 @@ fn found<R: Abort>(rt: &R, alloc: Global, store: &Store, variables: u16) -> Vec<
 fn wide_level(rt: HostRuntime) -> Result<(), Fail> {
     let alloc = rt.alloc();
     for (limit, fits) in [(4_291, true), (4_290, false)] {
-        for way in [Way::Threads, Way::Alone(&[])] {
+        for way in [Way::Upto(0), Way::Alone(&[])] {
             let mut store = Store::new(alloc, 66, limit)?;
             let mut known = start(&rt, alloc, &mut store);
             let factors = products(&rt, alloc, 66);
@@ -127,26 +128,27 @@ impl Gate for Shards {
     fn at_level(&self, _worker: u32, _level: u16) {}
 }
 
-// A level of 2,016 records is left to the caller's thread; of one with 2,080 each shard is told once.
+// A level of 2,047 records is left to the caller's thread; of one with 2,048 each shard is told once.
 #[test]
 fn shards_of_a_wide_level(rt: HostRuntime) -> Result<(), Fail> {
     let alloc = rt.alloc();
-    for (variables, told) in [(65, 0), (66, 0x1111_1111_1111_1111)] {
-        let mut store = Store::new(alloc, variables, 10_000)?;
-        let mut known = start(&rt, alloc, &mut store);
-        let factors = products(&rt, alloc, variables);
-        let steps = sums(&rt, alloc, variables);
-        let made = run(
-            &rt,
-            alloc,
-            &mut store,
-            &mut known,
-            factors.as_slice(),
-            2,
-            Way::Threads,
-        );
-        assert!(rt; made.is_ok());
-        let entries = entries_of(&rt, alloc, &store, known.as_slice(), steps.as_slice());
+    let mut store = Store::new(alloc, 66, 10_000)?;
+    let mut known = start(&rt, alloc, &mut store);
+    let factors = products(&rt, alloc, 66);
+    let steps = sums(&rt, alloc, 66);
+    let made = run(
+        &rt,
+        alloc,
+        &mut store,
+        &mut known,
+        factors.as_slice(),
+        2,
+        Way::Upto(0),
+    );
+    assert!(rt; made.is_ok());
+    for (records, told) in [(2_047, 0), (2_048, 0x1111_1111_1111_1111)] {
+        let steps = &steps[..records];
+        let entries = entries_of(&rt, alloc, &store, known.as_slice(), steps);
         let gate = Shards {
             counts: AtomicU64::new(0),
             elsewhere: AtomicBool::new(false),
@@ -155,5 +157,63 @@ fn shards_of_a_wide_level(rt: HostRuntime) -> Result<(), Fail> {
         assert_eq!(rt; gate.counts.load(Ordering::SeqCst), told);
         assert!(rt; !gate.elsewhere.load(Ordering::SeqCst));
     }
+    Ok(())
+}
+
+/// Threads who wait at the shards of a level until four are there at once, or one has waited in vain.
+#[derive(Drop)]
+struct Four {
+    present: AtomicU32,
+    met: AtomicBool,
+    missed: AtomicBool,
+}
+
+impl Watch for Four {
+    fn at_shard(&self, _shard: u8, _level: u16) {
+        let others = self.present.fetch_add(1, Ordering::SeqCst);
+        if others >= 3 {
+            self.met.store(true, Ordering::SeqCst);
+        }
+        for _ in 0..10_000_000 {
+            if self.met.load(Ordering::SeqCst) || self.missed.load(Ordering::SeqCst) {
+                break;
+            }
+            thread::yield_now();
+        }
+        self.missed.store(true, Ordering::SeqCst);
+        self.present.fetch_sub(1, Ordering::SeqCst);
+    }
+}
+
+impl Gate for Four {
+    fn at_level(&self, _worker: u32, _level: u16) {}
+}
+
+// Four threads are at once in the shards of a level, however few workers there are.
+#[test]
+fn four_at_shards(rt: HostRuntime) -> Result<(), Fail> {
+    let alloc = rt.alloc();
+    let mut store = Store::new(alloc, 66, 10_000)?;
+    let mut known = start(&rt, alloc, &mut store);
+    let factors = products(&rt, alloc, 66);
+    let steps = sums(&rt, alloc, 66);
+    let made = run(
+        &rt,
+        alloc,
+        &mut store,
+        &mut known,
+        factors.as_slice(),
+        1,
+        Way::Upto(0),
+    );
+    assert!(rt; made.is_ok());
+    let entries = entries_of(&rt, alloc, &store, known.as_slice(), steps.as_slice());
+    let gate = Four {
+        present: AtomicU32::new(0),
+        met: AtomicBool::new(false),
+        missed: AtomicBool::new(false),
+    };
+    assert!(rt; wave(&rt, alloc, &mut store, entries.as_slice(), 1, &gate).is_ok());
+    assert!(rt; gate.met.load(Ordering::SeqCst));
     Ok(())
 }

@@ -1,5 +1,5 @@
 //! Devices and a folder in memory, which fail where they are told to.
-ghost use Rattle.std.specs.Prelude.{None, Some};
+ghost use Rattle.std.specs.Prelude.{◌≡◌, None, Some, false};
 
 use crate::folder::{Folder, OpenFault};
 use net_bench::device::{Failed, Sink, Source};
@@ -33,7 +33,10 @@ pub struct Reader {
     failed: bool,
 }
 
-pub fn start(tape: Tape) -> Reader {
+/// A reader at the beginning of a tape.
+pub fn start(tape: Tape) -> Reader
+    ensures { result.failed ≡ false }
+{
     Reader {
         rest: tape.text.as_bytes(),
         blanks: tape.blanks,
@@ -76,6 +79,7 @@ pub struct Page {
     room: usize,
     fails: bool,
     failed: bool,
+    stopped: bool,
 }
 
 pub fn new_page(alloc: Global, room: usize, fails: bool) -> Page {
@@ -84,6 +88,7 @@ pub fn new_page(alloc: Global, room: usize, fails: bool) -> Page {
         room,
         fails,
         failed: false,
+        stopped: false,
     }
 }
 
@@ -92,9 +97,14 @@ impl Sink for Page {
 
     ghost has_failed = { λ s. s.failed };
 
+    ghost has_stopped = { λ s. s.stopped };
+
     fn write(&mut self, bytes: &[u8]) -> Result<usize, Failed> {
         let count = bytes.len().min(self.room);
         if count == 0 && !self.fails {
+            if !bytes.is_empty() {
+                self.stopped = true;
+            }
             return Ok(0);
         }
         if count == 0 || self.held.extend_from_slice(&bytes[..count]).is_err() {

@@ -68,11 +68,6 @@ fn lines_of_faults(rt: HostRuntime) -> Result<(), Fail> {
             2,
         ),
         (
-            first(BenchFault::Sequential { line: 7 }),
-            "first: line 7: register in a combinational netlist",
-            2,
-        ),
-        (
             first(BenchFault::Undefined { line: 8 }),
             "first: line 8: signal without definition",
             2,

@@ -116,7 +116,7 @@ fn refused_texts() -> [Row; 20] {
             C17,
             "",
             2,
-            "first: line 1: register in a combinational netlist",
+            "first: line 1: signal without definition",
         ),
         (
             "",

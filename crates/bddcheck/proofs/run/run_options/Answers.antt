@@ -1,12 +1,13 @@
-use Rattle.std.proofs.Common.{rules, ◌∙◌, [], Some, sym, refl, subst}
+use Rattle.std.proofs.Common.{rules, ◌∙◌, [], false, Some, IsTrue, sym, refl, subst}
 use Rattle.bddcheck.specs.Running.{text_paths}
-use Rattle.bddcheck.specs.Opening.{Extends, opened}
+use Rattle.bddcheck.specs.Opening.{Extends, HasFailedAt, opened}
+use Rattle.bddcheck.proofs.Failing.{failed_at, first_failed, second_failed, never}
 use Rattle.bddcheck.proofs.Composing.{extends_none, input_texts, files_texts, split_parts, split_none, undivided, whole_report, whole_within, whole_beyond, whole_front, whole_faults, both_opened, all_opened, second_unopened}
 use Rattle.bddcheck.proofs.run.run_options.Goals as goal
 
 pub returns-in_err-second-in-Files-clause-fault : goal.returns-in_err-second-in-Files-clause-fault
 returns-in_err-second-in-Files-clause-fault g c =
-    let unopened = second_unopened c.args.options.now c.in-Files.first c.in-Files.second c.in-Files.is (g.F.Folder.told c.args.folder.now) (g.R.Source.remaining c.args.input.now) c.in_err-second-in-Files.field-0.0 _ _ _
+    let unopened = second_unopened c.args.options.now c.in-Files.first c.in-Files.second c.in-Files.is (g.F.Folder.told c.args.folder.now) (HasFailedAt g.F.File.Source.origin g.F.File.Source.has_failed) (g.R.Source.remaining c.args.input.now) c.in_err-second-in-Files.field-0.0 _ _ _
     c.in_err-second-in-Files.ensures.fault c.in_ok-first-in-Files.ensures.tried c.in_err-second-in-Files.ensures.tried in
     search rules
 
@@ -22,26 +23,32 @@ pub returns-in_ok-second-in-Files-clause-fault : goal.returns-in_ok-second-in-Fi
 returns-in_ok-second-in-Files-clause-fault g c =
     whole_faults (g.F.Folder.told c.args.folder.now) (g.R.Source.remaining c.args.input.now) c.args.options.now _ _
     (files_texts _ _ c.in_ok-first-in-Files.ensures.kept (g.R.Source.remaining c.args.input.now) c.args.options.now c.in-Files.first c.in-Files.second c.in-Files.is _ _ c.in_ok-first-in-Files.ensures.file c.in_ok-second-in-Files.ensures.file)
+    (HasFailedAt g.F.File.Source.origin g.F.File.Source.has_failed) (IsTrue (g.F.File.Source.has_failed c.compare.new.first)) (IsTrue (g.F.File.Source.has_failed c.compare.new.second))
+    (λ failed. first_failed (HasFailedAt g.F.File.Source.origin g.F.File.Source.has_failed) c.args.options.now.texts c.in-Files.first c.in-Files.second c.in-Files.is
+    (failed_at g.F.File.Source.origin g.F.File.Source.has_failed c.in-Files.first.now _ c.compare.new.first c.in_ok-first-in-Files.ensures.named c.compare.ensures.origins.0 failed))
+    (λ failed. second_failed (HasFailedAt g.F.File.Source.origin g.F.File.Source.has_failed) c.args.options.now.texts c.in-Files.first c.in-Files.second c.in-Files.is
+    (failed_at g.F.File.Source.origin g.F.File.Source.has_failed c.in-Files.second.now _ c.compare.new.second c.in_ok-second-in-Files.ensures.named c.compare.ensures.origins.1 failed))
     _ (c.in_ok-second-in-Files.ensures.kept ∙ c.in_ok-first-in-Files.ensures.kept) _ _ _
     (both_opened c.args.options.now c.in-Files.first c.in-Files.second c.in-Files.is _ _ _ c.in_ok-first-in-Files.ensures.tried c.in_ok-second-in-Files.ensures.tried) c.compare.result c.compare.ensures.fault
 
 pub returns-in-Some-clause-report : goal.returns-in-Some-clause-report
 returns-in-Some-clause-report g c =
     let texts = input_texts (g.F.Folder.told c.args.folder.now) (g.R.Source.remaining c.args.input.now) c.args.options.now c.in-Input.is c.in_ok-text-in-Input.text.items c.in-Some.one.now c.in-Some.two.now
-    (Some c.new-first.result.0.now) (Some c.new-second.result.0.now) (search rules) (search rules) c.in_ok-text-in-Input.ensures.text c.in_ok-text-in-Input.ensures.short (split_parts _ _ c.split_input.result c.in-Some.one c.in-Some.two (search rules) (search rules) c.split_input.ensures) in
+    (Some c.new-first.result) (Some c.new-second.result) (search rules) (search rules) c.in_ok-text-in-Input.ensures.text c.in_ok-text-in-Input.ensures.short (split_parts _ _ c.split_input.result c.in-Some.one c.in-Some.two (search rules) (search rules) c.split_input.ensures) in
     whole_report (g.F.Folder.told c.args.folder.now) (g.R.Source.remaining c.args.input.now) c.args.options.now _ _ texts _ refl _ _ c.compare-in-Input.result c.compare-in-Input.ensures.report
 
 pub returns-in-Some-clause-fault : goal.returns-in-Some-clause-fault
 returns-in-Some-clause-fault g c =
     let texts = input_texts (g.F.Folder.told c.args.folder.now) (g.R.Source.remaining c.args.input.now) c.args.options.now c.in-Input.is c.in_ok-text-in-Input.text.items c.in-Some.one.now c.in-Some.two.now
-    (Some c.new-first.result.0.now) (Some c.new-second.result.0.now) (search rules) (search rules) c.in_ok-text-in-Input.ensures.text c.in_ok-text-in-Input.ensures.short (split_parts _ _ c.split_input.result c.in-Some.one c.in-Some.two (search rules) (search rules) c.split_input.ensures) in
-    whole_faults (g.F.Folder.told c.args.folder.now) (g.R.Source.remaining c.args.input.now) c.args.options.now _ _ texts _ refl _ _ _ (subst (λ t. Extends (g.F.Folder.tries c.args.folder.now) (g.F.Folder.tries c.args.folder.now) (opened (text_paths t))) (sym c.in-Input.is) (extends_none (g.F.Folder.tries c.args.folder.now))) c.compare-in-Input.result c.compare-in-Input.ensures.fault
+    (Some c.new-first.result) (Some c.new-second.result) (search rules) (search rules) c.in_ok-text-in-Input.ensures.text c.in_ok-text-in-Input.ensures.short (split_parts _ _ c.split_input.result c.in-Some.one c.in-Some.two (search rules) (search rules) c.split_input.ensures) in
+    whole_faults (g.F.Folder.told c.args.folder.now) (g.R.Source.remaining c.args.input.now) c.args.options.now _ _ texts
+    (HasFailedAt g.F.File.Source.origin g.F.File.Source.has_failed) (IsTrue false) (IsTrue false) (never _) (never _) _ refl _ _ _ (subst (λ t. Extends (g.F.Folder.tries c.args.folder.now) (g.F.Folder.tries c.args.folder.now) (opened (text_paths t))) (sym c.in-Input.is) (extends_none (g.F.Folder.tries c.args.folder.now))) c.compare-in-Input.result c.compare-in-Input.ensures.fault
 
 pub returns-in-Some-clause-unwritten : goal.returns-in-Some-clause-unwritten
 returns-in-Some-clause-unwritten g c is =
     let texts = input_texts (g.F.Folder.told c.args.folder.now) (g.R.Source.remaining c.args.input.now) c.args.options.now c.in-Input.is c.in_ok-text-in-Input.text.items c.in-Some.one.now c.in-Some.two.now
-    (Some c.new-first.result.0.now) (Some c.new-second.result.0.now) (search rules) (search rules) c.in_ok-text-in-Input.ensures.text c.in_ok-text-in-Input.ensures.short (split_parts _ _ c.split_input.result c.in-Some.one c.in-Some.two (search rules) (search rules) c.split_input.ensures) in
-    whole_front (g.F.Folder.told c.args.folder.now) (g.R.Source.remaining c.args.input.now) c.args.options.now _ _ texts _ refl _ _ _ (c.compare-in-Input.ensures.unwritten is)
+    (Some c.new-first.result) (Some c.new-second.result) (search rules) (search rules) c.in_ok-text-in-Input.ensures.text c.in_ok-text-in-Input.ensures.short (split_parts _ _ c.split_input.result c.in-Some.one c.in-Some.two (search rules) (search rules) c.split_input.ensures) in
+    whole_front (g.F.Folder.told c.args.folder.now) (g.R.Source.remaining c.args.input.now) c.args.options.now _ _ texts _ refl _ _ _ _ (c.compare-in-Input.ensures.unwritten is)
 
 pub returns-in_ok-second-in-Files-clause-within : goal.returns-in_ok-second-in-Files-clause-within
 returns-in_ok-second-in-Files-clause-within g c =
@@ -58,11 +65,11 @@ returns-in_ok-second-in-Files-clause-full g c is =
 pub returns-in-Some-clause-within : goal.returns-in-Some-clause-within
 returns-in-Some-clause-within g c =
     let texts = input_texts (g.F.Folder.told c.args.folder.now) (g.R.Source.remaining c.args.input.now) c.args.options.now c.in-Input.is c.in_ok-text-in-Input.text.items c.in-Some.one.now c.in-Some.two.now
-    (Some c.new-first.result.0.now) (Some c.new-second.result.0.now) (search rules) (search rules) c.in_ok-text-in-Input.ensures.text c.in_ok-text-in-Input.ensures.short (split_parts _ _ c.split_input.result c.in-Some.one c.in-Some.two (search rules) (search rules) c.split_input.ensures) in
+    (Some c.new-first.result) (Some c.new-second.result) (search rules) (search rules) c.in_ok-text-in-Input.ensures.text c.in_ok-text-in-Input.ensures.short (split_parts _ _ c.split_input.result c.in-Some.one c.in-Some.two (search rules) (search rules) c.split_input.ensures) in
     whole_within (g.F.Folder.told c.args.folder.now) (g.R.Source.remaining c.args.input.now) c.args.options.now _ _ texts _ refl c.compare-in-Input.result c.compare-in-Input.ensures.within
 
 pub returns-in-Some-clause-full : goal.returns-in-Some-clause-full
 returns-in-Some-clause-full g c is =
     let texts = input_texts (g.F.Folder.told c.args.folder.now) (g.R.Source.remaining c.args.input.now) c.args.options.now c.in-Input.is c.in_ok-text-in-Input.text.items c.in-Some.one.now c.in-Some.two.now
-    (Some c.new-first.result.0.now) (Some c.new-second.result.0.now) (search rules) (search rules) c.in_ok-text-in-Input.ensures.text c.in_ok-text-in-Input.ensures.short (split_parts _ _ c.split_input.result c.in-Some.one c.in-Some.two (search rules) (search rules) c.split_input.ensures) in
+    (Some c.new-first.result) (Some c.new-second.result) (search rules) (search rules) c.in_ok-text-in-Input.ensures.text c.in_ok-text-in-Input.ensures.short (split_parts _ _ c.split_input.result c.in-Some.one c.in-Some.two (search rules) (search rules) c.split_input.ensures) in
     whole_beyond (g.F.Folder.told c.args.folder.now) (g.R.Source.remaining c.args.input.now) c.args.options.now _ _ texts _ refl (c.compare-in-Input.ensures.full is)

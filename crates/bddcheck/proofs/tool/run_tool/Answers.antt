@@ -27,6 +27,7 @@ returns-in-Ok-run_options-clause-ending g c =
           code = c.status_of.ensures;
         },
       ),
+      c.run_options.ensures.unasked,
     )
 
 pub returns-in-Err-run_options-clause-ending : goal.returns-in-Err-run_options-clause-ending
@@ -50,4 +51,5 @@ returns-in-Err-run_options-clause-ending g c =
               subst (λ w. Keeps (g.W.Sink.contents c.args.out.now) (g.W.Sink.contents w)) (sym same) (keeps_own (g.W.Sink.contents c.args.out.now));
         },
       ),
+      c.run_options.ensures.unasked,
     )

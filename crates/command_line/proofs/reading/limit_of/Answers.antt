@@ -10,5 +10,5 @@ pub returns-clause-number : goal.returns-clause-number
 returns-clause-number c =
     let f = found_of c.args.matches.now in
     let G : List ℕ → Result ℕ ParseIntError → Type 0 = λ u x. ParsesUnsigned 64 10 u x × ExplainsUnsignedError 10 u x × HasUnsignedDigitsIfOk u x in
-    number_read G 64 1 4294967295 (one_of (codes "limit") (rows_of f)) c.get_one.result 67108864 _
+    number_read G 64 1 4294967295 (one_of (codes "limit") (rows_of f)) c.get_one.result 0 _
     (λ t e. c.get_one.ensures.value t (one_text-rows f (codes "limit") ∙ e)) (λ u x g. g.0) (omega arith) (search rules)

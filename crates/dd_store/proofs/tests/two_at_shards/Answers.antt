@@ -1,5 +1,5 @@
-use Rattle.std.proofs.Common.{◌≡◌, ℕ, ◌<◌, List, refl, sym, ◌∙◌, ap, subst, arith, false, inl, inr, ◌⊎◌}
-use Rattle.std.specs.Prelude.{Result, Ok, IfOk, ◌≢◌}
+use Rattle.std.proofs.Common.{◌≡◌, ℕ, ◌<◌, List, sym, ◌∙◌, ap, subst, arith, false, inl, inr}
+use Rattle.std.specs.Prelude.{Result, Ok, IfOk}
 use Rattle.dd_store.specs.declared.StoreFault.{StoreFault}
 use Rattle.dd_store.specs.declared.reference.Ref.{Ref}
 use Rattle.dd_store.specs.declared.reference.Ref.TheVariants.{False, True}

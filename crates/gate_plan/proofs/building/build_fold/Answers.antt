@@ -16,10 +16,15 @@ fold_entries-requires-clause-second g c =
     steps_fit c.args.sides.now.second.net c.requires.second_plan.sound (input_level c.args.sides.now.second) c.args.store.now c.args.built.now.second c.args.built.now.second c.args.rank c.args.fold c.steps-theirs.result.now
     c.requires.second_folded refl c.steps-theirs.ensures
 
-pub wave-requires-clause-operands : goal.wave-requires-clause-operands
-wave-requires-clause-operands g c lifetimes lives =
+pub wave-requires : goal.wave-requires
+wave-requires g c = (
+  c.type_bounds.sync-R,
+  (
+    c.type_bounds.sync-G,
     all_entries c.args.store.now c.args.built.now.first c.args.built.now.second c.steps-ours.result.now c.steps-theirs.result.now c.as_slice.result.now
-    c.requires.first_folded.right.known c.requires.second_folded.right.known (c.as_slice.ensures.value ∙ c.in-Ok.ensures)
+        c.requires.first_folded.right.known c.requires.second_folded.right.known (c.as_slice.ensures.value ∙ c.in-Ok.ensures),
+  ),
+)
 
 pub split_at-requires : goal.split_at-requires
 split_at-requires g c =

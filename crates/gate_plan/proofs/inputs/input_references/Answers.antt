@@ -4,5 +4,5 @@ use Rattle.gate_plan.proofs.inputs.input_references.Goals as goal
 
 pub returns : goal.returns
 returns c =
-    inputs_all c.args.netlist.now (level_in c.args.which c.args.pairing.now) c.args.variables.now c.loop-input.references.items c.inputs-input-items.result.now c.loop-input.input-index
-    c.inputs-input-items.ensures.value c.loop-input-test.false c.loop-input.auto.input-index-end c.loop-input.invariant.each c.loop-input.invariant.inputs c.loop-input.invariant.others
+    inputs_all c.args.netlist.now (level_in c.args.which c.args.pairing.now) c.args.variables.now c.loop-input.references.items c.variables-input-items.result.now c.loop-input.input-index
+    c.variables-input-items.ensures.value c.loop-input-test.false c.loop-input.auto.input-index-end c.loop-input.invariant.each c.loop-input.invariant.inputs c.loop-input.invariant.others

@@ -1,6 +1,6 @@
 use Rattle.std.proofs.Common.{subst}
 use Rattle.std.proofs.lemmas.Result.{err_from_is_err_and}
-use Rattle.net_bench.specs.Circuit.{circuit}
+use Rattle.net_bench.specs.Circuit.{circuit, variables_of}
 use Rattle.net_order.specs.Order.{names_of, second_names}
 use Rattle.net_order.specs.Tables.{IsOverflow, with_names}
 use Rattle.net_order.proofs.Seconds.{more_overflow}
@@ -10,5 +10,5 @@ pub returns-in_err-add_names-clause-err : goal.returns-in_err-add_names-clause-e
 returns-in_err-add_names-clause-err c =
     let p = err_from_is_err_and c.from_residual.result c.from_residual.ensures.1 in
     let a = circuit c.args.first.now in
-    rw (p.1, p.2) (more_overflow c.in_err-add_names.field-0.0 c.args.table.now (names_of a c.args.first.now.inputs) (second_names c.args.how a (circuit c.args.second.now) c.args.second.now.inputs)
-    (subst (λ xs. IsOverflow (with_names c.args.table.now (names_of a xs)) c.in_err-add_names.field-0.0) c.inputs.ensures.value c.in_err-add_names.ensures.err))
+    rw (p.1, p.2) (more_overflow c.in_err-add_names.field-0.0 c.args.table.now (names_of a (variables_of (circuit c.args.first.now))) (second_names c.args.how a (circuit c.args.second.now) (variables_of (circuit c.args.second.now)))
+    (subst (λ xs. IsOverflow (with_names c.args.table.now (names_of a xs)) c.in_err-add_names.field-0.0) c.variables.ensures.value c.in_err-add_names.ensures.err))

@@ -7,25 +7,25 @@ use Rattle.net_order.proofs.walk.enter.Goals as goal
 
 pub returns-then-index-clause-walking : goal.returns-then-index-clause-walking
 returns-then-index-clause-walking c =
-    enter_marked (circuit c.args.net.now) c.args.found.now.items c.args.marks.now.items c.args.signal (reverse c.args.stack.now.items) c.requires.walking c.index.result.now c.index.ensures c.if-index.true
+    enter_marked c.args.paths.now.way (circuit c.args.paths.now.net.now) _ c.args.found.now.items c.args.marks.now.items c.args.signal (reverse c.args.stack.now.items) c.requires.walking c.index.result.now c.index.ensures c.if-index.true
 
 pub returns-then-index-clause-fewer : goal.returns-then-index-clause-fewer
-returns-then-index-clause-fewer c = fewer (circuit c.args.net.now) (Enter c.args.signal) (reverse c.args.stack.now.items)
+returns-then-index-clause-fewer c = fewer c.args.paths.now.way (circuit c.args.paths.now.net.now) (Enter c.args.signal) (reverse c.args.stack.now.items)
 
 pub returns-in_ok-push-in-None-clause-walking : goal.returns-in_ok-push-in-None-clause-walking
 returns-in_ok-push-in-None-clause-walking c =
-    enter_input c.args.net.now c.gate_of.ensures.sound c.args.found.now.items c.args.marks.now.items c.args.signal (reverse c.args.stack.now.items) c.requires.walking
-    c.index.result.now c.index.ensures c.if-index.false c.in-None.ensures.gate c.push.new.self.items (c.in_ok-push-in-None.ensures.items ∙ ap (λ k. c.args.found.now.items ++ k ∷ []) c.of.ensures)
+    enter_input c.args.paths.now.way c.args.paths.now.net.now c.requires.paths.sound _ c.args.found.now.items c.args.marks.now.items c.args.signal (reverse c.args.stack.now.items) c.requires.walking
+    c.index.result.now c.index.ensures c.if-index.false c.in-None.ensures c.push.new.self.items (c.in_ok-push-in-None.ensures.items ∙ ap (λ k. c.args.found.now.items ++ k ∷ []) c.of.ensures)
 
 pub returns-in_ok-push-in-None-clause-fewer : goal.returns-in_ok-push-in-None-clause-fewer
-returns-in_ok-push-in-None-clause-fewer c = fewer (circuit c.args.net.now) (Enter c.args.signal) (reverse c.args.stack.now.items)
+returns-in_ok-push-in-None-clause-fewer c = fewer c.args.paths.now.way (circuit c.args.paths.now.net.now) (Enter c.args.signal) (reverse c.args.stack.now.items)
 
 pub returns-in_ok-push_operands-in-Some-clause-walking : goal.returns-in_ok-push_operands-in-Some-clause-walking
 returns-in_ok-push_operands-in-Some-clause-walking c =
-    enter_gate c.args.net.now c.gate_of.ensures.sound c.args.found.now.items c.args.marks.now.items c.args.signal (reverse c.args.stack.now.items) c.requires.walking
-    c.in-Some.gate.now c.in-Some.ensures.gate c.args.stack.now.items c.push-in-Some.new.self.items c.push_operands.new.stack.items c.as_slice.result.now refl c.in_ok-push-in-Some.ensures.items c.as_slice.ensures c.in_ok-push_operands-in-Some.ensures
+    enter_gate c.args.paths.now.way c.args.paths.now.net.now c.requires.paths.sound _ c.args.found.now.items c.args.marks.now.items c.args.signal (reverse c.args.stack.now.items) c.requires.walking
+    c.in-Some.operands.now c.in-Some.ensures c.args.stack.now.items c.push-in-Some.new.self.items c.push_operands.new.stack.items refl c.in_ok-push-in-Some.ensures.items c.in_ok-push_operands-in-Some.ensures
 
 pub returns-in_ok-push_operands-in-Some-clause-fewer : goal.returns-in_ok-push_operands-in-Some-clause-fewer
 returns-in_ok-push_operands-in-Some-clause-fewer c =
-    fewer_opened c.args.net.now c.gate_of.ensures.sound c.args.found.now.items c.args.marks.now.items c.args.signal (reverse c.args.stack.now.items) c.requires.walking
-    c.in-Some.gate.now c.in-Some.ensures.gate c.args.stack.now.items c.push-in-Some.new.self.items c.push_operands.new.stack.items c.as_slice.result.now refl c.in_ok-push-in-Some.ensures.items c.as_slice.ensures c.in_ok-push_operands-in-Some.ensures
+    fewer_opened c.args.paths.now.way c.args.paths.now.net.now c.requires.paths.sound _ c.args.found.now.items c.args.marks.now.items c.args.signal (reverse c.args.stack.now.items) c.requires.walking
+    c.in-Some.operands.now c.in-Some.ensures c.args.stack.now.items c.push-in-Some.new.self.items c.push_operands.new.stack.items refl c.in_ok-push-in-Some.ensures.items c.in_ok-push_operands-in-Some.ensures

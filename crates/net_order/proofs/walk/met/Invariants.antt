@@ -1,10 +1,13 @@
-use Rattle.std.specs.Prelude.{reverse}
+use Rattle.std.proofs.Common.{◌≡◌, drop}
+use Rattle.std.specs.Prelude.{fold, flat_map}
 use Rattle.net_bench.specs.Circuit.{circuit}
-use Rattle.net_order.specs.Walk.{IsWalk, steps_left}
+use Rattle.net_order.specs.declared.walk.Way.TheVariants.{Written}
+use Rattle.net_order.specs.Order.{below, met, with_number}
+use Rattle.net_order.specs.Walk.{IsSettled}
 use Rattle.net_order.proofs.walk.met.Given as goal
 
-abbrev pub invariant-loop-frame : goal.invariant-loop-frame
-invariant-loop-frame l = IsWalk (circuit l.net) l.found.items l.marks.items (reverse l.stack.items)
-
-abbrev pub decreases-loop-frame : goal.decreases-loop-frame
-decreases-loop-frame l = steps_left (circuit l.net) (reverse l.stack.items)
+abbrev pub invariant-loop-output : goal.invariant-loop-output
+invariant-loop-output l = record {
+  settled : IsSettled Written (circuit l.net) l.found.items l.marks.items;
+  rest : fold with_number l.found.items (flat_map (below Written (circuit l.net)) (drop l.output-index l.outputs)) ≡ met (circuit l.net);
+}

@@ -8,7 +8,7 @@ use Rattle.wave_tests.proofs.waves.closure_of.Goals as goal
 
 pub returns : goal.returns
 returns g c =
-    let new : IsNew c.args.store.now 2 c.args.roots.now c.expect-core.result = subst (λ z. IfOk z (IsNew c.args.store.now 2 c.args.roots.now)) c.expect-core.ensures c.new.ensures in
+    let new : IsNew c.args.store.now 2 c.args.roots.now c.expect-core.result = subst (λ z. IfOk z (IsNew c.args.store.now 2 c.args.roots.now)) c.expect-core.ensures c.new.ensures.new in
     let finished : IsFinished (core_wave c.drive.new.self) (core_state c.drive.new.self) = search rules in
     subst (λ z. IfOk z (IsClosureOf c.args.store.now 2 c.args.roots.now)) c.expect.ensures
     (driven_closure c.args.store.now 2 c.args.roots.now c.expect-core.result c.drive.new.self new c.drive.ensures.same

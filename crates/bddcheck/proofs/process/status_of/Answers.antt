@@ -1,0 +1,8 @@
+use Rattle.std.proofs.Common.{refl}
+use Rattle.bddcheck.proofs.process.status_of.Goals as goal
+
+pub returns-in-Ok-clause-ending : goal.returns-in-Ok-clause-ending
+returns-in-Ok-clause-ending g c = rw (c.in-Ok.is, ← c.as_slice.ensures.value, ← c.behind_name.ensures) c.run_tool.ensures.ending
+
+pub returns-in-Err-clause-ending : goal.returns-in-Err-clause-ending
+returns-in-Err-clause-ending g c = rw c.in-Err.is (c.wordless.ensures.told, refl, refl, refl)

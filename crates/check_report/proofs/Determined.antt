@@ -1,0 +1,156 @@
+-- The definition of the report determines it: the counts and the bytes.
+use Rattle.std.proofs.Common.{◌≡◌, ◌≢◌, ◌∙◌, ℕ, suc, ◌<◌, ◌⊎◌, inl, inr, Bool, true, false, List, [], ◌∷◌, ◌++◌, map, length, Option, Some, refl, sym, ap, subst, arith, slice_index}
+use Rattle.std.specs.Prelude.{All}
+use Rattle.std.specs.List.{AllZip, slice_index_or}
+use Rattle.dd_store.specs.Functions.{Agree, Before, IsLeastDifference}
+use Rattle.dd_store.specs.Functions.Before.{first, later}
+use Rattle.dd_store.specs.Size.{HasSize}
+use Rattle.dd_store.proofs.OneSize.{HasSize-one}
+use Rattle.net_bench.specs.Circuit.{Circuit, Net, IsNet, circuit, variables_of}
+use Rattle.net_bench.specs.Labels.{IsLabelling, IsFunctionOf, bit_of}
+use Rattle.net_bench.proofs.Built.{same_labelling}
+use Rattle.net_order.specs.declared.order.Match.{Match}
+use Rattle.net_order.specs.declared.order.Order.{Order}
+use Rattle.net_order.specs.Order.{Paired, IsPairing, name_of}
+use Rattle.net_order.proofs.OutputPairs.{pairs_inside}
+use Rattle.check_report.specs.declared.outcome.Outcome.{Outcome}
+use Rattle.check_report.specs.Lines.{Line, report_text, counted}
+use Rattle.check_report.specs.Lines.Line.{equal, differs}
+use Rattle.check_report.specs.Report.{Compared, IsSizeShown, AreSizesShown, IsLineOf, AreOutputs, lone_lines, IsReport}
+use Rattle.check_report.specs.Report.IsLineOf.{where_equal, where_different}
+
+-- ---- the least difference
+
+behind : (b : Bool) (x y : List Bool) → (x ≡ y) ⊎ (Before x y ⊎ Before y x) → (b ∷ x ≡ b ∷ y) ⊎ (Before (b ∷ x) (b ∷ y) ⊎ Before (b ∷ y) (b ∷ x))
+behind b x y (inl e) = inl (ap (λ z. b ∷ z) e)
+behind b x y (inr (inl l)) = inr (inl (later l))
+behind b x y (inr (inr l)) = inr (inr (later l))
+
+either : (x y : List Bool) → length x ≡ length y → (x ≡ y) ⊎ (Before x y ⊎ Before y x)
+either [] [] e = inl refl
+either [] (b ∷ y) e = absurd (omega arith)
+either (a ∷ x) [] e = absurd (omega arith)
+either (false ∷ x) (true ∷ y) e = inr (inl first)
+either (true ∷ x) (false ∷ y) e = inr (inr first)
+either (false ∷ x) (false ∷ y) e = behind false x y (either x y (omega arith))
+either (true ∷ x) (true ∷ y) e = behind true x y (either x y (omega arith))
+
+one_difference : (n : ℕ) (f g f' g' : List Bool → Bool) (x y : List Bool) → Agree n f f' → Agree n g g' → IsLeastDifference n f g x → IsLeastDifference n f' g' y → x ≡ y
+one_difference n f g f' g' x y same other d e = by (either x y (d.bits ∙ sym e.bits))
+  where
+    by : (x ≡ y) ⊎ (Before x y ⊎ Before y x) → x ≡ y
+    by (inl is) = is
+    by (inr (inl l)) = absurd (d.differ (same x d.bits ∙ e.least x d.bits l ∙ sym (other x d.bits)))
+    by (inr (inr l)) = absurd (e.differ (sym (same y e.bits) ∙ d.least y e.bits l ∙ other y e.bits))
+
+-- ---- sizes
+
+size_as : (n : ℕ) (f g : List Bool → Bool) (k : ℕ) → Agree n f g → HasSize n f k → HasSize n g k
+size_as n f g k same s = (s.0, s.1, record { reduced = s.2.reduced; there = s.2.there; value = λ x len. s.2.value x len ∙ same x len }, s.3)
+
+one_size : (sizes : Bool) (n : ℕ) (f g : List Bool → Bool) (shown more : Option ℕ) → Agree n f g → IsSizeShown sizes n f shown → IsSizeShown sizes n g more → shown ≡ more
+one_size false n f g shown more same s t = s ∙ sym t
+one_size true n f g shown more same s t = s.2 ∙ ap (λ k. Some k) (HasSize-one n g s.0 t.0 (size_as n f g s.0 same s.1) t.1) ∙ sym t.2
+
+two_sizes : (sizes : Bool) (n : ℕ) (f g f' g' : List Bool → Bool) (shown more : Option (ℕ × ℕ)) → Agree n f f' → Agree n g g' → AreSizesShown sizes n f g shown → AreSizesShown sizes n f' g' more → shown ≡ more
+two_sizes false n f g f' g' shown more same other s t = s ∙ sym t
+two_sizes true n f g f' g' shown more same other s t =
+    let e : s.0 ≡ t.0 = HasSize-one n f' s.0 t.0 (size_as n f f' s.0 same s.2) t.2 in
+    let h : s.1 ≡ t.1 = HasSize-one n g' s.1 t.1 (size_as n g g' s.1 other s.3) t.3 in
+    s.4 ∙ ap (λ k. Some (k, s.1)) e ∙ ap (λ m. Some (t.0, m)) h ∙ sym t.4
+
+-- ---- lines
+
+CallsBoth : (n : ℕ) (sizes : Bool) → Compared → Line → Type 0
+CallsBoth n sizes c l = (shown : Option ℕ) × Agree n c.first c.second × IsSizeShown sizes n c.first shown × (l ≡ equal c.name shown)
+
+TellsApart : (n : ℕ) (sizes : Bool) → Compared → Line → Type 0
+TellsApart n sizes c l =
+    (x : List Bool) × (shown : Option (ℕ × ℕ)) × IsLeastDifference n c.first c.second x × AreSizesShown sizes n c.first c.second shown × (l ≡ differs c.name x (c.first x) (c.second x) shown)
+
+kind_of : (n : ℕ) (sizes : Bool) (c : Compared) (l : Line) → IsLineOf n sizes c l → CallsBoth n sizes c l ⊎ TellsApart n sizes c l
+unfolding CallsBoth TellsApart
+kind_of n sizes c l (where_equal {shown = shown} agree size) = inl (shown, agree, size, refl)
+kind_of n sizes c l (where_different {x = x} {shown = shown} least size) = inr (x, shown, least, size, refl)
+
+one_line : (n : ℕ) (sizes : Bool) (c d : Compared) → c.name ≡ d.name → Agree n c.first d.first → Agree n c.second d.second → (l m : Line) → IsLineOf n sizes c l → IsLineOf n sizes d m → l ≡ m
+unfolding CallsBoth TellsApart
+one_line n sizes c d name same other l m h k = by (kind_of n sizes c l h) (kind_of n sizes d m k)
+  where
+    by : CallsBoth n sizes c l ⊎ TellsApart n sizes c l → CallsBoth n sizes d m ⊎ TellsApart n sizes d m → l ≡ m
+    by (inl s) (inl t) =
+        s.3 ∙ ap (λ w. equal w s.0) name ∙ ap (λ z. equal d.name z) (one_size sizes n c.first d.first s.0 t.0 same s.2 t.2) ∙ sym t.3
+    by (inl s) (inr t) =
+        absurd (t.2.differ (sym (same t.0 t.2.bits) ∙ s.1 t.0 t.2.bits ∙ other t.0 t.2.bits))
+    by (inr s) (inl t) =
+        absurd (s.2.differ (same s.0 s.2.bits ∙ t.1 s.0 s.2.bits ∙ sym (other s.0 s.2.bits)))
+    by (inr s) (inr t) =
+        let x : s.0 ≡ t.0 = one_difference n c.first c.second d.first d.second s.0 t.0 same other s.2 t.2 in
+        let shown : s.1 ≡ t.1 = two_sizes sizes n c.first c.second d.first d.second s.1 t.1 same other s.3 t.3 in
+        let one : c.first s.0 ≡ d.first t.0 = same s.0 s.2.bits ∙ ap d.first x in
+        let two : c.second s.0 ≡ d.second t.0 = other s.0 s.2.bits ∙ ap d.second x in
+        let e = s.4 in
+        let f = t.4 in
+        cc
+
+-- ---- functions
+
+labelling_as : (c : Circuit) (level more : ℕ → ℕ) (x bits : List Bool) → All (λ s. level s ≡ more s) (variables_of c) → IsLabelling c level x bits → IsLabelling c more x bits
+labelling_as c level more x bits same l = record {
+  each = l.each;
+  variables = λ k d lt. l.variables k d lt ∙ ap (bit_of x) (same k d lt);
+  gates = l.gates;
+}
+
+one_function : (net : Net) → IsNet net → (level more : ℕ → ℕ) → All (λ s. level s ≡ more s) (variables_of (circuit net)) → (n s : ℕ) → s < length net.names → (f g : List Bool → Bool)
+    → IsFunctionOf (circuit net) level n s f → IsFunctionOf (circuit net) more n s g → Agree n f g
+one_function net sound level more same n s lt f g h k = λ x len.
+    let a = h x len in
+    let b = k x len in
+    sym a.2 ∙ same_labelling net sound more x a.0 b.0 (labelling_as (circuit net) level more x a.0 same a.1) b.1 s lt ∙ b.2
+
+-- ---- the report
+
+module _ (n : ℕ) (sizes : Bool) (one two : Net) (sound : IsNet one) (sound' : IsNet two) (p q : Paired) (size : length p.names ≡ n) (size' : length q.names ≡ n)
+    (first_same : All (λ s. slice_index p.first s ≡ slice_index q.first s) (variables_of (circuit one)))
+    (second_same : All (λ s. slice_index p.second s ≡ slice_index q.second s) (variables_of (circuit two))) where
+  one_list : (pairs : List (ℕ × ℕ)) (cs ds : List Compared) (ls ms : List Line) → All (λ w. (w.0 < length one.names) × (w.1 < length two.names)) pairs
+      → AllZip (AreOutputs (circuit one) (circuit two) p) pairs cs → AllZip (AreOutputs (circuit one) (circuit two) q) pairs ds
+      → AllZip (IsLineOf n sizes) cs ls → AllZip (IsLineOf n sizes) ds ms → ls ≡ ms
+  one_list [] [] [] [] [] inside a b h k = refl
+  one_list [] [] [] (l ∷ ls) ms inside a b h k = absurd h
+  one_list [] [] [] [] (m ∷ ms) inside a b h k = absurd k
+  one_list [] (c ∷ cs) ds ls ms inside a b h k = absurd a
+  one_list [] [] (d ∷ ds) ls ms inside a b h k = absurd b
+  one_list (w ∷ ws) [] ds ls ms inside a b h k = absurd a
+  one_list (w ∷ ws) (c ∷ cs) [] ls ms inside a b h k = absurd b
+  one_list (w ∷ ws) (c ∷ cs) (d ∷ ds) [] ms inside a b h k = absurd h
+  one_list (w ∷ ws) (c ∷ cs) (d ∷ ds) (l ∷ ls) [] inside a b h k = absurd k
+  one_list (w ∷ ws) (c ∷ cs) (d ∷ ds) (l ∷ ls) (m ∷ ms) inside a b h k =
+      let low = inside 0 w (omega arith) in
+      let same : Agree n c.first d.first =
+      one_function one sound (slice_index p.first) (slice_index q.first) first_same n w.0 low.0 c.first d.first
+      (subst (λ z. IsFunctionOf (circuit one) (slice_index p.first) z w.0 c.first) size a.0.first) (subst (λ z. IsFunctionOf (circuit one) (slice_index q.first) z w.0 d.first) size' b.0.first) in
+      let other : Agree n c.second d.second =
+      one_function two sound' (slice_index p.second) (slice_index q.second) second_same n w.1 low.1 c.second d.second
+      (subst (λ z. IsFunctionOf (circuit two) (slice_index p.second) z w.1 c.second) size a.0.second) (subst (λ z. IsFunctionOf (circuit two) (slice_index q.second) z w.1 d.second) size' b.0.second) in
+      let e : l ≡ m = one_line n sizes c d (a.0.name ∙ sym b.0.name) same other l m h.0 k.0 in
+      let r : ls ≡ ms = one_list ws cs ds ls ms (λ i v lt. inside (suc i) v (omega arith)) a.1 b.1 h.1 k.1 in
+      cc
+
+-- two reports of two netlists in one order have the same counts and the same bytes
+pub one_report : (one two : Net) → IsNet one → IsNet two → (how : Match) (order : Order) (p q : Paired) → IsPairing how (circuit one) (circuit two) order p → IsPairing how (circuit one) (circuit two) order q
+    → (sizes : Bool) (o more : Outcome) (bytes text : List ℕ) → IsReport sizes (circuit one) (circuit two) p o bytes → IsReport sizes (circuit one) (circuit two) q more text → (o ≡ more) × (bytes ≡ text)
+one_report one two sound sound' how order p q h k sizes o more bytes text r t =
+    let names : p.names ≡ q.names = h.names ∙ sym k.names in
+    let pairs : p.pairs ≡ q.pairs = h.pairs ∙ sym k.pairs in
+    let only : p.only_first ≡ q.only_first = h.only_first ∙ sym k.only_first in
+    let rest : p.only_second ≡ q.only_second = h.only_second ∙ sym k.only_second in
+    let size : length p.names ≡ length q.names = ap length names in
+    let inside = pairs_inside how one two order q sound sound' k in
+    let lines : r.lines ≡ t.lines =
+    one_list (length q.names) sizes one two sound sound' p q size refl (λ i d lt. h.first i d lt ∙ sym (k.first i d lt)) (λ i d lt. h.second i d lt ∙ sym (k.second i d lt)) q.pairs r.compared t.compared r.lines t.lines
+    inside (subst (λ ws. AllZip (AreOutputs (circuit one) (circuit two) p) ws r.compared) pairs r.outputs) t.outputs (subst (λ n. AllZip (IsLineOf n sizes) r.compared r.lines) size r.are_lines) t.are_lines in
+    let lone : lone_lines (circuit one) (circuit two) p ≡ lone_lines (circuit one) (circuit two) q = cc in
+    let all : r.lines ++ lone_lines (circuit one) (circuit two) p ≡ t.lines ++ lone_lines (circuit one) (circuit two) q = cc in
+    (r.counts ∙ ap counted all ∙ sym t.counts, r.text ∙ ap (λ ls. report_text p.names ls) all ∙ ap (λ ns. report_text ns (t.lines ++ lone_lines (circuit one) (circuit two) q)) names ∙ sym t.text)

@@ -1,0 +1,138 @@
+-- Where the needed nodes are within a limit, no store of needed nodes is beyond it.
+use Rattle.std.proofs.Common.{◌≡◌, ◌∙◌, ◌≢◌, ℕ, ◌+◌, ◌<◌, ◌≤◌, ◌⊎◌, inl, inr, Bool, List, [], ◌∷◌, length, refl, sym, ap, subst, arith}
+use Rattle.dd_store.specs.declared.reference.Ref.{Ref}
+use Rattle.dd_store.specs.Functions.{Agree}
+use Rattle.dd_store.specs.Nodes.{Nodes, den, IsSound, count_of}
+use Rattle.dd_store.specs.Nodes as nodes
+use Rattle.dd_store.specs.Parts.{Part}
+use Rattle.dd_store.specs.Parts.Part.{node}
+use Rattle.dd_store.specs.View.{part, Has}
+use Rattle.dd_store.proofs.Canonical.{canonical}
+use Rattle.dd_store.proofs.View.{of_part, same_ref}
+use Rattle.net_bench.specs.Circuit.{Circuit}
+use Rattle.net_order.specs.Order.{Paired}
+use Rattle.gate_plan.specs.Need.{IsCounted, IsLean, IsComplete, HasNode}
+use Rattle.gate_plan.specs.Needing.{IsNeededValue, IsCompleteFor}
+use Rattle.check_report.specs.Limits.{FitsWithin, Exceeds}
+use Rattle.check_report.proofs.Pigeons.{Among, without, pigeons}
+use Rattle.check_report.proofs.Numbering.{refs_of, length-all_refs, distinct_all, has_each, is_node}
+
+-- x of S and y of T are nodes of one level that denote one function
+record Twins (n : ℕ) (S T : Nodes) (x y : Ref) : Type 0 where
+  level : ℕ
+  low : Ref
+  high : Ref
+  has : Has S x
+  is_part : part S x ≡ node level low high
+  low' : Ref
+  high' : Ref
+  has' : Has T y
+  is_part' : part T y ≡ node level low' high'
+  same : Agree n (den S x) (den T y)
+
+one_ref : (n : ℕ) (S : Nodes) → IsSound S → S.levels ≡ n → (x z : Ref) → Has S x → Has S z → Agree n (den S x) (den S z) → x ≡ z
+one_ref n S sound levels x z hx hz same = canonical S.levels (nodes.node S) sound.reduced x z hx hz (λ y len. same y (len ∙ levels))
+
+one_level : (v w : ℕ) (lo hi lo' hi' : Ref) → ◌≡◌ {A = Part Ref} (node v lo hi) (node w lo' hi') → v ≡ w
+one_level v w lo hi lo' hi' e = cc
+
+module _ (n : ℕ) (Values : (List Bool → Bool) → Type 0) (S T : Nodes) (sound : IsSound S) (sound' : IsSound T) (levels : S.levels ≡ n) (levels' : T.levels ≡ n)
+    (lean : IsLean n Values (part S) (Has S) (den S)) (complete : IsComplete n Values (part T) (Has T) (den T)) where
+  -- each node of S has a twin in T
+  twin : (x : Ref) → Among x (refs_of S) → (y : Ref) × Among y (refs_of T) × Twins n S T x y
+  twin x a =
+      let k = is_node S x a in
+      let h : HasNode n (part T) (Has T) (den T) k.0 (den S x) = complete.present k.0 (den S x) (lean.counted x k.0 k.1 k.2 k.3 k.4) in
+      let m = of_part T h.reference k.0 h.low h.high h.has h.is_node in (
+        h.reference,
+        subst (λ r. Among r (refs_of T)) (sym m.1) (has_each T m.0 (h.low, h.high) m.3),
+        record {
+          level = k.0;
+          low = k.1;
+          high = k.2;
+          has = k.3;
+          is_part = k.4;
+          low' = h.low;
+          high' = h.high;
+          has' = h.has;
+          is_part' = h.is_node;
+          same = λ z len. sym (h.denotes z len);
+        },
+      )
+
+  -- and no other node of S has it
+  own : (x z v : Ref) → Twins n S T x v → Twins n S T z v → x ≡ z
+  own x z v a b = one_ref n S sound levels x z a.has b.has (λ y len. a.same y len ∙ sym (b.same y len))
+
+  no_longer : length (refs_of S) ≤ length (refs_of T)
+  no_longer = pigeons (Twins n S T) (refs_of S) (refs_of T) (distinct_all 0 S.shards) twin own
+
+  -- a node of T has a twin among some nodes of S, or each of these has another twin
+  seek : (y : Ref) (xs : List Ref) → ((x : Ref) → Among x xs → (w : Ref) × Among w (refs_of T) × Twins n S T x w) →
+      ((x : Ref) × Twins n S T x y) ⊎ ((x : Ref) → Among x xs → (w : Ref) × Among w (refs_of T) × Twins n S T x w × (w ≢ y))
+  seek y [] f = inr (λ x a. absurd a)
+  seek y (x ∷ xs) f = by (same_ref (f x (inl refl)).0 y) (seek y xs (λ z a. f z (inr a)))
+    where
+      each : ((f x (inl refl)).0 ≢ y) → ((z : Ref) → Among z xs → (w : Ref) × Among w (refs_of T) × Twins n S T z w × (w ≢ y)) →
+          (z : Ref) → Among z (x ∷ xs) → (w : Ref) × Among w (refs_of T) × Twins n S T z w × (w ≢ y)
+      each ne g z (inl e) =
+          subst (λ u. (w : Ref) × Among w (refs_of T) × Twins n S T u w × (w ≢ y)) (sym e) ((f x (inl refl)).0, (f x (inl refl)).1, (f x (inl refl)).2, ne)
+      each ne g z (inr a) = g z a
+
+      by : Dec ((f x (inl refl)).0 ≡ y) → ((z : Ref) × Twins n S T z y) ⊎ ((z : Ref) → Among z xs → (w : Ref) × Among w (refs_of T) × Twins n S T z w × (w ≢ y)) →
+          ((z : Ref) × Twins n S T z y) ⊎ ((z : Ref) → Among z (x ∷ xs) → (w : Ref) × Among w (refs_of T) × Twins n S T z w × (w ≢ y))
+      by (yes e) later = inl (x, subst (λ r. Twins n S T x r) e (f x (inl refl)).2)
+      by (no ne) (inl found) = inl found
+      by (no ne) (inr g) = inr (each ne g)
+
+  -- where S has as many nodes as T, it has a node for each counted function
+  all_there : length (refs_of T) ≤ length (refs_of S) → IsComplete n Values (part S) (Has S) (den S)
+  all_there le = record { present = λ v g counted. found v g (complete.present v g counted) (seek (complete.present v g counted).reference (refs_of S) twin) }
+    where
+      here : (v : ℕ) (g : List Bool → Bool) (h : HasNode n (part T) (Has T) (den T) v g) → Among h.reference (refs_of T)
+      here v g h = let m = of_part T h.reference v h.low h.high h.has h.is_node in subst (λ r. Among r (refs_of T)) (sym m.1) (has_each T m.0 (h.low, h.high) m.3)
+
+      kept : (y : Ref) (rest : List Ref) (w : Ref) → (w ≢ y) → (w ≡ y) ⊎ Among w rest → Among w rest
+      kept y rest w ne (inl e) = absurd (ne e)
+      kept y rest w ne (inr a) = a
+
+      found : (v : ℕ) (g : List Bool → Bool) (h : HasNode n (part T) (Has T) (den T) v g) →
+          ((x : Ref) × Twins n S T x h.reference) ⊎ ((x : Ref) → Among x (refs_of S) → (w : Ref) × Among w (refs_of T) × Twins n S T x w × (w ≢ h.reference)) →
+          HasNode n (part S) (Has S) (den S) v g
+      found v g h (inl (x, t)) =
+          let level : t.level ≡ v = one_level t.level v t.low' t.high' h.low h.high (sym t.is_part' ∙ h.is_node) in
+          record {
+            reference = x;
+            low = t.low;
+            high = t.high;
+            has = t.has;
+            is_node = t.is_part ∙ ap (λ l. node l t.low t.high) level;
+            denotes = λ z len. t.same z len ∙ h.denotes z len;
+          }
+      found v g h (inr others) =
+          let less = without h.reference (refs_of T) (here v g h) in
+          let fewer = less.fewer in
+          let short : length (refs_of S) ≤ length less.rest =
+          pigeons (Twins n S T) (refs_of S) less.rest (distinct_all 0 S.shards)
+          (λ x a. let o = others x a in (o.0, kept h.reference less.rest o.0 o.3 (less.others o.0 o.1), o.2)) own in
+          absurd (omega arith)
+
+-- the nodes that two netlists need are within a limit, or not
+pub one_of_both : (limit : ℕ) (a b : Circuit) (p : Paired) → FitsWithin limit a b p → Exceeds limit a b p → ⊥
+one_of_both limit a b p f e = by e.over
+  where
+    few : count_of e.store ≤ count_of f.store
+    few =
+        let le = no_longer (length p.names) (IsNeededValue a b p) e.store f.store e.sound f.sound e.levels f.levels e.lean f.complete in
+        let s = length-all_refs 0 e.store.shards in
+        let t = length-all_refs 0 f.store.shards in
+        omega arith
+
+    by : (limit < count_of e.store) ⊎ ((count_of e.store ≡ limit) × (IsCompleteFor a b p e.store → ⊥)) → ⊥
+    by (inl over) = let le = few in let within = f.within in omega arith
+    by (inr full) =
+        let within = f.within in
+        let same = full.0 in
+        let s = length-all_refs 0 e.store.shards in
+        let t = length-all_refs 0 f.store.shards in
+        full.1 (all_there (length p.names) (IsNeededValue a b p) e.store f.store e.sound f.sound e.levels f.levels e.lean f.complete (omega arith))

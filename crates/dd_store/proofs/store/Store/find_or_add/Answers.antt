@@ -1,0 +1,81 @@
+use Rattle.std.proofs.Common.{◌≡◌, ◌<◌, ◌+◌, ◌*◌, Ok, Err, set, sym, subst, ap}
+use Rattle.std.proofs.lemmas.Result.{err_from_is_err_and}
+use Rattle.dd_store.specs.declared.level.Slot.{Slot}
+use Rattle.dd_store.specs.Growing.{IsPlaced}
+use Rattle.dd_store.specs.Nodes.{Nodes, Makes}
+use Rattle.dd_store.specs.Levels.{pairs_of}
+use Rattle.dd_store.proofs.Slots.{pairs_of-read, pairs_of-set}
+use Rattle.dd_store.proofs.Storing.{CanMake}
+use Rattle.dd_store.proofs.Placing.{Placing, placing_room, Makes-found, Makes-added, Makes-refused, IsKept-added}
+use Rattle.dd_store.proofs.store.Store.find_or_add.Goals as goal
+use Rattle.dd_store.proofs.store.Store.find_or_add.Goals.{After-find_or_add}
+
+-- the store before the call, and after it
+abbrev old : After-find_or_add → Nodes
+old c = record { levels = c.self.inside.levels; limit = c.self.inside.limit; shards = pairs_of c.self.inside.slots.items }
+
+abbrev slot : After-find_or_add → Slot
+slot c = record { shard = c.find_or_add.new.self; fault = c.index_mut-slot.result.now.fault }
+
+abbrev new : After-find_or_add → Nodes
+new c = record {
+  levels = c.self.inside.levels;
+  limit = c.self.inside.limit;
+  shards = pairs_of (set c.self.inside.slots.items (16 * c.args.level + c.shard_of-shard.result) (slot c));
+}
+
+placing : (c : After-find_or_add) → Placing (old c) (new c) c.self.inside.count c.args.level c.args.lo c.args.hi c.shard_of-shard.result
+    c.index_mut-slot.result.now.shard c.find_or_add.new.self c.saturating_sub-room.result
+placing c = record {
+  kept = c.self.invariant;
+  can = subst (λ (z : Nodes). CanMake z c.args.level c.args.lo c.args.hi) (sym c.self.view_is) (record {
+    level = c.requires.level;
+    lo_here = c.requires.lo_here;
+    hi_here = c.requires.hi_here;
+    above_lo = c.requires.above_lo;
+    above_hi = c.requires.above_hi;
+  });
+  differ = c.requires.differ;
+  shard = c.shard_of-shard.ensures;
+  read = pairs_of-read c.self.inside.slots.items _ c.index_mut-slot.result.now c.index_mut-slot.ensures.value;
+  room_is = c.saturating_sub-room.ensures;
+  written =
+      let e : pairs_of (set c.self.inside.slots.items (16 * c.args.level + c.shard_of-shard.result) (slot c))
+      ≡ set (pairs_of c.self.inside.slots.items) (16 * c.args.level + c.shard_of-shard.result) c.find_or_add.new.self =
+      pairs_of-set c.self.inside.slots.items (16 * c.args.level + c.shard_of-shard.result) (slot c) in
+      λ i. record { levels = c.self.inside.levels; limit = c.self.inside.limit; shards = e i };
+}
+
+pub find_or_add-requires : goal.find_or_add-requires
+find_or_add-requires c =
+    let S : Nodes = record { levels = c.self.inside.levels; limit = c.self.inside.limit; shards = pairs_of c.self.inside.slots.items } in
+    let lt : c.args.level < S.levels = rw (ap (λ (z : Nodes). z.levels) c.self.view_is) c.requires.level in
+    placing_room S c.self.inside.count c.args.level c.args.lo c.args.hi c.shard_of-shard.result c.index_mut-slot.result.now.shard
+    c.saturating_sub-room.result c.self.invariant lt c.shard_of-shard.ensures
+    (pairs_of-read c.self.inside.slots.items _ c.index_mut-slot.result.now c.index_mut-slot.ensures.value) c.saturating_sub-room.ensures
+
+pub returns-in_err-index : goal.returns-in_err-index
+returns-in_err-index c =
+    let w = (goal.at.returns-in_err-index c).After-find_or_add in
+    let p = err_from_is_err_and c.from_residual.result c.from_residual.ensures.1 in
+    let h : Makes (old w) c.args.level c.args.lo c.args.hi (Err c.in_err-index.field-0.0) (new w) =
+    Makes-refused (old w) (new w) _ _ _ _ _ _ _ _ (placing w) c.in_err-index.field-0.0 c.in_err-index.ensures in
+    rw (p.1, p.2) (subst (λ (z : Nodes). Makes z c.args.level c.args.lo c.args.hi (Err c.in_err-index.field-0.0) (new w)) c.self.view_is h)
+
+pub invariant_of-self-in-Added : goal.invariant_of-self-in-Added
+invariant_of-self-in-Added c =
+    let w = (goal.at.invariant_of-self-in-Added c).After-find_or_add in
+    let placed : IsPlaced c.saturating_sub-room.result (c.args.lo, c.args.hi) c.index_mut-slot.result.now.shard (Ok c.in_ok-index.field-0) c.find_or_add.new.self = c.in_ok-index.ensures in
+    IsKept-added (old w) (new w) _ _ _ _ _ _ _ _ (placing w) c.in-Added.index (rw c.in-Added.is at placed)
+
+pub returns-in-Found : goal.returns-in-Found
+returns-in-Found c =
+    let w = (goal.at.returns-in-Found c).After-find_or_add in
+    let placed : IsPlaced c.saturating_sub-room.result (c.args.lo, c.args.hi) c.index_mut-slot.result.now.shard (Ok c.in_ok-index.field-0) c.find_or_add.new.self = c.in_ok-index.ensures in
+    rw (← c.self.view_is) (Makes-found (old w) (new w) _ _ _ _ _ _ _ _ (placing w) c.in-Found.index (rw c.in-Found.is at placed))
+
+pub returns-in-Added : goal.returns-in-Added
+returns-in-Added c =
+    let w = (goal.at.returns-in-Added c).After-find_or_add in
+    let placed : IsPlaced c.saturating_sub-room.result (c.args.lo, c.args.hi) c.index_mut-slot.result.now.shard (Ok c.in_ok-index.field-0) c.find_or_add.new.self = c.in_ok-index.ensures in
+    rw (← c.self.view_is) (Makes-added (old w) (new w) _ _ _ _ _ _ _ _ (placing w) c.in-Added.index (rw c.in-Added.is at placed))

@@ -1,0 +1,109 @@
+-- Members of lists, and the inputs that walks meet.
+use Rattle.std.proofs.Common.{◌≡◌, ℕ, zero, suc, ◌<◌, inl, inr, List, [], ◌∷◌, ◌++◌, Bool, true, false, refl, sym, ap, ◌∙◌, subst, length, map, arith, get_or, All, IsTrue}
+use Rattle.std.specs.Prelude.{cond, ◌||◌, ◌==◌, flat_map, fold, bytes_eq}
+use Rattle.std.proofs.lemmas.List.Folds.{list_any-append}
+use Rattle.net_bench.specs.Circuit.{Circuit, Net, IsNet, circuit, is_name_in, distinct, variables_of}
+use Rattle.net_bench.proofs.Numbers.{same_name, name_itself, in_distinct, or_left, or_right, or_cases}
+use Rattle.net_order.specs.declared.walk.Way.{Way}
+use Rattle.net_order.specs.declared.walk.Way.TheVariants.{Written}
+use Rattle.net_order.specs.Order.{is_member, leaves, below, with_number, met, met_below, steps_of}
+use Rattle.net_order.specs.Walk.{Among}
+use Rattle.net_order.proofs.Walking.{in_append}
+use Rattle.net_order.proofs.Leaves.{member_at}
+use Rattle.net_order.proofs.Different.{AmongNames}
+
+-- ---- the inputs that are met are inputs
+
+pub no_true : false ≡ true → ⊥
+no_true e = cc
+
+pub joined_among : (xs ys zs : List ℕ) → Among xs zs → Among ys zs → Among (xs ++ ys) zs
+joined_among xs ys zs h k x e = elim (or_cases (is_member x xs) (is_member x ys) (sym (in_append x xs ys) ∙ e)) [ inl l ↦ h x l | inr r ↦ k x r ]
+
+flat_among : (f : ℕ → List ℕ) (xs zs : List ℕ) → ((x : ℕ) → Among (f x) zs) → Among (flat_map f xs) zs
+flat_among f [] zs h x e = absurd (no_true e)
+flat_among f (y ∷ xs) zs h x e = joined_among (f y) (flat_map f xs) zs (h y) (flat_among f xs zs h) x e
+
+either_list : (b : Bool) (xs ys zs : List ℕ) → (b ≡ true → Among xs zs) → Among ys zs → Among (cond b xs ys) zs
+either_list true xs ys zs h k = h refl
+either_list false xs ys zs h k = k
+
+pub equal_numbers : (x y : ℕ) → (x == y) ≡ true → x ≡ y
+equal_numbers x y e = grind arith
+
+pub itself : (s : ℕ) (zs : List ℕ) → is_member s zs ≡ true → Among (s ∷ []) zs
+itself s zs h x e = elim (or_cases (s == x) false e) [
+  | inl same ↦ ap (λ t. is_member t zs) (sym (equal_numbers s x same)) ∙ h
+  | inr none ↦ absurd (no_true none)
+]
+
+leaves_inputs : (way : Way) (c : Circuit) (depth s : ℕ) → Among (leaves way c depth s) (variables_of c)
+leaves_inputs way c zero s = either_list (is_member s (variables_of c)) (s ∷ []) [] (variables_of c) (itself s (variables_of c)) (λ x e. absurd (no_true e))
+leaves_inputs way c (suc depth) s =
+    either_list (is_member s (variables_of c)) (s ∷ []) (flat_map (leaves way c depth) (steps_of way c s)) (variables_of c) (itself s (variables_of c))
+    (flat_among (leaves way c depth) (steps_of way c s) (variables_of c) (leaves_inputs way c depth))
+
+pub with_among : (found zs : List ℕ) (s : ℕ) → Among found zs → is_member s zs ≡ true → Among (with_number found s) zs
+with_among found zs s h e = either_list (is_member s found) found (found ++ s ∷ []) zs (λ k. h) (joined_among found (s ∷ []) zs h (itself s zs e))
+
+pub member_head : (x : ℕ) (xs : List ℕ) → is_member x (x ∷ xs) ≡ true
+member_head x xs = let same : (x == x) ≡ true = grind arith in or_left (x == x) (is_member x xs) same
+
+pub fold_among : (xs found zs : List ℕ) → Among found zs → Among xs zs → Among (fold with_number found xs) zs
+fold_among [] found zs h k = h
+fold_among (x ∷ xs) found zs h k =
+    fold_among xs (with_number found x) zs (with_among found zs x h (k x (member_head x xs))) (λ y e. k y (or_right (x == y) (is_member y xs) e))
+
+pub met_inputs : (c : Circuit) → Among (met c) (variables_of c)
+met_inputs c =
+    fold_among (flat_map (below Written c) c.outputs) [] (variables_of c) (λ x e. absurd (no_true e)) (flat_among (below Written c) c.outputs (variables_of c) (leaves_inputs Written c (length c.gates)))
+
+pub below_inputs : (way : Way) (c : Circuit) (s : ℕ) → Among (below way c s) (variables_of c)
+below_inputs way c s = leaves_inputs way c (length c.gates) s
+
+pub met_below_inputs : (way : Way) (c : Circuit) (s : ℕ) → Among (met_below way c s) (variables_of c)
+met_below_inputs way c s = fold_among (below way c s) [] (variables_of c) (λ x e. absurd (no_true e)) (below_inputs way c s)
+
+pub at_place : (xs : List ℕ) (i d : ℕ) → i < length xs → is_member (get_or xs i d) xs ≡ true
+at_place [] i d low = absurd (omega arith)
+at_place (x ∷ xs) zero d low = member_head x xs
+at_place (x ∷ xs) (suc i) d low = or_right (x == get_or xs i d) (is_member (get_or xs i d) xs) (at_place xs i d (omega arith))
+
+module _ (n : Net) (sound : IsNet n) (xs : List ℕ) (e : xs ≡ met (circuit n)) where
+  pub met_members : All (λ s. IsTrue (is_member s (variables_of (circuit n)))) xs
+  met_members i d low = met_inputs (circuit n) (get_or xs i d) (subst (λ ys. is_member (get_or xs i d) ys ≡ true) e (at_place xs i d low))
+
+  pub met_low : All (λ s. s < length n.names) xs
+  met_low i d low = let at = member_at (get_or xs i d) (variables_of (circuit n)) (met_members i d low) in rw at.2 at (sound.variables at.0 (get_or xs i d) at.1)
+
+-- ---- names of numbers
+
+pub named_member : (f : ℕ → List ℕ) (xs : List ℕ) (s : ℕ) → is_member s xs ≡ true → is_name_in (map f xs) (f s) ≡ true
+named_member f [] s e = absurd (no_true e)
+named_member f (x ∷ xs) s e = elim (or_cases (x == s) (is_member s xs) e) [
+  | inl same ↦ or_left (bytes_eq (f x) (f s)) (is_name_in (map f xs) (f s)) (ap (λ t. bytes_eq (f t) (f s)) (equal_numbers x s same) ∙ name_itself (f s))
+  | inr more ↦ or_right (bytes_eq (f x) (f s)) (is_name_in (map f xs) (f s)) (named_member f xs s more)
+]
+
+pub named_among : (f : ℕ → List ℕ) (xs ys : List ℕ) → Among xs ys → AmongNames (map f xs) (map f ys)
+named_among f [] ys h n e = absurd (no_true e)
+named_among f (x ∷ xs) ys h n e = elim (or_cases (bytes_eq (f x) n) (is_name_in (map f xs) n) e) [
+  | inl same ↦ ap (is_name_in (map f ys)) (sym (same_name (f x) n same)) ∙ named_member f ys x (h x (member_head x xs))
+  | inr more ↦ named_among f xs ys (λ y k. h y (or_right (x == y) (is_member y xs) k)) n more
+]
+
+pub in_joined : (xs ys : List (List ℕ)) (n : List ℕ) → is_name_in (xs ++ ys) n ≡ (is_name_in xs n || is_name_in ys n)
+in_joined xs ys n = list_any-append (λ m. bytes_eq m n) xs ys
+
+pub joined_names : (xs ys zs : List (List ℕ)) → AmongNames xs zs → AmongNames ys zs → AmongNames (xs ++ ys) zs
+joined_names xs ys zs h k n e = elim (or_cases (is_name_in xs n) (is_name_in ys n) (sym (in_joined xs ys n) ∙ e)) [ inl l ↦ h n l | inr r ↦ k n r ]
+
+pub left_names : (xs ys zs : List (List ℕ)) → AmongNames xs ys → AmongNames xs (ys ++ zs)
+left_names xs ys zs h n e = in_joined ys zs n ∙ or_left (is_name_in ys n) (is_name_in zs n) (h n e)
+
+pub right_names : (xs ys zs : List (List ℕ)) → AmongNames xs zs → AmongNames xs (ys ++ zs)
+right_names xs ys zs h n e = in_joined ys zs n ∙ or_right (is_name_in ys n) (is_name_in zs n) (h n e)
+
+-- each name once makes no difference
+pub distinct_names : (xs ys : List (List ℕ)) → AmongNames xs ys → AmongNames (distinct xs) (distinct ys)
+distinct_names xs ys h n e = in_distinct ys n ∙ h n (sym (in_distinct xs n) ∙ e)

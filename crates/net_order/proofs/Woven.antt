@@ -1,0 +1,227 @@
+-- A netlist is woven into an order: what the walks below its outputs add.
+use Rattle.std.proofs.Common.{◌≡◌, ℕ, ◌+◌, ◌<◌, ◌≤◌, ◌⊎◌, inl, inr, List, [], ◌∷◌, ◌++◌, true, false, refl, sym, ap, ◌∙◌, subst, length, map, drop, arith, get_or, All, length-append}
+use Rattle.std.specs.Prelude.{cond, ◌||◌, ◌==◌, fold, None}
+use Rattle.std.proofs.lemmas.List.{drop_more}
+use Rattle.net_bench.proofs.Numbers.{or_left, or_right, or_cases, in_distinct, number_low}
+use Rattle.net_bench.specs.Circuit.{Circuit, is_name_in, variables_of}
+use Rattle.net_order.specs.declared.order.Match.{Match}
+use Rattle.net_order.specs.declared.walk.Way.TheVariants.{ByRank}
+use Rattle.net_order.specs.Order.{below, declared, first_variable, input_names, is_member, level_of, met_below, name_of, names_of, second_name, second_names, second_variable, weave, weave_below, weave_netlist, with_number, woven, falling, rank_of}
+use Rattle.net_order.specs.Walk.{Among}
+use Rattle.net_order.proofs.Leaves.{member_at}
+use Rattle.net_order.proofs.Members.{at_place, equal_numbers, left_names, member_head, met_below_inputs, named_member, no_true, right_names}
+use Rattle.net_order.proofs.Walking.{in_append}
+use Rattle.net_order.proofs.Weaving.{weave_from, weave_has, weave_keeps, weave_nothing}
+
+-- ---- what has been found
+
+same_number : (x : ℕ) → (x == x) ≡ true
+same_number x = grind arith
+
+one_has : (found : List ℕ) (s : ℕ) → is_member s (with_number found s) ≡ true
+one_has found s =
+    elim (is_member s found) as (λ b. is_member s found ≡ b → is_member s (cond b found (found ++ s ∷ [])) ≡ true) [
+      | true ↦ λ e. e
+      | false ↦ λ e. in_append s found (s ∷ []) ∙ or_right (is_member s found) ((s == s) || false) (or_left (s == s) false (same_number s))
+    ] refl
+
+one_keeps : (found : List ℕ) (s x : ℕ) → is_member x found ≡ true → is_member x (with_number found s) ≡ true
+one_keeps found s x e =
+    elim (is_member s found) as (λ b. is_member x (cond b found (found ++ s ∷ [])) ≡ true) [
+      | true ↦ e
+      | false ↦ in_append x found (s ∷ []) ∙ or_left (is_member x found) ((s == x) || false) e
+    ]
+
+one_from : (found : List ℕ) (s x : ℕ) → is_member x (with_number found s) ≡ true → (is_member x found ≡ true) ⊎ (s ≡ x)
+one_from found s x =
+    elim (is_member s found) as (λ b. is_member x (cond b found (found ++ s ∷ [])) ≡ true → (is_member x found ≡ true) ⊎ (s ≡ x)) [
+      | true ↦ λ e. inl e
+      | false ↦ λ e. elim (or_cases (is_member x found) ((s == x) || false) (sym (in_append x found (s ∷ [])) ∙ e)) [
+        | inl there ↦ inl there
+        | inr here ↦ elim (or_cases (s == x) false here) [ inl same ↦ inr (equal_numbers s x same) | inr none ↦ absurd (no_true none) ]
+      ]
+    ]
+
+fold_keeps : (xs found : List ℕ) (x : ℕ) → is_member x found ≡ true → is_member x (fold with_number found xs) ≡ true
+fold_keeps [] found x e = e
+fold_keeps (y ∷ xs) found x e = fold_keeps xs (with_number found y) x (one_keeps found y x e)
+
+fold_has : (xs found : List ℕ) (x : ℕ) → is_member x xs ≡ true → is_member x (fold with_number found xs) ≡ true
+fold_has [] found x e = absurd (no_true e)
+fold_has (y ∷ xs) found x e = elim (or_cases (y == x) (is_member x xs) e) [
+  | inl same ↦ fold_keeps xs (with_number found y) x (subst (λ z. is_member z (with_number found y) ≡ true) (equal_numbers y x same) (one_has found y))
+  | inr more ↦ fold_has xs (with_number found y) x more
+]
+
+fold_from : (xs found : List ℕ) (x : ℕ) → is_member x (fold with_number found xs) ≡ true → (is_member x found ≡ true) ⊎ (is_member x xs ≡ true)
+fold_from [] found x e = inl e
+fold_from (y ∷ xs) found x e = elim (fold_from xs (with_number found y) x e) [
+  | inl there ↦ elim (one_from found y x there) [
+    | inl before ↦ inl before
+    | inr same ↦ inr (or_left (y == x) (is_member x xs) (ap (λ z. y == z) (sym same) ∙ same_number y))
+  ]
+  | inr more ↦ inr (or_right (y == x) (is_member x xs) more)
+]
+
+one_longer : (found : List ℕ) (y : ℕ) → length found ≤ length (with_number found y)
+one_longer found y =
+    elim (is_member y found) as (λ b. length found ≤ length (cond b found (found ++ y ∷ []))) [
+      | true ↦ omega arith
+      | false ↦ omega (arith, length-append found (y ∷ []))
+    ]
+
+fold_longer : (xs found : List ℕ) → length found ≤ length (fold with_number found xs)
+fold_longer [] found = omega arith
+fold_longer (y ∷ xs) found = omega (arith, one_longer found y, fold_longer xs (with_number found y))
+
+-- what did not grow had all
+no_growth : (xs found : List ℕ) → length (fold with_number found xs) ≤ length found → Among xs found
+no_growth [] found h x e = absurd (no_true e)
+no_growth (y ∷ xs) found h x e =
+    elim (is_member y found) as (λ b. is_member y found ≡ b → length (fold with_number (cond b found (found ++ y ∷ [])) xs) ≤ length found → Among (y ∷ xs) found) [
+      | true ↦ λ there few z k. elim (or_cases (y == z) (is_member z xs) k) [
+        | inl same ↦ subst (λ w. is_member w found ≡ true) (equal_numbers y z same) there
+        | inr more ↦ no_growth xs found few z more
+      ]
+      | false ↦ λ out few z k. absurd (omega (arith, few, fold_longer xs (found ++ y ∷ []), length-append found (y ∷ [])))
+    ] refl h x e
+
+mapped : (f : ℕ → ℕ) (xs : List ℕ) (y : ℕ) → is_member y (map f xs) ≡ true → (x : ℕ) × (is_member x xs ≡ true) × (f x ≡ y)
+mapped f [] y e = absurd (no_true e)
+mapped f (x ∷ xs) y e = elim (or_cases (f x == y) (is_member y (map f xs)) e) [
+  | inl same ↦ (x, member_head x xs, equal_numbers (f x) y same)
+  | inr more ↦ let rest = mapped f xs y more in (rest.0, or_right (x == rest.0) (is_member rest.0 xs) rest.1, rest.2)
+]
+
+map_has : (f : ℕ → ℕ) (xs : List ℕ) (x : ℕ) → is_member x xs ≡ true → is_member (f x) (map f xs) ≡ true
+map_has f [] x e = absurd (no_true e)
+map_has f (y ∷ xs) x e = elim (or_cases (y == x) (is_member x xs) e) [
+  | inl same ↦ or_left (f y == f x) (is_member (f x) (map f xs)) (ap (λ z. f z == f x) (equal_numbers y x same) ∙ same_number (f x))
+  | inr more ↦ or_right (f y == f x) (is_member (f x) (map f xs)) (map_has f xs x more)
+]
+
+map_same : (f g : ℕ → ℕ) (xs : List ℕ) → ((x : ℕ) → is_member x xs ≡ true → f x ≡ g x) → map f xs ≡ map g xs
+map_same f g [] h = refl
+map_same f g (x ∷ xs) h = ap (λ y. y ∷ map f xs) (h x (member_head x xs)) ∙ ap (λ ys. g x ∷ ys) (map_same f g xs (λ y e. h y (or_right (x == y) (is_member y xs) e)))
+
+-- ---- one walk after the other
+
+-- the variables of what has been found stand in the order
+abbrev pub AreIn : (ℕ → ℕ) → List ℕ → List ℕ → Type 0
+AreIn variable found order = (s : ℕ) → is_member s found ≡ true → is_member (variable s) order ≡ true
+
+pub none_in : (variable : ℕ → ℕ) (order found : List ℕ) → found ≡ [] → AreIn variable found order
+none_in variable order found e s k = absurd (no_true (subst (λ xs. is_member s xs ≡ true) e k))
+
+module _ (c : Circuit) (variable : ℕ → ℕ) where
+  -- a walk that finds nothing new changes nothing
+  still : (order found now : List ℕ) (s : ℕ) → AreIn variable found order → now ≡ fold with_number found (below ByRank c s) → length now ≤ length found → order ≡ weave_below c variable order s
+  still order found now s held is_now few =
+      let all : Among (below ByRank c s) found = no_growth (below ByRank c s) found (subst (λ xs. length xs ≤ length found) is_now few) in
+      sym (weave_nothing (map variable (met_below ByRank c s)) order None
+      (λ y e.
+      let m = mapped variable (met_below ByRank c s) y e in
+      elim (fold_from (below ByRank c s) [] m.0 m.1) [
+        | inl none ↦ absurd (no_true none)
+        | inr there ↦ subst (λ z. is_member z order ≡ true) m.2 (held m.0 (all m.0 there))
+      ]))
+
+  pub still_in : (order found now : List ℕ) (s : ℕ) → AreIn variable found order → now ≡ fold with_number found (below ByRank c s) → length now ≤ length found → AreIn variable now order
+  still_in order found now s held is_now few m e =
+      let all : Among (below ByRank c s) found = no_growth (below ByRank c s) found (subst (λ xs. length xs ≤ length found) is_now few) in
+      elim (fold_from (below ByRank c s) found m (subst (λ xs. is_member m xs ≡ true) is_now e)) [ inl before ↦ held m before | inr new ↦ held m (all m new) ]
+
+  pub more_in : (order new found now : List ℕ) (s : ℕ) → AreIn variable found order → now ≡ fold with_number found (below ByRank c s) → new ≡ weave_below c variable order s → AreIn variable now new
+  more_in order new found now s held is_now is_new m e =
+      subst (λ xs. is_member (variable m) xs ≡ true) (sym is_new)
+      (elim (fold_from (below ByRank c s) found m (subst (λ xs. is_member m xs ≡ true) is_now e)) [
+        | inl before ↦ weave_keeps (map variable (met_below ByRank c s)) order None (variable m) (held m before)
+        | inr there ↦ weave_has (map variable (met_below ByRank c s)) order None (variable m) (map_has variable (met_below ByRank c s) m (fold_has (below ByRank c s) [] m there))
+      ])
+
+  pub next : (outs order new total : List ℕ) (i s : ℕ) → i < length outs → s ≡ get_or outs i s → new ≡ weave_below c variable order s → fold (weave_below c variable) order (drop i outs) ≡ total →
+      fold (weave_below c variable) new (drop (i + 1) outs) ≡ total
+  next outs order new total i s low at is_new e =
+      ap (λ o. fold (weave_below c variable) o (drop (i + 1) outs)) is_new ∙
+      sym (ap (fold (weave_below c variable) order) (drop_more outs i s low ∙ ap (λ x. x ∷ drop (i + 1) outs) (sym at))) ∙ e
+
+  pub next_still : (outs order found now total : List ℕ) (i s : ℕ) → i < length outs → s ≡ get_or outs i s → AreIn variable found order → now ≡ fold with_number found (below ByRank c s) → length now ≤ length found →
+      fold (weave_below c variable) order (drop i outs) ≡ total → fold (weave_below c variable) order (drop (i + 1) outs) ≡ total
+  next_still outs order found now total i s low at held is_now few e = next outs order order total i s low at (still order found now s held is_now few) e
+
+  met_variable : (order : List ℕ) (s x : ℕ) → is_member x (weave_below c variable order s) ≡ true → (is_member x order ≡ true) ⊎ ((m : ℕ) × (is_member m (variables_of c) ≡ true) × (variable m ≡ x))
+  met_variable order s x e = elim (weave_from (map variable (met_below ByRank c s)) order None x e) [
+    | inl before ↦ inl before
+    | inr new ↦ let m = mapped variable (met_below ByRank c s) x new in inr (m.0, met_below_inputs ByRank c s m.0 m.1, m.2)
+  ]
+
+  netlist_from : (outs order : List ℕ) (x : ℕ) → is_member x (fold (weave_below c variable) order outs) ≡ true → (is_member x order ≡ true) ⊎ ((m : ℕ) × (is_member m (variables_of c) ≡ true) × (variable m ≡ x))
+  netlist_from [] order x e = inl e
+  netlist_from (s ∷ outs) order x e = elim (netlist_from outs (weave_below c variable order s) x e) [
+    | inl there ↦ met_variable order s x there
+    | inr new ↦ inr new
+  ]
+
+outputs_same : (c : Circuit) (f g : ℕ → ℕ) → ((s : ℕ) → is_member s (variables_of c) ≡ true → f s ≡ g s) → (outs order : List ℕ) → fold (weave_below c f) order outs ≡ fold (weave_below c g) order outs
+outputs_same c f g h [] order = refl
+outputs_same c f g h (s ∷ outs) order =
+    ap (λ vs. fold (weave_below c f) (weave order None vs) outs) (map_same f g (met_below ByRank c s) (λ x e. h x (met_below_inputs ByRank c s x e))) ∙
+    outputs_same c f g h outs (weave_below c g order s)
+
+-- what is the variable of a signal matters for inputs alone
+pub netlist_same : (c : Circuit) (f g : ℕ → ℕ) → ((s : ℕ) → is_member s (variables_of c) ≡ true → f s ≡ g s) → (order : List ℕ) → weave_netlist c f order ≡ weave_netlist c g order
+netlist_same c f g h order = outputs_same c f g h (falling (rank_of c) c.outputs) order
+
+-- ---- the numbers of variables
+
+module _ (how : Match) (a b : Circuit) where
+  variable_low : (n : List ℕ) → is_name_in (input_names how a b) n ≡ true → level_of (declared how a b) n < length (declared how a b)
+  variable_low n e = number_low (declared how a b) n (in_distinct (input_names how a b) n ∙ e)
+
+  pub first_low : (s : ℕ) → is_member s (variables_of a) ≡ true → first_variable how a b s < length (declared how a b)
+  first_low s e = variable_low (name_of a s) (left_names (names_of a (variables_of a)) (names_of a (variables_of a)) (second_names how a b (variables_of b)) (λ n k. k) (name_of a s) (named_member (name_of a) (variables_of a) s e))
+
+  pub second_low : (s : ℕ) → is_member s (variables_of b) ≡ true → second_variable how a b s < length (declared how a b)
+  second_low s e =
+      variable_low (second_name how a b s)
+      (right_names (second_names how a b (variables_of b)) (names_of a (variables_of a)) (second_names how a b (variables_of b)) (λ n k. k) (second_name how a b s) (named_member (second_name how a b) (variables_of b) s e))
+
+  pub woven_low : (x : ℕ) → is_member x (woven how a b) ≡ true → x < length (declared how a b)
+  woven_low x e = elim (netlist_from b (second_variable how a b) (falling (rank_of b) b.outputs) (weave_netlist a (first_variable how a b) []) x e) [
+    | inl before ↦ elim (netlist_from a (first_variable how a b) (falling (rank_of a) a.outputs) [] x before) [
+      | inl none ↦ absurd (no_true none)
+      | inr (m, input, is) ↦ subst (λ y. y < length (declared how a b)) is (first_low m input)
+    ]
+    | inr (m, input, is) ↦ subst (λ y. y < length (declared how a b)) is (second_low m input)
+  ]
+
+-- ---- tables of numbers
+
+pub at_inputs : (P : ℕ → Type 0) (inputs : List ℕ) → All P inputs → (s : ℕ) → is_member s inputs ≡ true → P s
+at_inputs P inputs h s e = let at = member_at s inputs e in subst P at.2 (h at.0 s at.1)
+
+pub all_of : (P : ℕ → Type 0) (xs : List ℕ) → ((s : ℕ) → is_member s xs ≡ true → P s) → All P xs
+all_of P xs h i d low = h (get_or xs i d) (at_place xs i d low)
+
+pub all_met : (P : ℕ → Type 0) (c : Circuit) (s : ℕ) (xs : List ℕ) → All P (variables_of c) → xs ≡ met_below ByRank c s → All P xs
+all_met P c s xs h e = subst (All P) (sym e) (all_of P (met_below ByRank c s) (λ x k. at_inputs P (variables_of c) h x (met_below_inputs ByRank c s x k)))
+
+pub numbers_low : (t : List (List ℕ)) (vs ws inputs : List ℕ) (name : ℕ → List ℕ) (count : ℕ) → ws ≡ vs → All (λ s. get_or vs s 0 ≡ level_of t (name s)) inputs →
+    ((s : ℕ) → is_member s inputs ≡ true → level_of t (name s) < count) → All (λ s. get_or ws s 0 < count) inputs
+numbers_low t vs ws inputs name count is h low =
+    all_of (λ s. get_or ws s 0 < count) inputs
+    (λ s e. subst (λ k. k < count) (sym (ap (λ xs. get_or xs s 0) is ∙ at_inputs (λ x. get_or vs x 0 ≡ level_of t (name x)) inputs h s e)) (low s e))
+
+pub numbers_are : (t u : List (List ℕ)) (vs ws inputs : List ℕ) (name : ℕ → List ℕ) → ws ≡ vs → t ≡ u → All (λ s. get_or vs s 0 ≡ level_of t (name s)) inputs →
+    (s : ℕ) → is_member s inputs ≡ true → get_or ws s 0 ≡ level_of u (name s)
+numbers_are t u vs ws inputs name is same h s e =
+    ap (λ xs. get_or xs s 0) is ∙ at_inputs (λ x. get_or vs x 0 ≡ level_of t (name x)) inputs h s e ∙ ap (λ k. level_of k (name s)) same
+
+-- what is woven by tables of numbers is woven
+pub woven_is : (how : Match) (a b : Circuit) (t : List (List ℕ)) (vs ws xs ys empty one two : List ℕ) → t ≡ declared how a b → ws ≡ vs → All (λ s. get_or vs s 0 ≡ level_of t (name_of a s)) (variables_of a) →
+    ys ≡ xs → All (λ s. get_or xs s 0 ≡ level_of t (second_name how a b s)) (variables_of b) → empty ≡ [] → one ≡ weave_netlist a (λ s. get_or ws s 0) empty → two ≡ weave_netlist b (λ s. get_or ys s 0) one → two ≡ woven how a b
+woven_is how a b t vs ws xs ys empty one two all is_ws first is_ys second is_empty is_one is_two =
+    let from : one ≡ weave_netlist a (first_variable how a b) [] =
+    is_one ∙ ap (weave_netlist a (λ s. get_or ws s 0)) is_empty ∙ netlist_same a (λ s. get_or ws s 0) (first_variable how a b) (numbers_are t (declared how a b) vs ws (variables_of a) (name_of a) is_ws all first) [] in
+    is_two ∙ ap (weave_netlist b (λ s. get_or ys s 0)) from ∙
+    netlist_same b (λ s. get_or ys s 0) (second_variable how a b) (numbers_are t (declared how a b) xs ys (variables_of b) (second_name how a b) is_ys all second) (weave_netlist a (first_variable how a b) [])

@@ -1,0 +1,187 @@
+//! Variables interleaved: what a walk meets for the first time goes right behind what it met last. After Fujii, Ootomo and Hori,
+//! "Interleaving based variable ordering methods for ordered binary decision diagrams", ICCAD 1993.
+ghost use Rattle.std.specs.Prelude.{◌≡◌, ℕ, ◌<◌, ◌≤◌, [], length, map, All, OnOk, IfOk, IfErr, Some, None, insert, slice_index, slice_index_or};
+ghost use Rattle.net_bench.specs.Circuit.{circuit, variables_of};
+ghost use Rattle.net_order.specs.Order.{AreCounted, declared, interleaved, put_behind, weave, weave_netlist, with_variable, woven};
+ghost use Rattle.net_order.specs.Tables.{IsMarked, with_names};
+
+use crate::levels::{first_levels, second_levels};
+use crate::order::{Match, OrderFault};
+use crate::ranked::by_rank;
+use crate::variables::{MAX_VARIABLES, add_inputs};
+use crate::walk::{Way, met_below, no_marks, paths_of, walk_below};
+use net_bench::name_table::NameTable;
+use net_bench::netlist::Signal;
+use net_bench::reader::Netlist;
+use std::alloc::{AllocError, Global};
+
+/// The place right behind a variable, or the end where it is not there.
+fn place_behind(order: &[u32], last: u32) -> usize
+    ensures inside { result ≤ length order.now }
+    ensures behind { (v : ℕ) → insert order.now result v ≡ put_behind (Some last) v order.now }
+{
+    for i in 0..order.len() {
+        if order[i] == last {
+            return i + 1;
+        }
+    }
+    order.len()
+}
+
+/// Puts a variable right behind another, or to the front where there is none.
+fn put_behind(order: &mut Vec<u32>, last: Option<u32>, variable: u32) -> Result<(), AllocError>
+    ensures { OnOk result (order.new.items ≡ put_behind last variable order.old.items) }
+{
+    let place = match last {
+        Some(last) => place_behind(order.as_slice(), last),
+        None => 0,
+    };
+    match order.insert(place, variable) {
+        Ok(()) => Ok(()),
+        Err(_) => Err(AllocError),
+    }
+}
+
+/// The variable of a signal.
+fn variable_of(variables: &[u32], signal: Signal) -> u32
+    ensures { result ≡ slice_index variables.now signal }
+{
+    variables
+        .get(signal.number() as usize)
+        .copied()
+        .unwrap_or(0)
+}
+
+/// Puts a variable into the order, unless it is there: right behind the other one. The marks say which variables are there.
+fn add(
+    order: &mut Vec<u32>,
+    marks: &mut Vec<bool>,
+    last: Option<u32>,
+    variable: u32,
+) -> Result<(), AllocError>
+    requires low { variable < length marks.old.items }
+    requires marked { IsMarked marks.old.items order.old.items }
+    ensures marked { OnOk result (IsMarked marks.new.items order.new.items) }
+    ensures len { OnOk result (length marks.new.items ≡ length marks.old.items) }
+    ensures added { OnOk result (order.new.items ≡ with_variable last variable order.old.items) }
+{
+    if marks[variable as usize] {
+        return Ok(());
+    }
+    put_behind(order, last, variable)?;
+    marks[variable as usize] = true;
+    Ok(())
+}
+
+/// Puts the variables of one walk into the order. The marks say which variables are there.
+fn weave(
+    order: &mut Vec<u32>,
+    marks: &mut Vec<bool>,
+    variables: &[u32],
+    met: &[Signal],
+) -> Result<(), AllocError>
+    requires low { All (λ s. slice_index variables.now s < length marks.old.items) met.now }
+    requires marked { IsMarked marks.old.items order.old.items }
+    ensures marked { OnOk result (IsMarked marks.new.items order.new.items) }
+    ensures len { OnOk result (length marks.new.items ≡ length marks.old.items) }
+    ensures woven { OnOk result (order.new.items ≡ weave order.old.items None (map (slice_index variables.now) met.now)) }
+{
+    let mut last = None;
+    for signal in met {
+        let variable = variable_of(variables, *signal);
+        add(order, marks, last, variable)?;
+        last = Some(variable);
+    }
+    Ok(())
+}
+
+/// Weaves a netlist into the order. Only a walk that meets an input that no walk before it has met is put in: any other would
+/// change nothing.
+fn weave_netlist(
+    alloc: Global,
+    order: &mut Vec<u32>,
+    marks: &mut Vec<bool>,
+    net: &Netlist,
+    variables: &[u32],
+) -> Result<(), AllocError>
+    requires low { All (λ s. slice_index variables.now s < length marks.old.items) (variables_of (circuit net.now)) }
+    requires marked { IsMarked marks.old.items order.old.items }
+    ensures marked { OnOk result (IsMarked marks.new.items order.new.items) }
+    ensures len { OnOk result (length marks.new.items ≡ length marks.old.items) }
+    ensures woven { OnOk result (order.new.items ≡ weave_netlist (circuit net.now) (slice_index variables.now) order.old.items) }
+{
+    let paths = paths_of(alloc, net, Way::ByRank)?;
+    let ranked = by_rank(alloc, net, net.outputs())?;
+    let outputs = ranked.as_slice();
+    let mut found = Vec::new(alloc);
+    let mut walked = no_marks(alloc, &paths)?;
+    for output in outputs {
+        let before = found.len();
+        walk_below(alloc, &paths, &mut found, &mut walked, output.number())?;
+        if found.len() > before {
+            let met = met_below(alloc, &paths, output.number())?;
+            weave(order, marks, variables, met.as_slice())?;
+        }
+    }
+    Ok(())
+}
+
+/// Puts the names of variables into the table, each where it is not there yet.
+fn add_variables(
+    alloc: Global,
+    table: &mut NameTable,
+    variables: &NameTable,
+    order: &[u32],
+) -> Result<(), AllocError>
+    requires { All (λ v. v < length variables.now) order.now }
+    ensures { OnOk result (table.new ≡ with_names table.old (map (λ v. slice_index_or variables.now v []) order.now)) }
+{
+    for variable in order {
+        table.count(alloc, variables.name(*variable))?;
+    }
+    Ok(())
+}
+
+/// The numbers of the variables that walks meet, in interleaved order.
+fn woven(
+    alloc: Global,
+    first: &Netlist,
+    second: &Netlist,
+    how: Match,
+    variables: &NameTable,
+) -> Result<Vec<u32>, AllocError>
+    requires counted { AreCounted how (circuit first.now) (circuit second.now) }
+    requires all { variables.now ≡ declared how (circuit first.now) (circuit second.now) }
+    ensures woven { IfOk result (λ v. v.items ≡ woven how (circuit first.now) (circuit second.now)) }
+    ensures low { IfOk result (λ v. All (λ k. k < length variables.now) v.items) }
+{
+    let mut order = Vec::new(alloc);
+    let mut marks = Vec::from_elem(alloc, false, variables.len())?;
+    let numbers = first_levels(alloc, variables, first)?;
+    weave_netlist(alloc, &mut order, &mut marks, first, numbers.as_slice())?;
+    let numbers = second_levels(alloc, variables, first, second, how)?;
+    weave_netlist(alloc, &mut order, &mut marks, second, numbers.as_slice())?;
+    Ok(order)
+}
+
+/// The variables in interleaved order.
+pub fn interleaved_table(
+    alloc: Global,
+    first: &Netlist,
+    second: &Netlist,
+    how: Match,
+    variables: &NameTable,
+) -> Result<NameTable, OrderFault>
+    requires counted { AreCounted how (circuit first.now) (circuit second.now) }
+    requires all { variables.now ≡ declared how (circuit first.now) (circuit second.now) }
+    requires few { length variables.now ≤ MAX_VARIABLES }
+    ensures ok { IfOk result (λ t. t ≡ interleaved how (circuit first.now) (circuit second.now)) }
+    ensures few { IfOk result (λ t. length t ≤ MAX_VARIABLES) }
+    ensures err { IfErr result (λ fault. fault ≡ OrderFault.OutOfMemory) }
+{
+    let order = woven(alloc, first, second, how, variables)?;
+    let mut table = NameTable::new(alloc);
+    add_variables(alloc, &mut table, variables, order.as_slice())?;
+    add_inputs(alloc, &mut table, first, second, how)?;
+    Ok(table)
+}

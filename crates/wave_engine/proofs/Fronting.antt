@@ -1,0 +1,251 @@
+-- Lists that are emptied, and the requests that are handed to the workers.
+use Rattle.std.proofs.Common.{◌≡◌, ℕ, zero, suc, ◌+◌, ◌-◌, ◌<◌, ◌≤◌, inl, inr, List, [], ◌∷◌, ◌++◌, length, set, map, take, drop, replicate, Some, slice_get, refl, sym, ◌∙◌, ap, subst, arith, append_assoc, Contains, All}
+use Rattle.std.specs.List.{AllZip}
+use Rattle.std.proofs.Math.ListN.{length-drop, length-replicate}
+use Rattle.std.proofs.lemmas.List.Elements.{Contains-append_cases}
+use Rattle.std.proofs.lemmas.Bool.{cases_lt}
+use Rattle.std.proofs.lemmas.List.{length-append, length-set, take-append-drop, take_more, append-nil, map-append}
+use Rattle.std.proofs.lemmas.Option.{slice_get_within, slice_get-get_or, get_or_from_slice_get}
+use Rattle.dd_store.specs.declared.reference.Ref.{Ref}
+use Rattle.dd_store.specs.Nodes.{Nodes, IsSound, IsDiagram, count_of}
+use Rattle.dd_store.proofs.Places.{slice_get-append}
+use Rattle.req_table.specs.declared.Key.{Key}
+use Rattle.req_table.specs.Keys.{IsKey, meaning}
+use Rattle.reduce_up.specs.Reducing.{AddsDescribed}
+use Rattle.reduce_up.specs.Waves.{Entry, entry_value, IsEntry, AnswersEach, IsWanted, IsWithinLimit, IsWaveFault, HasRequest}
+use Rattle.expand_work.specs.declared.fault.WaveFault.{WaveFault}
+use Rattle.expand_work.specs.declared.fault.WaveFault.TheVariants as wave_faults
+use Rattle.reduce_up.proofs.Reduction.{adds_none}
+use Rattle.reduce_up.proofs.Noting.{nothing, head_in, tail_in, in_cases}
+use Rattle.reduce_up.proofs.Rooted.{all_of}
+use Rattle.wave_engine.specs.Places.{row, StandsAt, AreEmpty, AreNone}
+use Rattle.wave_engine.specs.Down.{AreAdmitted}
+use Rattle.wave_engine.specs.Up.{AreReducedBelow, IsWithinBelow}
+use Rattle.wave_engine.specs.Front.{entry_for, front_of, joined, keys_from, count_before, IsCopied, ArePut}
+use Rattle.wave_engine.proofs.Placing.{same_level, stands_none, in_lists, row_own, row_other}
+use Rattle.wave_engine.proofs.Wanted.{AreReachedBy, diagram_answer, adds_through, lacks_through, has_request_of}
+
+-- empty lists
+row_replicate : {X : Type 0} (n w : ℕ) → row {X = X} (replicate n []) w ≡ []
+row_replicate zero w = refl
+row_replicate (suc n) zero = refl
+row_replicate (suc n) (suc w) = row_replicate n w
+
+pub made_empty : {X : Type 0} (n : ℕ) (lists : List (List X)) → lists ≡ replicate n [] → AreEmpty lists n
+made_empty {X} n lists e = subst (λ (z : List (List X)). AreEmpty z n) (sym e) (record { levels = length-replicate n []; empty = λ w. row_replicate n w })
+
+-- levels from which the requests are taken, one after the other
+pub taken_more : (T : List (List Key)) (v u : ℕ) → u < length T → AreNone T 0 v → AreNone T v u → AreNone (set T u []) 0 (u + 1)
+taken_more T v u lt before between w q k le l h =
+    elim (same_level w u) [
+      | inl d ↦ stands_none (row (set T u []) w) q k (ap (row (set T u [])) d ∙ row_own T u [] lt) h
+      | inr d ↦
+          let at : StandsAt T w q k = subst (λ (z : List Key). slice_get z q ≡ Some k) (row_other T u [] w d) h in
+          elim (cases_lt w v) [ inl a ↦ before w q k le a at | inr b ↦ between w q k b (grind (arith, l, d)) at ]
+    ]
+
+pub taken_all : (T : List (List Key)) (n v : ℕ) → length T ≡ n → AreNone T 0 v → ((w q : ℕ) (k : Key) → v ≤ w → StandsAt T w q k → ⊥) → AreEmpty T n
+taken_all T n v len before later = record { levels = len; empty = λ w. by w (row T w) refl }
+  where
+    none : (w q : ℕ) (k : Key) → StandsAt T w q k → ⊥
+    none w q k h = elim (cases_lt w v) [ inl lt ↦ before w q k (omega arith) lt h | inr le ↦ later w q k le h ]
+
+    by : (w : ℕ) (ks : List Key) → row T w ≡ ks → row T w ≡ []
+    by w [] e = e
+    by w (k ∷ ks) e = absurd (none w 0 k (ap (λ z. slice_get z 0) e))
+
+-- lists one after the other
+joined-append : {X : Type 0} (a b : List (List X)) → joined (a ++ b) ≡ joined a ++ joined b
+joined-append [] b = refl
+joined-append (x ∷ a) b = ap (λ z. x ++ z) (joined-append a b) ∙ sym (append_assoc x (joined a) (joined b))
+
+pub joined_more : {X : Type 0} (xs : List (List X)) (n : ℕ) → n < length xs → joined (take (n + 1) xs) ≡ joined (take n xs) ++ row xs n
+joined_more xs n lt = ap joined (take_more xs n [] lt) ∙ joined-append (take n xs) (row xs n ∷ []) ∙ ap (λ z. joined (take n xs) ++ z) (append-nil (row xs n))
+
+row_drop : {X : Type 0} (xs : List (List X)) (v n : ℕ) → row (drop v xs) n ≡ row xs (v + n)
+row_drop xs zero n = ap (row xs) (let e : n ≡ 0 + n = omega arith in e)
+row_drop [] (suc v) n = refl
+row_drop (x ∷ xs) (suc v) n = row_drop xs v n ∙ ap (row (x ∷ xs)) (let e : suc (v + n) ≡ suc v + n = omega arith in e)
+
+-- what stands in one of them stands in all together
+joined_at : {X : Type 0} (xs : List (List X)) (n q : ℕ) (x : X) → StandsAt xs n q x → slice_get (joined xs) (length (joined (take n xs)) + q) ≡ Some x
+joined_at [] n q x h = absurd (stands_none [] q x refl h)
+joined_at (y ∷ ys) zero q x h = subst (λ z. slice_get (y ++ joined ys) z ≡ Some x) (let e : q ≡ 0 + q = omega arith in e) (slice_get-append y (joined ys) q x h)
+joined_at {X = X} (y ∷ ys) (suc n) q x h = later y (joined ys) (length (joined (take n ys)) + q) x (joined_at ys n q x h) (length (y ++ joined (take n ys)) + q) (simp length-append (omega arith))
+  where
+    later : (a b : List X) (i : ℕ) (x : X) → slice_get b i ≡ Some x → (j : ℕ) → j ≡ length a + i → slice_get (a ++ b) j ≡ Some x
+    later [] b i x h j e = subst (λ z. slice_get b z ≡ Some x) (let f : i ≡ j = omega (arith, e) in f) h
+    later (z ∷ a) b i x h zero e = absurd (omega (arith, e))
+    later (z ∷ a) b i x h (suc j) e = later a b i x h j (omega (arith, e))
+
+-- and the other way round
+joined_from : {X : Type 0} (xs : List (List X)) (x : X) → Contains (joined xs) x → (n : ℕ) × (q : ℕ) × StandsAt xs n q x
+joined_from [] x c = absurd (nothing x c)
+joined_from (y ∷ ys) x c = elim (Contains-append_cases y (joined ys) x c) [
+  | inl h ↦ (0, h.0, slice_get-get_or y h.0 x h.1 ∙ ap (λ z. Some z) h.2)
+  | inr h ↦ let m = joined_from ys x h in (suc m.0, m.1, m.2)
+]
+
+module _ (tables : List (List Key)) (v : ℕ) where
+  pub before_next : (w : ℕ) → v ≤ w → w < length tables → count_before v (w + 1) tables ≡ count_before v w tables + length (row tables w)
+  before_next w le lt =
+      let n : ℕ = w - v in
+      let d : length (drop v tables) ≡ length tables - v = length-drop v tables in
+      let m : (w + 1) - v ≡ n + 1 = omega (arith, le) in
+      let at : row (drop v tables) n ≡ row tables w = row_drop tables v n ∙ ap (row tables) (omega (arith, le)) in
+      ap (λ z. length (joined (take z (drop v tables)))) m
+      ∙ ap length (joined_more (drop v tables) n (omega (arith, d, le, lt)) ∙ ap (λ z. joined (take n (drop v tables)) ++ z) at)
+      ∙ simp length-append refl
+
+  pub before_all : (w : ℕ) → count_before v w tables ≤ length (keys_from v tables)
+  before_all w =
+      let n : ℕ = w - v in
+      let e : joined (take n (drop v tables)) ++ joined (drop n (drop v tables)) ≡ keys_from v tables = sym (joined-append (take n (drop v tables)) (drop n (drop v tables))) ∙ ap joined (take-append-drop n (drop v tables)) in
+      let l : length (joined (take n (drop v tables)) ++ joined (drop n (drop v tables))) ≡ length (keys_from v tables) = ap length e in
+      let s : length (joined (take n (drop v tables)) ++ joined (drop n (drop v tables))) ≡ count_before v w tables + length (joined (drop n (drop v tables))) = length-append (joined (take n (drop v tables))) (joined (drop n (drop v tables))) in
+      omega (arith, l, s)
+
+  pub key_before : (w q : ℕ) (k : Key) → v ≤ w → StandsAt tables w q k → slice_get (keys_from v tables) (count_before v w tables + q) ≡ Some k
+  key_before w q k le h =
+      let at : row tables w ≡ row (drop v tables) (w - v) = ap (row tables) (omega (arith, le)) ∙ sym (row_drop tables v (w - v)) in
+      joined_at (drop v tables) (w - v) q k (subst (λ (z : List Key). slice_get z q ≡ Some k) at h)
+
+  pub key_from : (k : Key) → Contains (keys_from v tables) k → (w : ℕ) × (q : ℕ) × (v ≤ w) × StandsAt tables w q k
+  key_from k c =
+      let m = joined_from (drop v tables) k c in
+      (v + m.0, m.1, omega arith, subst (λ (z : List Key). slice_get z m.1 ≡ Some k) (row_drop tables v m.0) m.2)
+
+  -- one level more has its answers
+  pub put_more : (found : List Ref) (u : ℕ) (A : List (List Ref)) → ArePut tables v found u A → v ≤ u → u < length tables → (new : List Ref) → IsCopied found (count_before v u tables) (length (row tables u)) new → ArePut tables v found (u + 1) (set A u new)
+  put_more found u A p le lt new c = record {
+    levels = length-set A u new ∙ p.levels;
+    counts = λ w l m. elim (same_level w u) [
+      | inl d ↦ subst (λ z. length (row (set A u new) z) ≡ length (row tables z)) (sym d) (ap length own ∙ c.count)
+      | inr d ↦ ap length (row_other A u new w d) ∙ p.counts w l (grind (arith, m, d))
+    ];
+    placed = λ w q r l m h. elim (same_level w u) [
+      | inl d ↦ subst (λ z. slice_get found (count_before v z tables + q) ≡ Some r) (sym d) (c.placed q r (subst (λ (z : List Ref). slice_get z q ≡ Some r) own (subst (λ z. StandsAt (set A u new) z q r) d h)))
+      | inr d ↦ p.placed w q r l (grind (arith, m, d)) (subst (λ (z : List Ref). slice_get z q ≡ Some r) (row_other A u new w d) h)
+    ];
+  }
+    where
+      own : row (set A u new) u ≡ new
+      own = row_own A u new (let e : length A ≡ length tables = p.levels in omega (arith, e, lt))
+
+pub none_put : (tables : List (List Key)) (v : ℕ) (found : List Ref) (A : List (List Ref)) → length A ≡ length tables → ArePut tables v found v A
+none_put tables v found A e = record { levels = e; counts = λ w l m. absurd (omega (arith, l, m)); placed = λ w q r l m. absurd (omega (arith, l, m)) }
+
+-- the list of requests that are handed over, as it grows
+pub list_more : (front : List Entry) (ks : List Key) (i : ℕ) (k : Key) (F G : List Entry) (e : Entry) → slice_get ks i ≡ Some k → F ≡ front ++ map entry_for (take i ks) → e ≡ entry_for k → G ≡ F ++ e ∷ [] → G ≡ front ++ map entry_for (take (i + 1) ks)
+list_more front ks i k F G e at f same g =
+    let lt : i < length ks = slice_get_within ks i k at in
+    let more : take (i + 1) ks ≡ take i ks ++ k ∷ [] = take_more ks i k lt ∙ ap (λ z. take i ks ++ z ∷ []) (get_or_from_slice_get ks i k k at) in
+    g ∙ ap (λ z. z ++ e ∷ []) f ∙ append_assoc front (map entry_for (take i ks)) (e ∷ []) ∙ ap (λ z. front ++ (map entry_for (take i ks) ++ z ∷ [])) same
+    ∙ ap (λ z. front ++ z) (sym (map-append entry_for (take i ks) (k ∷ []))) ∙ ap (λ z. front ++ map entry_for z) (sym more)
+
+pub front_more : (tables : List (List Key)) (v w : ℕ) (F G : List Entry) → v ≤ w → w < length tables → F ≡ front_of (joined (take (w - v) (drop v tables))) → G ≡ F ++ map entry_for (row tables w) → G ≡ front_of (joined (take ((w + 1) - v) (drop v tables)))
+front_more tables v w F G le lt f g =
+    let n : ℕ = w - v in
+    let d : length (drop v tables) ≡ length tables - v = length-drop v tables in
+    let m : (w + 1) - v ≡ n + 1 = omega (arith, le) in
+    let at : row (drop v tables) n ≡ row tables w = row_drop tables v n ∙ ap (row tables) (omega (arith, le)) in
+    g ∙ ap (λ z. z ++ map entry_for (row tables w)) f
+    ∙ sym (map-append entry_for (joined (take n (drop v tables))) (row tables w))
+    ∙ ap (λ z. front_of (joined (take n (drop v tables)) ++ z)) (sym at)
+    ∙ ap front_of (sym (joined_more (drop v tables) n (omega (arith, d, le, lt))))
+    ∙ ap (λ z. front_of (joined (take z (drop v tables)))) (sym m)
+
+-- what an element of a list of entries is
+of_front : (ks : List Key) (e : Entry) → Contains (front_of ks) e → (k : Key) × Contains ks k × (e ≡ entry_for k)
+of_front [] e c = absurd (nothing {X = Entry} e c)
+of_front (k ∷ ks) e c = elim (in_cases {X = Entry} (entry_for k) e (front_of ks) c) [
+  | inl d ↦ (k, head_in k ks, sym d)
+  | inr i ↦ let m = of_front ks e i in (m.0, tail_in k m.0 ks m.1, m.2)
+]
+
+-- answers of entries, at a place
+zip_at : (D : Entry → Ref → Type 0) (ks : List Key) (rs : List Ref) → AllZip D (front_of ks) rs → (i : ℕ) (k : Key) (r : Ref) → slice_get ks i ≡ Some k → slice_get rs i ≡ Some r → D (entry_for k) r
+zip_at D [] rs z i k r a b = absurd (stands_none [] i k refl a)
+zip_at D (x ∷ ks) [] z i k r a b = absurd z
+zip_at D (x ∷ ks) (y ∷ rs) z zero k r a b = let e : x ≡ k = cc in let f : y ≡ r = cc in subst (λ u. D (entry_for u) r) e (subst (D (entry_for x)) f z.0)
+zip_at D (x ∷ ks) (y ∷ rs) z (suc i) k r a b = zip_at D ks rs z.1 i k r a b
+
+pub zip_length : (D : Entry → Ref → Type 0) (ks : List Key) (rs : List Ref) → AllZip D (front_of ks) rs → length rs ≡ length ks
+zip_length D [] [] z = refl
+zip_length D [] (y ∷ rs) z = absurd z
+zip_length D (x ∷ ks) [] z = absurd z
+zip_length D (x ∷ ks) (y ∷ rs) z = ap suc (zip_length D ks rs z.1)
+
+-- Of a wave over the store S: what stands in the tables from level v on is handed over.
+module _ (S : Nodes) (w : IsSound S) (entries : List Entry) (good : All (IsEntry S) entries) (T : List (List Key)) (adm : AreAdmitted S entries T) (v : ℕ) where
+  pub front_reached : AreReachedBy S w entries good (front_of (keys_from v T))
+  front_reached e c =
+      let m = of_front (keys_from v T) e c in
+      let p = key_from T v m.0 m.1 in
+      (p.0, m.0, adm.keys p.0 p.1 m.0 p.3, λ x hx. ap (λ (z : Entry). entry_value S z x) m.2)
+
+  pub front_entries : All (IsEntry S) (front_of (keys_from v T))
+  front_entries = all_of (IsEntry S) (front_of (keys_from v T)) (λ e c.
+      let m = of_front (keys_from v T) e c in
+      let p = key_from T v m.0 m.1 in
+      let i : IsKey S m.0 = (adm.keys p.0 p.1 m.0 p.3).key in
+      subst (IsEntry S) (sym m.2) (i.first, i.second))
+
+  none_stands : keys_from v T ≡ [] → (u q : ℕ) (k : Key) → v ≤ u → StandsAt T u q k → ⊥
+  none_stands e u q k le h = stands_none (keys_from v T) (count_before v u T + q) k e (key_before T v u q k le h)
+
+  -- nothing is handed over
+  pub none_over : keys_from v T ≡ [] → (A : List (List Ref)) → length A ≡ S.levels → AreReducedBelow S entries T v S A
+  none_over e A a = record {
+    held = w;
+    adds = adds_none S S (IsWanted S entries) refl;
+    levels = a;
+    counts = λ u q k le h. absurd (none_stands e u q k le h);
+    answered = λ u q k r le h g. absurd (none_stands e u q k le h);
+    within = inr (λ u q k le h. none_stands e u q k le h, refl);
+  }
+
+  pub none_within : keys_from v T ≡ [] → IsWithinBelow S T v S
+  none_within e = inr (λ u q k le h. none_stands e u q k le h, refl)
+
+  -- what the workers found is put in place
+  module _ (U : Nodes) (sU : IsSound U) (adds : AddsDescribed S U (IsWanted S (front_of (keys_from v T)))) where
+    pub over_adds : AddsDescribed S U (IsWanted S entries)
+    over_adds = adds_through S w entries good U (front_of (keys_from v T)) front_reached adds
+
+    asked : (k : Key) (ks : List Key) → keys_from v T ≡ k ∷ ks → HasRequest (front_of (keys_from v T))
+    asked k ks e =
+        let p = key_from T v k (subst (λ z. Contains z k) (sym e) (head_in k ks)) in
+        (entry_for k, subst (λ z. Contains {X = Entry} (front_of z) (entry_for k)) (sym e) (head_in {X = Entry} (entry_for k) (front_of ks)), (adm.keys p.0 p.1 k p.3).key.long)
+
+    pub over_within : (keys_from v T ≡ [] → ⊥) → IsWithinLimit S (front_of (keys_from v T)) U → count_of U ≤ U.limit
+    over_within some (inl le) = le
+    over_within some (inr n) = absurd (by (keys_from v T) refl)
+      where
+        by : (ks : List Key) → keys_from v T ≡ ks → ⊥
+        by [] e = some e
+        by (k ∷ ks) e = n.0 (asked k ks e)
+
+    pub over_fault : (f : WaveFault) → IsWaveFault S (front_of (keys_from v T)) U f → IsWaveFault S entries U f
+    over_fault wave_faults.OutOfMemory x = tt
+    over_fault wave_faults.NoWorker x = tt
+    over_fault wave_faults.Full x =
+        let a = front_reached x.0.0 x.0.1 in
+        (has_request_of S w entries good a.0 a.1 a.2, elim x.1 [ inl o ↦ inl o | inr f ↦ inr (f.0, lacks_through S w entries good U (front_of (keys_from v T)) front_reached f.1) ])
+
+    pub over_reduced : (found : List Ref) (A : List (List Ref)) → AnswersEach S (front_of (keys_from v T)) U found → ArePut T v found (length T) A → count_of U ≤ U.limit → AreReducedBelow U entries T v U A
+    over_reduced found A z p within = record {
+      held = sU;
+      adds = adds_none U U (IsWanted U entries) refl;
+      levels = p.levels ∙ adm.levels ∙ sym adds.keeps.levels;
+      counts = λ u q k le h. p.counts u le (in_lists T u q k h);
+      answered = λ u q k r le h g.
+          let lt : u < length T = in_lists T u q k h in
+          let d : IsDiagram U r (meaning S k) = zip_at (λ e r. IsDiagram U r (entry_value S e)) (keys_from v T) found z (count_before v u T + q) k r (key_before T v u q k le h) (p.placed u q r le lt g) in
+          diagram_answer S w entries good U sU adds.keeps u k (adm.keys u q k h) r d;
+      within = inl within;
+    }
+
+pub front_none : (ks : List Key) → length (front_of ks) ≡ 0 → ks ≡ []
+front_none [] e = refl
+front_none (k ∷ ks) e = absurd (omega (arith, e))

@@ -1,0 +1,7 @@
+pub mod Marking
+pub mod Placing
+pub mod Marked
+pub mod Wanted
+pub mod Raising
+pub mod Fronting
+pub mod Whole

@@ -1,0 +1,23 @@
+-- Levels are marked where they have requests.
+use Rattle.std.proofs.Common.{◌≡◌, ◌≢◌, ℕ, ◌+◌, ◌*◌, ◌<◌, ◌≤◌, inl, inr, List, [], ◌∷◌, length, set, Some, slice_get, sym, ◌∙◌, ap, subst, arith}
+use Rattle.std.proofs.lemmas.List.{length-set}
+use Rattle.std.proofs.lemmas.Option.{slice_get_within}
+use Rattle.req_table.specs.declared.Key.{Key}
+use Rattle.wave_engine.specs.Marks.{IsMarked}
+use Rattle.wave_engine.specs.Places.{row, StandsAt, Enters, AreMarked}
+use Rattle.wave_engine.proofs.Placing.{same_level, stands_some, row_own, row_other}
+
+-- a request enters a level that has some
+pub marked_more : (ms : List ℕ) (T : List (List Key)) (l : ℕ) (k : Key) (p : ℕ) (new : List Key) → AreMarked ms T → l < length T → 0 < length (row T l) → Enters (row T l) k p new → AreMarked ms (set T l new)
+marked_more ms T l k p new m lt some e = record {
+  room = let z : length (set T l new) ≡ length T = length-set T l new in omega (arith, z, m.room);
+  few = let z : length (set T l new) ≡ length T = length-set T l new in omega (arith, z, m.few);
+  held = λ w h. elim (same_level w l) [
+    | inl d ↦ subst (λ z. 0 < length (row (set T l new) z)) (sym d) (let own : length (row (set T l new) l) ≡ length new = ap length (row_own T l new lt) in let within : p < length new = slice_get_within new p k e.0 in omega (arith, own, within))
+    | inr d ↦ subst (λ (z : List Key). 0 < length z) (sym (row_other T l new w d)) (m.held w h)
+  ];
+  marked = λ w q x h. elim (same_level w l) [
+    | inl d ↦ let s = stands_some (row T l) 0 some in subst (IsMarked ms) (sym d) (m.marked l 0 s.0 s.1)
+    | inr d ↦ m.marked w q x (subst (λ (z : List Key). slice_get z q ≡ Some x) (row_other T l new w d) h)
+  ];
+}

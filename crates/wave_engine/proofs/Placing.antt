@@ -1,0 +1,256 @@
+-- Placing children, and the levels that are expanded.
+use Rattle.std.proofs.Common.{◌≡◌, ◌≢◌, ℕ, zero, suc, ◌+◌, ◌<◌, ◌≤◌, ◌⊎◌, inl, inr, true, false, Bool, List, [], ◌∷◌, ◌++◌, length, set, get_or, Option, Some, None, slice_get, refl, sym, ◌∙◌, ap, subst, arith, Contains}
+use Rattle.std.specs.List.{AllZip}
+use Rattle.std.proofs.Math.Nat.{eq-or-lt_of_le}
+use Rattle.std.proofs.Math.ListN.{get_or-eq_default}
+use Rattle.std.proofs.lemmas.Bool.{cases_lt}
+use Rattle.std.proofs.lemmas.List.{length-set, length-append, get_or_default, get_or-set_same, get_or-set_other}
+use Rattle.dd_store.specs.declared.reference.Ref.{Ref}
+use Rattle.dd_store.specs.Nodes.{Nodes, IsSound}
+use Rattle.dd_store.proofs.Places.{slice_get-append, slice_get_cases-push}
+use Rattle.req_table.specs.declared.Key.{Key}
+use Rattle.req_table.specs.declared.Child.{Child}
+use Rattle.req_table.specs.declared.Child.TheVariants as child
+use Rattle.req_table.specs.Keys.{IsKey, IsChildIn, level_of, normal_of, child as child_at, child_of, answer_of}
+use Rattle.req_table.specs.Reached.{root as root_of, child as child_from}
+use Rattle.req_table.specs.Short.{short_of}
+use Rattle.req_table.proofs.Waved.{told, held, deeper, bounded}
+use Rattle.reduce_up.specs.Waves.{Entry, requests_of}
+use Rattle.reduce_up.proofs.Rooted.{to_request}
+use Rattle.wave_engine.specs.declared.lists.Placed.{Placed}
+use Rattle.wave_engine.specs.declared.lists.Placed.TheVariants.{Done, Ask}
+use Rattle.wave_engine.specs.Places.{row, StandsAt, Enters, IsPlaced, Admits, AreNone}
+use Rattle.wave_engine.specs.Down.{IsAdmitted, AreAdmitted, IsSplitAt, Grow, IsRowExpanded, AreExpanded}
+
+pub same_level : (w l : ℕ) → (w ≡ l) ⊎ (w ≢ l)
+same_level w l =
+    elim (cases_lt w l) [
+      | inl lt ↦ inr (λ e. omega (arith, e, lt))
+      | inr le ↦ elim (eq-or-lt_of_le le) [ inl e ↦ inl (sym e) | inr lt ↦ inr (λ e. omega (arith, e, lt)) ]
+    ]
+
+pub some_same : {X : Type 0} (o : Option X) (x y : X) → o ≡ Some x → o ≡ Some y → x ≡ y
+some_same (Some z) x y e f = cc
+some_same None x y e f = absurd (let g : None ≡ Some x = e in cc)
+
+pub stands_none : {X : Type 0} (xs : List X) (q : ℕ) (x : X) → xs ≡ [] → slice_get xs q ≡ Some x → ⊥
+stands_none {X} xs q x e h = by (subst (λ (z : List X). slice_get z q ≡ Some x) e h)
+  where
+    by : None ≡ Some x → ⊥
+    by g = cc
+
+-- one list of a list of lists is written
+pub row_own : {X : Type 0} (lists : List (List X)) (v : ℕ) (xs : List X) → v < length lists → row (set lists v xs) v ≡ xs
+row_own lists v xs lt = get_or-set_same lists v xs [] lt
+
+pub row_other : {X : Type 0} (lists : List (List X)) (v : ℕ) (xs : List X) (w : ℕ) → w ≢ v → row (set lists v xs) w ≡ row lists w
+row_other lists v xs w ne = get_or-set_other lists v w xs [] ne
+
+-- the place of a key that entered
+entered_kept : (old new : List Key) (k : Key) (p : ℕ) → Enters old k p new → (q : ℕ) (x : Key) → slice_get old q ≡ Some x → slice_get new q ≡ Some x
+entered_kept old new k p e q x h =
+    elim e.1 [
+      | inl same ↦ subst (λ (z : List Key). slice_get z q ≡ Some x) (sym same) h
+      | inr more ↦ subst (λ (z : List Key). slice_get z q ≡ Some x) (sym more) (slice_get-append old (k ∷ []) q x h)
+    ]
+
+entered_only : (old new : List Key) (k : Key) (p : ℕ) → Enters old k p new → (q : ℕ) (x : Key) → slice_get new q ≡ Some x → (slice_get old q ≡ Some x) ⊎ (x ≡ k)
+entered_only old new k p e q x h =
+    elim e.1 [
+      | inl same ↦ inl (subst (λ (z : List Key). slice_get z q ≡ Some x) same h)
+      | inr more ↦ elim (slice_get_cases-push old k q x (subst (λ (z : List Key). slice_get z q ≡ Some x) more h)) [ inl o ↦ inl o | inr n ↦ inr n.1 ]
+    ]
+
+-- a request is placed
+pub ask_admits : (T : List (List Key)) (l : ℕ) (k : Key) (p : ℕ) (new : List Key) → l < length T → Enters (row T l) k p new → Admits T (child.Ask l k) (set T l new)
+ask_admits T l k p new lt e = record {
+  levels = length-set T l new;
+  kept = λ w q x h.
+      elim (same_level w l) [
+        | inl d ↦ subst (λ z. StandsAt (set T l new) z q x) (sym d)
+            (subst (λ (z : List Key). slice_get z q ≡ Some x) (sym (row_own T l new lt)) (entered_kept (row T l) new k p e q x (subst (λ z. StandsAt T z q x) d h)))
+        | inr d ↦ subst (λ (z : List Key). slice_get z q ≡ Some x) (sym (row_other T l new w d)) h
+      ];
+  only = λ w q x h.
+      elim (same_level w l) [
+        | inl d ↦
+            let at : slice_get new q ≡ Some x = subst (λ (z : List Key). slice_get z q ≡ Some x) (row_own T l new lt) (subst (λ z. StandsAt (set T l new) z q x) d h) in
+            elim (entered_only (row T l) new k p e q x at) [
+              | inl o ↦ inl (subst (λ z. StandsAt T z q x) (sym d) o)
+              | inr n ↦ inr (ap (λ z. child.Ask z k) (sym d) ∙ ap (λ z. child.Ask w z) (sym n))
+            ]
+        | inr d ↦ inl (subst (λ (z : List Key). slice_get z q ≡ Some x) (row_other T l new w d) h)
+      ];
+  others = λ w no. row_other T l new w (λ d. no k (ap (λ z. child.Ask z k) (sym d)));
+}
+
+-- and stands at its place
+pub ask_placed : (T : List (List Key)) (l : ℕ) (k : Key) (p : ℕ) (new : List Key) → l < length T → Enters (row T l) k p new → StandsAt (set T l new) l p k
+ask_placed T l k p new lt e = subst (λ (z : List Key). slice_get z p ≡ Some k) (sym (row_own T l new lt)) e.0
+
+-- nothing is admitted
+pub none_admits : (T : List (List Key)) (c : Child) → Admits T c T
+none_admits T c = record { levels = refl; kept = λ w q x h. h; only = λ w q x h. inl h; others = λ w no. refl }
+
+-- what is placed stays placed
+pub placed_kept : (T U : List (List Key)) → Grow T U → (d : Placed) (c : Child) → IsPlaced T d c → IsPlaced U d c
+placed_kept T U g (Done r) c h = h
+placed_kept T U g (Ask l p) c h = (h.0, g l p h.0 h.1, h.2)
+
+pub all_placed_kept : (S : Nodes) (T U : List (List Key)) → Grow T U → (es : List Entry) (ps : List Placed)
+    → AllZip (λ e p. IsPlaced T p (child_at S e.0 e.1 e.2)) es ps → AllZip (λ e p. IsPlaced U p (child_at S e.0 e.1 e.2)) es ps
+all_placed_kept S T U g [] [] z = z
+all_placed_kept S T U g [] (p ∷ ps) z = z
+all_placed_kept S T U g (e ∷ es) [] z = z
+all_placed_kept S T U g (e ∷ es) (p ∷ ps) z = (placed_kept T U g p (child_at S e.0 e.1 e.2) z.0, all_placed_kept S T U g es ps z.1)
+
+pub admitted_more : (S : Nodes) (es : List Entry) (T : List (List Key)) (c : Child) (U : List (List Key)) → AreAdmitted S es T → Admits T c U
+    → ((l : ℕ) (k : Key) → c ≡ child.Ask l k → IsAdmitted S es l k) → AreAdmitted S es U
+admitted_more S es T c U a m new = record {
+  levels = m.levels ∙ a.levels;
+  keys = λ w q k h. elim (m.only w q k h) [ inl o ↦ a.keys w q k o | inr e ↦ new w k e ];
+}
+
+pub none_admitted : (S : Nodes) (es : List Entry) (T : List (List Key)) → length T ≡ S.levels → ((w : ℕ) → row T w ≡ []) → AreAdmitted S es T
+none_admitted S es T l e = record { levels = l; keys = λ w q k h. absurd (stands_none (row T w) q k (e w) h) }
+
+-- what an entry asks for
+asked_entry : (S : Nodes) (e : Entry) (l : ℕ) (k : Key) (t : Option Ref) → answer_of S e.0 e.1 e.2 t ≡ child.Ask l k → (t ≡ None) × (normal_of e.0 e.1 e.2 ≡ k)
+asked_entry S e l k None h = (refl, cc)
+asked_entry S e l k (Some r) h = absurd (cc)
+
+pub root_admitted : (S : Nodes) (es : List Entry) (e : Entry) → Contains es e → IsChildIn S (child_at S e.0 e.1 e.2) → (l : ℕ) (k : Key) → child_at S e.0 e.1 e.2 ≡ child.Ask l k → IsAdmitted S es l k
+root_admitted S es e c i l k h =
+    let a = asked_entry S e l k (short_of e.0 e.1 e.2) h in
+    let in_store : IsKey S k × (l ≡ level_of S k) = subst (IsChildIn S) h i in
+    record { key = in_store.0; level = sym in_store.1; reached = root_of (subst (Contains (requests_of es)) a.1 (to_request es e c a.0)) }
+
+-- what a key's child asks for
+pub child_admitted : (S : Nodes) → IsSound S → (es : List Entry) (w : ℕ) (k : Key) (b : Bool) → IsAdmitted S es w k → (l : ℕ) (c : Key) → child_of S k b ≡ child.Ask l c → IsAdmitted S es l c
+child_admitted S sound es w k b a l c h = record {
+  key = held S sound k c b l a.key h;
+  level = sym (told S sound k c b l h);
+  reached = child_from b l a.reached h;
+}
+
+-- and that it is further down
+pub child_below : (S : Nodes) → IsSound S → (es : List Entry) (v : ℕ) (k : Key) (b : Bool) → IsAdmitted S es v k → (l : ℕ) (c : Key) → child_of S k b ≡ child.Ask l c → v < l
+child_below S sound es v k b a l c h =
+    let d : level_of S k < level_of S c = deeper S sound k c b l a.key h in
+    let t : l ≡ level_of S c = told S sound k c b l h in
+    let m : level_of S k ≡ v = a.level in
+    omega (arith, d, t, m)
+
+pub row_start : (S : Nodes) (es : List Entry) (T : List (List Key)) (v : ℕ) → AreAdmitted S es T → IsRowExpanded S es T v 0 T []
+row_start S es T v a = record { admitted = a; grown = λ w q k h. h; above = λ w le. refl; count = refl; split = λ q k d h g. absurd (stands_none [] q d refl g) }
+
+-- one request more is expanded
+pub row_more : (S : Nodes) → IsSound S → (es : List Entry) (T0 : List (List Key)) (v i : ℕ) (T : List (List Key)) (pairs : List (Placed × Placed)) → IsRowExpanded S es T0 v i T pairs →
+    (k : Key) → StandsAt T v i k → (low high : Placed) (T1 T2 : List (List Key)) → Admits T (child_of S k false) T1 → IsPlaced T1 low (child_of S k false) →
+    Admits T1 (child_of S k true) T2 → IsPlaced T2 high (child_of S k true) → IsRowExpanded S es T0 v (i + 1) T2 (pairs ++ (low, high) ∷ [])
+row_more S sound es T0 v i T pairs so k at low high T1 T2 m1 p1 m2 p2 = record {
+  admitted = admitted_more S es T1 (child_of S k true) T2 (admitted_more S es T (child_of S k false) T1 so.admitted m1 (child_admitted S sound es v k false own)) m2 (child_admitted S sound es v k true own);
+  grown = λ w q x h. grown w q x (so.grown w q x h);
+  above = λ w le. still w le ∙ so.above w le;
+  count = simp length-append (omega (arith, so.count));
+  split = λ q x d h g. by q x d h (slice_get_cases-push pairs (low, high) q d g);
+}
+  where
+    own : IsAdmitted S es v k
+    own = so.admitted.keys v i k at
+
+    grown : Grow T T2
+    grown w q x h = m2.kept w q x (m1.kept w q x h)
+
+    still : (w : ℕ) → w ≤ v → row T2 w ≡ row T w
+    still w le =
+        m2.others w (λ x e. let lt : v < w = child_below S sound es v k true own w x e in omega (arith, lt, le))
+        ∙ m1.others w (λ x e. let lt : v < w = child_below S sound es v k false own w x e in omega (arith, lt, le))
+
+    back : (q : ℕ) (x : Key) → StandsAt T2 v q x → StandsAt T v q x
+    back q x h = subst (λ (z : List Key). slice_get z q ≡ Some x) (still v (let le : v ≤ v = omega arith in le)) h
+
+    by : (q : ℕ) (x : Key) (d : Placed × Placed) → StandsAt T2 v q x → (slice_get pairs q ≡ Some d) ⊎ ((q ≡ length pairs) × (d ≡ (low, high))) → IsSplitAt S T2 x d
+    by q x d h (inl g) =
+        let s = so.split q x d (back q x h) g in
+        (placed_kept T T2 grown d.0 (child_of S x false) s.0, placed_kept T T2 grown d.1 (child_of S x true) s.1)
+    by q x d h (inr g) =
+        let here : StandsAt T v i x = subst (λ z. StandsAt T v z x) (g.0 ∙ so.count) (back q x h) in
+        let same : k ≡ x = some_same (slice_get (row T v) i) k x at here in
+        subst (λ z. IsSplitAt S T2 z d) same
+        (subst (λ (z : Placed × Placed). IsSplitAt S T2 k z) (sym g.1) (placed_kept T1 T2 m2.kept low (child_of S k false) p1, p2))
+
+-- before the first level
+pub start_expanded : (S : Nodes) (es : List Entry) (roots : List Placed) (T : List (List Key)) (rows : List (List (Placed × Placed))) → AreAdmitted S es T →
+    AllZip (λ e p. IsPlaced T p (child_at S e.0 e.1 e.2)) es roots → length rows ≡ S.levels → AreExpanded S es roots 0 T rows
+start_expanded S es roots T rows a z l = record {
+  admitted = a;
+  rooted = z;
+  levels = l;
+  counts = λ w q k lt h. absurd (omega arith);
+  split = λ w q k d lt. absurd (omega arith);
+}
+
+-- one level more is expanded
+pub level_more : (S : Nodes) (es : List Entry) (roots : List Placed) (v : ℕ) (T : List (List Key)) (rows : List (List (Placed × Placed))) → v < S.levels → AreExpanded S es roots v T rows →
+    (U : List (List Key)) (pairs : List (Placed × Placed)) → IsRowExpanded S es T v (length (row T v)) U pairs → AreExpanded S es roots (v + 1) U (set rows v pairs)
+level_more S es roots v T rows lt e U pairs r = record {
+  admitted = r.admitted;
+  rooted = all_placed_kept S T U r.grown es roots e.rooted;
+  levels = length-set rows v pairs ∙ e.levels;
+  counts = λ w q k l h. counts w q k l h (same_level w v);
+  split = λ w q k d l h g. split w q k d l h g (same_level w v);
+}
+  where
+    here : v < length rows
+    here = let m : length rows ≡ S.levels = e.levels in omega (arith, m, lt)
+
+    counts : (w q : ℕ) (k : Key) → w < v + 1 → StandsAt U w q k → (w ≡ v) ⊎ (w ≢ v) → length (row (set rows v pairs) w) ≡ length (row U w)
+    counts w q k l h (inl d) =
+        subst (λ z. length (row (set rows v pairs) z) ≡ length (row U z)) (sym d)
+        (ap length (row_own rows v pairs here) ∙ r.count ∙ sym (ap length (r.above v (let le : v ≤ v = omega arith in le))))
+    counts w q k l h (inr d) =
+        let le : w < v = grind (arith, l, d) in
+        ap length (row_other rows v pairs w d) ∙ e.counts w q k le (subst (λ (z : List Key). slice_get z q ≡ Some k) (r.above w (omega (arith, le))) h) ∙ sym (ap length (r.above w (omega (arith, le))))
+
+    split : (w q : ℕ) (k : Key) (d : Placed × Placed) → w < v + 1 → StandsAt U w q k → StandsAt (set rows v pairs) w q d → (w ≡ v) ⊎ (w ≢ v) → IsSplitAt S U k d
+    split w q k d l h g (inl m) =
+        r.split q k d (subst (λ z. StandsAt U z q k) m h)
+        (subst (λ (z : List (Placed × Placed)). slice_get z q ≡ Some d) (row_own rows v pairs here) (subst (λ z. StandsAt (set rows v pairs) z q d) m g))
+    split w q k d l h g (inr m) =
+        let le : w < v = grind (arith, l, m) in
+        let s = e.split w q k d le (subst (λ (z : List Key). slice_get z q ≡ Some k) (r.above w (omega (arith, le))) h)
+        (subst (λ (z : List (Placed × Placed)). slice_get z q ≡ Some d) (row_other rows v pairs w m) g) in
+        (placed_kept T U r.grown d.0 (child_of S k false) s.0, placed_kept T U r.grown d.1 (child_of S k true) s.1)
+
+-- levels without requests are passed over
+pub levels_passed : (S : Nodes) (es : List Entry) (roots : List Placed) (v u : ℕ) (T : List (List Key)) (rows : List (List (Placed × Placed))) → AreExpanded S es roots v T rows → AreNone T v u → AreExpanded S es roots u T rows
+levels_passed S es roots v u T rows e none = record {
+  admitted = e.admitted;
+  rooted = e.rooted;
+  levels = e.levels;
+  counts = λ w q k lt h. elim (cases_lt w v) [ inl l ↦ e.counts w q k l h | inr le ↦ absurd (none w q k le lt h) ];
+  split = λ w q k d lt h g. elim (cases_lt w v) [ inl l ↦ e.split w q k d l h g | inr le ↦ absurd (none w q k le lt h) ];
+}
+
+-- a request that is told with its level fits the tables
+pub ask_fits : (S : Nodes) → IsSound S → (T : List (List Key)) (c : Child) (l : ℕ) (k : Key) → length T ≡ S.levels → IsChildIn S c → c ≡ child.Ask l k → l < length T
+ask_fits S sound T c l k len i e =
+    let h : IsKey S k × (l ≡ level_of S k) = subst (IsChildIn S) e i in
+    let b : level_of S k < S.levels = bounded S sound k h.0 in
+    let t : l ≡ level_of S k = h.1 in
+    omega (arith, len, b, t)
+
+-- what an index reads of a list of lists
+pub row_read : {X : Type 0} (lists : List (List X)) (v : ℕ) (xs : List X) → v < length lists → xs ≡ get_or lists v xs → xs ≡ row lists v
+row_read lists v xs lt e = e ∙ get_or_default lists v xs [] lt
+
+-- what stands at a place stands in one of the lists
+pub in_lists : {X : Type 0} (lists : List (List X)) (l p : ℕ) (x : X) → StandsAt lists l p x → l < length lists
+in_lists lists l p x h = elim (cases_lt l (length lists)) [ inl lt ↦ lt | inr le ↦ absurd (stands_none (row lists l) p x (get_or-eq_default lists [] le) h) ]
+
+-- something stands at each place of a list
+pub stands_some : {X : Type 0} (xs : List X) (i : ℕ) → i < length xs → (x : X) × (slice_get xs i ≡ Some x)
+stands_some [] i lt = absurd (omega arith)
+stands_some (x ∷ xs) zero lt = (x, refl)
+stands_some (x ∷ xs) (suc i) lt = stands_some xs i (omega arith)

@@ -1,0 +1,236 @@
+-- A wave as a whole: the store moves on where the workers were called in, and the roots' answers are those of the entries.
+use Rattle.std.proofs.Common.{◌≡◌, ℕ, suc, ◌<◌, ◌≤◌, ◌⊎◌, inl, inr, true, false, Bool, cond, List, [], ◌∷◌, ◌++◌, length, Option, Some, None, refl, sym, ◌∙◌, ap, subst, arith, Contains, All}
+use Rattle.std.specs.Prelude.{nat_eq, unwrap_or}
+use Rattle.std.specs.Option.{option_map}
+use Rattle.std.specs.List.{AllZip}
+use Rattle.std.proofs.lemmas.List.Elements.{All-contains}
+use Rattle.std.proofs.lemmas.Option.{slice_get_within}
+use Rattle.dd_store.specs.declared.reference.Ref.{Ref}
+use Rattle.dd_store.specs.declared.reference.Ref.TheVariants.{False, True, Node}
+use Rattle.dd_store.specs.declared.reference.NodeId.{NodeId}
+use Rattle.dd_store.specs.Functions.{IsFixedSomehow, DependsOn}
+use Rattle.dd_store.specs.Graph.{Pair}
+use Rattle.dd_store.specs.Parts.{Part, Met}
+use Rattle.dd_store.specs.Parts.Part.{node}
+use Rattle.dd_store.specs.Nodes.{Nodes, node as node_at, IsSound, IsDiagram, den, count_of, cofactor_of, high_of, low_of, children}
+use Rattle.dd_store.specs.View.{part, part_of, Has, Keeps, top}
+use Rattle.dd_store.proofs.View.{kept_den, kept_top, keeps-trans}
+use Rattle.expand_work.specs.declared.fault.WaveFault.{WaveFault}
+use Rattle.expand_work.specs.declared.fault.WaveFault.TheVariants as wave_faults
+use Rattle.req_table.specs.declared.Op.{Op}
+use Rattle.req_table.specs.declared.Key.{Key}
+use Rattle.req_table.specs.declared.Child.{Child}
+use Rattle.req_table.specs.declared.Child.TheVariants as child
+use Rattle.req_table.specs.Keys.{IsKey, IsChildIn, key, level_at, level_of, normal_of, child as child_at, child_of, child_value, answer_of, ask_of, meaning, wave_of}
+use Rattle.req_table.specs.Reached.{IsReached, root as root_of, child as child_from}
+use Rattle.req_table.specs.Short.{short_of}
+use Rattle.req_table.proofs.Waved.{child_has_value, child_stands}
+use Rattle.reduce_up.specs.Reducing.{AddsDescribed, IsAnswer}
+use Rattle.reduce_up.specs.Waves.{Entry, entry_value, IsEntry, AnswersEach, IsWanted, AddsBelow, HasRequest, IsWithinLimit, IsWaveFault, requests_of}
+use Rattle.reduce_up.proofs.Below.{fixed_of, fixed_as, lies_below}
+use Rattle.reduce_up.proofs.Closed.{reached_key}
+use Rattle.reduce_up.proofs.Noting.{nothing, head_in, tail_in, in_cases}
+use Rattle.reduce_up.proofs.Reduction.{kept_meaning, diagram_kept}
+use Rattle.reduce_up.proofs.Rooted.{all_of, requests_good}
+use Rattle.wave_engine.specs.declared.lists.Placed.{Placed}
+use Rattle.wave_engine.specs.declared.lists.Placed.TheVariants.{Done, Ask}
+use Rattle.wave_engine.specs.Places.{row, StandsAt, IsPlaced}
+use Rattle.wave_engine.specs.Down.{IsAdmitted, AreAdmitted, AreExpanded}
+use Rattle.wave_engine.specs.Up.{ComesTo, IsWithinBelow}
+use Rattle.wave_engine.proofs.Placing.{stands_some}
+
+-- Of a store S and a later one, U.
+module _ (S : Nodes) (w : IsSound S) (entries : List Entry) (good : All (IsEntry S) entries) (U : Nodes) (K : Keeps S U) where
+  same_pair : (m : NodeId) (p q : Pair) → ◌≡◌ {A = Part Ref} (node m.level p.0 p.1) (node m.level q.0 q.1) → p ≡ q
+  same_pair m p q e = let a : p.0 ≡ q.0 = cc in let b : p.1 ≡ q.1 = cc in λ i. (a i, b i)
+
+  node_kept : (m : NodeId) → Has S (Node m) → node_at U m ≡ node_at S m
+  node_kept m h =
+      let g : Has U (Node m) = K.has (Node m) h in
+      let e : part_of m (Some g.0) ≡ part_of m (Some h.0) = sym (ap (part_of m) g.1) ∙ K.part_is (Node m) h ∙ ap (part_of m) h.1 in
+      g.1 ∙ ap (λ (z : Pair). Some z) (same_pair m g.0 h.0 e) ∙ sym h.1
+
+  children_kept : (r : Ref) → Has S r → children U r ≡ children S r
+  children_kept False h = refl
+  children_kept True h = refl
+  children_kept (Node m) h = node_kept m h
+
+  cofactor_kept : (r : Ref) (v : ℕ) (b : Bool) → Has S r → cofactor_of U r v b ≡ cofactor_of S r v b
+  cofactor_kept r v b h =
+      ap (λ n. cond (nat_eq n v) (cond b (high_of U r) (low_of U r)) r) (kept_top S U K r)
+      ∙ ap (λ (c : Option Pair). cond (nat_eq (top S r) v) (cond b (unwrap_or (option_map (λ (p : Pair). p.1) c) r) (unwrap_or (option_map (λ (p : Pair). p.0) c) r)) r) (children_kept r h)
+
+  child_same : (op : Op) (f g : Ref) → child_at U op f g ≡ child_at S op f g
+  child_same op f g = by (short_of op f g)
+    where
+      by : (t : Option Ref) → answer_of U op f g t ≡ answer_of S op f g t
+      by None = ap (λ n. child.Ask (level_at n (normal_of op f g)) (normal_of op f g)) K.levels
+      by (Some r) = refl
+
+  child_kept : (k : Key) (b : Bool) → IsKey S k → child_of U k b ≡ child_of S k b
+  child_kept k b i =
+      let v : level_of U k ≡ level_of S k = ap (λ n. level_at n k) K.levels in
+      child_same k.op (cofactor_of U k.f (level_of U k) b) (cofactor_of U k.g (level_of U k) b)
+      ∙ ap (λ n. child_at S k.op (cofactor_of U k.f n b) (cofactor_of U k.g n b)) v
+      ∙ ap (λ r. child_at S k.op r (cofactor_of U k.g (level_of S k) b)) (cofactor_kept k.f (level_of S k) b i.first)
+      ∙ ap (λ r. child_at S k.op (cofactor_of S k.f (level_of S k) b) r) (cofactor_kept k.g (level_of S k) b i.second)
+
+  reached_kept : (k : Key) → IsReached (wave_of S 1) (requests_of entries) k → IsReached (wave_of U 1) (requests_of entries) k
+  reached_kept k (root_of c) = root_of c
+  reached_kept k (child_from {x = x} b l i e) =
+      child_from b l (reached_kept x i) (child_kept x b (reached_key S w 1 (requests_of entries) (requests_good S entries good) x i) ∙ e)
+
+  admitted_kept : (v : ℕ) (k : Key) → IsAdmitted S entries v k → IsAdmitted U entries v k
+  admitted_kept v k i = record {
+    key = record { first = K.has k.f i.key.first; second = K.has k.g i.key.second; long = i.key.long; ordered = i.key.ordered };
+    level = ap (λ n. level_at n k) K.levels ∙ i.level;
+    reached = reached_kept k i.reached;
+  }
+
+  pub all_admitted_kept : (T : List (List Key)) → AreAdmitted S entries T → AreAdmitted U entries T
+  all_admitted_kept T a = record { levels = a.levels ∙ sym K.levels; keys = λ v q k h. admitted_kept v k (a.keys v q k h) }
+
+  pub entries_kept : All (IsEntry U) entries
+  entries_kept = all_of (IsEntry U) entries (λ e c. let i : IsEntry S e = All-contains (IsEntry S) entries e good c in (K.has e.1 i.0, K.has e.2 i.1))
+
+  -- what is expanded for the one is expanded for the other
+  pub expanded_kept : (roots : List Placed) (v : ℕ) (T : List (List Key)) (rows : List (List (Placed × Placed))) → AreExpanded S entries roots v T rows → AreExpanded U entries roots v T rows
+  expanded_kept roots v T rows x = record {
+    admitted = all_admitted_kept T x.admitted;
+    rooted = all entries roots x.rooted;
+    levels = x.levels ∙ sym K.levels;
+    counts = x.counts;
+    split = λ u q k d lt h g.
+        let s = x.split u q k d lt h g in
+        let i : IsKey S k = (x.admitted.keys u q k h).key in
+        (subst (IsPlaced T d.0) (sym (child_kept k false i)) s.0, subst (IsPlaced T d.1) (sym (child_kept k true i)) s.1);
+  }
+    where
+      all : (es : List Entry) (ps : List Placed) → AllZip (λ e p. IsPlaced T p (child_at S e.0 e.1 e.2)) es ps → AllZip (λ e p. IsPlaced T p (child_at U e.0 e.1 e.2)) es ps
+      all [] [] z = z
+      all [] (p ∷ ps) z = z
+      all (e ∷ es) [] z = z
+      all (e ∷ es) (p ∷ ps) z = (subst (IsPlaced T p) (sym (child_same e.0 e.1 e.2)) z.0, all es ps z.1)
+
+  -- what the entries want of the one, they want of the other
+  pub wanted_back : (v : ℕ) (f : List Bool → Bool) → IsWanted U entries v f → IsWanted S entries v f
+  wanted_back v f u =
+      let i : IsEntry S u.entry = All-contains (IsEntry S) entries u.entry good u.is_entry in record {
+        entry = u.entry;
+        is_entry = u.is_entry;
+        fixed = fixed_of S.levels v (entry_value S u.entry) (entry_value U u.entry) f (λ x hx. sym (kept_meaning S U w K (key u.entry.0 u.entry.1 u.entry.2) i.0 i.1 x))
+            (subst (λ n. IsFixedSomehow n v (entry_value U u.entry) f) K.levels u.fixed);
+        depends = subst (λ n. DependsOn n v f) K.levels u.depends;
+      }
+
+  pub fault_back : (s : Nodes) (e : WaveFault) → IsWaveFault U entries s e → IsWaveFault S entries s e
+  fault_back s wave_faults.OutOfMemory x = tt
+  fault_back s wave_faults.NoWorker x = tt
+  fault_back s wave_faults.Full x = (x.0, elim x.1 [ inl o ↦ inl o | inr f ↦ inr (f.0, (f.1.0, f.1.1, wanted_back f.1.0 f.1.1 f.1.2, f.1.3)) ])
+
+  -- what is added in two steps
+  pub adds_both : IsSound U → (s : Nodes) → AddsDescribed S U (IsWanted S entries) → AddsDescribed U s (IsWanted U entries) → AddsDescribed S s (IsWanted S entries)
+  adds_both sU s a b = record {
+    keeps = keeps-trans S U s a.keeps b.keeps;
+    described = λ m h. elim (b.described m h) [
+      | inl o ↦ elim (a.described m o) [
+        | inl p ↦ inl p
+        | inr n ↦ inr (n.0, n.1, n.2, b.keeps.part_is m o ∙ n.3, moved n.0 m o n.4)
+      ]
+      | inr n ↦ inr (n.0, n.1, n.2, n.3, wanted_back n.0 (den s m) n.4)
+    ];
+  }
+    where
+      moved : (n : ℕ) (m : Ref) → Has U m → IsWanted S entries n (den U m) → IsWanted S entries n (den s m)
+      moved n m h x = record {
+        entry = x.entry;
+        is_entry = x.is_entry;
+        fixed = fixed_as S.levels n (entry_value S x.entry) (den U m) (den s m) (λ y hy. kept_den U s sU b.keeps m h y) x.fixed;
+        depends = (
+          x.depends.0,
+          x.depends.1,
+          x.depends.2,
+          x.depends.3,
+          λ e. x.depends.4 (sym (kept_den U s sU b.keeps m h (x.depends.0 ++ false ∷ x.depends.1)) ∙ e ∙ kept_den U s sU b.keeps m h (x.depends.0 ++ true ∷ x.depends.1)),
+        );
+      }
+
+-- Of a wave over the store S.
+module _ (S : Nodes) (w : IsSound S) (entries : List Entry) (good : All (IsEntry S) entries) where
+  -- what a root comes to is its entry's diagram
+  root_diagram : (T : List (List Key)) (A : List (List Ref)) (s : Nodes) → AreAdmitted S entries T → Keeps S s → ((v q : ℕ) (k : Key) (r : Ref) → StandsAt T v q k → StandsAt A v q r → IsAnswer s k r) →
+      (e : Entry) → IsEntry S e → (p : Placed) → IsPlaced T p (child_at S e.0 e.1 e.2) → (r : Ref) → ComesTo A p r → IsDiagram s r (entry_value S e)
+  root_diagram T A s adm K answered e i (Done d) h r c =
+      let has : Has S d = subst (IsChildIn S) h (child_stands S e.0 e.1 e.2 i.0 i.1) in
+      let means : (x : List Bool) → den S d x ≡ entry_value S e x = λ x. ap (λ z. child_value S z x) (sym h) ∙ child_has_value S e.0 e.1 e.2 x in
+      subst (λ z. IsDiagram s z (entry_value S e)) (sym c) (diagram_kept S s w K (entry_value S e) d (has, λ x hx. means x))
+  root_diagram T A s adm K answered e i (Ask l p) h r c =
+      let k : Key = h.0 in
+      let a : IsAnswer s k r = answered l p k r h.1 c in
+      let kk : IsKey S k = (adm.keys l p k h.1).key in
+      let means : (x : List Bool) → meaning S k x ≡ entry_value S e x = λ x. ap (λ z. child_value S z x) (sym h.2) ∙ child_has_value S e.0 e.1 e.2 x in
+      (a.has, λ x hx. a.denotes x hx ∙ kept_meaning S s w K k kk.first kk.second x ∙ means x)
+
+  pub roots_answered : (T : List (List Key)) (A : List (List Ref)) (s : Nodes) → AreAdmitted S entries T → Keeps S s → ((v q : ℕ) (k : Key) (r : Ref) → StandsAt T v q k → StandsAt A v q r → IsAnswer s k r) →
+      (es : List Entry) → All (IsEntry S) es → (ps : List Placed) → AllZip (λ e p. IsPlaced T p (child_at S e.0 e.1 e.2)) es ps → (rs : List Ref) → AllZip (ComesTo A) ps rs → AnswersEach S es s rs
+  roots_answered T A s adm K answered [] g [] z [] y = tt
+  roots_answered T A s adm K answered [] g [] z (r ∷ rs) y = y
+  roots_answered T A s adm K answered [] g (p ∷ ps) z rs y = absurd z
+  roots_answered T A s adm K answered (e ∷ es) g [] z rs y = absurd z
+  roots_answered T A s adm K answered (e ∷ es) g (p ∷ ps) z [] y = y
+  roots_answered T A s adm K answered (e ∷ es) g (p ∷ ps) z (r ∷ rs) y =
+      (root_diagram T A s adm K answered e (g 0 e (omega arith)) p z.0 r y.0, roots_answered T A s adm K answered es (λ k b lt. g (suc k) b (omega arith)) ps z.1 rs y.1)
+
+  -- each root's request has its answer
+  root_comes : (T : List (List Key)) (A : List (List Ref)) → ((v q : ℕ) (k : Key) → StandsAt T v q k → length (row A v) ≡ length (row T v)) → (p : Placed) (c : Child) → IsPlaced T p c → (r : Ref) × ComesTo A p r
+  root_comes T A counts (Done d) c h = (d, refl)
+  root_comes T A counts (Ask l q) c h = stands_some (row A l) q (let e : length (row A l) ≡ length (row T l) = counts l q h.0 h.1 in let lt : q < length (row T l) = slice_get_within (row T l) q h.0 h.1 in omega (arith, e, lt))
+
+  placed_root : (T : List (List Key)) (es : List Entry) (ps : List Placed) → AllZip (λ e p. IsPlaced T p (child_at S e.0 e.1 e.2)) es ps → (p : Placed) → Contains ps p → (c : Child) × IsPlaced T p c
+  placed_root T [] [] z p m = absurd (nothing p m)
+  placed_root T [] (q ∷ ps) z p m = absurd z
+  placed_root T (e ∷ es) [] z p m = absurd z
+  placed_root T (e ∷ es) (q ∷ ps) z p m = elim (in_cases q p ps m) [ inl d ↦ (child_at S e.0 e.1 e.2, subst (λ x. IsPlaced T x (child_at S e.0 e.1 e.2)) d z.0) | inr i ↦ placed_root T es ps z.1 p i ]
+
+  pub roots_come : (T : List (List Key)) (A : List (List Ref)) → ((v q : ℕ) (k : Key) → StandsAt T v q k → length (row A v) ≡ length (row T v)) → (ps : List Placed) → AllZip (λ e p. IsPlaced T p (child_at S e.0 e.1 e.2)) entries ps → All (λ p. (r : Ref) × ComesTo A p r) ps
+  roots_come T A counts ps z = all_of (λ p. (r : Ref) × ComesTo A p r) ps (λ p m. let c = placed_root T entries ps z p m in root_comes T A counts p c.0 c.1)
+
+  -- an entry's root
+  root_for : (T : List (List Key)) (es : List Entry) (ps : List Placed) → AllZip (λ e p. IsPlaced T p (child_at S e.0 e.1 e.2)) es ps → (e : Entry) → Contains es e → (p : Placed) × IsPlaced T p (child_at S e.0 e.1 e.2)
+  root_for T [] ps z e m = absurd (nothing {X = Entry} e m)
+  root_for T (d ∷ es) [] z e m = absurd z
+  root_for T (d ∷ es) (p ∷ ps) z e m = elim (in_cases {X = Entry} d e es m) [ inl x ↦ (p, subst (λ (y : Entry). IsPlaced T p (child_at S y.0 y.1 y.2)) x z.0) | inr i ↦ root_for T es ps z.1 e i ]
+
+  no_request : (T : List (List Key)) (ps : List Placed) → AllZip (λ e p. IsPlaced T p (child_at S e.0 e.1 e.2)) entries ps → ((v q : ℕ) (k : Key) → StandsAt T v q k → ⊥) → HasRequest entries → ⊥
+  no_request T ps z none h = let p = root_for T entries ps z h.0 h.1 in by p.0 (subst (λ t. IsPlaced T p.0 (answer_of S h.0.0 h.0.1 h.0.2 t)) h.2 p.1)
+    where
+      by : (p : Placed) → IsPlaced T p (ask_of S (normal_of h.0.0 h.0.1 h.0.2)) → ⊥
+      by (Done d) e = cc
+      by (Ask l q) e = none l q e.0 e.1
+
+  -- within the limit, or nothing was asked
+  pub within_both : (T : List (List Key)) (ps : List Placed) → AllZip (λ e p. IsPlaced T p (child_at S e.0 e.1 e.2)) entries ps → (from : ℕ) (U s : Nodes) → IsWithinBelow S T from U → IsWithinBelow U T 0 s → IsWithinLimit S entries s
+  within_both T ps z from U s a (inl le) = inl le
+  within_both T ps z from U s (inl le) (inr n) = inl (subst (λ x. count_of x ≤ x.limit) (sym n.1) le)
+  within_both T ps z from U s (inr m) (inr n) = inr (no_request T ps z (λ v q k h. n.0 v q k (omega arith) h), n.1 ∙ m.1)
+
+  -- each new node lies below an answer
+  answer_for : (s : Nodes) (es : List Entry) (answers : List Ref) → AnswersEach S es s answers → (e : Entry) → Contains es e → (r : Ref) × Contains answers r × IsDiagram s r (entry_value S e)
+  answer_for s [] answers z e c = absurd (nothing {X = Entry} e c)
+  answer_for s (d ∷ es) [] z e c = absurd z
+  answer_for s (d ∷ es) (r ∷ answers) z e c =
+      elim (in_cases {X = Entry} d e es c) [
+        | inl same ↦ (r, head_in r answers, subst (λ (q : Entry). IsDiagram s r (entry_value S q)) same z.0)
+        | inr i ↦ let a = answer_for s es answers z.1 e i in (a.0, tail_in r a.0 answers a.1, a.2)
+      ]
+
+  pub adds_below : (s : Nodes) → IsSound s → AddsDescribed S s (IsWanted S entries) → (answers : List Ref) → AnswersEach S entries s answers → AddsBelow S s answers
+  adds_below s u adds answers z m h = by (adds.described m h)
+    where
+      by : Has S m ⊎ ((v : ℕ) × (lo : Ref) × (hi : Ref) × (part s m ≡ node v lo hi) × IsWanted S entries v (den s m)) → Has S m ⊎ ((r : Ref) × Contains answers r × Met (part s) r m)
+      by (inl old) = inl old
+      by (inr new) =
+          let v : ℕ = new.0 in
+          let a = answer_for s entries answers z new.4.entry new.4.is_entry in
+          let f : IsFixedSomehow s.levels v (entry_value S new.4.entry) (den s m) = subst (λ n. IsFixedSomehow n v (entry_value S new.4.entry) (den s m)) (sym adds.keeps.levels) new.4.fixed in
+          inr (a.0, a.1, lies_below s u a.0 m v new.1 new.2 a.2.0 h new.3 (fixed_of s.levels v (den s a.0) (entry_value S new.4.entry) (den s m) (λ x hx. a.2.1 x hx) f))

@@ -1,0 +1,62 @@
+use Rattle.std.proofs.Common.{◌≡◌, ◌<◌, ◌+◌, ◌^◌, ℕ, List, length, Some, None, sym, subst, arith}
+use Rattle.dd_store.specs.Nodes.{Nodes}
+use Rattle.req_table.specs.declared.Key.{Key}
+use Rattle.reduce_up.specs.Waves.{Entry}
+use Rattle.wave_engine.specs.declared.lists.Placed.{Placed}
+use Rattle.wave_engine.specs.Places.{IsNextLevel}
+use Rattle.wave_engine.specs.Down.{AreExpanded}
+use Rattle.wave_engine.proofs.Placing.{level_more, levels_passed}
+use Rattle.wave_engine.proofs.down.expand.Goals as goal
+
+pub returns-then-count-most-clause-expanded : goal.returns-then-count-most-clause-expanded
+returns-then-count-most-clause-expanded c =
+    let S : Nodes = c.args.store.now in
+    let es : List Entry = c.args.entries.now in
+    let ps : List Placed = c.args.roots.now in
+    let T : List (List Key) = c.loop-next.requests in
+    let rows : List (List (Placed × Placed)) = c.loop-next.rows.items in
+    let next : ℕ = c.in-Some.next in
+    let h : IsNextLevel T c.loop-next.level (Some next) = c.in-Some.ensures in
+    let e : AreExpanded S es ps next T rows = levels_passed S es ps c.loop-next.level next T rows c.loop-next.invariant.expanded h.3 in
+    let fit : next < S.levels = let n : next < length T = h.1 in let l : length T ≡ S.levels = e.admitted.levels in omega (arith, n, l) in
+    e
+
+pub overflow_add-level : goal.overflow_add-level
+overflow_add-level c =
+    let S : Nodes = c.args.store.now in
+    let es : List Entry = c.args.entries.now in
+    let ps : List Placed = c.args.roots.now in
+    let T : List (List Key) = c.loop-next.requests in
+    let rows : List (List (Placed × Placed)) = c.loop-next.rows.items in
+    let next : ℕ = c.in-Some.next in
+    let h : IsNextLevel T c.loop-next.level (Some next) = c.in-Some.ensures in
+    let e : AreExpanded S es ps next T rows = levels_passed S es ps c.loop-next.level next T rows c.loop-next.invariant.expanded h.3 in
+    let fit : next < S.levels = let n : next < length T = h.1 in let l : length T ≡ S.levels = e.admitted.levels in omega (arith, n, l) in
+    let few : S.levels < 2 ^ 16 = c.loop-next.invariant.few in
+    omega (arith, fit, few)
+
+pub loop-next-preserved : goal.loop-next-preserved
+loop-next-preserved c =
+    let S : Nodes = c.args.store.now in
+    let es : List Entry = c.args.entries.now in
+    let ps : List Placed = c.args.roots.now in
+    let T : List (List Key) = c.loop-next.requests in
+    let rows : List (List (Placed × Placed)) = c.loop-next.rows.items in
+    let next : ℕ = c.in-Some.next in
+    let h : IsNextLevel T c.loop-next.level (Some next) = c.in-Some.ensures in
+    let e : AreExpanded S es ps next T rows = levels_passed S es ps c.loop-next.level next T rows c.loop-next.invariant.expanded h.3 in
+    let fit : next < S.levels = let n : next < length T = h.1 in let l : length T ≡ S.levels = e.admitted.levels in omega (arith, n, l) in
+    record {
+      bound = omega (arith, fit);
+      few = c.loop-next.invariant.few;
+      expanded = level_more S es ps next T rows fit e c.expand_level.new.requests c.expand_level.new.pairs c.in_ok-expand_level.ensures.expanded;
+    }
+
+pub returns-clause-expanded : goal.returns-clause-expanded
+returns-clause-expanded c =
+    let S : Nodes = c.args.store.now in
+    let es : List Entry = c.args.entries.now in
+    let ps : List Placed = c.args.roots.now in
+    let T : List (List Key) = c.loop-next.requests in
+    let rows : List (List (Placed × Placed)) = c.loop-next.rows.items in
+    levels_passed S es ps c.loop-next.level c.levels-levels.result T rows c.loop-next.invariant.expanded (λ w q k le lt h. c.in_default.ensures w q k le h)

@@ -1,0 +1,13 @@
+use Rattle.std.proofs.Common.{◌≤◌, ◌<◌, ◌-◌, ◌^◌}
+use Rattle.wave_engine.specs.Down.{AreExpanded}
+use Rattle.wave_engine.proofs.down.expand.Given as goal
+
+abbrev pub invariant-loop-next : goal.invariant-loop-next
+invariant-loop-next l = record {
+  bound : l.level ≤ l.store.levels;
+  few : l.store.levels < 2 ^ 16;
+  expanded : AreExpanded l.store l.entries l.roots l.level l.requests l.rows.items;
+}
+
+abbrev pub decreases-loop-next : goal.decreases-loop-next
+decreases-loop-next l = l.store.levels - l.level

@@ -1,0 +1,37 @@
+-- What is handed to the workers: the requests from a level on, as entries, and the answers that are put in their places.
+use Rattle.std.specs.Prelude.{◌≡◌, ℕ, ◌+◌, ◌-◌, ◌<◌, ◌≤◌, List, [], ◌∷◌, ◌++◌, length, map, take, drop, slice_get, Some}
+use Rattle.dd_store.specs.declared.reference.Ref.{Ref}
+use Rattle.req_table.specs.declared.Key.{Key}
+use Rattle.reduce_up.specs.Waves.{Entry}
+use Rattle.wave_engine.specs.Places.{row, StandsAt}
+
+-- a request as an entry
+abbrev pub entry_for : Key → Entry
+entry_for k = (k.op, k.f, k.g)
+
+abbrev pub front_of : List Key → List Entry
+front_of ks = map entry_for ks
+
+-- the lists one after the other
+abbrev pub joined : {X : Type 0} → List (List X) → List X
+joined [] = []
+joined (xs ∷ xss) = xs ++ joined xss
+
+-- the requests from level v on
+abbrev pub keys_from : ℕ → List (List Key) → List Key
+keys_from v tables = joined (drop v tables)
+
+-- how many of them stand before level w
+abbrev pub count_before : ℕ → ℕ → List (List Key) → ℕ
+count_before v w tables = length (joined (take (w - v) (drop v tables)))
+
+-- `answers` is the part of `found` that begins at a place and has so many elements
+pub record IsCopied (found : List Ref) (at number : ℕ) (answers : List Ref) : Type 0 where
+  pub count : length answers ≡ number
+  pub placed : (q : ℕ) (r : Ref) → slice_get answers q ≡ Some r → slice_get found (at + q) ≡ Some r
+
+-- of the levels from v on those before u have their answers, which were found in order
+pub record ArePut (tables : List (List Key)) (v : ℕ) (found : List Ref) (u : ℕ) (answers : List (List Ref)) : Type 0 where
+  pub levels : length answers ≡ length tables
+  pub counts : (w : ℕ) → v ≤ w → w < u → length (row answers w) ≡ length (row tables w)
+  pub placed : (w q : ℕ) (r : Ref) → v ≤ w → w < u → StandsAt answers w q r → slice_get found (count_before v w tables + q) ≡ Some r

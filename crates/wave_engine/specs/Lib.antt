@@ -1,0 +1,5 @@
+pub mod Marks
+pub mod Places
+pub mod Down
+pub mod Up
+pub mod Front

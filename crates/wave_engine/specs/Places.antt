@@ -1,0 +1,58 @@
+-- Requests by place: what stands at a place of a level, and what is placed there.
+use Rattle.std.specs.Prelude.{◌≡◌, ℕ, ◌+◌, ◌*◌, ◌^◌, ◌<◌, ◌≤◌, ◌⊎◌, List, [], ◌∷◌, ◌++◌, length, slice_get, slice_index_or, Option, None, Some}
+use Rattle.req_table.specs.declared.Key.{Key}
+use Rattle.req_table.specs.declared.Child.{Child}
+use Rattle.req_table.specs.declared.Child.TheVariants as child
+use Rattle.wave_engine.specs.Marks.{IsMarked}
+use Rattle.wave_engine.specs.declared.lists.Placed.{Placed}
+use Rattle.wave_engine.specs.declared.lists.Placed.TheVariants.{Done, Ask}
+
+-- the list of a level
+abbrev pub row : {X : Type 0} → List (List X) → ℕ → List X
+row lists v = slice_index_or lists v []
+
+-- x stands at place p of level l
+abbrev pub StandsAt : {X : Type 0} → List (List X) → ℕ → ℕ → X → Type 0
+StandsAt lists l p x = slice_get (row lists l) p ≡ Some x
+
+-- the key k has the place p in the list `new`, which is the list old, with k last if it was not there
+abbrev pub Enters : List Key → Key → ℕ → List Key → Type 0
+Enters old k p new = (slice_get new p ≡ Some k) × ((new ≡ old) ⊎ (new ≡ old ++ k ∷ []))
+
+-- what a placed child stands for: its answer, or the request at its place
+abbrev pub IsPlaced : List (List Key) → Placed → Child → Type 0
+IsPlaced tables (Done r) c = c ≡ child.Done r
+IsPlaced tables (Ask l p) c = (k : Key) × StandsAt tables l p k × (c ≡ child.Ask l k)
+
+-- tables after a child was placed: what stood at a place stands there, and what is new is the child's request at its level
+pub record Admits (old : List (List Key)) (c : Child) (new : List (List Key)) : Type 0 where
+  pub levels : length new ≡ length old
+  pub kept : (w q : ℕ) (k : Key) → StandsAt old w q k → StandsAt new w q k
+  pub only : (w q : ℕ) (k : Key) → StandsAt new w q k → StandsAt old w q k ⊎ (c ≡ child.Ask w k)
+  pub others : (w : ℕ) → ((k : Key) → c ≡ child.Ask w k → ⊥) → row new w ≡ row old w
+
+-- n empty lists
+pub record AreEmpty {X : Type 0} (lists : List (List X)) (n : ℕ) : Type 0 where
+  pub levels : length lists ≡ n
+  pub empty : (w : ℕ) → row lists w ≡ []
+
+-- no request stands in the levels from v on that are before u
+abbrev pub AreNone : List (List Key) → ℕ → ℕ → Type 0
+AreNone tables v u = (w q : ℕ) (k : Key) → v ≤ w → w < u → StandsAt tables w q k → ⊥
+
+-- the first level from v on that has requests, if there is one
+abbrev pub IsNextLevel : List (List Key) → ℕ → Option ℕ → Type 0
+IsNextLevel tables v None = (w q : ℕ) (k : Key) → v ≤ w → StandsAt tables w q k → ⊥
+IsNextLevel tables v (Some u) = (v ≤ u) × (u < length tables) × (0 < length (row tables u)) × AreNone tables v u
+
+-- the last level before u that has requests, if there is one
+abbrev pub IsLastLevel : List (List Key) → ℕ → Option ℕ → Type 0
+IsLastLevel tables u None = AreNone tables 0 u
+IsLastLevel tables u (Some v) = (v < u) × (0 < length (row tables v)) × AreNone tables (v + 1) u
+
+-- the levels that have requests are marked, and no others
+pub record AreMarked (marks : List ℕ) (tables : List (List Key)) : Type 0 where
+  pub room : length tables ≤ 64 * length marks
+  pub few : length tables < 2 ^ 16
+  pub held : (w : ℕ) → IsMarked marks w → 0 < length (row tables w)
+  pub marked : (w q : ℕ) (k : Key) → StandsAt tables w q k → IsMarked marks w

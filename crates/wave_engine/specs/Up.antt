@@ -1,0 +1,73 @@
+-- The reduction of requests by place, from the last level up.
+use Rattle.std.specs.Prelude.{◌≡◌, ℕ, ◌<◌, ◌≤◌, ◌⊎◌, Bool, true, false, List, [], length, slice_get, Some}
+use Rattle.dd_store.specs.declared.reference.Ref.{Ref}
+use Rattle.dd_store.specs.Functions.{Agree}
+use Rattle.dd_store.specs.Nodes.{Nodes, IsSound, count_of}
+use Rattle.req_table.specs.declared.Key.{Key}
+use Rattle.req_table.specs.Keys.{meaning}
+use Rattle.expand_work.specs.declared.fault.WaveFault.{WaveFault}
+use Rattle.expand_work.specs.declared.fault.WaveFault.TheVariants as wave_faults
+use Rattle.reduce_up.specs.Reducing.{IsKeyAt, IsAnswer, IsAnswerAt, AddsDescribed, LacksAnswer}
+use Rattle.reduce_up.specs.Waves.{Entry, IsWanted}
+use Rattle.wave_engine.specs.declared.lists.Placed.{Placed}
+use Rattle.wave_engine.specs.declared.lists.Placed.TheVariants.{Done, Ask}
+use Rattle.wave_engine.specs.Places.{row, StandsAt}
+
+-- what a placed child comes to by the answers
+abbrev pub ComesTo : List (List Ref) → Placed → Ref → Type 0
+ComesTo answers (Done d) r = r ≡ d
+ComesTo answers (Ask l p) r = StandsAt answers l p r
+
+-- a placed child of a level below v
+abbrev pub IsBelow : ℕ → Placed → Type 0
+IsBelow v (Done d) = Unit {0}
+IsBelow v (Ask l p) = v < l
+
+-- a child whose answer is known, below level v, and is what the key's function is with the bit of level v set to b
+abbrev pub IsKnown : Nodes → List (List Ref) → ℕ → Key → Bool → Placed → Type 0
+IsKnown s answers v k b d = IsBelow v d × ((r : Ref) × ComesTo answers d r × IsAnswerAt s v k b r)
+
+-- the key at place q of level w has its answer
+abbrev pub IsAnswered : Nodes → List (List Ref) → ℕ → ℕ → Key → Type 0
+IsAnswered s answers w q k = (r : Ref) × StandsAt answers w q r × IsAnswer s k r
+
+-- the functions that the keys of level v ask for
+abbrev pub AskedAt : Nodes → List (List Key) → ℕ → ℕ → (List Bool → Bool) → Type 0
+AskedAt s tables v w f = (w ≡ v) × ((q : ℕ) × (k : Key) × StandsAt tables v q k × Agree s.levels f (meaning s k))
+
+-- level v can be reduced: each key has its pair of children, and their answers are known
+pub record IsReadyAt (s : Nodes) (tables : List (List Key)) (pairs : List (Placed × Placed)) (answers : List (List Ref)) (v : ℕ) : Type 0 where
+  pub bounded : v < s.levels
+  pub counts : length pairs ≡ length (row tables v)
+  pub keys : (q : ℕ) (k : Key) → StandsAt tables v q k → IsKeyAt s v k
+  pub low : (q : ℕ) (k : Key) (d : Placed × Placed) → StandsAt tables v q k → slice_get pairs q ≡ Some d → IsKnown s answers v k false d.0
+  pub high : (q : ℕ) (k : Key) (d : Placed × Placed) → StandsAt tables v q k → slice_get pairs q ≡ Some d → IsKnown s answers v k true d.1
+
+-- of level v the first i keys are reduced, from the store `start` to the store s, with these answers
+pub record IsLevelReduced (start : Nodes) (tables : List (List Key)) (v i : ℕ) (s : Nodes) (own : List Ref) : Type 0 where
+  pub held : IsSound s
+  pub adds : AddsDescribed start s (AskedAt start tables v)
+  pub count : length own ≡ i
+  pub answered : (q : ℕ) (k : Key) (r : Ref) → StandsAt tables v q k → slice_get own q ≡ Some r → IsAnswer s k r
+
+-- the cause of the answer Full for a level: it has a key, and the store has more nodes than its limit, or as many and
+-- lacks the node of some key of the level
+abbrev pub IsLevelFault : Nodes → List (List Key) → ℕ → WaveFault → Type 0
+IsLevelFault s tables v wave_faults.OutOfMemory = Unit {0}
+IsLevelFault s tables v wave_faults.NoWorker = ⊥
+IsLevelFault s tables v wave_faults.Full =
+    (q : ℕ) × (k : Key) × StandsAt tables v q k × ((s.limit < count_of s) ⊎ ((count_of s ≡ s.limit) × LacksAnswer s v k))
+
+-- the store is within its limit, or no level from v on has a key and the store is still `start`
+abbrev pub IsWithinBelow : Nodes → List (List Key) → ℕ → Nodes → Type 0
+IsWithinBelow start tables v s =
+    (count_of s ≤ s.limit) ⊎ (((w q : ℕ) (k : Key) → v ≤ w → StandsAt tables w q k → ⊥) × (s ≡ start))
+
+-- the levels from v on have their answers: from the store `start` to the store s, which has new nodes only for what the entries ask for
+pub record AreReducedBelow (start : Nodes) (entries : List Entry) (tables : List (List Key)) (v : ℕ) (s : Nodes) (answers : List (List Ref)) : Type 0 where
+  pub held : IsSound s
+  pub adds : AddsDescribed start s (IsWanted start entries)
+  pub levels : length answers ≡ start.levels
+  pub counts : (w q : ℕ) (k : Key) → v ≤ w → StandsAt tables w q k → length (row answers w) ≡ length (row tables w)
+  pub answered : (w q : ℕ) (k : Key) (r : Ref) → v ≤ w → StandsAt tables w q k → StandsAt answers w q r → IsAnswer s k r
+  pub within : IsWithinBelow start tables v s

@@ -1,0 +1,110 @@
+//! Expansion, from the first level down: each request's children are placed in the tables of their levels at once.
+ghost use Rattle.std.specs.Prelude.{◌≡◌, ◌<◌, ◌≤◌, ℕ, [], length, IfOk, OnOk, All};
+ghost use Rattle.std.specs.List.{AllZip};
+ghost use Rattle.req_table.specs.Keys.{IsChildIn, child as child_spec};
+ghost use Rattle.reduce_up.specs.Waves.{IsEntry};
+ghost use Rattle.wave_engine.specs.Places.{row, IsPlaced, Admits};
+ghost use Rattle.wave_engine.specs.Down.{AreAdmitted, IsRowExpanded, AreExpanded};
+
+use crate::lists::{Placed, Row};
+use crate::requests::Requests;
+use dd_store::{Ref, Store};
+use req_table::requests::{child, split};
+use req_table::{Child, Op};
+use std::alloc::AllocError;
+
+/// Places a child: a request is admitted to the table of its level.
+fn place_child(store: &Store, requests: &mut Requests, asked: Child) -> Result<Placed, AllocError>
+    requires levels { length requests.old ≡ store.now.levels }
+    requires stands { IsChildIn store.now asked }
+    ensures placed { IfOk result (λ p. IsPlaced requests.new p asked) }
+    ensures admits { Admits requests.old asked requests.new }
+{
+    let _ = store.levels();
+    match asked {
+        Child::Done(answer) => Ok(Placed::Done(answer)),
+        Child::Ask { level, key } => {
+            let place = requests.admit(level, key)?;
+            Ok(Placed::Ask { level, place })
+        }
+    }
+}
+
+/// Places what the entries come to.
+pub(crate) fn place_roots(
+    store: &Store,
+    entries: &[(Op, Ref, Ref)],
+    requests: &mut Requests,
+    roots: &mut Vec<Placed>,
+) -> Result<(), AllocError>
+    requires operands { All (IsEntry store.now) entries.now }
+    requires levels { length requests.old ≡ store.now.levels }
+    requires empty { (w : ℕ) → row requests.old w ≡ [] }
+    requires fresh { roots.old.items ≡ [] }
+    ensures levels { length requests.new ≡ length requests.old }
+    ensures admitted { OnOk result (AreAdmitted store.now entries.now requests.new) }
+    ensures placed { OnOk result (AllZip (λ e p. IsPlaced requests.new p (child_spec store.now e.0 e.1 e.2)) entries.now roots.new.items) }
+{
+    for entry in entries {
+        let (op, f, g) = *entry;
+        let asked = child(store, op, f, g);
+        let root = place_child(store, requests, asked)?;
+        roots.push(root)?;
+    }
+    Ok(())
+}
+
+/// Places the children of a level's requests.
+fn expand_level(
+    store: &Store,
+    entries: &[(Op, Ref, Ref)],
+    requests: &mut Requests,
+    pairs: &mut Row,
+    level: u16,
+) -> Result<(), AllocError>
+    requires admitted { AreAdmitted store.now entries.now requests.old }
+    requires level { level < store.now.levels }
+    ensures levels { length requests.new ≡ length requests.old }
+    ensures expanded { OnOk result (IsRowExpanded store.now entries.now requests.old level (length (row requests.old level)) requests.new pairs.new) }
+{
+    let _ = store.levels();
+    let _ = entries.len();
+    let count = requests.count(level);
+    pairs.restart(count)?;
+    for place in 0..count {
+        let key = requests.key_at(level, place);
+        let record = split(store, key);
+        let low = place_child(store, requests, record.low)?;
+        let high = place_child(store, requests, record.high)?;
+        pairs.push((low, high))?;
+    }
+    Ok(())
+}
+
+/// Expands level after level, of those that have requests, and stops before the first with more than so many: all levels
+/// before the one that is answered are expanded.
+pub(crate) fn expand(
+    store: &Store,
+    entries: &[(Op, Ref, Ref)],
+    requests: &mut Requests,
+    rows: &mut Vec<Row>,
+    roots: &[Placed],
+    most: usize,
+) -> Result<u16, AllocError>
+    requires start { AreExpanded store.now entries.now roots.now 0 requests.old rows.old.items }
+    ensures bound { IfOk result (λ v. v ≤ store.now.levels) }
+    ensures expanded { IfOk result (λ v. AreExpanded store.now entries.now roots.now v requests.new rows.new.items) }
+{
+    let _ = entries.len();
+    let _ = roots.len();
+    let levels = store.levels();
+    let mut level = 0;
+    while let Some(next) = requests.next_level(level) {
+        if requests.count(next) > most {
+            return Ok(next);
+        }
+        expand_level(store, entries, requests, &mut rows[next as usize], next)?;
+        level = next + 1;
+    }
+    Ok(levels)
+}

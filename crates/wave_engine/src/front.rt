@@ -1,0 +1,122 @@
+//! What is handed to the workers at a wide level, and their answers.
+ghost use Rattle.std.specs.Prelude.{◌≡◌, ◌<◌, ◌≤◌, [], length, All, IfOk, IfErr, OnOk, map, ◌+◌, ◌++◌};
+ghost use Rattle.dd_store.specs.Nodes.{IsSound};
+ghost use Rattle.reduce_up.specs.Reducing.{AddsDescribed};
+ghost use Rattle.reduce_up.specs.Waves.{IsEntry, IsWanted, IsWaveFault};
+ghost use Rattle.wave_engine.specs.Down.{AreAdmitted};
+ghost use Rattle.wave_engine.specs.Up.{AreReducedBelow, IsWithinBelow};
+ghost use Rattle.wave_engine.specs.Front.{entry_for, front_of, keys_from, IsCopied, ArePut};
+
+use crate::lists::Answers;
+use crate::requests::Requests;
+use crate::team::Team;
+use dd_store::{Ref, Store};
+use expand_work::{Gate, WaveFault};
+use reduce_up::shared_wave;
+use req_table::{Key, Op};
+use std::alloc::{AllocError, Global};
+use std::sync::Wait;
+use std::thread::Threads;
+
+/// Adds requests to a list of entries.
+fn list_keys(front: &mut Vec<(Op, Ref, Ref)>, keys: &[Key]) -> Result<(), AllocError>
+    ensures { OnOk result (front.new.items ≡ front.old.items ++ map entry_for keys.now) }
+{
+    for key in keys {
+        front.push((key.op(), key.f(), key.g()))?;
+    }
+    Ok(())
+}
+
+/// The requests from a level on, as entries.
+fn frontier_of(
+    alloc: Global,
+    requests: &Requests,
+    from: u16,
+) -> Result<Vec<(Op, Ref, Ref)>, AllocError>
+    requires { from ≤ length requests.now }
+    ensures { IfOk result (λ es. es.items ≡ front_of (keys_from from requests.now)) }
+{
+    let mut front = Vec::new(alloc);
+    for level in from as usize..requests.levels() {
+        list_keys(&mut front, requests.keys(level))?;
+    }
+    Ok(front)
+}
+
+/// Puts so many of the answers, from a place on, into a list. The answer is the place behind them.
+fn put_level(
+    answers: &mut Answers,
+    count: usize,
+    found: &[Ref],
+    at: usize,
+) -> Result<usize, AllocError>
+    requires room { at + count ≤ length found.now }
+    ensures next { IfOk result (λ n. n ≡ at + count) }
+    ensures copied { OnOk result (IsCopied found.now at count answers.new) }
+{
+    answers.restart(count)?;
+    for place in 0..count {
+        answers.push(found[at + place])?;
+    }
+    Ok(at + count)
+}
+
+/// Puts answers in their places, from a level on.
+fn put_answers(
+    answers: &mut Vec<Answers>,
+    requests: &Requests,
+    from: u16,
+    found: &[Ref],
+) -> Result<(), AllocError>
+    requires bound { from ≤ length requests.now }
+    requires levels { length answers.old.items ≡ length requests.now }
+    requires all { length found.now ≡ length (keys_from from requests.now) }
+    ensures { OnOk result (ArePut requests.now from found.now (length requests.now) answers.new.items) }
+{
+    let mut at = 0;
+    for level in from as usize..requests.levels() {
+        let count = requests.keys(level).len();
+        at = put_level(&mut answers[level], count, found, at)?;
+    }
+    Ok(())
+}
+
+/// Has the requests from a level on answered by the workers, in one wave, and puts the answers in their places.
+pub(crate) fn hand_over<R: Threads + Wait + Sync, G: Gate>(
+    team: &Team<'_, R, G>,
+    store: &mut Store,
+    entries: &[(Op, Ref, Ref)],
+    requests: &Requests,
+    answers: &mut Vec<Answers>,
+    from: u16,
+) -> Result<(), WaveFault>
+    requires operands { All (IsEntry store.old) entries.now }
+    requires admitted { AreAdmitted store.old entries.now requests.now }
+    requires bound { from ≤ store.old.levels }
+    requires levels { length answers.old.items ≡ store.old.levels }
+    ensures sound { IsSound store.new }
+    ensures adds { AddsDescribed store.old store.new (IsWanted store.old entries.now) }
+    ensures reduced { OnOk result (AreReducedBelow store.new entries.now requests.now from store.new answers.new.items) }
+    ensures within { OnOk result (IsWithinBelow store.old requests.now from store.new) }
+    ensures fault { IfErr result (λ e. IsWaveFault store.old entries.now store.new e) }
+{
+    let _ = store.levels();
+    let _ = entries.len();
+    let Ok(front) = frontier_of(team.alloc, requests, from) else {
+        return Err(WaveFault::OutOfMemory);
+    };
+    let asked = front.as_slice();
+    if asked.is_empty() {
+        return Ok(());
+    }
+    let workers = team.workers.count();
+    let found = match shared_wave(team.rt, team.alloc, store, asked, workers, team.gate) {
+        Ok(found) => found,
+        Err(fault) => return Err(fault),
+    };
+    match put_answers(answers, requests, from, found.as_slice()) {
+        Ok(()) => Ok(()),
+        Err(_) => Err(WaveFault::OutOfMemory),
+    }
+}

@@ -1,0 +1,16 @@
+//! Waves that begin on the caller's own thread, by places, and call in the workers where a level is wide.
+#![tactic(auto)]
+
+mod down;
+mod engine;
+mod front;
+mod lists;
+mod marks;
+mod requests;
+mod team;
+mod up;
+mod waves;
+
+pub use engine::Engine;
+pub use team::Workers;
+pub use waves::wave;

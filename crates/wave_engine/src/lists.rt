@@ -1,0 +1,185 @@
+//! What a wave keeps of a level: its requests, the children of each, and the answer of each, all by place.
+ghost use Rattle.std.specs.Prelude.{◌≡◌, ◌<◌, ◌++◌, ◌∷◌, [], length, slice_get, Some, IfOk, OnOk, OnErr};
+ghost use Rattle.wave_engine.specs.Places.{Enters};
+
+use dd_store::Ref;
+use indexmap::IndexSet;
+use req_table::Key;
+use std::alloc::{AllocError, Global};
+use std::marker::Model;
+
+/// What a child comes to: its answer, or the place of its request among those of its level.
+#[derive(Clone, Copy, Debug)]
+pub(crate) enum Placed {
+    Done(Ref),
+    Ask { level: u16, place: u32 },
+}
+
+/// The requests of a level, each once, in the order of their admission.
+#[derive(Drop)]
+pub(crate) struct Table {
+    keys: IndexSet<Key>,
+}
+
+impl Model for Table {
+    ghost use Rattle.std.specs.Prelude.{List};
+    ghost use Rattle.req_table.specs.declared.Key.{Key};
+
+    ghost Value = { List Key };
+
+    ghost view = { λ t. t.keys.keys };
+}
+
+impl Table {
+    /// No requests. It takes no memory yet.
+    pub(crate) fn new(alloc: Global) -> Table
+        ensures { result ≡ [] }
+    {
+        Table {
+            keys: IndexSet::new(alloc),
+        }
+    }
+
+    /// The place of a request, which is admitted if it was not there.
+    pub(crate) fn admit(&mut self, key: Key) -> Result<u32, AllocError>
+        ensures enters { IfOk result (λ p. Enters self.old key p self.new) }
+        ensures refused { OnErr result (self.new ≡ self.old) }
+    {
+        if self.keys.len() >= u32::MAX as usize {
+            return Err(AllocError);
+        }
+        let (place, _) = self.keys.insert_full(key)?;
+        Ok(place as u32)
+    }
+
+    /// The number of requests.
+    pub(crate) fn len(&self) -> usize
+        ensures { result ≡ length self.now }
+    {
+        self.keys.len()
+    }
+
+    /// The request at a place.
+    pub(crate) fn key_at(&self, place: usize) -> Key
+        requires { place < length self.now }
+        ensures { slice_get self.now place ≡ Some result }
+    {
+        self.keys.as_slice()[place]
+    }
+
+    /// All requests, by place.
+    pub(crate) fn keys(&self) -> &[Key]
+        ensures { result.now ≡ self.now }
+    {
+        self.keys.as_slice()
+    }
+
+    /// Removes all requests and keeps the memory.
+    pub(crate) fn clear(&mut self)
+        ensures { self.new ≡ [] }
+    {
+        self.keys.clear();
+    }
+}
+
+/// The children of a level's requests, low and high, by place.
+#[derive(Drop)]
+pub(crate) struct Row {
+    pairs: Vec<(Placed, Placed)>,
+}
+
+impl Model for Row {
+    ghost use Rattle.std.specs.Prelude.{List};
+    ghost use Rattle.wave_engine.specs.declared.lists.Placed.{Placed};
+
+    ghost Value = { List (Placed × Placed) };
+
+    ghost view = { λ r. r.pairs.items };
+}
+
+impl Row {
+    /// No pairs. It takes no memory yet.
+    pub(crate) fn new(alloc: Global) -> Row
+        ensures { result ≡ [] }
+    {
+        Row {
+            pairs: Vec::new(alloc),
+        }
+    }
+
+    /// Adds the children of the next place.
+    pub(crate) fn push(&mut self, pair: (Placed, Placed)) -> Result<(), AllocError>
+        ensures { OnOk result (self.new ≡ self.old ++ pair ∷ []) }
+    {
+        self.pairs.push(pair)?;
+        Ok(())
+    }
+
+    /// All pairs, in order.
+    pub(crate) fn pairs(&self) -> &[(Placed, Placed)]
+        ensures { result.now ≡ self.now }
+    {
+        self.pairs.as_slice()
+    }
+
+    /// Removes all pairs, keeps the memory, and has room for so many.
+    pub(crate) fn restart(&mut self, count: usize) -> Result<(), AllocError>
+        ensures { self.new ≡ [] }
+    {
+        self.pairs.clear();
+        self.pairs.reserve(count)?;
+        Ok(())
+    }
+}
+
+/// The answers of a level's requests, by place.
+#[derive(Drop)]
+pub(crate) struct Answers {
+    refs: Vec<Ref>,
+}
+
+impl Model for Answers {
+    ghost use Rattle.std.specs.Prelude.{List};
+    ghost use Rattle.dd_store.specs.declared.reference.Ref.{Ref};
+
+    ghost Value = { List Ref };
+
+    ghost view = { λ a. a.refs.items };
+}
+
+impl Answers {
+    /// No answers. It takes no memory yet.
+    pub(crate) fn new(alloc: Global) -> Answers
+        ensures { result ≡ [] }
+    {
+        Answers {
+            refs: Vec::new(alloc),
+        }
+    }
+
+    /// Adds the answer of the next place.
+    pub(crate) fn push(&mut self, answer: Ref) -> Result<(), AllocError>
+        ensures done { OnOk result (self.new ≡ self.old ++ answer ∷ []) }
+        ensures refused { OnErr result (self.new ≡ self.old) }
+    {
+        self.refs.push(answer)?;
+        Ok(())
+    }
+
+    /// The answer of a place.
+    pub(crate) fn at(&self, place: usize) -> Ref
+        requires { place < length self.now }
+        ensures { slice_get self.now place ≡ Some result }
+    {
+        self.refs[place]
+    }
+
+    /// Removes all answers, keeps the memory, and has room for so many.
+    pub(crate) fn restart(&mut self, count: usize) -> Result<(), AllocError>
+        ensures { self.new ≡ [] }
+    {
+        self.refs.clear();
+        self.refs.reserve(count)?;
+        Ok(())
+    }
+}

@@ -1,0 +1,154 @@
+//! The requests of a wave, by level.
+ghost use Rattle.std.specs.Prelude.{◌≡◌, ◌<◌, ◌≤◌, [], ℕ, length, set, IfOk, OnOk, MatchOption};
+ghost use Rattle.req_table.specs.declared.Child.TheVariants as child;
+ghost use Rattle.wave_engine.specs.Places.{row, StandsAt, Admits, AreEmpty, IsNextLevel, IsLastLevel};
+
+use crate::lists::Table;
+use crate::marks::Marks;
+use req_table::Key;
+use std::alloc::{AllocError, Global};
+use std::marker::Model;
+
+/// The requests of each level, each once. A level that has some is marked, so that levels without are passed over.
+#[derive(Drop)]
+pub(crate) struct Requests {
+    tables: Vec<Table>,
+    marks: Marks,
+}
+
+impl Model for Requests {
+    ghost use Rattle.std.specs.Prelude.{List};
+    ghost use Rattle.req_table.specs.declared.Key.{Key};
+
+    ghost Value = { List (List Key) };
+
+    ghost use Rattle.wave_engine.specs.Places.{AreMarked};
+
+    ghost view = { λ r. r.tables.items };
+
+    ghost invariant = { λ r. AreMarked r.marks r.tables.items };
+}
+
+/// So many empty tables.
+fn empty_tables(alloc: Global, levels: u16) -> Result<Vec<Table>, AllocError>
+    ensures { IfOk result (λ tables. AreEmpty tables.items levels) }
+{
+    let mut tables = Vec::new(alloc);
+    for made in 0..levels {
+        tables.push(Table::new(alloc))?;
+    }
+    Ok(tables)
+}
+
+impl Requests {
+    /// No levels. It takes no memory yet.
+    pub(crate) fn new(alloc: Global) -> Requests
+        ensures { result ≡ [] }
+    {
+        Requests {
+            tables: Vec::new(alloc),
+            marks: Marks::new(alloc),
+        }
+    }
+
+    /// So many levels without requests.
+    fn with_levels(alloc: Global, levels: u16) -> Result<Requests, AllocError>
+        ensures { IfOk result (λ r. AreEmpty r levels) }
+    {
+        Ok(Requests {
+            tables: empty_tables(alloc, levels)?,
+            marks: Marks::with_room(alloc, levels)?,
+        })
+    }
+
+    /// Takes the requests from a level, and keeps their memory.
+    fn empty_level(&mut self, level: u16)
+        requires { level < length self.old }
+        ensures { self.new ≡ set self.old level [] }
+    {
+        self.tables[level as usize].clear();
+        self.marks.unmark(level);
+    }
+
+    /// Leaves so many levels without requests. Only levels that had some are come to.
+    pub(crate) fn restart(&mut self, alloc: Global, levels: u16) -> Result<(), AllocError>
+        ensures { OnOk result (AreEmpty self.new levels) }
+    {
+        if self.tables.len() != levels as usize {
+            *self = Requests::with_levels(alloc, levels)?;
+            return Ok(());
+        }
+        let mut from = 0;
+        while let Some(level) = self.next_level(from) {
+            self.empty_level(level);
+            from = level + 1;
+        }
+        Ok(())
+    }
+
+    /// The place of a request among those of its level, to which it is admitted if it was not there.
+    pub(crate) fn admit(&mut self, level: u16, key: Key) -> Result<u32, AllocError>
+        requires { level < length self.old }
+        ensures stands { IfOk result (λ p. StandsAt self.new level p key) }
+        ensures admits { Admits self.old (child.Ask level key) self.new }
+    {
+        let count = self.count(level);
+        let place = self.tables[level as usize].admit(key)?;
+        if count == 0 {
+            self.marks.mark(level);
+        }
+        Ok(place)
+    }
+
+    /// The number of levels.
+    pub(crate) fn levels(&self) -> usize
+        ensures { result ≡ length self.now }
+    {
+        self.tables.len()
+    }
+
+    /// The number of requests of a level.
+    pub(crate) fn count(&self, level: u16) -> usize
+        requires { level < length self.now }
+        ensures { result ≡ length (row self.now level) }
+    {
+        self.tables[level as usize].len()
+    }
+
+    /// The request at a place of a level.
+    pub(crate) fn key_at(&self, level: u16, place: usize) -> Key
+        requires { place < length (row self.now level) }
+        ensures { StandsAt self.now level place result }
+    {
+        self.tables[level as usize].key_at(place)
+    }
+
+    /// The requests of a level, by place.
+    pub(crate) fn keys(&self, level: usize) -> &[Key]
+        requires { level < length self.now }
+        ensures { result.now ≡ row self.now level }
+    {
+        self.tables[level].keys()
+    }
+
+    /// The first level from one on that has requests.
+    pub(crate) fn next_level(&self, from: u16) -> Option<u16>
+        ensures { IsNextLevel self.now from result }
+    {
+        match self.marks.next(from as usize) {
+            Some(level) => Some(level as u16),
+            None => None,
+        }
+    }
+
+    /// The last level before one that has requests.
+    pub(crate) fn last_level(&self, end: u16) -> Option<u16>
+        requires { end ≤ length self.now }
+        ensures { IsLastLevel self.now end result }
+    {
+        match self.marks.last(end as usize) {
+            Some(level) => Some(level as u16),
+            None => None,
+        }
+    }
+}

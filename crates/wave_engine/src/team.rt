@@ -1,0 +1,58 @@
+//! Who does the waves.
+ghost use Rattle.std.specs.Prelude.{◌≡◌, ◌≤◌};
+
+use expand_work::Gate;
+use std::alloc::Global;
+
+/// How many workers a wave may call in: 1 to 16.
+#[derive(Clone, Copy, Drop)]
+pub struct Workers {
+    count: u32,
+    pub ghost some: { 1 ≤ count },
+    pub ghost few: { count ≤ 16 },
+}
+
+impl Workers {
+    /// So many workers.
+    pub fn new(count: u32) -> Workers
+        requires some { 1 ≤ count }
+        requires few { count ≤ 16 }
+        ensures { result.count ≡ count }
+    {
+        Workers { count }
+    }
+
+    /// How many they are.
+    pub fn count(self) -> u32
+        ensures value { result ≡ self.count }
+        ensures some { 1 ≤ result }
+        ensures few { result ≤ 16 }
+    {
+        self.count
+    }
+}
+
+/// What does the waves of an engine: the caller's thread, and workers in threads of their own.
+#[derive(Drop)]
+pub(crate) struct Team<'a, R, G> {
+    /// Starts the threads.
+    pub(crate) rt: &'a R,
+    pub(crate) alloc: Global,
+    /// How many threads a wave has that calls them in.
+    pub(crate) workers: Workers,
+    /// Says when, and is told of the levels that the workers come to.
+    pub(crate) gate: &'a G,
+}
+
+impl<'a, R, G: Gate> Team<'a, R, G> {
+    /// The most requests that a level may have before the workers are called in. One worker is called in for a whole wave or never.
+    pub(crate) fn most_alone(&self) -> usize {
+        let workers = self.workers.count();
+        let most = self.gate.most_alone(workers);
+        if workers == 1 && most > 0 {
+            usize::MAX
+        } else {
+            most
+        }
+    }
+}

@@ -1,0 +1,12 @@
+use Rattle.std.proofs.Common.{rules, ◌≡◌, None, sym, subst}
+use Rattle.req_table.specs.declared.Op.TheVariants.{And}
+use Rattle.req_table.specs.Keys.{IsKey, normal_of}
+use Rattle.req_table.specs.Short.{short_of}
+use Rattle.req_table.proofs.Waved.{is_key}
+use Rattle.worker_tests.proofs.workers.conjunction.Goals as goal
+
+pub returns : goal.returns
+returns g c =
+    let long : short_of And c.args.f c.args.g ≡ None = search rules in
+    let key : c.normal.result ≡ normal_of And c.args.f c.args.g = search rules in
+    subst (IsKey c.args.store.now) (sym key) (is_key c.args.store.now And c.args.f c.args.g c.requires.first c.requires.second long)

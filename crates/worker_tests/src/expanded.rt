@@ -1,0 +1,261 @@
+//! Waves expanded by threads: their records, how many items were put, and workers that meet at a level.
+ghost use Rattle.std.specs.Prelude.{◌≡◌, ◌≤◌, ◌<◌, All};
+ghost use Rattle.reduce_up.specs.Waves.{IsEntry};
+ghost use Rattle.req_table.specs.Keys.{IsKey};
+
+use crate::meeting::{Meeting, TURNS, wait_for};
+use crate::requests::{request, store_of, variable};
+use dd_store::{Ref, Store, Watch};
+use expand_work::{Free, Gate, expand_all};
+use lane_queue::Port;
+use req_table::requests::owner;
+use req_table::{Child, Key, Op, Record};
+use std::alloc::Global;
+use std::process::Abort;
+use std::sync::atomic::{AtomicBool, Ordering};
+use std::test::Fail;
+use wave_engine::wave;
+
+/// How many items the ports put together.
+fn put_by(ports: &[Port]) -> u128 {
+    let mut total: u128 = 0;
+    for port in ports {
+        total = total.saturating_add(port.put());
+    }
+    total
+}
+
+/// Whether each of so many ports stands at the place of its number.
+fn are_numbered(ports: &[Port], workers: u32) -> bool {
+    let mut place: u32 = 0;
+    for port in ports {
+        if port.number() != place {
+            return false;
+        }
+        place = place.saturating_add(1);
+    }
+    place == workers
+}
+
+/// Whether the child is this answer.
+fn is_answer(child: Child, wanted: Ref) -> bool {
+    matches!(child, Child::Done(answer) if answer == wanted)
+}
+
+/// Whether these are the one record of this request, whose children are answers.
+fn is_record(records: &[Record], key: Key, low: Ref, high: Ref) -> bool {
+    records.len() == 1
+        && records[0].key == key
+        && is_answer(records[0].low, low)
+        && is_answer(records[0].high, high)
+}
+
+/// The conjunction of the variables a and b, asked for both ways round.
+fn both_ways(rt: &impl Abort, store: &Store) -> [Key; 2]
+    requires { store.now.levels ≡ 2 }
+    ensures { All (IsKey store.now) result }
+{
+    [
+        request(rt, store, Op::And, 0, 1),
+        request(rt, store, Op::And, 1, 0),
+    ]
+}
+
+// Two roots of one key make one record, whose owner gets both: 2 Asks, and 4 x 4 x 2 Ends.
+#[test]
+fn merged_roots(rt: HostRuntime) -> Result<(), Fail> {
+    let store = store_of(&rt, rt.alloc(), 2);
+    let roots = both_ways(&rt, &store);
+    let [first, second] = roots;
+    assert!(rt; first == second);
+    assert_eq!(rt; owner(first, 4), 1);
+    let expanded = expand_all(&rt, rt.alloc(), &store, &roots, 4, &Free)?;
+    let records = expanded.records();
+    assert_eq!(rt; records.levels(), 2);
+    assert!(rt;
+        is_record(
+            records.level(0),
+            first,
+            Ref::False,
+            variable(&rt, &store, 1)
+        )
+    );
+    assert!(rt; records.level(1).is_empty());
+    assert!(rt; are_numbered(expanded.ports(), 4));
+    assert_eq!(rt; put_by(expanded.ports()), 34);
+    Ok(())
+}
+
+/// The conjunction of the variables a and c, and the complement of d, which different workers of two own.
+fn two_roots(rt: &impl Abort, store: &Store) -> [Key; 2]
+    requires { store.now.levels ≡ 4 }
+    ensures { All (IsKey store.now) result }
+{
+    [
+        request(rt, store, Op::And, 0, 2),
+        request(rt, store, Op::Nand, 3, 3),
+    ]
+}
+
+/// Workers who meet at level 0.
+#[derive(Drop)]
+struct AtFirst(Meeting);
+
+impl Watch for AtFirst {
+    fn at_shard(&self, _shard: u8, _level: u16) {}
+}
+
+impl Gate for AtFirst {
+    fn at_level(&self, _worker: u32, level: u16) {
+        if level == 0 {
+            self.0.come();
+        }
+    }
+}
+
+/// The operations of the same two requests.
+fn two_entries(rt: &impl Abort, store: &Store) -> [(Op, Ref, Ref); 2]
+    requires { store.now.levels ≡ 4 }
+    ensures { All (IsEntry store.now) result }
+{
+    let d = variable(rt, store, 3);
+    [
+        (Op::And, variable(rt, store, 0), variable(rt, store, 2)),
+        (Op::Nand, d, d),
+    ]
+}
+
+// Two workers are at one level at once, and put 2 Asks and 2 x 2 x 4 Ends; and again in a wave.
+#[test]
+fn two_at_a_level(rt: HostRuntime) -> Result<(), Fail> {
+    let mut store = store_of(&rt, rt.alloc(), 4);
+    let roots = two_roots(&rt, &store);
+    assert_eq!(rt; (owner(roots[0], 2), owner(roots[1], 2)), (0, 1));
+    let gate = AtFirst(Meeting::of(2));
+    assert!(rt; !gate.0.met());
+    let expanded = expand_all(&rt, rt.alloc(), &store, &roots, 2, &gate)?;
+    assert!(rt; gate.0.met());
+    let records = expanded.records();
+    assert_eq!(rt; records.levels(), 4);
+    assert!(rt;
+        is_record(
+            records.level(0),
+            roots[0],
+            Ref::False,
+            variable(&rt, &store, 2)
+        )
+    );
+    assert!(rt; records.level(1).is_empty() && records.level(2).is_empty());
+    assert!(rt; is_record(records.level(3), roots[1], Ref::True, Ref::False));
+    assert!(rt; are_numbered(expanded.ports(), 2));
+    assert_eq!(rt; put_by(expanded.ports()), 18);
+    let gate = AtFirst(Meeting::of(2));
+    let entries = two_entries(&rt, &store);
+    let answers = wave(&rt, rt.alloc(), &mut store, &entries, 2, &gate)?;
+    assert!(rt; gate.0.met());
+    let both = store.find(0, Ref::False, entries[0].2);
+    let not_d = store.find(3, Ref::True, Ref::False);
+    assert!(rt; both.is_some() && both == answers.first().copied());
+    assert!(rt; not_d.is_some() && not_d == answers.last().copied());
+    Ok(())
+}
+
+/// Holds worker 1 at level 0, and sees whether anyone is told of a further level meanwhile.
+#[derive(Drop)]
+struct Holder {
+    other: AtomicBool,
+    further: AtomicBool,
+    held: AtomicBool,
+    early: AtomicBool,
+}
+
+impl Watch for Holder {
+    fn at_shard(&self, _shard: u8, _level: u16) {}
+}
+
+impl Gate for Holder {
+    fn at_level(&self, worker: u32, level: u16) {
+        if level > 0 {
+            self.further.store(true, Ordering::SeqCst);
+        } else if worker == 0 {
+            self.other.store(true, Ordering::SeqCst);
+        } else {
+            let came = wait_for(&self.other, TURNS);
+            self.held.store(came, Ordering::SeqCst);
+            let early = wait_for(&self.further, TURNS / 50);
+            self.early.store(early, Ordering::SeqCst);
+        }
+    }
+}
+
+// A worker is told of a level when it is closed, which the next is not before both workers have left this one.
+#[test]
+fn told_of_closed_levels(rt: HostRuntime) -> Result<(), Fail> {
+    let store = store_of(&rt, rt.alloc(), 4);
+    let roots = two_roots(&rt, &store);
+    let gate = Holder {
+        other: AtomicBool::new(false),
+        further: AtomicBool::new(false),
+        held: AtomicBool::new(false),
+        early: AtomicBool::new(false),
+    };
+    let expanded = expand_all(&rt, rt.alloc(), &store, &roots, 2, &gate)?;
+    assert_eq!(rt; put_by(expanded.ports()), 18);
+    assert!(rt; gate.held.load(Ordering::SeqCst));
+    assert!(rt; !gate.early.load(Ordering::SeqCst));
+    assert!(rt; gate.further.load(Ordering::SeqCst));
+    Ok(())
+}
+
+/// The keys of the records of a level, as operations on the levels of their operands, in order.
+fn keys_of(alloc: Global, store: &Store, row: &[Record]) -> Result<Vec<(Op, u16, u16)>, Fail> {
+    let mut keys = Vec::new(alloc);
+    for record in row {
+        let key = record.key;
+        keys.push((key.op(), store.top(key.f()), store.top(key.g())))?;
+    }
+    keys.sort()?;
+    Ok(keys)
+}
+
+/// Five roots, two of which are one request, and two of which ask for a further one each.
+fn five_roots(rt: &impl Abort, store: &Store) -> [Key; 5]
+    requires { store.now.levels ≡ 4 }
+    ensures { All (IsKey store.now) result }
+{
+    [
+        request(rt, store, Op::Xor, 0, 1),
+        request(rt, store, Op::And, 0, 2),
+        request(rt, store, Op::Nand, 1, 0),
+        request(rt, store, Op::Xor, 1, 0),
+        request(rt, store, Op::Nand, 3, 3),
+    ]
+}
+
+/// The requests that they ask for, by level: the operation and the levels of the operands, where 4 is a terminal's.
+const REACHED: [&[(Op, u16, u16)]; 4] = [
+    &[(Op::And, 0, 2), (Op::Xor, 0, 1), (Op::Nand, 0, 1)],
+    &[(Op::Xor, 4, 1), (Op::Nand, 4, 1)],
+    &[],
+    &[(Op::Nand, 3, 3)],
+];
+
+// However the threads run, the records are the same, and 5 roots, 2 children and the Ends are put.
+#[test]
+fn any_schedule(rt: HostRuntime) -> Result<(), Fail> {
+    let store = store_of(&rt, rt.alloc(), 4);
+    let roots = five_roots(&rt, &store);
+    for (workers, runs, put) in [(1, 1, 11), (2, 10, 23), (3, 10, 43), (16, 200, 1031)] {
+        for _ in 0..runs {
+            let expanded = expand_all(&rt, rt.alloc(), &store, &roots, workers, &Free)?;
+            assert_eq!(rt; expanded.records().levels(), 4);
+            for level in 0..4 {
+                let keys = keys_of(rt.alloc(), &store, expanded.records().level(level))?;
+                assert_eq!(rt; keys.as_slice(), REACHED[level as usize]);
+            }
+            assert!(rt; are_numbered(expanded.ports(), workers));
+            assert_eq!(rt; put_by(expanded.ports()), put);
+        }
+    }
+    Ok(())
+}

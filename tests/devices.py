@@ -1,0 +1,242 @@
+#!/usr/bin/env python3
+"""What the program does on devices that fail, end early, never end, or are no files at all.
+
+usage: tests/devices.py PROGRAM
+"""
+import os
+import pathlib
+import shutil
+import socket
+import subprocess
+import sys
+import threading
+
+import kit
+from kit import C17, C17_DIFFERS, C17_EQUAL, C17B, Run, Tally, lines, netlist, run, written
+
+TEXT_LIMIT = 67_108_864
+INPUT_LIMIT = 134_221_824
+UNWRITTEN = lines("bddcheck: report: cannot be written")
+EMPTY = lines("0 equal, 0 different, 0 unmatched")
+
+
+def refused(text, status=2):
+    return Run(status, b"", lines("bddcheck: " + text))
+
+
+class Devices:
+    def __init__(self, program, place, tally):
+        self.program, self.place, self.tally = program, pathlib.Path(place), tally
+        self.c17, self.c17b = self.file("c17", C17), self.file("c17b", C17B)
+
+    def file(self, name, text):
+        return written(self.place, name, text)
+
+    def run(self, *words, given=b"", **more):
+        return run([self.program, *words], given, **more)
+
+    def check(self, name, seen, wanted):
+        self.tally.check(name, seen == wanted, f"{seen}; wanted {wanted}")
+
+    # Outputs.
+
+    def full_disk(self):
+        for words in (["--sizes"], ["--workers", 1]):
+            with open("/dev/full", "wb") as full:
+                seen = self.run(*words, self.c17, self.c17b, stdout=full)
+            self.check("a full disk", seen, Run(3, b"", UNWRITTEN))
+
+    def closed_output(self):
+        seen = self.through_shell(">&-", self.c17, self.c17b)
+        self.check("a closed output", seen, Run(3, b"", UNWRITTEN))
+
+    def closed_errors(self):
+        seen = self.through_shell("2>&-", self.c17, self.place / "none")
+        self.check("closed errors, a fault", seen, Run(2, b"", b""))
+        seen = self.through_shell("2>&-", self.c17, self.c17b)
+        self.check("closed errors, a report", seen, Run(1, C17_DIFFERS, b""))
+        with open("/dev/full", "wb") as full:
+            seen = self.run(self.c17, self.place / "none", stderr=full)
+        self.check("errors on a full disk", seen, Run(2, b"", b""))
+
+    def through_shell(self, closing, *words):
+        """With a stream closed by the shell. What is still open is given back."""
+        return run(["sh", "-c", f'"$0" "$@" {closing}', self.program, *words])
+
+    def closed_pipe(self):
+        reading, writing = os.pipe()
+        os.close(reading)
+        seen = self.run(self.c17, self.c17b, stdout=writing)
+        os.close(writing)
+        self.check("a pipe that nobody reads", seen, Run(3, b"", UNWRITTEN))
+
+    def early_pipe(self):
+        """`| head -1` over a report that is larger than what a pipe holds."""
+        ports = [f"INPUT(x{i})" for i in range(20)] + [f"OUTPUT(o{i})" for i in range(4000)]
+        text = netlist(";".join(ports + [f"o{i} = BUFF(x{i % 20})" for i in range(4000)]))
+        wide = self.file("wide", text)
+        other = self.file("other", text.replace(b"BUFF", b"NOT"))
+        child = subprocess.Popen([self.program, wide, other], stdout=subprocess.PIPE, stderr=subprocess.PIPE)
+        head = subprocess.run(["head", "-1"], stdin=child.stdout, stdout=subprocess.PIPE)
+        child.stdout.close()
+        errors = child.stderr.read()
+        child.stderr.close()
+        seen = Run(child.wait(), head.stdout, errors)
+        bits = " ".join(f"x{i}=0" for i in range(20))
+        self.check("| head -1", seen, Run(3, lines(f"DIFFER o0 at {bits} first=0 second=1"), UNWRITTEN))
+
+    def socket_output(self):
+        ours, theirs = socket.socketpair()
+        seen = self.run(self.c17, self.c17b, stdout=theirs.fileno())
+        theirs.close()
+        with ours:
+            told = ours.recv(65536)
+        self.check("a socket", Run(seen.status, told, seen.err), Run(1, C17_DIFFERS, b""))
+
+    # Inputs.
+
+    def endless(self):
+        for name, words, text in (
+            ("first", ["/dev/zero", self.c17], "first: longer than 67108864 bytes"),
+            ("second", [self.c17, "/dev/zero"], "second: longer than 67108864 bytes"),
+            ("order", ["--order-file", "/dev/zero", self.c17, self.c17], "order: longer than 67108864 bytes"),
+        ):
+            self.check(f"/dev/zero as {name}", self.run(*words), refused(text))
+        yes = subprocess.Popen(["yes", "# yes"], stdout=subprocess.PIPE)
+        child = subprocess.run([self.program], stdin=yes.stdout, capture_output=True)
+        yes.stdout.close()
+        yes.wait()
+        seen = Run(child.returncode, child.stdout, child.stderr)
+        self.check("yes on standard input", seen, refused("standard input: too long"))
+
+    def limits(self):
+        """Texts at their limits and one byte over them, of comments alone."""
+        comment = lambda size: b"#" + b" " * (size - 2) + b"\n"
+        whole, over = self.file("whole", comment(TEXT_LIMIT)), self.file("over", comment(TEXT_LIMIT + 1))
+        empty = self.file("empty", b"")
+        self.check("a text at its limit", self.run(whole, whole), Run(0, EMPTY, b""))
+        self.check("first over it", self.run(over, empty), refused("first: longer than 67108864 bytes"))
+        self.check("second over it", self.run(empty, over), refused("second: longer than 67108864 bytes"))
+        rest = INPUT_LIMIT - TEXT_LIMIT - 4
+        at_most = comment(TEXT_LIMIT) + b"%%\r\n" + comment(rest)
+        self.check("standard input at its limit", self.run(given=at_most), refused("second: longer than 67108864 bytes"))
+        self.check("standard input over it", self.run(given=at_most + b"#"), refused("standard input: too long"))
+        fits = comment(TEXT_LIMIT) + b"%%\n" + comment(TEXT_LIMIT)
+        self.check("two whole texts on standard input", self.run(given=fits), Run(0, EMPTY, b""))
+        for name in ("whole", "over"):
+            (self.place / name).unlink()
+
+    def no_files(self):
+        none, place = self.place / "none", self.place
+        bad = self.file("bad", C17 + b"x")
+        for name, words, text in (
+            ("first missing", [none, self.c17], "first: cannot be opened"),
+            ("second missing", [self.c17, none], "second: cannot be opened"),
+            ("order missing", ["--order-file", none, self.c17, self.c17], "order: cannot be opened"),
+            ("both missing", [none, none], "first: cannot be opened"),
+            ("second missing, first bad", [bad, none], "second: cannot be opened"),
+            ("order missing, first bad", ["--order-file", none, bad, self.c17], "order: cannot be opened"),
+            ("order bad, first bad", ["--order-file", bad, bad, self.c17], "order: line 1: not a signal name"),
+            ("both bad", [bad, bad], "first: line 14: broken statement"),
+            ("second bad", [self.c17, bad], "second: line 14: broken statement"),
+            ("an empty path", ["", self.c17], "first: cannot be opened"),
+            ("a path below a file", [self.c17 / "x", self.c17], "first: cannot be opened"),
+            ("a path too long", ["x" * 5000, self.c17], "first: cannot be opened"),
+            ("a folder as first", [place, self.c17], "first: cannot be read"),
+            ("a folder as second", [self.c17, place], "second: cannot be read"),
+            ("a folder as order", ["--order-file", place, self.c17, self.c17], "order: cannot be read"),
+        ):
+            self.check(name, self.run(*words), refused(text))
+        loop = self.place / "loop"
+        loop.symlink_to(loop)
+        self.check("a link to itself", self.run(loop, self.c17), refused("first: cannot be opened"))
+        with open("/dev/null", "rb") as null:
+            child = subprocess.run([self.program], stdin=null, capture_output=True)
+        seen = Run(child.returncode, child.stdout, child.stderr)
+        self.check("no input", seen, refused("standard input: no line %%"))
+        folder = os.open(place, os.O_RDONLY)
+        child = subprocess.run([self.program], stdin=folder, capture_output=True)
+        os.close(folder)
+        seen = Run(child.returncode, child.stdout, child.stderr)
+        self.check("a folder as standard input", seen, refused("standard input: cannot be read"))
+        seen = self.through_shell("<&-")
+        self.check("closed standard input", seen, refused("standard input: cannot be read"))
+
+    def no_permission(self):
+        secret = self.file("secret", C17)
+        secret.chmod(0)
+        words, more = [self.program, secret, self.c17], {}
+        if os.geteuid() == 0:
+            # To root each file is open: run it as nobody, from where nobody gets to.
+            self.place.chmod(0o755)
+            program = shutil.copy(self.program, self.place / "program")
+            os.chmod(program, 0o755)
+            words[0], more = program, {"user": 65534, "group": 65534, "cwd": "/"}
+        self.check("no permission", run(words, **more), refused("first: cannot be opened"))
+
+    def fifo(self, name, text, bytes_at_once):
+        """The path of a fifo that gives so many bytes at each read."""
+        path = self.place / name
+        os.mkfifo(path)
+
+        def give():
+            with open(path, "wb", buffering=0) as out:
+                for at in range(0, len(text), bytes_at_once):
+                    out.write(text[at : at + bytes_at_once])
+
+        threading.Thread(target=give, daemon=True).start()
+        return path
+
+    def slow_files(self):
+        for count in (1, 3):
+            first, second = self.fifo(f"a{count}", C17, count), self.fifo(f"b{count}", C17B, count)
+            order = self.fifo(f"o{count}", b"1 2 3 6 7", count)
+            seen = self.run("--order-file", order, first, second)
+            self.check(f"fifos of {count} bytes a read", seen, Run(1, C17_DIFFERS, b""))
+        child = subprocess.Popen([self.program], stdin=subprocess.PIPE, stdout=subprocess.PIPE, stderr=subprocess.PIPE, bufsize=0)
+        for byte in C17 + b"%%\r\n" + C17:
+            child.stdin.write(bytes([byte]))
+        out, err = child.communicate()
+        self.check("standard input, byte by byte", Run(child.returncode, out, err), Run(0, C17_EQUAL, b""))
+
+    def same_device(self):
+        """Both texts from one device: the first takes all of it, and an empty text is left."""
+        seen = self.run("/dev/stdin", "/dev/stdin", given=C17)
+        self.check("one pipe twice", seen, Run(1, lines("ONLY FIRST 22", "ONLY FIRST 23", "0 equal, 0 different, 2 unmatched"), b""))
+
+    def odd_words(self):
+        seen = self.bytes_run([b"\xff", b"x"])
+        self.check("words that are no UTF-8", seen, refused("a word of the command line is no UTF-8"))
+        odd = self.file("é ü\n", C17)
+        self.check("an odd path", self.run(odd, self.c17), Run(0, C17_EQUAL, b""))
+        seen = self.run("--help")
+        self.tally.check("help", seen.status == 0 and seen.out.startswith(b"Decides") and not seen.err, seen)
+
+    def bytes_run(self, words):
+        child = subprocess.run([os.fsencode(self.program), *words], capture_output=True, stdin=subprocess.DEVNULL)
+        return Run(child.returncode, child.stdout, child.stderr)
+
+
+def main():
+    tally = Tally("devices")
+    with kit.folder() as place:
+        devices = Devices(sys.argv[1], place, tally)
+        devices.full_disk()
+        devices.closed_output()
+        devices.closed_errors()
+        devices.closed_pipe()
+        devices.early_pipe()
+        devices.socket_output()
+        devices.endless()
+        devices.limits()
+        devices.no_files()
+        devices.no_permission()
+        devices.slow_files()
+        devices.same_device()
+        devices.odd_words()
+    tally.end()
+    sys.exit(tally.failed > 0)
+
+
+if __name__ == "__main__":
+    main()

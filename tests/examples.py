@@ -1,0 +1,109 @@
+#!/usr/bin/env python3
+"""Each row of examples/README.md, tried: its words, and what it says that one sees.
+
+usage: tests/examples.py PROGRAM
+
+A row that stands in the README and not here, or here and not there, fails.
+"""
+import re
+import shlex
+import sys
+
+from kit import TOP, Run, Tally, lines, run
+
+
+def equal(*names, sizes=None):
+    told = [f"EQUAL {name}" + (f" size {sizes[i]}" if sizes else "") for i, name in enumerate(names)]
+    return Run(0, lines(*told, f"{len(names)} equal, 0 different, 0 unmatched"), b"")
+
+
+def refused(text, status=2):
+    return Run(status, b"", lines("bddcheck: " + text))
+
+
+
+
+def adders_equal(seen):
+    return seen.status == 0 and seen.out.count(b"EQUAL ") == 9 and seen.out.endswith(b"9 equal, 0 different, 0 unmatched\n")
+
+
+def twenty_four(seen):
+    sizes = [int(size) for size in re.findall(rb" size (\d+)\n", seen.out)]
+    return seen.status == 0 and len(sizes) == 9 and max(sizes) == 24
+
+
+def eight_and_fifty_six(seen):
+    """The first assignment that is told is that of 8 and 56."""
+    bits = dict(word.split("=") for word in seen.out.split(b"DIFFER", 1)[1].decode().split("\n")[0].split() if "=" in word)
+    number = lambda letter: sum(int(bits[f"{letter}{i}"]) << i for i in range(8))
+    return seen.status == 1 and {number("a"), number("b")} == {8, 56}
+
+
+def one_differs(seen):
+    return seen.status == 1 and seen.out.count(b"DIFFER") == 1 and b"1 equal, 1 different, 0 unmatched" in seen.out
+
+
+def differ_at_both(seen):
+    return seen.status == 1 and b" a=1 b=1 " in seen.out and seen.out.count(b"\n") == 2
+
+
+def no_partner(seen):
+    return seen.status == 1 and b"ONLY FIRST 23\nONLY SECOND 24\n" in seen.out
+
+
+def of_four(seen):
+    """A variable that only one netlist has stands among the others."""
+    return seen.status == 1 and b"DIFFER 23 at" in seen.out and b" 7=" in seen.out
+
+
+def wires(seen):
+    return seen.status == 1 and b"DIFFER" in seen.out and b"EQUAL" not in seen.out
+
+
+SEEN = {
+    "examples/adder8_ripple.bench examples/adder8_lookahead.bench": adders_equal,
+    "--sizes --order depth examples/adder8_ripple.bench examples/adder8_lookahead.bench": twenty_four,
+    "examples/adder8_ripple.bench examples/adder8_wrong.bench": eight_and_fifty_six,
+    "examples/c17.bench examples/c17b.bench": one_differs,
+    "examples/c17.bench examples/c17c.bench": no_partner,
+    "--sizes examples/pairs.bench examples/pairs.bench": equal("o", sizes=[6]),
+    "--sizes examples/pairs13.bench examples/pairs13.bench": equal("o", sizes=[16382]),
+    "examples/par8.bench examples/chain8.bench": equal("p"),
+    "examples/never.bench examples/never_by_and.bench": equal("o"),
+    "examples/or.bench examples/xor.bench": differ_at_both,
+    "examples/wire.bench examples/buffer.bench": wires,
+    "examples/c17.bench examples/c17_of_four.bench": of_four,
+    "examples/one_and.bench examples/one_buf.bench": equal("x"),
+    "examples/empty.bench examples/empty.bench": equal(),
+    "examples/loop.bench examples/c17.bench": refused("first: line 3: gate that depends on a cycle"),
+    "examples/undefined.bench examples/c17.bench": refused("first: line 1: signal without definition"),
+    "--limit 12 examples/c17.bench examples/c17.bench": refused("build: more nodes than the limit", 3),
+}
+
+# What a row says besides, by other words.
+MORE = {
+    "--match position examples/c17.bench examples/c17c.bench": equal("22", "23"),
+    "--sizes --order-file examples/pairs_apart.order examples/pairs.bench examples/pairs.bench": equal("o", sizes=[14]),
+    "--match position examples/wire.bench examples/buffer.bench": equal("a"),
+}
+
+
+def rows():
+    """The words of the table's rows."""
+    for line in (TOP / "examples" / "README.md").read_text().split("\n"):
+        if line.startswith("| `"):
+            yield line.split("`")[1]
+
+
+def main():
+    tally, stand = Tally("examples"), list(rows())
+    tally.check("each row is tried", stand == list(SEEN), set(stand) ^ set(SEEN))
+    for words, wanted in [*SEEN.items(), *MORE.items()]:
+        seen = run([sys.argv[1], *shlex.split(words)], cwd=TOP)
+        tally.check(words, wanted(seen) if callable(wanted) else seen == wanted, seen)
+    tally.end()
+    sys.exit(tally.failed > 0)
+
+
+if __name__ == "__main__":
+    main()

@@ -1,0 +1,388 @@
+#!/usr/bin/env python3
+"""Random pairs of netlists, whole and damaged: the program must give the bytes and the status that judging.py gives.
+
+usage: tests/fuzz.py PROGRAM [--seconds S] [--seed N] [--case KIND:I] [--jobs J]
+
+It takes S seconds (120) by J processes (2). The seed is printed; with it each case is made again, and --case makes one
+alone. The files of a case that fails are kept, and told.
+"""
+import argparse
+import itertools
+import random
+import string
+import sys
+import time
+
+import kit
+from judging import ORDERS, Case, answer
+from kit import FEATURES, Tally, run, say
+
+WORDS = ["AND", "NAND", "OR", "NOR", "XOR", "XNOR", "NOT", "BUFF", "BUF"]
+WIDE = WORDS[:6]
+OPPOSITE = {"AND": "NAND", "NAND": "AND", "OR": "NOR", "NOR": "OR", "XOR": "XNOR", "XNOR": "XOR"}
+OPPOSITE |= {"NOT": "BUFF", "BUFF": "NOT", "BUF": "NOT"}
+ODD_NAMES = ["INPUT", "OUTPUT", "and", "NOT", "DFF", "x[0]", "x[1]", "%%", "a.b", "~", "0", "_", "!", "NEXT", "-", "\\q"]
+
+
+# Netlists as lists of statements: ("INPUT", name), ("OUTPUT", name) or (word, name, operands).
+
+
+def names(rng, count, odd):
+    pool = list(ODD_NAMES) if odd else []
+    pool += [letter + str(i) for letter in "abxy" for i in range(10)]
+    if odd and rng.random() < 0.05:
+        pool.append("".join(rng.choices(string.ascii_letters, k=255)))
+    chosen = rng.sample(pool, min(count, len(pool)))
+    return chosen + [f"s{i}" for i in range(count - len(chosen))]
+
+
+def random_netlist(rng, inputs, gate_count, output_count):
+    signals, statements = list(inputs), [("INPUT", name) for name in inputs]
+    odd = rng.random() < 0.3
+    new = [name for name in names(rng, gate_count + len(inputs), odd) if name not in inputs][:gate_count]
+    registers = new[: rng.randrange(3)] if FEATURES["registers"] and rng.random() < 0.5 else []
+    signals += registers
+    for name in new[len(registers) :]:
+        if not signals:
+            break
+        word = rng.choice(WORDS)
+        recent = signals[-rng.choice([4, 8, 100]) :]
+        operands = rng.choices(recent, k=rng.choice([1, 2, 2, 2, 3, 5]) if word in WIDE else 1)
+        statements.append((word, name, operands))
+        signals.append(name)
+    statements += [("DFF", name, [rng.choice(signals)]) for name in registers]
+    for _ in range(output_count if signals else 0):
+        # Late signals are the interesting ones; inputs and repeated outputs come as well.
+        statements.append(("OUTPUT", rng.choice(signals[-6:] if rng.random() < 0.8 else signals)))
+    return statements
+
+
+def rewritten(rng, statements):
+    """The same functions by other gates."""
+    made, count = [], 0
+    for statement in statements:
+        if len(statement) == 2 or statement[0] == "DFF" or rng.random() < 0.4:
+            made.append(statement)
+            continue
+        word, name, operands = statement
+        way = rng.randrange(4)
+        inner = f"r.{count}"
+        count += 1
+        if way == 0:
+            made += [(OPPOSITE[word], inner, operands), ("NOT", name, [inner])]
+        elif way == 1 and word in WIDE:
+            made.append((word, name, rng.sample(operands, len(operands))))
+        elif way == 2 and word in ("AND", "NAND", "OR", "NOR"):
+            turned = {"AND": "NOR", "NAND": "OR", "OR": "NAND", "NOR": "AND"}[word]
+            made += [("NOT", f"{inner}.{i}", [operand]) for i, operand in enumerate(operands)]
+            made.append((turned, name, [f"{inner}.{i}" for i in range(len(operands))]))
+        elif way == 3 and word in WIDE and len(operands) > 2:
+            plain = word if word in ("AND", "OR", "XOR") else OPPOSITE[word]
+            made += [(plain, inner, operands[:2]), (word, name, [inner, *operands[2:]])]
+        else:
+            made.append(statement)
+    return made
+
+
+def changed(rng, statements):
+    """Some gate is another one."""
+    places = [i for i, statement in enumerate(statements) if len(statement) == 3 and statement[0] in WIDE]
+    if not places:
+        return statements
+    place = rng.choice(places)
+    word, name, operands = statements[place]
+    if rng.random() < 0.5:
+        word = rng.choice(WIDE)
+    else:
+        inputs = [statement[1] for statement in statements if statement[0] == "INPUT" and len(statement) == 2]
+        operands = [*operands[:-1], rng.choice(inputs or operands)]
+    return [*statements[:place], (word, name, operands), *statements[place + 1 :]]
+
+
+def renamed(rng, statements, match):
+    """Other names, and ports in another order where names pair them; at times a port too many or too few."""
+    if rng.random() < 0.3:
+        statements = rng.sample(statements, len(statements)) if match == "name" else statements
+    if match == "position" and rng.random() < 0.7:
+        ports = {statement[1] for statement in statements}
+        called = {name: f"q{i}" if rng.random() < 0.7 else name for i, name in enumerate(sorted(ports))}
+        if len(set(called.values())) == len(called) and not ports & {f"q{i}" for i in range(len(ports))}:
+            change = lambda name: called.get(name, name)
+            statements = [
+                (s[0], change(s[1])) if len(s) == 2 else (s[0], change(s[1]), [change(o) for o in s[2]]) for s in statements
+            ]
+    if rng.random() < 0.1:
+        ports = [i for i, statement in enumerate(statements) if statement[0] == "OUTPUT"]
+        if ports:
+            place = rng.choice(ports)
+            statements = statements[:place] + statements[place + 1 :]
+    if rng.random() < 0.1:
+        statements = [("INPUT", "more"), *statements, ("OUTPUT", "more")]
+    return statements
+
+
+# Layout.
+
+
+def blank(rng, needed=False):
+    if rng.random() < 0.8:
+        return " " if needed else ""
+    return rng.choice([" ", "\t", "  ", "\n", "\r\n", " # a comment, with ( and \xff\n", "#\n"])
+
+
+def cased(rng, word):
+    return rng.choice([word, word, word.lower(), word.capitalize()])
+
+
+def laid_out(rng, statements, plain):
+    """The text of a netlist, by turns as tools write it and with all freedom of the format."""
+    end = "\r\n" if rng.random() < 0.15 else "\n"
+    text = []
+    for statement in statements:
+        gap = (lambda: "") if plain else (lambda: blank(rng))
+        if len(statement) == 2:
+            words = [cased(rng, statement[0]), "(", statement[1], ")"]
+        else:
+            word, name, operands = statement
+            words = [name, "=", cased(rng, word), "("]
+            words += [part for operand in operands for part in (operand, ",")][:-1] + [")"]
+        if plain:
+            text.append("".join(words).replace("=", " = ").replace(",", ", ") + end)
+        else:
+            text.append("".join(word + gap() for word in words) + rng.choice([end, end, " ", ""]))
+    if rng.random() < 0.1:
+        text.insert(0, "# a netlist" + end)
+    return "".join(text).encode("latin-1")
+
+
+DAMAGE = b"(),=#% \n\r\tA1x\x00\x7f\x80\xff"
+
+
+def damaged(rng, text):
+    """A text with a few bytes or lines changed, dropped, doubled or exchanged."""
+    for _ in range(rng.choice([1, 1, 1, 2, 3])):
+        way = rng.randrange(8)
+        at = rng.randrange(len(text)) if text else 0
+        if way == 0:
+            text = text[:at] + bytes([rng.choice(DAMAGE)]) + text[at + 1 :]
+        elif way == 1:
+            text = text[:at] + text[at + 1 :]
+        elif way == 2:
+            text = text[:at] + text[at : at + 1] + text[at:]
+        elif way == 3:
+            text = text[:at] + bytes([rng.choice(DAMAGE)]) + text[at:]
+        elif way == 4:
+            text = text[:at]
+        else:
+            text = damaged_lines(rng, text, way)
+    return text
+
+
+def damaged_lines(rng, text, way):
+    parts = text.split(b"\n")
+    i, j = rng.randrange(len(parts)), rng.randrange(len(parts))
+    if way == 5:
+        parts[i], parts[j] = parts[j], parts[i]
+    elif way == 6:
+        parts.insert(i, parts[j])
+    else:
+        del parts[i]
+    return b"\n".join(parts)
+
+
+WRONG = [
+    b"x = FOO(a)", b"q = DFF(a)", b"x = NOT(a, b)", b"OUTPUT(nowhere)", b"x = AND()", b"f(a)", b"INPUT a", b"x == y", b"INPUT()",
+    b"x = lut 0x8 (a, b)", b"x = vdd", b"c1 = AND(c2)\nc2 = OR(c1, c1)", b"INPUT(" + b"n" * 256 + b")", b"x = INPUT(a)",
+    b"OUTPUT(" + b"n" * 255 + b")", b"x = BUFF(x)", b"=", b"x", b"x =", b"x = AND", b"x = AND(", b"x = AND(y", b"x = AND(y,", b")",
+]  # fmt: skip
+
+
+# Cases by kind.
+
+
+def sources_of(statements):
+    return [s[1] for s in statements if s[0] == "INPUT" or s[0] == "DFF"]
+
+
+def pair_of_netlists(rng, match, most_inputs):
+    inputs = names(rng, rng.randrange(most_inputs + 1), rng.random() < 0.2)
+    first = random_netlist(rng, inputs, rng.randrange(1, 25), rng.randrange(6))
+    way = rng.random()
+    if way < 0.6:
+        second = rewritten(rng, first)
+    elif way < 0.85:
+        second = changed(rng, rewritten(rng, first))
+    else:
+        others = names(rng, rng.randrange(most_inputs + 1), rng.random() < 0.2)
+        second = random_netlist(rng, others[:most_inputs], rng.randrange(1, 15), rng.randrange(6))
+    return first, renamed(rng, second, match)
+
+
+def listed(rng, first, second, match):
+    """An order file: mostly right, at times with a name too many, too few, or damaged."""
+    wanted = list(dict.fromkeys(sources_of(first) + (sources_of(second) if match == "name" else [])))
+    rng.shuffle(wanted)
+    way = rng.random()
+    if way < 0.1 and wanted:
+        wanted.pop(rng.randrange(len(wanted)))
+    elif way < 0.2 and wanted:
+        wanted.insert(rng.randrange(len(wanted) + 1), rng.choice(wanted))
+    elif way < 0.25:
+        wanted.insert(rng.randrange(len(wanted) + 1), "nobody")
+    text = "".join(name + rng.choice(["\n", " ", "\t", "\r\n", " # then\n"]) for name in wanted).encode("latin-1")
+    return damaged(rng, text) if way > 0.9 else text
+
+
+def make_case(kind, rng):
+    match = "position" if kind == "position" else rng.choice(["name", "name", "name", "position"])
+    first, second = pair_of_netlists(rng, match, 10 if rng.random() < 0.1 else 6)
+    plain = rng.random() < 0.4
+    texts = [laid_out(rng, first, plain), laid_out(rng, second, plain)]
+    case = Case(*texts, match=match, workers=rng.choice([1, 2, 3, 4, 16]))
+    case.order = rng.choice(list(ORDERS)) if kind in ("position", "damaged", "input", "limit") else kind
+    if kind == "list" or (kind in ("position", "limit") and rng.random() < 0.3):
+        case.order = listed(rng, first, second, match)
+    if kind in ("sizes", "given"):
+        case.order = rng.choice(list(ORDERS))
+    case.sizes = kind == "sizes" or rng.random() < 0.3
+    if kind == "damaged":
+        damage(rng, case)
+    if kind == "input":
+        case.divider = rng.choice([b"%%\n", b"%%\n", b"%%\r\n", b"%% \n", b"%%"])
+        if rng.random() < 0.8:
+            case.first += b"\n"
+        if rng.random() < 0.1:
+            case.first = damaged(rng, case.first)
+    if kind == "given":
+        condition = random_netlist(rng, sources_of(first)[:4] or ["g"], rng.randrange(1, 6), 1)
+        case.given = laid_out(rng, condition, plain)
+        if rng.random() < 0.1:
+            case.given = damaged(rng, case.given)
+    return case
+
+
+def damage(rng, case):
+    for place in ("first", "second"):
+        if rng.random() < 0.6:
+            text = getattr(case, place)
+            if rng.random() < 0.3:
+                parts = text.split(b"\n")
+                parts.insert(rng.randrange(len(parts) + 1), rng.choice(WRONG))
+                text = b"\n".join(parts)
+            else:
+                text = damaged(rng, text)
+            setattr(case, place, text)
+
+
+KINDS = [*ORDERS, "list", "position", "sizes", "limit", "input", "damaged"]
+if FEATURES["given"]:
+    KINDS.append("given")
+
+
+# Running.
+
+
+def words_of(program, case, place):
+    """The words of the case, whose files are written."""
+    words = [program, "--workers", str(case.workers)]
+    if case.match != "name":
+        words += ["--match", case.match]
+    if isinstance(case.order, bytes):
+        words += ["--order-file", kit.written(place, "order", case.order)]
+    elif case.order != "declared":
+        words += ["--order", case.order]
+    if case.sizes:
+        words.append("--sizes")
+    if case.limit is not None:
+        words += ["--limit", str(case.limit)]
+    if case.given is not None:
+        words += ["--given", kit.written(place, "given.bench", case.given)]
+    if case.divider is None:
+        words += [kit.written(place, "first.bench", case.first), kit.written(place, "second.bench", case.second)]
+    return words
+
+
+def limits_of(case):
+    """A kind of its own: the nodes that are needed are enough, and one less is not."""
+    from judging import Refusal, judged
+
+    try:
+        need = judged(case).nodes
+    except Refusal:
+        return [None]
+    return [need, need - 1] if need > 1 else [max(need, 1)]
+
+
+def try_case(program, seed, kind, index, place):
+    """None where the answers agree, and else what is told."""
+    case = make_case(kind, random.Random(f"{seed}:{kind}:{index}"))
+    for limit in limits_of(case) if kind == "limit" else [None]:
+        case.limit = limit
+        wanted = answer(case)
+        words = words_of(program, case, place)
+        given = b"" if case.divider is None else case.first + case.divider + case.second
+        seen = run(words, given)
+        if seen != wanted:
+            files = {"first.bench": case.first, "second.bench": case.second, "input": given}
+            if isinstance(case.order, bytes):
+                files["order"] = case.order
+            where = kit.kept("fuzz", files)
+            return f"--seed {seed} --case {kind}:{index}: {' '.join(map(str, words[1:]))}; files in {where}: {seen}; wanted {wanted}"
+    return None
+
+
+def try_many(program, seed, kinds, begin, step, until):
+    """Cases of all kinds by turns, until the time is over: how many, and the failed ones by kind."""
+    tried, failed = {kind: 0 for kind in kinds}, []
+    with kit.folder() as place:
+        for index in itertools.count(begin, step):
+            for kind in kinds:
+                if time.monotonic() >= until:
+                    return tried, failed
+                told = try_case(program, seed, kind, index, place)
+                tried[kind] += 1
+                if told:
+                    failed.append((kind, told))
+                    if len(failed) > 20:
+                        return tried, failed
+
+
+def fuzz(program, tally, seed, seconds, jobs):
+    tried, failed = {kind: 0 for kind in KINDS}, []
+    until = time.monotonic() + seconds
+    with kit.pool(jobs) as pool:
+        parts = [pool.submit(try_many, program, seed, KINDS, job, jobs, until) for job in range(jobs)]
+        for part in parts:
+            counts, told = part.result()
+            failed += told
+            for kind in KINDS:
+                tried[kind] += counts[kind]
+    for kind in KINDS:
+        wrong = [told for which, told in failed if which == kind]
+        tally.check(f"{kind}: {tried[kind]} cases", tried[kind] and not wrong, "; ".join(wrong[:3]))
+    counted = ", ".join(f"{count} {kind}" for kind, count in tried.items())
+    tally.figures(f"{sum(tried.values())} cases with seed {seed}: {counted}")
+
+
+def main():
+    parser = argparse.ArgumentParser(usage=__doc__.split("usage: ")[1].split("\n")[0])
+    parser.add_argument("program")
+    parser.add_argument("--seconds", type=float, default=120)
+    parser.add_argument("--seed", default=str(random.SystemRandom().randrange(1 << 32)))
+    parser.add_argument("--case")
+    parser.add_argument("--jobs", type=int, default=2)
+    settings = parser.parse_args()
+    if settings.case:
+        kind, index = settings.case.split(":")
+        with kit.folder() as place:
+            told = try_case(settings.program, settings.seed, kind, int(index), place)
+        sys.exit(told or "agrees")
+    tally = Tally("fuzz")
+    say(f"fuzz: seed {settings.seed}")
+    fuzz(settings.program, tally, settings.seed, settings.seconds, settings.jobs)
+    tally.end()
+    sys.exit(tally.failed > 0)
+
+
+if __name__ == "__main__":
+    kit.ended(main)

@@ -1,0 +1,281 @@
+#!/usr/bin/env python3
+"""Refuses growths of memory and starts of threads of the program, one by one and from one on.
+
+usage: tests/refusals.py PROGRAM [--seconds S] [--seed N] [--jobs J]
+
+The library refuse.c is compiled by cc and preloaded. Of each row below the N-th growth or start is refused for N = 1, 2, ..
+until a run meets no refusal, or, where there are too many, some N are drawn, by the seed that is printed, in S seconds (180)
+by J processes (2). Wide rows are run within little address space as well, where the system itself refuses. A run must end
+in time, with status 3, nothing written and one line on want of memory or of a worker; or with the very report that it
+gives without refusals.
+"""
+import argparse
+import os
+import random
+import resource
+import subprocess
+import sys
+import time
+from dataclasses import dataclass, field
+
+import kit
+from kit import C17, C17B, TOP, Tally, lines, netlist, run, say, written
+
+# Where want of memory may stand, and a worker that could not be started.
+REFUSED = {
+    lines(f"bddcheck: {place}out of memory") for place in ("", "first: ", "second: ", "order: ", "build: ")
+} | {lines("bddcheck: build: a worker could not be started")}
+# A run without refusals takes a small part of a second; a run that takes so long hangs.
+HANGS = 60
+
+
+def parity(join, count):
+    """Parity as one chain, or as a tree."""
+    signals, gates = [f"x{i}" for i in range(count)], []
+    while len(signals) > 1:
+        made = f"g{len(gates)}"
+        gates.append(f"{made} = XOR({signals[0]}, {signals[1]})")
+        signals = [made, *signals[2:]] if join == "chain" else [*signals[2:], made]
+    return netlist(";".join([f"INPUT(x{i})" for i in range(count)] + ["OUTPUT(p)", *gates, f"p = BUFF({signals[0]})"]))
+
+
+def products(count, join="one"):
+    """The sum of products of two inputs, all first factors before all second ones: a level of 2^count requests."""
+    ports = [f"INPUT({letter}{i})" for letter in "xy" for i in range(count)] + ["OUTPUT(o)"]
+    gates = [f"a{i} = AND(x{i}, y{i})" for i in range(count)]
+    if join == "one":
+        gates.append(f"o = OR({', '.join(f'a{i}' for i in range(count))})")
+    else:
+        gates += [f"b{i} = OR({f'b{i - 1}' if i > 1 else 'a0'}, a{i})" for i in range(1, count)]
+        gates.append(f"o = BUFF(b{count - 1})")
+    return netlist(";".join(ports + gates))
+
+
+# The ways: what counts, and whether one is refused or all from one on.
+EACH, EACH_START, STARTS_FROM, GROWTHS_FROM = ("gs", "at"), ("s", "at"), ("s", "since"), ("gs", "since")
+WAYS = [EACH, GROWTHS_FROM, EACH_START, STARTS_FROM]
+
+
+WIDER = "wider products by 2"
+
+
+@dataclass
+class Row:
+    """Words that are tried under refusals. Each N is tried in the ways that `whole` has; in all others N is drawn."""
+
+    name: str
+    words: list
+    whole: tuple = ()
+    given: bytes = b""
+
+
+def rows(place):
+    """The rows, whose files are written."""
+    c17, c17b = written(place, "c17", C17), written(place, "c17b", C17B)
+    order = written(place, "order", lines("7 6 3", "2 1"))
+    chain, tree = written(place, "chain", parity("chain", 24)), written(place, "tree", parity("tree", 24))
+    # Wide enough that threads share the reduction of a level, and wide enough that a wave needs its workers.
+    one, folded = written(place, "one", products(13)), written(place, "folded", products(13, "chain"))
+    wider, wider_folded = written(place, "wider", products(14)), written(place, "wider_folded", products(14, "chain"))
+    for workers in (1, 2, 4):
+        yield Row(f"c17 by {workers}", ["--workers", workers, c17, c17b], (EACH, EACH_START, STARTS_FROM))
+    yield Row("c17 on standard input", ["--workers", 2, "--sizes"], (), C17 + b"%%\n" + C17B)
+    yield Row("order file", ["--workers", 2, "--match", "position", "--order-file", order, c17, c17b])
+    yield Row("refused netlist", [c17, written(place, "bad", C17 + b"x")])
+    yield Row("refused words", ["--workers", "none"])
+    yield Row("help", ["--help"])
+    for workers in (1, 2, 4):
+        yield Row(f"parity by {workers}", ["--workers", workers, chain, tree])
+        yield Row(f"products by {workers}", ["--workers", workers, "--sizes", one, folded])
+    yield Row(WIDER, ["--workers", 2, wider, wider_folded], (EACH_START,))
+
+
+@dataclass
+class Refuser:
+    """Runs a row of the program under the library."""
+
+    program: str
+    library: str
+    place: str
+
+    def run(self, row, what, at=0, since=0):
+        """The run, and how many growths or starts it counted and was refused; nothing where it did not end by itself."""
+        note = os.path.join(self.place, f"note.{os.getpid()}")
+        environment = {"LD_PRELOAD": self.library, "REFUSE": what, "NOTE": note}
+        environment |= {"AT": str(at)} if at else {"FROM": str(since)}
+        seen = run([self.program, *row.words], row.given, HANGS, environment)
+        try:
+            with open(note) as told:
+                counted, refused = map(int, told.read().split())
+            os.unlink(note)
+        except FileNotFoundError:
+            return seen, None, None
+        return seen, counted, refused
+
+
+@dataclass
+class Figures:
+    """How many runs there were, how many met a refusal, how many of these gave the right report all the same."""
+
+    tried: int = 0
+    refused: int = 0
+    reported: int = 0
+    wrong: list = field(default_factory=list)
+
+    def add(self, other):
+        self.tried += other.tried
+        self.refused += other.refused
+        self.reported += other.reported
+        self.wrong += other.wrong
+
+
+def fault_of(right, seen, refused):
+    """What is wrong with a run, or None."""
+    if refused is None:
+        return f"ended by force: {seen}"
+    if seen == right:
+        return None
+    if refused == 0:
+        return f"nothing was refused: {seen}"
+    if seen.status != 3 or seen.out or seen.err not in REFUSED:
+        return str(seen)
+    return None
+
+
+def try_places(refuser, row, what, mode, places, whole):
+    """Tries these places of a row. Where it is to be tried whole, the last one is behind the last growth or start."""
+    right = refuser.run(row, "")[0]
+    figures = Figures()
+    for place in places:
+        seen, _, refused = refuser.run(row, what, **{mode: place})
+        fault = fault_of(right, seen, refused)
+        if fault:
+            figures.wrong.append(f"{what} {mode} {place}: {fault}")
+        figures.tried += 1
+        figures.refused += bool(refused)
+        figures.reported += bool(refused) and seen == right
+        if len(figures.wrong) > 5 or (whole and refused == 0):
+            return figures
+    if whole:
+        figures.wrong.append("each run met a refusal")
+    return figures
+
+
+def most_counted(refuser, row, what):
+    """How many growths or starts a run asks for, at most; schedules differ."""
+    return max(refuser.run(row, what)[1] or 0 for _ in range(3))
+
+
+def every_place(most):
+    return range(1, 2 * most + 100)
+
+
+def compiled(place):
+    library = os.path.join(place, "refuse.so")
+    source = TOP / "tests" / "refuse.c"
+    subprocess.run(["cc", "-O2", "-shared", "-fPIC", "-o", library, str(source), "-ldl"], check=True)
+    return library
+
+
+DRAWS = 10
+
+
+def whole_tasks(refuser, pool):
+    """Each N of the rows that are tried whole."""
+    for row in rows(refuser.place):
+        for what, mode in row.whole:
+            places = range(1, 2 * most_counted(refuser, row, what) + 100)
+            name = f"{row.name}: each of the {named(what, mode)}"
+            yield name, pool.submit(try_places, refuser, row, what, mode, places, True)
+
+
+def drawn_tasks(refuser, pool, rng, most):
+    """Some N of each row."""
+    for row in rows(refuser.place):
+        for what, mode in WAYS:
+            key = row.name, what
+            if key not in most:
+                most[key] = most_counted(refuser, row, what)
+            if most[key] and (what, mode) not in row.whole:
+                places = rng.sample(range(1, most[key] + 1), min(DRAWS, most[key]))
+                name = f"{row.name}: some of the {named(what, mode)}"
+                yield name, pool.submit(try_places, refuser, row, what, mode, places, False)
+
+
+def bounded_tasks(refuser, pool):
+    """Rows within so much address space that the system itself refuses growths and threads."""
+    for row in rows(refuser.place):
+        if row.name.startswith("products"):
+            yield f"{row.name}: address space from 6 MB to 1 GB", pool.submit(try_bounds, refuser, row)
+
+
+def try_bounds(refuser, row):
+    right, figures = refuser.run(row, "")[0], Figures()
+    bounds = [int(6000 * 1.25**i) for i in range(24)]
+    for kib in bounds:
+        seen = run([refuser.program, *row.words], row.given, HANGS, preexec_fn=lambda: bound(kib))
+        # Whether something was refused shows in the answer alone.
+        fault = fault_of(right, seen, 1)
+        if fault:
+            figures.wrong.append(f"{kib} KiB: {fault}")
+        figures.tried += 1
+        figures.refused += seen != right
+    return figures
+
+
+def starts_of(refuser, workers):
+    """How many threads a wide pair starts with so many workers."""
+    row = next(row for row in rows(refuser.place) if row.name == WIDER)
+    return refuser.run(Row(row.name, ["--workers", workers, *row.words[2:]]), "s")[1]
+
+
+def bound(kib):
+    resource.setrlimit(resource.RLIMIT_AS, (kib << 10, kib << 10))
+
+
+def named(what, mode):
+    """A way in words."""
+    return {"gs": "growths and starts", "s": "starts"}[what] + {"at": "", "since": " and all behind it"}[mode]
+
+
+def gather(results, tasks):
+    for name, task in list(tasks):
+        results.setdefault(name, Figures()).add(task.result())
+
+
+def main():
+    parser = argparse.ArgumentParser(usage=__doc__.split("usage: ")[1].split("\n")[0])
+    parser.add_argument("program")
+    parser.add_argument("--seconds", type=float, default=180)
+    parser.add_argument("--seed", default=str(random.SystemRandom().randrange(1 << 32)))
+    parser.add_argument("--jobs", type=int, default=2)
+    settings = parser.parse_args()
+    say(f"refusals: seed {settings.seed}")
+    tally, rng = Tally("refusals"), random.Random(settings.seed)
+    begun = time.monotonic()
+    with kit.folder() as place, kit.pool(settings.jobs) as pool:
+        refuser = Refuser(settings.program, compiled(place), place)
+        results, most = {}, {}
+        gather(results, whole_tasks(refuser, pool))
+        gather(results, bounded_tasks(refuser, pool))
+        while True:
+            gather(results, drawn_tasks(refuser, pool, rng, most))
+            is_wrong = any(figures.wrong for figures in results.values())
+            if is_wrong or time.monotonic() - begun >= settings.seconds:
+                break
+        starts = [starts_of(refuser, workers) for workers in (1, 2, 4, 16)]
+        tally.check("more workers start more threads", starts == sorted(set(starts)), starts)
+    total = Figures()
+    for name, figures in results.items():
+        tally.check(f"{name}: {figures.tried} runs", not figures.wrong, "; ".join(figures.wrong[:3]))
+        total.add(figures)
+    tally.figures(
+        f"{total.tried} runs with seed {settings.seed}, {total.refused} met a refusal, "
+        f"{total.reported} of these gave the right report"
+    )
+    tally.end()
+    sys.exit(tally.failed > 0)
+
+
+if __name__ == "__main__":
+    kit.ended(main)

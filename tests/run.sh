@@ -1,0 +1,91 @@
+#!/bin/sh
+# Tests that no contract can hold: refused memory and threads, a differential fuzz, devices, signals, stored runs,
+# the examples. docs/TESTING.md says what each adds. They take some six minutes on two cores; the last line is
+# 'N passed, M failed', and the status is 0 where nothing failed.
+#
+# usage: tests/run.sh [--seed N] [--long] [PART ..]
+#
+# PART is stored, examples, papers, devices, signals, refusals, fuzz, second or flows; all of them where none is named. Second is a
+# part of these on the program as the kit's other compiler builds it, where rt ci has left that. --long goes on with
+# refusals and fuzz, by other seeds, until it is stopped or something fails. BDDCHECK names another program than the proved one.
+cd "$(dirname "$0")/.." || exit 2
+seed='' long=''
+while :; do
+    case ${1-} in
+    --seed) seed=${2:?a number} && shift 2 ;;
+    --long) long=yes && shift ;;
+    -*) sed -n '2,10s/^# \{0,1\}//p' tests/run.sh >&2 && exit 2 ;;
+    *) break ;;
+    esac
+done
+[ $# -gt 0 ] || set -- stored examples papers devices signals refusals fuzz second flows
+
+# What the parts print goes on, and their last lines are added up.
+passed=0 failed=0
+finish() {
+    echo "$passed passed, $failed failed"
+    [ "$failed" -eq 0 ]
+    exit
+}
+fail() {
+    echo "FAILED tests: $*"
+    failed=$((failed + 1))
+}
+program=${BDDCHECK:-}
+if [ -z "$program" ]; then
+    program=$PWD/crates/bddcheck/out/bddcheck
+    # Builds it where it is missing or older than a source, so that no test runs an old program.
+    tools/bddcheck.sh --help >/dev/null </dev/null || { fail "the program could not be built" && finish; }
+fi
+command -v python3 >/dev/null || { fail "python3 is missing" && finish; }
+
+log=$(mktemp) || exit 2
+trap 'rm -f "$log"' EXIT
+part() {
+    name=$1 && shift
+    "$@" >"$log"
+    status=$?
+    cat "$log"
+    counts=$(tail -n 1 "$log" | sed -n "s/^$name: \([0-9]*\) passed, \([0-9]*\) failed\$/\1 \2/p")
+    if [ -z "$counts" ]; then
+        fail "$name ended with status $status and no counts"
+        return
+    fi
+    passed=$((passed + ${counts% *}))
+    failed=$((failed + ${counts#* }))
+    [ "$status" -eq 0 ] || [ "${counts#* }" -gt 0 ] || fail "$name ended with status $status"
+}
+# The program of the other compiler, if it is there and no source is newer.
+second() {
+    other=$program.by-rattle
+    if [ -x "$other" ] && [ -z "$(find crates.txt crates -name out -prune -o -type f -newer "$other" -print | head -n 1)" ]; then
+        for name in stored examples devices signals; do
+            part "$name" python3 "tests/$name.py" "$other"
+        done
+        part fuzz python3 tests/fuzz.py "$other" --seconds 30 ${seed:+--seed "$seed"}
+    else
+        echo "second: there is no program of the other compiler, so nothing was tried with it"
+    fi
+}
+parts() {
+    for name; do
+        case $name in
+        stored | examples | papers | devices | signals) part "$name" python3 "tests/$name.py" "$program" ;;
+        refusals | fuzz) part "$name" python3 "tests/$name.py" "$program" ${seed:+--seed "$seed"} ;;
+        second) second ;;
+        flows) part flows tests/flows.sh "$program" ;;
+        *) fail "no part $name" ;;
+        esac
+    done
+}
+# What was tried until a stop is told.
+trap 'echo "stopped: $passed passed, $failed failed"; exit 130' INT TERM
+parts "$@"
+round=0
+while [ -n "$long" ] && [ "$failed" -eq 0 ]; do
+    round=$((round + 1))
+    seed=${seed:+${seed%%.*}.$round}
+    parts refusals fuzz
+    echo "round $round: $passed passed, $failed failed" >&2
+done
+finish

@@ -1,0 +1,78 @@
+#!/usr/bin/env python3
+"""Ended or stopped in mid-run, the program leaves no partial report.
+
+usage: tests/signals.py PROGRAM
+"""
+import os
+import signal
+import subprocess
+import sys
+import time
+
+import kit
+from kit import C17, C17B, C17_DIFFERS, Run, Tally, written
+from refusals import products
+
+
+def long_run(program, workers, place, out):
+    """A run that takes seconds; it is seen to be at work before this returns."""
+    wide = written(place, "wide", products(20))
+    child = subprocess.Popen([program, "--workers", str(workers), wide, wide], stdout=out, stderr=subprocess.PIPE)
+    begun = time.monotonic()
+    while processor_time(child.pid) < 0.2 and child.poll() is None and time.monotonic() - begun < 60:
+        time.sleep(0.01)
+    return child
+
+
+def processor_time(pid):
+    with open(f"/proc/{pid}/stat") as stat:
+        fields = stat.read().rsplit(")", 1)[1].split()
+    return (int(fields[11]) + int(fields[12])) / os.sysconf("SC_CLK_TCK")
+
+
+def ended(program, tally, number, workers, place):
+    """To a file, since that shows all that was ever written."""
+    path = os.path.join(place, "report")
+    with open(path, "wb") as out:
+        child = long_run(program, workers, place, out)
+        was_running = child.poll() is None
+        child.send_signal(number)
+        try:
+            errors = child.communicate(timeout=60)[1]
+        except subprocess.TimeoutExpired:
+            child.kill()
+            errors = child.communicate()[1]
+    with open(path, "rb") as report:
+        seen = Run(child.returncode, report.read(), errors)
+    name = f"{signal.Signals(number).name}, {workers} workers"
+    tally.check(f"{name}: it was in mid-run", was_running, seen)
+    tally.same(name, seen, -number, b"", b"")
+
+
+def continued(program, tally, place):
+    """Stopped and continued while it waits for input."""
+    child = subprocess.Popen([program], stdin=subprocess.PIPE, stdout=subprocess.PIPE, stderr=subprocess.PIPE)
+    child.stdin.write(C17)
+    child.stdin.flush()
+    for _ in range(3):
+        time.sleep(0.05)
+        child.send_signal(signal.SIGSTOP)
+        time.sleep(0.05)
+        child.send_signal(signal.SIGCONT)
+    out, err = child.communicate(b"%%\n" + C17B, timeout=60)
+    tally.same("stopped and continued", Run(child.returncode, out, err), 1, C17_DIFFERS, b"")
+
+
+def main():
+    tally = Tally("signals")
+    with kit.folder() as place:
+        for number in (signal.SIGINT, signal.SIGTERM):
+            for workers in (1, 4):
+                ended(sys.argv[1], tally, number, workers, place)
+        continued(sys.argv[1], tally, place)
+    tally.end()
+    sys.exit(tally.failed > 0)
+
+
+if __name__ == "__main__":
+    main()

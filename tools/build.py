@@ -1,0 +1,143 @@
+#!/usr/bin/env python3
+"""Proves and builds the program, crates side by side. tools/bddcheck.sh calls it.
+
+usage: tools/build.py [--jobs N]
+
+Each crate that the program stands on is begun as soon as those below it are proved, the one with the longest way to the
+program first, N at a time: by default as many as there are processors, and 3 GB of free memory for each. (`rt run` in the
+program's folder does the same one crate after the other; `rt all check --jobs N` proves the crates of tests as well.)
+Standard error tells how many are done, which are worked on, and the time so far. What an earlier call has proved is kept. A
+second call waits for the first, and takes what that has built.
+
+Status 0: built. 4: not built, since `rt` is missing or a crate was not proved; the reason is on standard error.
+"""
+import argparse
+import concurrent.futures
+import fcntl
+import os
+import pathlib
+import shutil
+import subprocess
+import sys
+import time
+
+TOP = pathlib.Path(__file__).resolve().parent.parent
+PROGRAM = "bddcheck"
+BUILT = TOP / "crates" / PROGRAM / "out" / PROGRAM
+NOT_BUILT = 4
+MEMORY_OF_A_JOB = 3 << 30
+BEGUN = time.monotonic()
+
+
+def say(text):
+    seconds = int(time.monotonic() - BEGUN)
+    print(f"bddcheck.sh: {seconds // 60:2}:{seconds % 60:02} {text}", file=sys.stderr, flush=True)
+
+
+def below():
+    """Of each crate of the repository that the program stands on: the crates of the repository below it."""
+    named = {}
+    for line in (TOP / "crates.txt").read_text().splitlines():
+        name, colon, libraries = line.partition("#")[0].partition(":")
+        if colon:
+            named[name.split()[0]] = libraries.split()
+    needed, waiting = {}, [PROGRAM]
+    while waiting:
+        crate = waiting.pop()
+        if crate not in needed:
+            needed[crate] = [library for library in named[crate] if library in named]
+            waiting += needed[crate]
+    return needed
+
+
+def ways(needed):
+    """The length of the longest way from each crate up to the program, in bytes of source: what is long is begun first."""
+    above = {crate: [other for other in needed if crate in needed[other]] for crate in needed}
+    sizes = {crate: sum(f.stat().st_size for f in (TOP / "crates" / crate).glob("[!o]*/**/*.*")) for crate in needed}
+    known = {}
+
+    def way(crate):
+        if crate not in known:
+            known[crate] = sizes[crate] + max(map(way, above[crate]), default=0)
+        return known[crate]
+
+    return {crate: way(crate) for crate in needed}
+
+
+def free_memory():
+    for line in open("/proc/meminfo"):
+        if line.startswith("MemAvailable:"):
+            return int(line.split()[1]) << 10
+    return 0
+
+
+def jobs_here():
+    return max(1, min(len(os.sched_getaffinity(0)), free_memory() // MEMORY_OF_A_JOB))
+
+
+def build(crate):
+    """What `rt` says of a crate, and whether it is proved. The program itself is built by running it."""
+    words = ["rt", "run", "--jobs", "1", "--", "--help"] if crate == PROGRAM else ["rt", "lib", "--jobs", "1"]
+    run = subprocess.run(
+        words, cwd=TOP / "crates" / crate, stdin=subprocess.DEVNULL, stdout=subprocess.PIPE, stderr=subprocess.STDOUT
+    )
+    return run.returncode == 0, run.stdout.decode(errors="replace")
+
+
+def build_all(jobs):
+    """Whether all crates were proved."""
+    needed = below()
+    order = sorted(needed, key=ways(needed).get, reverse=True)
+    done, running = set(), {}
+    with concurrent.futures.ThreadPoolExecutor(jobs) as pool:
+        while len(done) < len(needed):
+            for crate in order:
+                ready = crate not in done and crate not in running.values() and done.issuperset(needed[crate])
+                if ready and len(running) < jobs:
+                    running[pool.submit(build, crate)] = crate
+            say(f"{len(done)} of {len(needed)} crates proved; now {', '.join(running.values())}")
+            ended, _ = concurrent.futures.wait(running, return_when=concurrent.futures.FIRST_COMPLETED)
+            for task in ended:
+                crate = running.pop(task)
+                is_proved, told = task.result()
+                if not is_proved:
+                    say(f"{crate} was not proved:\n{told}")
+                    return False
+                done.add(crate)
+    say(f"{len(done)} of {len(needed)} crates proved; {PROGRAM} is built")
+    return True
+
+
+def alone(lock):
+    """Waits until no other call builds, and tells whether one has built the program meanwhile. The lock goes with the process."""
+    begun = time.time()
+    try:
+        fcntl.flock(lock, fcntl.LOCK_EX | fcntl.LOCK_NB)
+        return False
+    except BlockingIOError:
+        say("another call is building the program; this one waits for it")
+        fcntl.flock(lock, fcntl.LOCK_EX)
+        return BUILT.exists() and BUILT.stat().st_mtime > begun
+
+
+def main():
+    parser = argparse.ArgumentParser(usage=__doc__.split("usage: ")[1].split("\n")[0])
+    parser.add_argument("--jobs", type=int)
+    settings = parser.parse_args()
+    if not shutil.which("rt"):
+        say("the command `rt` is not found. It comes with the kit by which the program is proved; README.md says which one")
+        return NOT_BUILT
+    with open(TOP / "crates.txt") as lock:
+        if alone(lock):
+            return 0
+        jobs = settings.jobs or jobs_here()
+        say(f"proving and building the program, {jobs} crates at a time: minutes from nothing, and later only what changed")
+        if not build_all(jobs):
+            return NOT_BUILT
+        # So it is newer than each source, also where nothing had to be built.
+        os.utime(BUILT)
+    return 0
+
+
+if __name__ == "__main__":
+    sys.exit(main())

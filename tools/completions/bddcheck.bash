@@ -1,0 +1,19 @@
+# bash completion of bddcheck
+_bddcheck() {
+    local word=${COMP_WORDS[COMP_CWORD]} before=${COMP_WORDS[COMP_CWORD-1]}
+    local IFS=$' \t\n'
+    case $before in
+    --match) mapfile -t COMPREPLY < <(compgen -W 'name position' -- "$word") ;;
+    --order) mapfile -t COMPREPLY < <(compgen -W 'declared depth interleave' -- "$word") ;;
+    --workers) mapfile -t COMPREPLY < <(compgen -W '1 2 4 8 16' -- "$word") ;;
+    --limit) COMPREPLY=() ;;
+    --order-file) mapfile -t COMPREPLY < <(compgen -f -- "$word") ;;
+    *)
+        case $word in
+        -*) mapfile -t COMPREPLY < <(compgen -W '--match --order --order-file --workers --limit --sizes --help' -- "$word") ;;
+        *) mapfile -t COMPREPLY < <(compgen -f -- "$word") ;;
+        esac
+        ;;
+    esac
+}
+complete -o filenames -F _bddcheck bddcheck

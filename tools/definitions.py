@@ -1,0 +1,210 @@
+#!/usr/bin/env python3
+"""Compares the definitions that public contracts cite with docs/DEFINITIONS.md.
+
+A public contract is one of a function that users of a crate can call: a `pub fn` that stands in a public module, that
+`lib.rt` hands out by name, or that is a method of such a type; each function of such a trait; and each `pub fn` of a program.
+A definition is a name that a clause of it takes from the `specs/` of a crate of this repository.
+
+Prints what is cited and not on the page, and what the page has and its file does not define, and exits 1 where there is
+either. With --uses it prints each cited definition with the functions that cite it.
+"""
+import re
+import sys
+from pathlib import Path
+
+TOP = Path(__file__).resolve().parent.parent
+PAGE = TOP / "docs" / "DEFINITIONS.md"
+WORD = r"[A-Za-z_][A-Za-z_0-9']*"
+
+
+def crates():
+    lines = (TOP / "crates.txt").read_text().splitlines()
+    return [line.split(":")[0].split()[0] for line in lines if line.strip() and not line.startswith("#")]
+
+
+def blank_comments(text):
+    return re.sub(r"//[^\n]*", lambda m: " " * len(m.group()), text)
+
+
+def closing(text, at):
+    """The place behind the brace that closes the one at `at`."""
+    depth = 0
+    for place in range(at, len(text)):
+        depth += {"{": 1, "}": -1}.get(text[place], 0)
+        if depth == 0:
+            return place + 1
+    sys.exit(f"definitions.py: a brace is not closed: {text[at:at + 60]!r}")
+
+
+def names_in(group):
+    """`a, b as c` as pairs of a name and the name that it goes by."""
+    for part in group.strip("{} \n").split(","):
+        words = part.split(" as ")
+        if part.strip():
+            yield words[0].strip(), words[-1].strip()
+
+
+def imports(text):
+    """The definitions of this repository that a file brings in, by the names that they go by there."""
+    found = {}
+    for path, names in re.findall(r"ghost use Rattle\.([\w.]+?)\.(\{[^}]*\})", text):
+        crate, *rest = path.split(".")
+        if crate in CRATES and rest[:1] == ["specs"] and not {"declared", "contracts"} & set(rest):
+            for name, alias in names_in(names):
+                found[alias] = (name, f"{crate}/specs/{'/'.join(rest[1:])}.antt")
+    return found
+
+
+def used(text):
+    """The items that `pub use` lines hand out: pairs of a module's path and a name."""
+    for path, names in re.findall(r"pub use ((?:\w+::)*\w+)(?:::(\{[^}]*\}))?;", text):
+        if names:
+            yield from ((path, name) for name, _ in names_in(names))
+        else:
+            yield tuple(path.rsplit("::", 1))
+
+
+class Module:
+    """A module of a crate: its text, whether all its public items can be reached, and which others by name."""
+
+    def __init__(self, crate, path, source, is_public, handed):
+        self.crate, self.path, self.source = crate, path, source
+        self.is_public, self.handed = is_public, handed
+        self.text = blank_comments(source.read_text())
+
+
+def modules(crate):
+    root = TOP / "crates" / crate / "src" / "lib.rt"
+    is_program = not root.exists()
+    if is_program:
+        root = root.with_name("main.rt")
+    handed = {}
+    found = []
+
+    def visit(path, source, is_public):
+        module = Module(crate, path, source, is_public, handed)
+        found.append(module)
+        for where, name in used(module.text):
+            if is_public:
+                parts = [p for p in where.split("::") if p not in ("crate", "self")]
+                prefix = [] if where.startswith("crate") else path
+                handed.setdefault("/".join(prefix + parts), set()).add(name)
+        folder = source.parent if source.stem in ("lib", "main") else source.parent / source.stem
+        for visible, name in re.findall(r"^(pub )?mod (\w+);", module.text, re.M):
+            child = folder / f"{name}.rt"
+            if child.exists() and name != "tests":
+                visit(path + [name], child, is_public and (is_program or bool(visible)))
+
+    visit([], root, True)
+    return found
+
+
+def clauses(text, at):
+    """The clauses of the function that begins at `at`: everything between its name and its body."""
+    while True:
+        brace = text.find("{", at)
+        end = text.find(";", at)
+        word = re.search(r"(requires|ensures|ghost)\b[^{;]*$", text[at:brace])
+        if 0 <= end < brace and not word:
+            return
+        if not word:
+            return
+        stop = closing(text, brace)
+        yield text[brace:stop]
+        at = stop
+
+
+def blocks(text):
+    """Each `impl` of a type and each `pub trait`: its type, whether it is a trait, and its begin and end."""
+    for match in re.finditer(r"^(impl\b[^{;]*|pub trait\b[^{;]*)\{", text, re.M):
+        head = match.group(1)
+        stop = closing(text, match.end() - 1)
+        if head.startswith("pub trait"):
+            yield re.search(r"trait (\w+)", head).group(1), True, match.end(), stop
+        else:
+            target = re.sub(r"^impl\s*(<(?:[^<>]|<[^<>]*>)*>)?", "", head)
+            is_trait = " for " in target
+            name = re.search(WORD, target.split(" for ")[-1].strip().lstrip("&")).group()
+            yield (None if is_trait else name), False, match.end(), stop
+
+
+def functions(module):
+    """The public functions of a module: their names and the texts of their clauses."""
+    names = module.handed.get("/".join(module.path), set())
+    spans = list(blocks(module.text))
+    for match in re.finditer(r"^( *)(pub )?(?:const )?fn (\w+)", module.text, re.M):
+        home = next((s for s in spans if s[2] <= match.start() < s[3]), None)
+        if home is None:
+            reached = bool(match.group(2)) and (module.is_public or match.group(3) in names)
+            owner = ""
+        else:
+            reached = home[0] is not None and (module.is_public or home[0] in names)
+            reached = reached and (home[1] or bool(match.group(2)))
+            owner = f"{home[0]}::"
+        if reached:
+            yield owner + match.group(3), list(clauses(module.text, match.end()))
+
+
+def cited():
+    """The definitions that public contracts cite, with the functions that cite them."""
+    found = {}
+    for crate in CRATES:
+        for module in modules(crate):
+            known = imports(module.text)
+            for name, texts in functions(module):
+                for word in set(re.findall(WORD, " ".join(texts))) & known.keys():
+                    definition, file = known[word]
+                    found.setdefault((home(file, definition), file), set()).add(f"{crate}::{name}")
+    return found
+
+
+def listed():
+    """The names that the page has, with the files of their rows."""
+    rows = []
+    for line in PAGE.read_text().splitlines():
+        cells = [cell.strip() for cell in line.strip().strip("|").split("|")]
+        if len(cells) == 3 and ".antt`" in cells[2]:
+            files = re.findall(r"`([\w/]+\.antt)`", cells[2])
+            folder = files[0].rsplit("/", 1)[0]
+            files = [f if "/" in f else f"{folder}/{f}" for f in files]
+            rows += [(re.match(WORD, name).group(), files) for name in re.findall(r"`([^`]+)`", cells[0])]
+    return rows
+
+
+def text_of(file):
+    path = TOP / "crates" / file
+    return path.read_text() if path.exists() else ""
+
+
+def defines(file, name):
+    return re.search(rf"^(\w+ )*pub (\w+ )*{re.escape(name)}(?![\w'-])", text_of(file), re.M)
+
+
+def home(file, name):
+    """The name itself, or that of the data type whose case it is."""
+    if defines(file, name):
+        return name
+    for kind, body in re.findall(r"^pub data (\w+)[^\n]*\n((?:  [^\n]*\n)*)", text_of(file), re.M):
+        if re.search(rf"^  {re.escape(name)} :", body, re.M):
+            return kind
+    return name
+
+
+def main():
+    uses = cited()
+    rows = listed()
+    if "--uses" in sys.argv[1:]:
+        for (name, file), names in sorted(uses.items(), key=lambda use: (use[0][1], use[0][0])):
+            print(f"{file} {name}: {' '.join(sorted(names))}")
+    missing = sorted((file, name) for name, file in uses if not any(name == n and file in files for n, files in rows))
+    stale = sorted((files[0], name) for name, files in rows if not any(defines(file, name) for file in files))
+    for file, name in missing:
+        print(f"cited by a public contract and not on the page: {name} of {file}")
+    for file, name in stale:
+        print(f"on the page and not defined: {name} of {file}")
+    return 1 if missing or stale else 0
+
+
+CRATES = crates()
+if __name__ == "__main__":
+    sys.exit(main())
