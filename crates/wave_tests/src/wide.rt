@@ -147,7 +147,7 @@ fn shards_of_a_wide_level(rt: HostRuntime) -> Result<(), Fail> {
     );
     assert!(rt; made.is_ok());
     for (records, told) in [(2_047, 0), (2_048, 0x1111_1111_1111_1111)] {
-        let steps = &steps[..records];
+        let steps = steps.get(..records).expect(&rt, "fewer products");
         let entries = entries_of(&rt, alloc, &store, known.as_slice(), steps);
         let gate = Shards {
             counts: AtomicU64::new(0),
