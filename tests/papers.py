@@ -1,5 +1,6 @@
 #!/usr/bin/env python3
-"""That the program's own help, its manual page, its completions and the README name the same options.
+"""That the program's own help, its manual page, its completions and the README name the same options, and that docs/DEFINITIONS.md
+has the definitions that public contracts cite.
 
 usage: tests/papers.py PROGRAM
 """
@@ -32,6 +33,8 @@ def main():
     told = options_in((TOP / "README.md").read_text())
     missing = wanted - told - {"--help"}
     tally.check("the README has the options of --help", not missing, missing)
+    compared = run([sys.executable, str(TOP / "tools" / "definitions.py")])
+    tally.check("docs/DEFINITIONS.md has what public contracts cite", compared.status == 0, compared)
     tally.end()
     sys.exit(tally.failed > 0)
 

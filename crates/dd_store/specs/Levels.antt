@@ -4,6 +4,7 @@ use Rattle.std.specs.declared.vec.Vec.{Vec}
 use Rattle.std.specs.declared.alloc.Global.{Global}
 use Rattle.dd_store.specs.declared.level.Slot.{Slot}
 use Rattle.dd_store.specs.declared.StoreFault.{StoreFault}
+use Rattle.dd_store.specs.declared.StoreFault.TheVariants.{OutOfMemory}
 use Rattle.dd_store.specs.Graph.{Pair}
 use Rattle.dd_store.specs.Growing.{Grows, IsStopped}
 
@@ -28,3 +29,7 @@ AreWithin limit slots = (i : ℕ) → length (slice_index_or (pairs_of slots) i 
 abbrev pub IsFault : List Slot → Option StoreFault → Type 0
 IsFault slots None = (i : ℕ) (c : Slot) → slice_get slots i ≡ Some c → c.fault ≡ None
 IsFault slots (Some f) = (i : ℕ) × (c : Slot) × (slice_get slots i ≡ Some c) × (c.fault ≡ Some f)
+
+-- no slot was refused memory
+abbrev pub HadMemory : List Slot → Type 0
+HadMemory slots = (i : ℕ) (c : Slot) → slice_get slots i ≡ Some c → c.fault ≡ Some OutOfMemory → ⊥

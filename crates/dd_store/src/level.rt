@@ -1,9 +1,9 @@
 //! The shards of one level, and a list of pairs of children that is added to each of them by four threads.
-ghost use Rattle.std.specs.Prelude.{List, ◌≡◌, ◌<◌, ◌≤◌, ◌^◌, ℕ, length, slice_index_or};
+ghost use Rattle.std.specs.Prelude.{List, ◌≡◌, ◌⊎◌, ◌<◌, ◌≤◌, ◌^◌, ℕ, length, slice_index_or, Some};
 ghost use Rattle.std.specs.List.{sum_by};
 ghost use Rattle.dd_store.specs.Graph.{Pair};
 ghost use Rattle.dd_store.specs.Growing.{Grows, IsStopped};
-ghost use Rattle.dd_store.specs.Levels.{IsAdded, list_at, pairs_of, AreWithin, IsFault};
+ghost use Rattle.dd_store.specs.Levels.{IsAdded, list_at, pairs_of, AreWithin, IsFault, HadMemory};
 ghost use Rattle.dd_store.specs.declared.level.Slot.{Slot as SlotValue};
 
 use crate::StoreFault;
@@ -84,7 +84,8 @@ pub(crate) fn level_count(slots: &[Slot], limit: u64) -> u64
 
 /// Why pairs of the last lists are missing; want of memory comes before the limit.
 pub(crate) fn level_fault(slots: &[Slot]) -> Option<StoreFault>
-    ensures { IsFault slots.now result }
+    ensures fault { IsFault slots.now result }
+    ensures memory { HadMemory slots.now ⊎ (result ≡ Some StoreFault.OutOfMemory) }
 {
     let mut worst = None;
     for slot in slots {
