@@ -1,0 +1,4 @@
+pub mod Mixing
+pub mod Pairs
+pub mod Placing
+pub mod Probes
