@@ -3,9 +3,9 @@ use Rattle.std.proofs.Common.{◌≡◌, ap, sym, true, refl, arith, true≢fals
 use Rattle.std.proofs.lemmas.Bool.Decides.{nat_tests}
 use Rattle.dd_store.specs.declared.reference.NodeId.{NodeId}
 use Rattle.dd_store.specs.declared.reference.Ref.{Ref}
-use Rattle.dd_store.specs.declared.reference.Ref.TheVariants.{False, True, Node}
+use Rattle.dd_store.specs.declared.reference.Reference.TheVariants.{False, True, Node}
 use Rattle.dd_store.specs.contracts.reference.NodeIdPartialEq.TheImpl.{eq-value as node_eq}
-use Rattle.dd_store.specs.contracts.reference.RefPartialEq.TheImpl.{eq-value as ref_eq}
+use Rattle.dd_store.specs.contracts.reference.ReferencePartialEq.TheImpl.{eq-value as ref_eq}
 
 -- names that compare as equal are equal
 pub node_same : (x y : NodeId) → node_eq.it x y ≡ true → x ≡ y

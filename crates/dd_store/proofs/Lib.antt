@@ -3,8 +3,8 @@ pub mod AddingAll
 pub mod Canonical
 pub mod Equal
 pub mod Growing
-pub mod Laws
 pub mod Lacking
+pub mod Laws
 pub mod LevelFacts
 pub mod LevelGrown
 pub mod OneSize

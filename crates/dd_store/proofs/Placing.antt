@@ -2,7 +2,7 @@
 use Rattle.std.proofs.Common.{◌≡◌, ℕ, ◌+◌, ◌-◌, ◌*◌, ◌<◌, ◌≤◌, ◌^◌, List, [], length, slice_get, get_or, set, Some, Ok, Err, refl, sym, ◌∙◌, ap, subst, arith, inl, inr}
 use Rattle.std.proofs.lemmas.List.{get_or_read, set-get_or}
 use Rattle.dd_store.specs.declared.reference.Ref.{Ref}
-use Rattle.dd_store.specs.declared.reference.Ref.TheVariants.{Node}
+use Rattle.dd_store.specs.declared.reference.Reference.TheVariants.{Node}
 use Rattle.dd_store.specs.declared.StoreFault.{StoreFault}
 use Rattle.dd_store.specs.declared.StoreFault.TheVariants.{Full, OutOfMemory}
 use Rattle.dd_store.specs.declared.shard.Placed.TheVariants.{Found, Added}

@@ -7,7 +7,7 @@ use Rattle.std.proofs.lemmas.Nat.{and_le_r}
 use Rattle.std.proofs.Math.Nat.{pow-succ'}
 use Rattle.dd_store.specs.declared.reference.Ref.{Ref}
 use Rattle.dd_store.specs.Probes.{spread_of, home_of, slot_of, Holds, IsTaken, IsFree, Probes, HasFree, IsSlotCount, pair_eq}
-use Rattle.dd_store.specs.contracts.reference.RefPartialEq.TheImpl.{eq-value as ref_eq}
+use Rattle.dd_store.specs.contracts.reference.ReferencePartialEq.TheImpl.{eq-value as ref_eq}
 use Rattle.dd_store.proofs.Equal.{ref_same, ref_eq-itself}
 use Rattle.dd_store.proofs.OneSize.{pigeons}
 use Rattle.dd_store.proofs.Places.{none_some, slice_get_cases-push}

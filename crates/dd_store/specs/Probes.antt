@@ -2,16 +2,10 @@
 -- is not empty. An empty slot holds 0, and any other the place of a pair and 1.
 use Rattle.std.specs.Prelude.{Bool, ◌&&◌, ◌≡◌, ℕ, suc, ◌+◌, ◌-◌, ◌*◌, ◌/◌, ◌%◌, ◌^◌, ◌<◌, ◌≤◌, ◌⊎◌, nat_lt, if◌then◌else◌, List, length, slice_get, Some, bit_and, bit_xor}
 use Rattle.dd_store.specs.declared.reference.Ref.{Ref}
-use Rattle.dd_store.specs.declared.reference.Ref.TheVariants.{False, True, Node}
+use Rattle.dd_store.specs.Words.{word_of}
 use Rattle.dd_store.specs.declared.shard.Sought.{Sought}
 use Rattle.dd_store.specs.declared.shard.Sought.TheVariants.{Place, Slot}
-use Rattle.dd_store.specs.contracts.reference.RefPartialEq.TheImpl.{eq-value as ref_eq}
-
--- a word of a reference
-abbrev pub word_of : Ref → ℕ
-word_of False = 0
-word_of True = 1
-word_of (Node m) = 2 + m.shard + 256 * m.level + 16777216 * m.index
+use Rattle.dd_store.specs.contracts.reference.ReferencePartialEq.TheImpl.{eq-value as ref_eq}
 
 -- a number that spreads pairs over the slots. No proof knows more of it than that a pair has one
 unfoldable pub spread_of : Ref → Ref → ℕ

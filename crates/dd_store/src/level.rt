@@ -36,7 +36,8 @@ impl Slot {
         self.fault = None;
         for pair in list {
             let room = limit.saturating_sub(self.shard.len() as u64);
-            if let Err(fault) = self.shard.find_or_add(pair.0, pair.1, room) {
+            let (lo, hi) = *pair;
+            if let Err(fault) = self.shard.find_or_add(lo, hi, room) {
                 self.fault = Some(fault);
                 return;
             }

@@ -15,7 +15,7 @@ mod size;
 mod store;
 
 pub use level::Watch;
-pub use reference::{NodeId, Ref, code, shard_of};
+pub use reference::{NodeId, Ref, Reference, SHARDS, code, shard_of};
 pub use store::Store;
 
 /// Why a store has not made a node.

@@ -1,9 +1,9 @@
 //! One shard of a level's unique table: the children of its nodes in the order in which they were made, beside slots
 //! that find the place of a pair by open addressing.
 //!
-//! A node takes 24 bytes in the vector, which keeps room to grow, and 8 to 16 in the slots.
+//! A node takes 16 bytes in the vector, which keeps room to grow, and 8 to 16 in the slots.
 ghost use Rattle.std.specs.Prelude.{◌≡◌, ◌<◌, ◌≤◌, ◌*◌, ◌+◌, ◌==◌, ◌++◌, ◌∷◌, [], ◌^◌, ℕ, length, slice_get, Some, MatchOption, IfOk, OnOk, OnErr, if◌then◌else◌};
-ghost use Rattle.dd_store.specs.Probes.{word_of, spread_of, home_of, IsFree, IsFreeFor, HasFree, Probes, IsSlotCount, IsSought, pair_eq};
+ghost use Rattle.dd_store.specs.Probes.{spread_of, home_of, IsFree, IsFreeFor, HasFree, Probes, IsSlotCount, IsSought, pair_eq};
 ghost use Rattle.dd_store.specs.Growing.{IsIn, IsPlaced};
 
 use crate::StoreFault;
@@ -19,7 +19,7 @@ pub struct Shard {
     slots: Vec<u32>,
 }
 
-const _: () = prove!(size_of::<(Ref, Ref)>() == 24);
+const _: () = prove!(size_of::<(Ref, Ref)>() == 16);
 
 impl Model for Shard {
     ghost use Rattle.std.specs.Prelude.{List, length};
@@ -54,23 +54,12 @@ pub enum Placed {
     Added(u32),
 }
 
-/// A number of a reference, different for each.
-fn word(reference: Ref) -> u64
-    ensures { result ≡ word_of reference }
-{
-    match reference {
-        Ref::False => 0,
-        Ref::True => 1,
-        Ref::Node(id) => 2 + id.shard as u64 + 256 * id.level as u64 + 16777216 * id.index as u64,
-    }
-}
-
 /// A number that spreads pairs over the slots.
 fn spread(lo: Ref, hi: Ref) -> u64
     ensures { result ≡ spread_of lo hi }
 {
-    let first = word(lo).wrapping_mul(11400714819323198485);
-    (first ^ word(hi)).wrapping_mul(15485907386658061715) >> 32
+    let first = lo.word().wrapping_mul(11400714819323198485);
+    (first ^ hi.word()).wrapping_mul(15485907386658061715) >> 32
 }
 
 /// The slot, of `count`, in which the search for a pair begins.
@@ -115,7 +104,8 @@ fn slots_of(alloc: Global, pairs: &[(Ref, Ref)], count: usize) -> Result<Vec<u32
     let mut slots = Vec::with_capacity(alloc, count)?;
     slots.resize(count, 0u32)?;
     for place in 0..pairs.len() {
-        let home = home(pairs[place].0, pairs[place].1, count);
+        let pair = pairs[place];
+        let home = home(pair.0, pair.1, count);
         let slot = free_slot(slots.as_slice(), home);
         slots[slot] = place as u32 + 1;
     }

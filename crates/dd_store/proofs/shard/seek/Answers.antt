@@ -1,7 +1,6 @@
 use Rattle.std.proofs.Common.{◌≡◌, ◌∙◌, ◌<◌, ◌-◌, ℕ, length, slice_get, Some, sym, ap, subst, arith, get_or}
 use Rattle.std.proofs.lemmas.Option.{slice_get-get_or, get_or_from_slice_get}
 use Rattle.dd_store.specs.declared.reference.Ref.{Ref}
-use Rattle.dd_store.specs.declared.reference.Ref.TheVariants.{False}
 use Rattle.dd_store.specs.Probes.{home_of, Holds, IsTaken}
 use Rattle.dd_store.proofs.Probing.{pair_same, pair_other}
 use Rattle.dd_store.proofs.Probing.{slot-first, slot-after, held_at, Passed-more, Passed-taken, not_all_passed, not_all_taken, absent_at_empty}
@@ -49,8 +48,9 @@ returns-then-is_pair c =
     let e = h.1 in
     let j : ℕ = get_or ts c.loop-distance.slot 0 - 1 in
     let within : j < length ps = omega arith in
-    slice_get-get_or ps j (False, False) within
-    ∙ ap (λ z. Some z) (pair_same (get_or ps j (False, False)) (c.args.lo, c.args.hi) c.is_pair.result c.is_pair.ensures c.if-is_pair.true)
+    let d : Ref × Ref = c.index-pairs-held.result in
+    slice_get-get_or ps j d within
+    ∙ ap (λ z. Some z) (sym c.index-pairs-held.is ∙ pair_same d (c.args.lo, c.args.hi) c.is_pair.result c.is_pair.ensures c.if-is_pair.true)
 
 pub loop-distance-preserved : goal.loop-distance-preserved
 loop-distance-preserved c =
@@ -68,12 +68,13 @@ loop-distance-preserved c =
     let j : ℕ = get_or ts c.loop-distance.slot 0 - 1 in
     let one : j ≡ h.0 = omega arith in
     let within : j < length ps = omega arith in
-    let other = pair_other (get_or ps j (False, False)) p c.is_pair.result c.is_pair.ensures c.if-is_pair.false in
+    let d : Ref × Ref = c.index-pairs-held.result in
+    let other = pair_other d p c.is_pair.result c.is_pair.ensures c.if-is_pair.false in
     record {
       at = s.0;
       within = s.1;
       passed = Passed-more n ps ts p c.loop-distance._distance h.0 v.passed (subst (λ (z : ℕ). Holds ts z h.0) v.at h.2)
-          (λ f. other (get_or_from_slice_get ps j p (False, False) (ap (λ z. slice_get ps z) one ∙ f)));
+          (λ f. other (c.index-pairs-held.is ∙ get_or_from_slice_get ps j p d (ap (λ z. slice_get ps z) one ∙ f)));
     }
 
 pub unreachable-requires : goal.unreachable-requires
