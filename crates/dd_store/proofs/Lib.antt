@@ -1,7 +1,6 @@
 pub mod Adding
 pub mod AddingAll
 pub mod Canonical
-pub mod Equal
 pub mod Growing
 pub mod Lacking
 pub mod Laws
@@ -11,7 +10,6 @@ pub mod OneSize
 pub mod Order
 pub mod Places
 pub mod Placing
-pub mod Probing
 pub mod References
 pub mod Slots
 pub mod Splicing

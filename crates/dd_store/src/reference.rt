@@ -1,8 +1,9 @@
 //! References to nodes, and the two numbers that decide where a node lies.
 ghost use Rattle.std.specs.Prelude.{◌≡◌, ◌↔◌, IsTrue, Some};
 ghost use Rattle.dd_store.specs.Codes.{code_of, shard_of_pair};
-ghost use Rattle.dd_store.specs.Words.{word_of, is_terminal};
+ghost use Rattle.dd_store.specs.Words.{is_terminal};
 
+use slot_table::Spread;
 use std::cmp::Ordering;
 use std::fmt;
 use std::hash::{Hash, Hasher};
@@ -101,13 +102,20 @@ impl Ref {
     {
         self.word < 2
     }
+}
+
+impl Spread for Ref {
+    ghost use Rattle.dd_store.specs.Words.{word_of};
+    ghost use Rattle.dd_store.specs.Equal.{ref_same};
+
+    ghost spread_of = { word_of };
 
     /// Its eight bytes as a number, different for each.
-    pub(crate) fn word(self) -> u64
-        ensures { result ≡ word_of self }
-    {
+    fn spread(&self) -> u64 {
         self.word
     }
+
+    ghost same = { ref_same };
 }
 
 impl fmt::Debug for Ref {

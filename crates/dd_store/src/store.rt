@@ -7,12 +7,12 @@ ghost use Rattle.dd_store.specs.Levels.{list_at};
 ghost use Rattle.dd_store.specs.View.{IsMade, IsFull};
 ghost use Rattle.dd_store.specs.Adding.{AreReady, GrowsLevel, IsLevelFault};
 ghost use Rattle.dd_store.specs.Nodes.{Nodes, node, count_of, children, low_of, high_of, cofactor_of, IsSound, IsFound, Extends, IsBranch, IsCanonical, Makes, empty_nodes, den, shard_at};
-ghost use Rattle.dd_store.specs.Probes.{IsSlotCount};
+ghost use Rattle.slot_table.specs.Probes.{IsSlotCount};
 
 use crate::StoreFault;
 use crate::level::{Slot, Watch, add_lists, level_count, level_fault};
 use crate::reference::{NodeId, Ref, Reference, SHARDS, shard_of};
-use crate::shard::{Placed, Shard};
+use slot_table::{Placed, SlotTable};
 use std::alloc::{AllocError, Global};
 use std::marker::Model;
 use std::thread::Threads;
@@ -50,7 +50,7 @@ impl Store {
         let mut slots = Vec::new(alloc);
         for _ in 0..SHARDS * levels as usize {
             slots.push(Slot {
-                shard: Shard::new(alloc),
+                shard: SlotTable::new(alloc),
                 fault: None,
             })?;
         }
@@ -108,7 +108,7 @@ impl Store {
     {
         let place = SHARDS * id.level as usize + id.shard as usize;
         let slot = &self.slots[place];
-        slot.shard.at(id.index)
+        slot.shard.at(id.index as usize)
     }
 
     /// The children of a node, low and high, in one read.
@@ -194,7 +194,7 @@ impl Store {
         let shard = shard_of(lo, hi);
         let place = SHARDS * level as usize + shard as usize;
         let slot = &self.slots[place];
-        match slot.shard.find(lo, hi) {
+        match slot.shard.find((lo, hi)) {
             Some(index) => Some(Ref::node(NodeId {
                 level,
                 shard,
@@ -218,7 +218,7 @@ impl Store {
         let place = SHARDS * level as usize + shard as usize;
         let room = self.limit.saturating_sub(self.count);
         let slot = &mut self.slots[place];
-        let placed = slot.shard.find_or_add(lo, hi, room)?;
+        let placed = slot.shard.find_or_add((lo, hi), room)?;
         let index = match placed {
             Placed::Found(index) => index,
             Placed::Added(index) => {

@@ -7,6 +7,7 @@ ghost use Rattle.req_table.specs.Keys.{normal_of, level_of, child as child_at, r
 
 use crate::{Child, Key, Op, Record};
 use dd_store::{Ref, Reference, Store, code};
+use slot_table::{Spread, mix};
 
 fn short_false(op: Op, g: Ref) -> Option<Ref>
     ensures { result ≡ short_with_false op g }
@@ -78,6 +79,24 @@ pub fn owner(key: Key, workers: u32) -> u32
     ensures { result ≡ owner_of key.op key.f key.g workers }
 {
     ((number(key.op()) + 3 * code(key.f()) + 5 * code(key.g())) % workers as u64) as u32
+}
+
+impl Spread for Key {
+    ghost use Rattle.std.specs.Prelude.{◌*◌, ◌%◌, ◌^◌, bit_xor};
+    ghost use Rattle.slot_table.specs.Mixing.{mix_of};
+    ghost use Rattle.dd_store.specs.Words.{word_of};
+    ghost use Rattle.req_table.specs.Short.{op_number};
+    ghost use Rattle.req_table.proofs.Keyed.{key_same};
+
+    ghost spread_of = { λ k. mix_of (bit_xor (word_of k.f) (op_number k.op * 2 ^ 57 % 2 ^ 64)) (word_of k.g) };
+
+    /// The words of both operands, the first with the operation in its upper bits.
+    fn spread(&self) -> u64 {
+        let operation = number(self.op()) << 57;
+        mix(self.f().spread() ^ operation, self.g().spread())
+    }
+
+    ghost same = { key_same };
 }
 
 /// The request for an operation, with the operands in order: False, True, then nodes by level, shard and index.

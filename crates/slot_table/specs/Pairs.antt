@@ -10,17 +10,9 @@ and_second : (a b : Bool) → (a && b) ≡ true → b ≡ true
 and_second true b e = e
 and_second false b e = absurd (true≢false (sym e))
 
-and_both : (a b : Bool) → a ≡ true → b ≡ true → (a && b) ≡ true
-and_both true b e f = f
-and_both false b e f = e
-
 pub pairs-same : {X Y : Type 0} (e : X → X → Bool) (f : Y → Y → Bool) → ((x y : X) → e x y ≡ true → x ≡ y) → ((x y : Y) → f x y ≡ true → x ≡ y)
     → (p q : X × Y) → (e p.0 q.0 && f p.1 q.1) ≡ true → p ≡ q
 pairs-same e f first second p q both =
     let a = first p.0 q.0 (and_first _ _ both) in
     let b = second p.1 q.1 (and_second _ _ both) in
     λ i. (a i, b i)
-
-pub pairs-itself : {X Y : Type 0} (e : X → X → Bool) (f : Y → Y → Bool) → ((x : X) → e x x ≡ true) → ((y : Y) → f y y ≡ true)
-    → (p : X × Y) → (e p.0 p.0 && f p.1 p.1) ≡ true
-pairs-itself e f first second p = and_both _ _ (first p.0) (second p.1)

@@ -5,22 +5,21 @@
 ghost use Rattle.std.specs.Prelude.{◌≡◌, ◌<◌, ◌≤◌, ◌*◌, ◌+◌, ◌==◌, ◌++◌, ◌∷◌, [], ◌^◌, ℕ, true, length, slice_get, Some, MatchOption, IfOk, OnOk, OnErr, if◌then◌else◌};
 ghost use Rattle.slot_table.specs.Probes.{home_of, IsFree, IsFreeFor, HasFree, Probes, IsSlotCount, IsSought};
 ghost use Rattle.slot_table.specs.Mixing.{mix_of};
-ghost use Rattle.slot_table.specs.Pairs.{pairs-same, pairs-itself};
+ghost use Rattle.slot_table.specs.Pairs.{pairs-same};
+ghost use Rattle.std.proofs.lemmas.Bool.{eqb-true};
 ghost use Rattle.slot_table.specs.Placing.{IsIn, IsPlaced};
 
 use std::alloc::{AllocError, Global};
 use std::marker::Model;
 
 /// What has a number that spreads it over slots, and an equality that tells different values apart.
-pub trait Spread: Copy + PartialEq {
+pub trait Spread: Copy + Eq {
     ghost spread_of: { Self → ℕ };
 
     fn spread(&self) -> u64
         ensures { result ≡ spread_of self.now };
 
     ghost same: { (x y : Self) → Self.eq x y ≡ true → x ≡ y };
-
-    ghost itself: { (x : Self) → Self.eq x x ≡ true };
 }
 
 /// A number that spreads what has two words: two multiplications, and the upper half.
@@ -31,6 +30,16 @@ pub fn mix(first: u64, second: u64) -> u64
     (product ^ second).wrapping_mul(15485907386658061715) >> 32
 }
 
+impl Spread for u64 {
+    ghost spread_of = { λ x. x };
+
+    fn spread(&self) -> u64 {
+        *self
+    }
+
+    ghost same = { eqb-true };
+}
+
 impl<A: Spread, B: Spread> Spread for (A, B) {
     ghost spread_of = { λ p. mix_of (A.spread_of p.0) (B.spread_of p.1) };
 
@@ -39,8 +48,6 @@ impl<A: Spread, B: Spread> Spread for (A, B) {
     }
 
     ghost same = { pairs-same A.eq B.eq A.same B.same };
-
-    ghost itself = { pairs-itself A.eq B.eq A.itself B.itself };
 }
 
 /// Items, each at its place.
@@ -64,7 +71,7 @@ impl<T: Spread> Model for SlotTable<T> {
 }
 
 /// Where an item stands after it was looked for and, if need be, added.
-#[derive(Clone, Copy, Debug)]
+#[derive(Clone, Copy, Debug, PartialEq, Eq)]
 pub enum Placed {
     /// At a place at which it stood before.
     Found(u32),
@@ -73,7 +80,7 @@ pub enum Placed {
 }
 
 /// Why an item was not added.
-#[derive(Clone, Copy, Debug)]
+#[derive(Clone, Copy, Debug, PartialEq, Eq)]
 pub enum Refusal {
     /// There was no room for one more.
     Full,
@@ -295,3 +302,6 @@ impl<T: Spread> SlotTable<T> {
         self.slots.clear();
     }
 }
+
+#[cfg(test)]
+mod tests;

@@ -82,7 +82,7 @@ loop-distance-preserved g c =
           (λ f.
           let found = get_or_from_slice_get xs j y x (ap (λ z. slice_get xs z) one ∙ f) in
           let same = c.index-items-held.is ∙ found in
-          true≢false (sym (g.met.T.Spread.itself y) ∙ ap (λ z. g.T.PartialEq.eq z y) (sym same) ∙ sym c.eq.ensures ∙ c.if-eq.false));
+          true≢false (sym (g.met.T.Eq.laws.refl y) ∙ ap (λ z. g.T.PartialEq.eq z y) (sym same) ∙ sym c.eq.ensures ∙ c.if-eq.false));
     }
 
 pub unreachable-requires : goal.unreachable-requires

@@ -3,7 +3,8 @@ use Rattle.std.proofs.lemmas.Result.{err_from_is_err_and}
 use Rattle.dd_store.specs.declared.reference.NodeId.{NodeId}
 use Rattle.dd_store.specs.declared.reference.Reference.TheVariants.{Node}
 use Rattle.dd_store.specs.declared.level.Slot.{Slot}
-use Rattle.dd_store.specs.Growing.{IsPlaced}
+use Rattle.slot_table.specs.Placing.{IsPlaced}
+use Rattle.dd_store.specs.Fault.{fault_of}
 use Rattle.dd_store.specs.Nodes.{Nodes, Makes}
 use Rattle.dd_store.specs.Levels.{pairs_of}
 use Rattle.dd_store.proofs.Slots.{pairs_of-read, pairs_of-set}
@@ -60,9 +61,9 @@ pub returns-in_err-placed : goal.returns-in_err-placed
 returns-in_err-placed c =
     let w = (goal.at.returns-in_err-placed c).After-find_or_add in
     let p = err_from_is_err_and c.from_residual.result c.from_residual.ensures.1 in
-    let h : Makes (old w) c.args.level c.args.lo c.args.hi (Err c.in_err-placed.field-0.0) (new w) =
+    let h : Makes (old w) c.args.level c.args.lo c.args.hi (Err (fault_of c.in_err-placed.field-0.0)) (new w) =
     Makes-refused (old w) (new w) _ _ _ _ _ _ _ _ (placing w) c.in_err-placed.field-0.0 c.in_err-placed.ensures in
-    rw (p.1, p.2) (subst (λ (z : Nodes). Makes z c.args.level c.args.lo c.args.hi (Err c.in_err-placed.field-0.0) (new w)) c.self.view_is h)
+    rw (p.1, p.2) (subst (λ (z : Nodes). Makes z c.args.level c.args.lo c.args.hi (Err (fault_of c.in_err-placed.field-0.0)) (new w)) c.self.view_is h)
 
 pub invariant_of-self-in-Added : goal.invariant_of-self-in-Added
 invariant_of-self-in-Added c =
