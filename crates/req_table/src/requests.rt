@@ -86,7 +86,7 @@ impl Spread for Key {
     ghost use Rattle.slot_table.specs.Mixing.{mix_of};
     ghost use Rattle.dd_store.specs.Words.{word_of};
     ghost use Rattle.req_table.specs.Short.{op_number};
-    ghost use Rattle.req_table.proofs.Keyed.{key_same};
+    ghost use Rattle.req_table.specs.Equal.{key_same};
 
     ghost spread_of = { λ k. mix_of (bit_xor (word_of k.f) (op_number k.op * 2 ^ 57 % 2 ^ 64)) (word_of k.g) };
 
