@@ -94,12 +94,13 @@ fn twice_in_one(
     ensures count { IfOk result (λ lists. length lists.items ≡ 16) }
     ensures only { IfOk result (λ lists. (s : ℕ) (p : Pair) → IsIn (list_at lists.items s) p → (s ≡ shard) × (p ≡ pair)) }
 {
+    let (lo, hi) = pair;
     let mut lists = Vec::new(alloc);
     for s in 0..16 {
         let mut list = Vec::new(alloc);
         if s == shard {
-            list.push(pair)?;
-            list.push(pair)?;
+            list.push((lo, hi))?;
+            list.push((lo, hi))?;
         }
         lists.push(list)?;
     }
