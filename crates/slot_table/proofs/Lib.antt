@@ -1,4 +1,5 @@
 pub mod Counting
+pub mod Listing
 pub mod Pigeons
 pub mod Places
 pub mod Probing

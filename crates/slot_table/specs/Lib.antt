@@ -1,3 +1,4 @@
+pub mod Lists
 pub mod Mixing
 pub mod Pairs
 pub mod Placing

@@ -1,13 +1,10 @@
 -- What looking for an item, and perhaps adding it, leaves.
 use Rattle.std.specs.Prelude.{◌≡◌, ℕ, ◌<◌, List, [], ◌∷◌, ◌++◌, length, slice_get, Some, Result, Ok, Err}
+use Rattle.slot_table.specs.Lists.{IsIn}
 use Rattle.slot_table.specs.declared.Placed.{Placed}
 use Rattle.slot_table.specs.declared.Placed.TheVariants.{Found, Added}
 use Rattle.slot_table.specs.declared.Refusal.{Refusal}
 use Rattle.slot_table.specs.declared.Refusal.TheVariants.{Full, OutOfMemory}
-
--- an item is in a list
-abbrev pub IsIn : {X : Type 0} → List X → X → Type 0
-IsIn xs x = (i : ℕ) × (slice_get xs i ≡ Some x)
 
 -- what looking for an item, with room for so many more, answers and leaves: its place, or that of one item more, or a
 -- refusal that changes nothing

@@ -7,7 +7,8 @@ ghost use Rattle.slot_table.specs.Probes.{home_of, IsFree, IsFreeFor, HasFree, P
 ghost use Rattle.slot_table.specs.Mixing.{mix_of};
 ghost use Rattle.slot_table.specs.Pairs.{pairs-same};
 ghost use Rattle.std.proofs.lemmas.Bool.{eqb-true};
-ghost use Rattle.slot_table.specs.Placing.{IsIn, IsPlaced};
+ghost use Rattle.slot_table.specs.Lists.{IsIn, IsOnce};
+ghost use Rattle.slot_table.specs.Placing.{IsPlaced};
 
 use std::alloc::{AllocError, Global};
 use std::marker::Model;
@@ -63,11 +64,11 @@ impl<T: Spread> Model for SlotTable<T> {
 
     ghost Value = { List T };
 
-    ghost use Rattle.slot_table.specs.Probes.{Probes, IsSlotCount};
+    ghost use Rattle.slot_table.specs.Probes.{IsTable};
 
     ghost view = { λ t. t.items.items };
 
-    ghost invariant = { λ t. Probes T.spread_of (length t.slots.items) t.items.items t.slots.items × IsSlotCount (length t.items.items) (length t.slots.items) };
+    ghost invariant = { λ t. IsTable T.spread_of t.items.items t.slots.items };
 }
 
 /// Where an item stands after it was looked for and, if need be, added.
@@ -212,8 +213,11 @@ fn add_at<T: Spread>(
     requires count { IsSlotCount (length items.old.items) (length slots.old.items) }
     requires free { IsFreeFor T.spread_of slots.old.items item slot }
     requires places { length items.old.items + 1 < 2 ^ 32 }
+    requires absent { IsIn items.old.items item → ⊥ }
+    requires once { IsOnce items.old.items }
     ensures probes { Probes T.spread_of (length slots.new.items) items.new.items slots.new.items }
     ensures count { IsSlotCount (length items.new.items) (length slots.new.items) }
+    ensures once { IsOnce items.new.items }
     ensures added { OnOk result (items.new.items ≡ items.old.items ++ item ∷ []) }
     ensures refused { OnErr result (items.new.items ≡ items.old.items) }
 {
@@ -259,7 +263,8 @@ impl<T: Spread> SlotTable<T> {
 
     /// All items, by place.
     pub fn as_slice(&self) -> &[T]
-        ensures { result.now ≡ self.now }
+        ensures all { result.now ≡ self.now }
+        ensures once { IsOnce self.now }
     {
         self.items.as_slice()
     }

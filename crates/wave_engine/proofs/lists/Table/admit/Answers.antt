@@ -1,1 +1,0 @@
-use Rattle.wave_engine.proofs.lists.Table.admit.Goals as goal
