@@ -53,4 +53,6 @@ impl fmt::Display for StoreFault {
 }
 
 #[cfg(test)]
+mod same_store;
+#[cfg(test)]
 mod tests;
