@@ -39,7 +39,7 @@ pub fn value(store: &Store, f: Ref, bits: &[bool]) -> bool
     for level in 0..store.levels() {
         at = stepped(store, at, level, bits[level as usize]);
     }
-    matches!(at, Ref::True)
+    same(at, Ref::TRUE)
 }
 
 /// The least assignment at which two references differ, in lexicographic order with 0 before 1 and the top level's bit

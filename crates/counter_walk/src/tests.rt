@@ -16,8 +16,8 @@ fn ok(rt: &impl Abort, answer: Result<Ref, StoreFault>) -> Ref
 fn and_or_difference(rt: HostRuntime) -> Result<(), Fail> {
     let mut store = Store::new(rt.alloc(), 2, 4)?;
     let b = ok(&rt, store.variable(1));
-    let f = ok(&rt, store.make(0, Ref::False, b));
-    let g = ok(&rt, store.make(0, b, Ref::True));
+    let f = ok(&rt, store.make(0, Ref::FALSE, b));
+    let g = ok(&rt, store.make(0, b, Ref::TRUE));
     assert!(rt; !same(f, g));
     let bits = least_difference(rt.alloc(), &store, f, g)?.ok_or("equal")?;
     assert_eq!(rt; bits.as_slice(), [false, true].as_slice());

@@ -2,13 +2,14 @@
 use Rattle.std.proofs.Common.{◌≡◌, ℕ, ◌+◌, ◌-◌, ◌*◌, ◌<◌, ◌≤◌, ◌^◌, List, [], length, slice_get, get_or, set, Some, Ok, Err, refl, sym, ◌∙◌, ap, subst, arith, inl, inr}
 use Rattle.std.proofs.lemmas.List.{get_or_read, set-get_or}
 use Rattle.dd_store.specs.declared.reference.Ref.{Ref}
-use Rattle.dd_store.specs.declared.reference.Ref.TheVariants.{Node}
-use Rattle.dd_store.specs.declared.StoreFault.{StoreFault}
-use Rattle.dd_store.specs.declared.StoreFault.TheVariants.{Full, OutOfMemory}
-use Rattle.dd_store.specs.declared.shard.Placed.TheVariants.{Found, Added}
+use Rattle.dd_store.specs.declared.reference.Reference.TheVariants.{Node}
+use Rattle.slot_table.specs.declared.Placed.TheVariants.{Found, Added}
+use Rattle.slot_table.specs.declared.Refusal.{Refusal}
+use Rattle.slot_table.specs.declared.Refusal.TheVariants.{Full, OutOfMemory}
+use Rattle.slot_table.specs.Placing.{IsPlaced}
+use Rattle.dd_store.specs.Fault.{fault_of}
 use Rattle.dd_store.specs.Graph.{Pair}
 use Rattle.dd_store.specs.Codes.{shard_of_pair}
-use Rattle.dd_store.specs.Growing.{IsPlaced}
 use Rattle.dd_store.specs.Nodes.{Nodes, count_of, IsKept, IsNeeded, Makes, with_node}
 use Rattle.dd_store.proofs.Storing.{CanMake, small_shard, shard-le-count, found_in_shard, absent_in_shard, with_node-written, fresh-read, IsKept-with_node}
 
@@ -88,7 +89,7 @@ module _ (S T : Nodes) (count v : ℕ) (lo hi : Ref) (s : ℕ) (ps new : List Pa
       subst (λ (z : Nodes). IsKept z (count + 1)) (sym t)
       (IsKept-with_node S count v lo hi w.kept w.can (needed placed.0) (omega arith))
 
-  pub Makes-refused : (fault : StoreFault) → IsPlaced room (lo, hi) ps (Err fault) new → Makes S v lo hi (Err fault) T
+  pub Makes-refused : (refusal : Refusal) → IsPlaced room (lo, hi) ps (Err refusal) new → Makes S v lo hi (Err (fault_of refusal)) T
   Makes-refused Full placed =
       let none : room ≡ 0 = placed.1 in
       let by : room ≡ S.limit - count = w.room_is in

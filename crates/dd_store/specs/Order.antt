@@ -3,9 +3,9 @@ use Rattle.std.specs.Prelude.{Bool, true, false, nat_lt, ◌==◌, ◌&&◌, ◌
 use Rattle.std.specs.declared.cmp.Ordering.{Ordering}
 use Rattle.std.specs.Ordering.{ordering_then}
 use Rattle.dd_store.specs.declared.reference.Ref.{Ref}
-use Rattle.dd_store.specs.declared.reference.Ref.TheVariants.{False, True, Node}
+use Rattle.dd_store.specs.declared.reference.Reference.TheVariants.{False, True, Node}
 use Rattle.dd_store.specs.declared.reference.NodeId.{NodeId}
-use Rattle.dd_store.specs.contracts.reference.RefOrd.TheImpl as ref_ord
+use Rattle.dd_store.specs.contracts.reference.ReferenceOrd.TheImpl as ref_ord
 use Rattle.dd_store.specs.contracts.reference.NodeIdOrd.TheImpl as node_ord
 
 -- a node comes before another by level, then by shard, then by index

@@ -8,7 +8,7 @@ ghost use Rattle.dd_store.specs.declared.level.Slot.{Slot as SlotValue};
 
 use crate::StoreFault;
 use crate::reference::Ref;
-use crate::shard::Shard;
+use slot_table::SlotTable;
 use std::thread;
 use std::thread::Threads;
 
@@ -18,10 +18,13 @@ pub trait Watch: Sync {
     fn at_shard(&self, shard: u8, level: u16);
 }
 
-/// A shard, and why the last list was not added whole.
+// A node takes 16 bytes in its shard's vector, which keeps room to grow, and 8 to 16 in the slots.
+const _: () = prove!(size_of::<(Ref, Ref)>() == 16);
+
+/// A shard, the children of its nodes by place, and why the last list was not added whole.
 #[derive(Drop)]
 pub(crate) struct Slot {
-    pub(crate) shard: Shard,
+    pub(crate) shard: SlotTable<(Ref, Ref)>,
     pub(crate) fault: Option<StoreFault>,
 }
 
@@ -36,8 +39,8 @@ impl Slot {
         self.fault = None;
         for pair in list {
             let room = limit.saturating_sub(self.shard.len() as u64);
-            if let Err(fault) = self.shard.find_or_add(pair.0, pair.1, room) {
-                self.fault = Some(fault);
+            if let Err(refusal) = self.shard.find_or_add(*pair, room) {
+                self.fault = Some(StoreFault::from(refusal));
                 return;
             }
         }

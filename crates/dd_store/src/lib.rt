@@ -5,17 +5,17 @@
 ghost use Rattle.std.specs.Prelude.{Some};
 ghost use Rattle.dd_store.specs.Fault.{fault_text};
 
+use slot_table::Refusal;
 use std::fmt;
 use thiserror::Error;
 
 mod level;
 mod reference;
-mod shard;
 mod size;
 mod store;
 
 pub use level::Watch;
-pub use reference::{NodeId, Ref, code, shard_of};
+pub use reference::{NodeId, Ref, Reference, SHARDS, code, shard_of};
 pub use store::Store;
 
 /// Why a store has not made a node.
@@ -25,6 +25,20 @@ pub enum StoreFault {
     Full,
     /// The growth of a table was refused.
     OutOfMemory,
+}
+
+impl From<Refusal> for StoreFault {
+    ghost use Rattle.std.specs.Prelude.{◌≡◌};
+    ghost use Rattle.dd_store.specs.Fault.{fault_of};
+
+    ghost from_gives = { λ refusal fault. fault ≡ fault_of refusal };
+
+    fn from(refusal: Refusal) -> StoreFault {
+        match refusal {
+            Refusal::Full => StoreFault::Full,
+            Refusal::OutOfMemory => StoreFault::OutOfMemory,
+        }
+    }
 }
 
 impl fmt::Display for StoreFault {
@@ -38,5 +52,7 @@ impl fmt::Display for StoreFault {
     }
 }
 
+#[cfg(test)]
+mod same_store;
 #[cfg(test)]
 mod tests;

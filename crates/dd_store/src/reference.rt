@@ -1,6 +1,26 @@
 //! References to nodes, and the two numbers that decide where a node lies.
-ghost use Rattle.std.specs.Prelude.{◌≡◌};
+ghost use Rattle.std.specs.Prelude.{◌≡◌, ◌↔◌, IsTrue, Some};
 ghost use Rattle.dd_store.specs.Codes.{code_of, shard_of_pair};
+ghost use Rattle.dd_store.specs.Words.{is_terminal};
+
+use slot_table::Spread;
+use std::cmp::Ordering;
+use std::fmt;
+use std::hash::{Hash, Hasher};
+use std::marker::Model;
+
+/// How many shards each level has.
+pub const SHARDS: usize = 16;
+
+/// What the code of a reference adds for each level, and for each place in its shard.
+const LEVEL_CODE: u64 = 17;
+
+const INDEX_CODE: u64 = 65537;
+
+/// The lowest bits of a level and of a shard in a word.
+const LEVEL_BIT: u64 = 1 << 40;
+
+const SHARD_BIT: u64 = 1 << 32;
 
 /// The name of a node in its store: its level, its shard of that level, and its place in that shard, counted from 0.
 #[derive(Clone, Copy, Debug, PartialEq, Eq, PartialOrd, Ord, Hash)]
@@ -10,9 +30,9 @@ pub struct NodeId {
     pub index: u32,
 }
 
-/// A terminal or a node of a store. The order of references is False, True, then nodes by level, shard and index.
-#[derive(Clone, Copy, Debug, PartialEq, Eq, PartialOrd, Ord, Hash)]
-pub enum Ref {
+/// What a reference refers to: a terminal or a node. Their order is False, True, then nodes by level, shard and index.
+#[derive(Clone, Copy, Debug, PartialEq, Eq, PartialOrd, Ord)]
+pub enum Reference {
     /// The terminal of the function that is 0 everywhere.
     False,
     /// The terminal of the function that is 1 everywhere.
@@ -20,14 +40,164 @@ pub enum Ref {
     Node(NodeId),
 }
 
+/// A terminal or a node of a store, in eight bytes. The order of references is that of what they refer to.
+#[derive(Clone, Copy)]
+pub struct Ref {
+    /// 0 for False, 1 for True; for a node its level and 1 from bit 40 on, its shard from bit 32 on, and its place.
+    word: u64,
+}
+
+const _: () = prove!(size_of::<Ref>() == 8);
+
+impl Model for Ref {
+    ghost use Rattle.dd_store.specs.declared.reference.Reference.{Reference};
+
+    ghost Value = { Reference };
+
+    ghost use Rattle.dd_store.specs.Words.{word_of, reference_of, IsWord};
+    ghost use Rattle.dd_store.specs.WordLaws.{word_of-reference_of};
+
+    ghost view = { λ r. reference_of r.word };
+
+    ghost inverse = { λ r. record { word = word_of r } };
+
+    ghost inverse_ok = { λ r h i. record { word = word_of-reference_of r.word h i } };
+
+    ghost invariant = { λ r. IsWord r.word };
+}
+
+impl Ref {
+    /// The terminal of the function that is 0 everywhere.
+    pub const FALSE: Ref = Ref { word: 0 };
+    /// The terminal of the function that is 1 everywhere.
+    pub const TRUE: Ref = Ref { word: 1 };
+
+    /// The reference to a node.
+    pub fn node(id: NodeId) -> Ref
+        ensures { result ≡ Reference.Node id }
+    {
+        Ref {
+            word: (id.level as u64 + 1) * LEVEL_BIT + id.shard as u64 * SHARD_BIT + id.index as u64,
+        }
+    }
+
+    /// What it refers to.
+    pub fn view(self) -> Reference
+        ensures { result ≡ self }
+    {
+        match self.word {
+            0 => Reference::False,
+            1 => Reference::True,
+            word => Reference::Node(NodeId {
+                level: (word / LEVEL_BIT - 1) as u16,
+                shard: (word / SHARD_BIT % 256) as u8,
+                index: (word % SHARD_BIT) as u32,
+            }),
+        }
+    }
+
+    /// Whether it refers to a terminal.
+    pub fn is_terminal(self) -> bool
+        ensures { result ≡ is_terminal self }
+    {
+        self.word < 2
+    }
+}
+
+impl Spread for Ref {
+    ghost use Rattle.dd_store.specs.Words.{word_of};
+    ghost use Rattle.dd_store.specs.Equal.{ref_same};
+
+    ghost spread_of = { word_of };
+
+    /// Its eight bytes as a number, different for each.
+    fn spread(&self) -> u64 {
+        self.word
+    }
+
+    ghost same = { ref_same };
+}
+
+impl fmt::Debug for Ref {
+    fn fmt<W: fmt::Write>(&self, f: &mut fmt::Formatter<W>) -> fmt::Result {
+        self.view().fmt(f)
+    }
+}
+
+impl PartialEq for Ref {
+    ghost use Rattle.dd_store.specs.contracts.reference.ReferencePartialEq.TheImpl.{eq-value};
+    ghost use Rattle.dd_store.specs.contracts.reference.ReferencePartialEq.TheImpl.Laws.{laws-law};
+
+    ghost eq = { eq-value.it };
+
+    ghost laws = { laws-law };
+
+    fn eq(&self, other: &Ref) -> bool {
+        self.word == other.word
+    }
+}
+
+impl Eq for Ref {
+    ghost use Rattle.dd_store.specs.contracts.reference.ReferenceEq.TheImpl.Laws.{laws-law};
+
+    ghost laws = { laws-law };
+}
+
+impl Ord for Ref {
+    ghost use Rattle.dd_store.specs.Order.{ref_cmp};
+    ghost use Rattle.dd_store.specs.contracts.reference.ReferenceOrd.TheImpl.Laws.{total-law, matches_partial_cmp-law, matches_eq-law};
+
+    ghost cmp = { ref_cmp };
+
+    ghost total = { total-law };
+
+    ghost matches_partial_cmp = { matches_partial_cmp-law };
+
+    ghost matches_eq = { matches_eq-law };
+
+    fn cmp(&self, other: &Ref) -> Ordering {
+        self.word.cmp(&other.word)
+    }
+}
+
+impl PartialOrd for Ref {
+    ghost use Rattle.dd_store.specs.contracts.reference.ReferencePartialOrd.TheImpl.{partial_cmp-value};
+    ghost use Rattle.dd_store.specs.contracts.reference.ReferencePartialOrd.TheImpl.Laws.{laws-law};
+
+    ghost partial_cmp = { partial_cmp-value.it };
+
+    ghost laws = { laws-law };
+
+    fn partial_cmp(&self, other: &Ref) -> Option<Ordering> {
+        Some(self.cmp(other))
+    }
+}
+
+impl Hash for Ref {
+    ghost use Rattle.std.specs.Hash as fed;
+    ghost use Rattle.dd_store.specs.Words.{word_of};
+    ghost use Rattle.dd_store.specs.WordLaws.{same_word};
+    ghost use Rattle.std.proofs.Common.{ap};
+
+    ghost hash_input = { λ r. fed.u64 (word_of r) };
+
+    ghost respects_eq = { λ x y e. ap fed.u64 (same_word x y e) };
+
+    fn hash<H: Hasher>(&self, state: &mut H) {
+        self.word.hash(state);
+    }
+}
+
 /// A number that spreads references over shards and workers. Two references may have the same number.
 pub fn code(reference: Ref) -> u64
     ensures { result ≡ code_of reference }
 {
-    match reference {
-        Ref::False => 0,
-        Ref::True => 1,
-        Ref::Node(id) => 2 + id.shard as u64 + 17 * id.level as u64 + 65537 * id.index as u64,
+    match reference.view() {
+        Reference::False => 0,
+        Reference::True => 1,
+        Reference::Node(id) => {
+            2 + id.shard as u64 + LEVEL_CODE * id.level as u64 + INDEX_CODE * id.index as u64
+        }
     }
 }
 
@@ -35,5 +205,5 @@ pub fn code(reference: Ref) -> u64
 pub fn shard_of(lo: Ref, hi: Ref) -> u8
     ensures { result ≡ shard_of_pair lo hi }
 {
-    ((code(lo) + 3 * code(hi)) % 16) as u8
+    ((code(lo) + 3 * code(hi)) % SHARDS as u64) as u8
 }

@@ -4,7 +4,7 @@ ghost use Rattle.dd_store.specs.Graph.{IsRef};
 ghost use Rattle.dd_store.specs.Nodes.{node, den};
 ghost use Rattle.dd_store.specs.Size.{HasSize};
 
-use crate::reference::{NodeId, Ref};
+use crate::reference::{NodeId, Ref, Reference};
 use crate::store::Store;
 use std::alloc::AllocError;
 use std::collections::BTreeSet;
@@ -21,7 +21,7 @@ impl Store {
         let mut waiting = Vec::new(self.allocator());
         waiting.push(reference)?;
         while let Some(next) = waiting.pop() {
-            if let Ref::Node(id) = next {
+            if let Reference::Node(id) = next.view() {
                 let _ = seen.len();
                 if seen.insert(id)? {
                     let pair = self.pair(id);

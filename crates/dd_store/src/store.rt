@@ -1,18 +1,18 @@
 //! The store: the nodes of shared diagrams by level and shard, with each pair of children at most once in a level,
 //! so that equal functions have equal references (Bryant 1986).
-ghost use Rattle.std.specs.Prelude.{None, Some, ◌≡◌, ◌<◌, ◌≤◌, ◌^◌, ℕ, List, length, Bool, IfOk, IfErr, IfSome, OnOk, OnErr, IsSome, MatchResult};
+ghost use Rattle.std.specs.Prelude.{None, Some, ◌≡◌, ◌<◌, ◌≤◌, ◌^◌, ℕ, List, length, Bool, true, false, IfOk, IfErr, IfSome, OnOk, OnErr, IsSome, MatchResult};
 ghost use Rattle.dd_store.specs.declared.reference.NodeId.{NodeId};
 ghost use Rattle.dd_store.specs.Graph.{top, bit, IsRef, Pair};
 ghost use Rattle.dd_store.specs.Levels.{list_at};
 ghost use Rattle.dd_store.specs.View.{IsMade, IsFull};
 ghost use Rattle.dd_store.specs.Adding.{AreReady, GrowsLevel, IsLevelFault};
 ghost use Rattle.dd_store.specs.Nodes.{Nodes, node, count_of, children, low_of, high_of, cofactor_of, IsSound, IsFound, Extends, IsBranch, IsCanonical, Makes, empty_nodes, den, shard_at};
-ghost use Rattle.dd_store.specs.Probes.{IsSlotCount};
+ghost use Rattle.slot_table.specs.Probes.{IsSlotCount};
 
 use crate::StoreFault;
 use crate::level::{Slot, Watch, add_lists, level_count, level_fault};
-use crate::reference::{NodeId, Ref, shard_of};
-use crate::shard::{Placed, Shard};
+use crate::reference::{NodeId, Ref, Reference, SHARDS, shard_of};
+use slot_table::{Placed, SlotTable};
 use std::alloc::{AllocError, Global};
 use std::marker::Model;
 use std::thread::Threads;
@@ -48,9 +48,9 @@ impl Store {
         ensures { IfOk result (λ s. s ≡ empty_nodes levels limit) }
     {
         let mut slots = Vec::new(alloc);
-        for _ in 0..16 * levels as usize {
+        for _ in 0..SHARDS * levels as usize {
             slots.push(Slot {
-                shard: Shard::new(alloc),
+                shard: SlotTable::new(alloc),
                 fault: None,
             })?;
         }
@@ -95,8 +95,8 @@ impl Store {
     pub fn top(&self, reference: Ref) -> u16
         ensures { result ≡ top self.now.levels reference }
     {
-        match reference {
-            Ref::Node(id) => id.level,
+        match reference.view() {
+            Reference::Node(id) => id.level,
             _ => self.levels,
         }
     }
@@ -106,9 +106,20 @@ impl Store {
         requires { (p : Pair) × (node self.now id ≡ Some p) }
         ensures { node self.now id ≡ Some result }
     {
-        let place = 16 * id.level as usize + id.shard as usize;
+        let place = SHARDS * id.level as usize + id.shard as usize;
         let slot = &self.slots[place];
-        slot.shard.at(id.index)
+        slot.shard.at(id.index as usize)
+    }
+
+    /// The children of a node, low and high, in one read.
+    pub fn children(&self, reference: Ref) -> (Ref, Ref)
+        requires { IsSome (children self.now reference) }
+        ensures { children self.now reference ≡ Some result }
+    {
+        match reference.view() {
+            Reference::Node(id) => self.pair(id),
+            _ => (reference, reference),
+        }
     }
 
     /// The child of a node for the bit 0.
@@ -116,8 +127,8 @@ impl Store {
         requires { IsSome (children self.now reference) }
         ensures { result ≡ low_of self.now reference }
     {
-        match reference {
-            Ref::Node(id) => self.pair(id).0,
+        match reference.view() {
+            Reference::Node(id) => self.pair(id).0,
             _ => reference,
         }
     }
@@ -127,8 +138,8 @@ impl Store {
         requires { IsSome (children self.now reference) }
         ensures { result ≡ high_of self.now reference }
     {
-        match reference {
-            Ref::Node(id) => self.pair(id).1,
+        match reference.view() {
+            Reference::Node(id) => self.pair(id).1,
             _ => reference,
         }
     }
@@ -141,12 +152,26 @@ impl Store {
         requires level { level < self.now.levels }
         ensures { result ≡ cofactor_of self.now reference level bit }
     {
-        match reference {
-            Ref::Node(id) if id.level == level => {
+        match reference.view() {
+            Reference::Node(id) if id.level == level => {
                 let pair = self.pair(id);
                 if bit { pair.1 } else { pair.0 }
             }
             _ => reference,
+        }
+    }
+
+    /// Both cofactors for the bit of a level, 0 and 1, in one read.
+    pub fn cofactors(&self, reference: Ref, level: u16) -> (Ref, Ref)
+        requires here { IsRef (node self.now) reference }
+        requires not_above { level ≤ top self.now.levels reference }
+        requires level { level < self.now.levels }
+        ensures low { result.0 ≡ cofactor_of self.now reference level false }
+        ensures high { result.1 ≡ cofactor_of self.now reference level true }
+    {
+        match reference.view() {
+            Reference::Node(id) if id.level == level => self.pair(id),
+            _ => (reference, reference),
         }
     }
 
@@ -156,7 +181,7 @@ impl Store {
         requires shard { shard < 16 }
         ensures { IsSlotCount (length (shard_at self.now level shard)) result }
     {
-        let place = 16 * level as usize + shard as usize;
+        let place = SHARDS * level as usize + shard as usize;
         let slot = &self.slots[place];
         slot.shard.slots() as u64
     }
@@ -167,10 +192,10 @@ impl Store {
         ensures { IsFound self.now level lo hi result }
     {
         let shard = shard_of(lo, hi);
-        let place = 16 * level as usize + shard as usize;
+        let place = SHARDS * level as usize + shard as usize;
         let slot = &self.slots[place];
-        match slot.shard.find(lo, hi) {
-            Some(index) => Some(Ref::Node(NodeId {
+        match slot.shard.find((lo, hi)) {
+            Some(index) => Some(Ref::node(NodeId {
                 level,
                 shard,
                 index,
@@ -190,17 +215,18 @@ impl Store {
         ensures { Makes self.old level lo hi result self.new }
     {
         let shard = shard_of(lo, hi);
-        let place = 16 * level as usize + shard as usize;
+        let place = SHARDS * level as usize + shard as usize;
         let room = self.limit.saturating_sub(self.count);
         let slot = &mut self.slots[place];
-        let index = match slot.shard.find_or_add(lo, hi, room)? {
+        let placed = slot.shard.find_or_add((lo, hi), room)?;
+        let index = match placed {
             Placed::Found(index) => index,
             Placed::Added(index) => {
                 self.count += 1;
                 index
             }
         };
-        Ok(Ref::Node(NodeId {
+        Ok(Ref::node(NodeId {
             level,
             shard,
             index,
@@ -234,16 +260,16 @@ impl Store {
     /// The reference whose function is the bit of a level.
     pub fn variable(&mut self, level: u16) -> Result<Ref, StoreFault>
         requires { level < self.old.levels }
-        ensures makes { Makes self.old level Ref.False Ref.True result self.new }
+        ensures makes { Makes self.old level Reference.False Reference.True result self.new }
         ensures sound { IsSound self.new }
         ensures extends { Extends self.old self.new }
         ensures here { IfOk result (λ r. IsRef (node self.new) r) }
         ensures meaning { IfOk result (λ r. (x : List Bool) → den self.new r x ≡ bit x level) }
-        ensures made { IfOk result (λ r. IsMade self.old self.new level Ref.False Ref.True r) }
+        ensures made { IfOk result (λ r. IsMade self.old self.new level Reference.False Reference.True r) }
         ensures refused { OnErr result (self.new ≡ self.old) }
-        ensures full { IfErr result (λ e. IsFull self.old level Ref.False Ref.True e) }
+        ensures full { IfErr result (λ e. IsFull self.old level Reference.False Reference.True e) }
     {
-        self.make(level, Ref::False, Ref::True)
+        self.make(level, Ref::FALSE, Ref::TRUE)
     }
 
     /// Adds lists to the shards of a level, and says why pairs are missing.
@@ -260,9 +286,9 @@ impl Store {
         ensures sound { IsSound self.new }
         ensures fault { IsLevelFault self.new level (list_at lists.now) result }
     {
-        let first = 16 * level as usize;
+        let first = SHARDS * level as usize;
         let limit = self.limit;
-        let slots = &mut self.slots[first..first + 16];
+        let slots = &mut self.slots[first..first + SHARDS];
         let before = level_count(slots, limit);
         add_lists(rt, slots, level, lists, limit, watch);
         let after = level_count(slots, limit);

@@ -23,13 +23,13 @@ fn limit_of_three(rt: HostRuntime) -> Result<(), Fail> {
     let b = ok(&rt, store.variable(1));
     assert_eq!(rt; ok(&rt, store.variable(0)), a);
     assert_eq!(rt; ok(&rt, store.make(0, b, b)), b);
-    let r = ok(&rt, store.make(0, Ref::False, b));
-    assert_eq!(rt; ok(&rt, store.make(0, Ref::False, b)), r);
+    let r = ok(&rt, store.make(0, Ref::FALSE, b));
+    assert_eq!(rt; ok(&rt, store.make(0, Ref::FALSE, b)), r);
     assert_eq!(rt; store.count(), 3);
     assert_eq!(rt; store.size(r)?, 2);
-    assert_eq!(rt; store.find(0, Ref::False, b), Some(r));
-    assert!(rt; store.make(0, b, Ref::True) == Err(StoreFault::Full));
-    assert_eq!(rt; store.find(0, b, Ref::True), None);
+    assert_eq!(rt; store.find(0, Ref::FALSE, b), Some(r));
+    assert!(rt; store.make(0, b, Ref::TRUE) == Err(StoreFault::Full));
+    assert_eq!(rt; store.find(0, b, Ref::TRUE), None);
     Ok(())
 }
 
@@ -37,15 +37,15 @@ fn limit_of_three(rt: HostRuntime) -> Result<(), Fail> {
 fn parts(rt: HostRuntime) -> Result<(), Fail> {
     let mut store = Store::new(rt.alloc(), 2, 3)?;
     let b = ok(&rt, store.variable(1));
-    let r = ok(&rt, store.make(0, Ref::False, b));
+    let r = ok(&rt, store.make(0, Ref::FALSE, b));
     assert_eq!(rt; store.levels(), 2);
     assert_eq!(rt; store.limit(), 3);
-    assert_eq!(rt; store.top(Ref::True), 2);
+    assert_eq!(rt; store.top(Ref::TRUE), 2);
     assert_eq!(rt; store.top(b), 1);
     assert!(rt; store.top(r) < store.levels());
-    assert_eq!(rt; store.low(r), Ref::False);
+    assert_eq!(rt; store.low(r), Ref::FALSE);
     assert_eq!(rt; store.high(r), b);
-    assert_eq!(rt; store.cofactor(r, 0, false), Ref::False);
+    assert_eq!(rt; store.cofactor(r, 0, false), Ref::FALSE);
     assert_eq!(rt; store.cofactor(r, 0, true), b);
     assert_eq!(rt; store.cofactor(b, 0, true), b);
     Ok(())
@@ -54,8 +54,8 @@ fn parts(rt: HostRuntime) -> Result<(), Fail> {
 #[test]
 fn codes_and_shards(rt: HostRuntime) -> Result<(), Fail> {
     let mut store = Store::new(rt.alloc(), 4, 4)?;
-    assert_eq!(rt; code(Ref::False), 0);
-    assert_eq!(rt; code(Ref::True), 1);
+    assert_eq!(rt; code(Ref::FALSE), 0);
+    assert_eq!(rt; code(Ref::TRUE), 1);
     for (level, number) in [(0, 5), (1, 22), (2, 39), (3, 56)] {
         assert!(rt; level < store.levels());
         let variable = ok(&rt, store.variable(level));
@@ -64,13 +64,13 @@ fn codes_and_shards(rt: HostRuntime) -> Result<(), Fail> {
             shard: 3,
             index: 0,
         };
-        assert_eq!(rt; variable, Ref::Node(id));
+        assert_eq!(rt; variable, Ref::node(id));
         assert_eq!(rt; code(variable), number);
     }
     assert!(rt; store.levels() == 4);
     let b = ok(&rt, store.variable(1));
-    assert_eq!(rt; shard_of(Ref::False, Ref::True), 3);
-    assert_eq!(rt; shard_of(Ref::False, b), 2);
+    assert_eq!(rt; shard_of(Ref::FALSE, Ref::TRUE), 3);
+    assert_eq!(rt; shard_of(Ref::FALSE, b), 2);
     Ok(())
 }
 
@@ -94,12 +94,13 @@ fn twice_in_one(
     ensures count { IfOk result (λ lists. length lists.items ≡ 16) }
     ensures only { IfOk result (λ lists. (s : ℕ) (p : Pair) → IsIn (list_at lists.items s) p → (s ≡ shard) × (p ≡ pair)) }
 {
+    let (lo, hi) = pair;
     let mut lists = Vec::new(alloc);
     for s in 0..16 {
         let mut list = Vec::new(alloc);
         if s == shard {
-            list.push(pair)?;
-            list.push(pair)?;
+            list.push((lo, hi))?;
+            list.push((lo, hi))?;
         }
         lists.push(list)?;
     }
@@ -144,8 +145,8 @@ fn two_at_shards(rt: HostRuntime) -> Result<(), Fail> {
     let _a = ok(&rt, store.variable(0));
     let b = ok(&rt, store.variable(1));
     assert_eq!(rt; store.top(b), 1);
-    let shard = shard_of(Ref::False, b) as usize;
-    let lists = twice_in_one(rt.alloc(), shard, (Ref::False, b))?;
+    let shard = shard_of(Ref::FALSE, b) as usize;
+    let lists = twice_in_one(rt.alloc(), shard, (Ref::FALSE, b))?;
     let watch = Meeting {
         first: AtomicBool::new(false),
         last: AtomicBool::new(false),
@@ -153,7 +154,7 @@ fn two_at_shards(rt: HostRuntime) -> Result<(), Fail> {
     };
     assert!(rt; store.add_all(&rt, 0, lists.as_slice(), &watch) == Ok(()));
     assert_eq!(rt; store.count(), 3);
-    assert!(rt; store.find(0, Ref::False, b).is_some());
+    assert!(rt; store.find(0, Ref::FALSE, b).is_some());
     assert!(rt; watch.first.load(Ordering::SeqCst) && watch.last.load(Ordering::SeqCst));
     assert!(rt; !watch.missed.load(Ordering::SeqCst));
     Ok(())

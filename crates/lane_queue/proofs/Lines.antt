@@ -1,7 +1,8 @@
 -- What a port is after one of its lines changed.
-use Rattle.std.proofs.Common.{◌≡◌, ℕ, ◌<◌, List, [], ◌∷◌, ◌++◌, map, length, get_or, set, sym, refl, ap, ◌∙◌, subst, Option, Some, None, Result, Ok, Err}
+use Rattle.std.proofs.Common.{◌≡◌, ℕ, ◌<◌, List, [], ◌∷◌, ◌++◌, map, length, get_or, set, sym, refl, ap, ◌∙◌, subst, Option, Some, None, Result, Ok, Err, inl, inr}
 use Rattle.std.specs.Prelude.{MatchResult, MatchOption, IfSome, slice_index_or}
-use Rattle.std.proofs.lemmas.List.{map-set, get_or-map, get_or-set_same, length-set, length-map, append-nil}
+use Rattle.std.proofs.lemmas.Bool.{cases_eq}
+use Rattle.std.proofs.lemmas.List.{map-set, get_or-map, get_or-set_same, get_or-set_other, length-set, length-map, append-nil}
 use Rattle.std.proofs.Math.Seq.{map-set_same}
 use Rattle.crossbeam_queue.specs.SegTies.{SegId}
 use Rattle.std.specs.declared.alloc.Global.{Global}
@@ -19,7 +20,7 @@ use Rattle.lane_queue.specs.Rule.{scope, port, own_sent, IsNext, Owns}
 use Rattle.req_table.specs.Sizes.{scope_of}
 use Rattle.req_table.specs.Lanes.{from_of, sent_by, IsFair, IsClosed}
 use Rattle.lane_queue.specs.Lists.{Begins}
-use Rattle.lane_queue.specs.Line.{line_view, IsLiveOn}
+use Rattle.lane_queue.specs.Line.{line_view, IsLine, IsLiveOn}
 use Rattle.lane_queue.specs.PortView.{PortView, LanesView, IsTaken, IsPortOf, IsOpen, lanes_scope, port_scope}
 use Rattle.lane_queue.specs.Ports.{hold_on, IsAtHand, line_on, line_sent, line_taken, LineOk, PortOk, view_of}
 
@@ -118,6 +119,41 @@ port-took number sizes lines old new q r p is ok was on live e =
     take-returns number sizes lines old new q r ok.within was
     (line-there number sizes lines number old p q is ok.within was (ap (λ (u : PortView). slice_index_or p.lanes u.number None) is ∙ on)) live
     (subst (λ l. LineOk (length lines) number sizes number l) (sym was) (ok.each number old ok.within)) e p (sym is)
+
+-- the port's fields after it sent on the line: they are those of a port
+pub sent-ok : (number to : ℕ) (sizes : Sizes) (lines : List Line) (old new : Line) (q : SegId Global) (x : Item) (r : Result (Unit {0}) Item) (p : PortView)
+    → view_of number sizes lines ≡ p → PortOk number sizes lines → to < length p.lanes → old ≡ get_or lines to old → IsLiveOn q new.hold → IsLine new
+    → MatchResult r (λ _. line_view new ≡ port (line_view old).terms (line_view old).low (own_sent (line_view old) ++ x ∷ []) (line_view old).taken) (λ y. (y ≡ x) × (line_view new ≡ line_view old))
+    → PortOk number sizes (set lines to new)
+sent-ok number to sizes lines old new q x r p is ok at was live line e =
+    let at' : to < length lines = subst (λ n. to < n) (ap (λ (u : PortView). length u.lanes) (sym is) ∙ length-map lines line_on) at in
+    let here : LineOk (length lines) number sizes to old = subst (λ l. LineOk (length lines) number sizes to l) (sym was) (ok.each to old at') in
+    let kept = same_terms r e in
+    let there : LineOk (length lines) number sizes to new = record {
+      terms = kept.0 ∙ here.terms;
+      low = kept.1 ∙ here.low;
+      line = line;
+      hand = hand_live q new.hold live;
+      other = λ h. kept.2 ∙ here.other h;
+    } in
+    record {
+      within = subst (λ n. number < n) (sym (length-set lines to new)) ok.within;
+      few = ok.few;
+      each = λ i d lt.
+          let lt' : i < length lines = subst (λ n. i < n) (length-set lines to new) lt in
+          subst (λ n. LineOk n number sizes i (get_or (set lines to new) i d)) (sym (length-set lines to new))
+          (elim (cases_eq i to) [
+            | inl same ↦ subst (λ k. LineOk (length lines) number sizes k (get_or (set lines to new) k d)) (sym same)
+                (subst (λ l. LineOk (length lines) number sizes to l) (sym (get_or-set_same lines to new d at')) there)
+            | inr apart ↦ subst (λ l. LineOk (length lines) number sizes i l) (sym (get_or-set_other lines to i new d apart)) (ok.each i d lt')
+          ]);
+    }
+  where
+    same_terms : (r : Result (Unit {0}) Item)
+        → MatchResult r (λ _. line_view new ≡ port (line_view old).terms (line_view old).low (own_sent (line_view old) ++ x ∷ []) (line_view old).taken) (λ y. (y ≡ x) × (line_view new ≡ line_view old))
+        → ((line_view new).terms ≡ (line_view old).terms) × ((line_view new).low ≡ (line_view old).low) × (line_taken new ≡ line_taken old)
+    same_terms (Ok u) e = (ap (λ (v : View). v.terms) e, ap (λ (v : View). v.low) e, ap (λ (v : View). v.taken) e)
+    same_terms (Err y) e = (ap (λ (v : View). v.terms) e.1, ap (λ (v : View). v.low) e.1, ap (λ (v : View). v.taken) e.1)
 
 -- ---- a port of these lanes
 lane-of : (lanes : List Lane) (i : ℕ) (lane : Lane) → i < length lanes → lane ≡ get_or lanes i lane → slice_index_or (map (λ (q : SegId Global). Some q) (map (λ (x : Lane). x.queue) lanes)) i None ≡ Some lane.queue

@@ -10,7 +10,8 @@ use Rattle.dd_store.specs.declared.reference.Ref.{Ref}
 use Rattle.req_table.specs.declared.Key.{Key}
 use Rattle.req_table.specs.contracts.KeyPartialEq.TheImpl.{eq-value}
 use Rattle.reduce_up.specs.Reducing.{Notes, HasAnswer}
-use Rattle.req_table.proofs.Keyed.{key_same, key_laws}
+use Rattle.req_table.specs.Equal.{key_same}
+use Rattle.req_table.proofs.Keyed.{key_laws}
 
 pub nothing : {X : Type 0} (x : X) → Contains [] x → ⊥
 nothing x (i, lt, e) = omega arith

@@ -21,10 +21,6 @@ requests_on [] e = append-nil (request_of (short_of e.0 e.1 e.2) e)
 requests_on (d ∷ es) e =
     ap (λ z. request_of (short_of d.0 d.1 d.2) d ++ z) (requests_on es e) ∙ sym (append_assoc (request_of (short_of d.0 d.1 d.2) d) (requests_of es) (request_of (short_of e.0 e.1 e.2) e))
 
-pub requests_more : (es : List Entry) (i : ℕ) (d : Entry) → i < length es →
-    requests_of (take (i + 1) es) ≡ requests_of (take i es) ++ request_of (short_of (get_or es i d).0 (get_or es i d).1 (get_or es i d).2) (get_or es i d)
-requests_more es i d lt = ap requests_of (take_more es i d lt) ∙ requests_on (take i es) (get_or es i d)
-
 -- a request is that of an entry
 pub of_entry : (es : List Entry) (k : Key) → Contains (requests_of es) k → (e : Entry) × Contains es e × (short_of e.0 e.1 e.2 ≡ None) × (k ≡ normal_of e.0 e.1 e.2)
 of_entry [] k c = absurd (nothing k c)
@@ -78,9 +74,13 @@ short_diagram S e i r h = (
   λ x hx. subst (λ o. Answers (λ r. den S r x) o (entry_value S e x)) h (short_means (λ r. den S r x) (record { at_false = den-false S x; at_true = den-true S x }) e.0 e.1 e.2),
 )
 
--- an entry that a loop reads
-pub entry_at : (es : List Entry) (i : ℕ) (d : Entry) → i < length es → Contains es (get_or es i d)
-entry_at es i d lt = (i, lt, get_or_default es i (get_or es i d) d lt)
+-- an element that a loop reads is one of the list
+pub item_at : {X : Type 0} (xs : List X) (i : ℕ) (x : X) → i < length xs → x ≡ get_or xs i x → Contains xs x
+item_at xs i x lt is = (i, lt, sym is)
+
+-- the part of the list that was read goes on with it
+pub item_next : {X : Type 0} (xs : List X) (i : ℕ) (x : X) → i < length xs → x ≡ get_or xs i x → take (i + 1) xs ≡ take i xs ++ x ∷ []
+item_next xs i x lt is = take_more xs i x lt ∙ ap (λ z. take i xs ++ z ∷ []) (sym is)
 
 -- one more entry's request, or none
 pub request_none : (o : Option Ref) (b : Bool) (e : Entry) → is_some o ≡ not b → b ≡ true → request_of o e ≡ normal_of e.0 e.1 e.2 ∷ []
@@ -91,7 +91,7 @@ pub request_some : (o : Option Ref) (b : Bool) (e : Entry) → is_some o ≡ not
 request_some None b e s t = absurd (true≢false (sym (s ∙ ap not t)))
 request_some (Some r) b e s t = refl
 
-pub requests_next : (es : List Entry) (i : ℕ) (d : Entry) (before new after : List Key) → i < length es → before ≡ requests_of (take i es) →
-    request_of (short_of (get_or es i d).0 (get_or es i d).1 (get_or es i d).2) (get_or es i d) ≡ new → after ≡ before ++ new → after ≡ requests_of (take (i + 1) es)
-requests_next es i d before new after lt b n a =
-    a ∙ ap (λ z. z ++ new) b ∙ ap (λ z. requests_of (take i es) ++ z) (sym n) ∙ sym (requests_more es i d lt)
+pub requests_next : (es : List Entry) (i : ℕ) (e : Entry) (before new after : List Key) → i < length es → e ≡ get_or es i e → before ≡ requests_of (take i es) →
+    request_of (short_of e.0 e.1 e.2) e ≡ new → after ≡ before ++ new → after ≡ requests_of (take (i + 1) es)
+requests_next es i e before new after lt is b n a =
+    a ∙ ap (λ z. z ++ new) b ∙ ap (λ z. requests_of (take i es) ++ z) (sym n) ∙ sym (ap requests_of (item_next es i e lt is) ∙ requests_on (take i es) e)

@@ -1,35 +1,15 @@
 -- The derived `==` of keys is equality, and what that makes of a set of keys.
-use Rattle.std.proofs.Common.{arith, if◌then◌else◌, ◌≡◌, ◌∙◌, ap, subst, sym, refl, true, false, true≢false, Bool, not, List, [], ◌∷◌, ◌++◌, Contains}
-use Rattle.std.proofs.lemmas.Bool.Decides.{nat_tests}
+use Rattle.std.proofs.Common.{if◌then◌else◌, ◌≡◌, ◌∙◌, ap, subst, sym, refl, true, false, true≢false, Bool, not, List, [], ◌∷◌, ◌++◌, Contains}
 use Rattle.std.specs.List.{list_any}
 use Rattle.indexmap.specs.IndexSet.{insert_key}
 use Rattle.std.specs.Cmp.{IsEquivalence}
 use Rattle.std.specs.Bool.{Decides}
 use Rattle.std.proofs.lemmas.Map.Views.{Contains-from_any, list_any-from_Contains}
-use Rattle.dd_store.proofs.Equal.{ref_same}
-use Rattle.req_table.specs.declared.Op.{Op}
-use Rattle.req_table.specs.declared.Op.TheVariants.{And, Or, Xor, Nand, Nor, Xnor}
 use Rattle.req_table.specs.declared.Key.{Key}
+use Rattle.req_table.specs.Equal.{key_same}
 use Rattle.req_table.specs.Tables.{Offers}
-use Rattle.req_table.specs.contracts.OpPartialEq.TheImpl.{eq-value as op_eq}
 use Rattle.req_table.specs.contracts.KeyPartialEq.TheImpl.{eq-value}
 use Rattle.req_table.specs.contracts.KeyEq.TheImpl.Laws.{laws-law}
-
-pub op_same : (x y : Op) → op_eq.it x y ≡ true → x ≡ y
-op_same And And e = refl
-op_same Or Or e = refl
-op_same Xor Xor e = refl
-op_same Nand Nand e = refl
-op_same Nor Nor e = refl
-op_same Xnor Xnor e = refl
-op_same x y e = absurd (true≢false (sym e))
-
-pub key_same : (x y : Key) → eq-value.it x y ≡ true → x ≡ y
-key_same x y e =
-    let op = op_same x.op y.op (grind (arith, nat_tests)) in
-    let f = ref_same x.f y.f (grind (arith, nat_tests)) in
-    let g = ref_same x.g y.g (grind (arith, nat_tests)) in
-    λ i. record { op = op i; f = f i; g = g i }
 
 -- the laws of that `==`, for look-ups by key
 pub key_laws : IsEquivalence eq-value.it

@@ -2,6 +2,7 @@ pub mod Wave
 pub mod Lanes
 pub mod Reached
 pub mod Settled
+pub mod Equal
 pub mod Short
 pub mod Operation
 pub mod Keys

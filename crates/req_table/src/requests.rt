@@ -1,62 +1,37 @@
 //! Short answers, normal keys, children and owners.
 ghost use Rattle.std.specs.Prelude.{◌≡◌, ◌<◌, Bool, List, None, IfSome, true, false};
 ghost use Rattle.dd_store.specs.Nodes.{Nodes, den};
-ghost use Rattle.dd_store.specs.Order.{node_lt, ref_lt};
 ghost use Rattle.dd_store.specs.View.{Has};
-ghost use Rattle.req_table.specs.Short.{node_eq, short_of, short_with_false, short_with_true, op_number, op_value, owner_of};
+ghost use Rattle.req_table.specs.Short.{short_of, short_with_false, short_with_true, op_number, op_value, owner_of};
 ghost use Rattle.req_table.specs.Keys.{normal_of, level_of, child as child_at, record_of, meaning, child_value, Denotes, IsKey, IsChildIn, IsDeeper, IsHalf};
 
 use crate::{Child, Key, Op, Record};
-use dd_store::{NodeId, Ref, Store, code};
-
-fn same_node(a: NodeId, b: NodeId) -> bool
-    ensures { result ≡ node_eq a b }
-{
-    a.level == b.level && a.shard == b.shard && a.index == b.index
-}
-
-fn node_before(a: NodeId, b: NodeId) -> bool
-    ensures { result ≡ node_lt a b }
-{
-    a.level < b.level
-        || a.level == b.level && (a.shard < b.shard || a.shard == b.shard && a.index < b.index)
-}
-
-fn before(f: Ref, g: Ref) -> bool
-    ensures { result ≡ ref_lt f g }
-{
-    match (f, g) {
-        (Ref::Node(a), Ref::Node(b)) => node_before(a, b),
-        (Ref::Node(_), _) => false,
-        (_, Ref::Node(_)) => true,
-        (Ref::False, Ref::True) => true,
-        _ => false,
-    }
-}
+use dd_store::{Ref, Reference, Store, code};
+use slot_table::{Spread, mix};
 
 fn short_false(op: Op, g: Ref) -> Option<Ref>
     ensures { result ≡ short_with_false op g }
 {
-    match (op, g) {
-        (Op::And, _) => Some(Ref::False),
+    match (op, g.view()) {
+        (Op::And, _) => Some(Ref::FALSE),
         (Op::Or | Op::Xor, _) => Some(g),
-        (Op::Nand, _) => Some(Ref::True),
-        (Op::Nor | Op::Xnor, Ref::False) => Some(Ref::True),
-        (Op::Nor | Op::Xnor, Ref::True) => Some(Ref::False),
-        (Op::Nor | Op::Xnor, Ref::Node(_)) => None,
+        (Op::Nand, _) => Some(Ref::TRUE),
+        (Op::Nor | Op::Xnor, Reference::False) => Some(Ref::TRUE),
+        (Op::Nor | Op::Xnor, Reference::True) => Some(Ref::FALSE),
+        (Op::Nor | Op::Xnor, Reference::Node(_)) => None,
     }
 }
 
 fn short_true(op: Op, g: Ref) -> Option<Ref>
     ensures { result ≡ short_with_true op g }
 {
-    match (op, g) {
+    match (op, g.view()) {
         (Op::And | Op::Xnor, _) => Some(g),
-        (Op::Or, _) => Some(Ref::True),
-        (Op::Nor, _) => Some(Ref::False),
-        (Op::Xor | Op::Nand, Ref::False) => Some(Ref::True),
-        (Op::Xor | Op::Nand, Ref::True) => Some(Ref::False),
-        (Op::Xor | Op::Nand, Ref::Node(_)) => None,
+        (Op::Or, _) => Some(Ref::TRUE),
+        (Op::Nor, _) => Some(Ref::FALSE),
+        (Op::Xor | Op::Nand, Reference::False) => Some(Ref::TRUE),
+        (Op::Xor | Op::Nand, Reference::True) => Some(Ref::FALSE),
+        (Op::Xor | Op::Nand, Reference::Node(_)) => None,
     }
 }
 
@@ -65,19 +40,19 @@ pub fn short(op: Op, f: Ref, g: Ref) -> Option<Ref>
     ensures value { result ≡ short_of op f g }
     ensures means { (S : Nodes) → IfSome result (Denotes S op f g) }
 {
-    match (f, g) {
-        (Ref::False, _) => short_false(op, g),
-        (Ref::True, _) => short_true(op, g),
-        (_, Ref::False) => short_false(op, f),
-        (_, Ref::True) => short_true(op, f),
-        (Ref::Node(a), Ref::Node(b)) => {
-            if !same_node(a, b) {
+    match (f.view(), g.view()) {
+        (Reference::False, _) => short_false(op, g),
+        (Reference::True, _) => short_true(op, g),
+        (_, Reference::False) => short_false(op, f),
+        (_, Reference::True) => short_true(op, f),
+        (Reference::Node(_), Reference::Node(_)) => {
+            if f != g {
                 return None;
             }
             match op {
                 Op::And | Op::Or => Some(f),
-                Op::Xor => Some(Ref::False),
-                Op::Xnor => Some(Ref::True),
+                Op::Xor => Some(Ref::FALSE),
+                Op::Xnor => Some(Ref::TRUE),
                 Op::Nand | Op::Nor => None,
             }
         }
@@ -106,13 +81,31 @@ pub fn owner(key: Key, workers: u32) -> u32
     ((number(key.op()) + 3 * code(key.f()) + 5 * code(key.g())) % workers as u64) as u32
 }
 
+impl Spread for Key {
+    ghost use Rattle.std.specs.Prelude.{◌*◌, ◌%◌, ◌^◌, bit_xor};
+    ghost use Rattle.slot_table.specs.Mixing.{mix_of};
+    ghost use Rattle.dd_store.specs.Words.{word_of};
+    ghost use Rattle.req_table.specs.Short.{op_number};
+    ghost use Rattle.req_table.specs.Equal.{key_same};
+
+    ghost spread_of = { λ k. mix_of (bit_xor (word_of k.f) (op_number k.op * 2 ^ 57 % 2 ^ 64)) (word_of k.g) };
+
+    /// The words of both operands, the first with the operation in its upper bits.
+    fn spread(&self) -> u64 {
+        let operation = number(self.op()) << 57;
+        mix(self.f().spread() ^ operation, self.g().spread())
+    }
+
+    ghost same = { key_same };
+}
+
 /// The request for an operation, with the operands in order: False, True, then nodes by level, shard and index.
 pub fn normal(op: Op, f: Ref, g: Ref) -> Key
     requires { short_of op f g ≡ None }
     ensures key { result ≡ normal_of op f g }
     ensures means { (S : Nodes) (x : List Bool) → meaning S result x ≡ op_value op (den S f x) (den S g x) }
 {
-    if before(g, f) {
+    if g < f {
         Key::of(op, g, f)
     } else {
         Key::of(op, f, g)
@@ -159,17 +152,10 @@ pub fn split(store: &Store, key: Key) -> Record
 {
     let level = level_of(store, key);
     let _ = store.levels();
-    let low = child(
-        store,
-        key.op(),
-        store.cofactor(key.f(), level, false),
-        store.cofactor(key.g(), level, false),
-    );
-    let high = child(
-        store,
-        key.op(),
-        store.cofactor(key.f(), level, true),
-        store.cofactor(key.g(), level, true),
-    );
+    let op = key.op();
+    let first = store.cofactors(key.f(), level);
+    let second = store.cofactors(key.g(), level);
+    let low = child(store, op, first.0, second.0);
+    let high = child(store, op, first.1, second.1);
     Record { key, low, high }
 }

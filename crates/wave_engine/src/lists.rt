@@ -3,8 +3,8 @@ ghost use Rattle.std.specs.Prelude.{◌≡◌, ◌<◌, ◌++◌, ◌∷◌, [],
 ghost use Rattle.wave_engine.specs.Places.{Enters};
 
 use dd_store::Ref;
-use indexmap::IndexSet;
 use req_table::Key;
+use slot_table::SlotTable;
 use std::alloc::{AllocError, Global};
 use std::marker::Model;
 
@@ -18,7 +18,7 @@ pub(crate) enum Placed {
 /// The requests of a level, each once, in the order of their admission.
 #[derive(Drop)]
 pub(crate) struct Table {
-    keys: IndexSet<Key>,
+    keys: SlotTable<Key>,
 }
 
 impl Model for Table {
@@ -27,7 +27,7 @@ impl Model for Table {
 
     ghost Value = { List Key };
 
-    ghost view = { λ t. t.keys.keys };
+    ghost view = { λ t. t.keys };
 }
 
 impl Table {
@@ -36,7 +36,7 @@ impl Table {
         ensures { result ≡ [] }
     {
         Table {
-            keys: IndexSet::new(alloc),
+            keys: SlotTable::new(alloc),
         }
     }
 
@@ -45,11 +45,11 @@ impl Table {
         ensures enters { IfOk result (λ p. Enters self.old key p self.new) }
         ensures refused { OnErr result (self.new ≡ self.old) }
     {
-        if self.keys.len() >= u32::MAX as usize {
-            return Err(AllocError);
+        let room = (u32::MAX as u64).saturating_sub(self.keys.len() as u64);
+        match self.keys.find_or_add(key, room) {
+            Ok(slot_table::Placed::Found(place) | slot_table::Placed::Added(place)) => Ok(place),
+            Err(_) => Err(AllocError),
         }
-        let (place, _) = self.keys.insert_full(key)?;
-        Ok(place as u32)
     }
 
     /// The number of requests.
@@ -64,7 +64,7 @@ impl Table {
         requires { place < length self.now }
         ensures { slice_get self.now place ≡ Some result }
     {
-        self.keys.as_slice()[place]
+        self.keys.at(place)
     }
 
     /// All requests, by place.

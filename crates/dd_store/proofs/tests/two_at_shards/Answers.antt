@@ -2,7 +2,7 @@ use Rattle.std.proofs.Common.{◌≡◌, ℕ, ◌<◌, List, sym, ◌∙◌, ap,
 use Rattle.std.specs.Prelude.{Result, Ok, IfOk}
 use Rattle.dd_store.specs.declared.StoreFault.{StoreFault}
 use Rattle.dd_store.specs.declared.reference.Ref.{Ref}
-use Rattle.dd_store.specs.declared.reference.Ref.TheVariants.{False, True}
+use Rattle.dd_store.specs.declared.reference.Reference.TheVariants.{False, True}
 use Rattle.dd_store.specs.Graph.{Pair, IsRef}
 use Rattle.dd_store.specs.Graph as graph
 use Rattle.dd_store.specs.Codes.{shard_of_pair}

@@ -1,8 +1,7 @@
-use Rattle.std.proofs.Common.{take, get_or, ℕ}
-use Rattle.std.proofs.lemmas.List.{take_more}
-use Rattle.dd_store.specs.declared.reference.Ref.TheVariants.{False}
+use Rattle.std.proofs.Common.{take, ℕ}
 use Rattle.dd_store.specs.Levels.{list_at}
 use Rattle.reduce_up.proofs.Dividing.{none_divided, listed_more}
+use Rattle.reduce_up.proofs.Rooted.{item_next}
 use Rattle.reduce_up.proofs.parallel.divide.Goals as goal
 
 pub loop-pair-init : goal.loop-pair-init
@@ -13,6 +12,6 @@ loop-pair-preserved c =
     let i : ℕ = c.loop-pair.pair-index in
     record {
       sixteen = c.list_pair.ensures.sixteen;
-      divided = rw (take_more c.args.pairs.now i (False, False) c.loop-pair-test.true)
-          (listed_more (list_at c.loop-pair.lists.items) (list_at c.list_pair.new.lists.items) (get_or c.args.pairs.now i (False, False)) c.in_ok-list_pair.ensures.listed (take i c.args.pairs.now) c.loop-pair.invariant.divided);
+      divided = rw (item_next c.args.pairs.now i c.pair-item.result c.loop-pair-test.true c.pair-item.is)
+          (listed_more (list_at c.loop-pair.lists.items) (list_at c.list_pair.new.lists.items) c.pair-item.result c.in_ok-list_pair.ensures.listed (take i c.args.pairs.now) c.loop-pair.invariant.divided);
     }

@@ -1,14 +1,17 @@
 use Rattle.std.proofs.Common.{◌≡◌, ◌<◌, ◌+◌, ◌*◌, Ok, Err, set, sym, subst, ap}
 use Rattle.std.proofs.lemmas.Result.{err_from_is_err_and}
+use Rattle.dd_store.specs.declared.reference.NodeId.{NodeId}
+use Rattle.dd_store.specs.declared.reference.Reference.TheVariants.{Node}
 use Rattle.dd_store.specs.declared.level.Slot.{Slot}
-use Rattle.dd_store.specs.Growing.{IsPlaced}
+use Rattle.slot_table.specs.Placing.{IsPlaced}
+use Rattle.dd_store.specs.Fault.{fault_of}
 use Rattle.dd_store.specs.Nodes.{Nodes, Makes}
 use Rattle.dd_store.specs.Levels.{pairs_of}
 use Rattle.dd_store.proofs.Slots.{pairs_of-read, pairs_of-set}
 use Rattle.dd_store.proofs.Storing.{CanMake}
 use Rattle.dd_store.proofs.Placing.{Placing, placing_room, Makes-found, Makes-added, Makes-refused, IsKept-added}
 use Rattle.dd_store.proofs.store.Store.find_or_add.Goals as goal
-use Rattle.dd_store.proofs.store.Store.find_or_add.Goals.{After-find_or_add}
+use Rattle.dd_store.proofs.store.Store.find_or_add.Goals.{After-find_or_add, in-Found, in-Added}
 
 -- the store before the call, and after it
 abbrev old : After-find_or_add → Nodes
@@ -54,28 +57,29 @@ find_or_add-requires c =
     c.saturating_sub-room.result c.self.invariant lt c.shard_of-shard.ensures
     (pairs_of-read c.self.inside.slots.items _ c.index_mut-slot.result.now c.index_mut-slot.ensures.value) c.saturating_sub-room.ensures
 
-pub returns-in_err-index : goal.returns-in_err-index
-returns-in_err-index c =
-    let w = (goal.at.returns-in_err-index c).After-find_or_add in
+pub returns-in_err-placed : goal.returns-in_err-placed
+returns-in_err-placed c =
+    let w = (goal.at.returns-in_err-placed c).After-find_or_add in
     let p = err_from_is_err_and c.from_residual.result c.from_residual.ensures.1 in
-    let h : Makes (old w) c.args.level c.args.lo c.args.hi (Err c.in_err-index.field-0.0) (new w) =
-    Makes-refused (old w) (new w) _ _ _ _ _ _ _ _ (placing w) c.in_err-index.field-0.0 c.in_err-index.ensures in
-    rw (p.1, p.2) (subst (λ (z : Nodes). Makes z c.args.level c.args.lo c.args.hi (Err c.in_err-index.field-0.0) (new w)) c.self.view_is h)
+    let h : Makes (old w) c.args.level c.args.lo c.args.hi (Err (fault_of c.in_err-placed.field-0.0)) (new w) =
+    Makes-refused (old w) (new w) _ _ _ _ _ _ _ _ (placing w) c.in_err-placed.field-0.0 c.in_err-placed.ensures in
+    rw (p.1, p.2) (subst (λ (z : Nodes). Makes z c.args.level c.args.lo c.args.hi (Err (fault_of c.in_err-placed.field-0.0)) (new w)) c.self.view_is h)
 
 pub invariant_of-self-in-Added : goal.invariant_of-self-in-Added
 invariant_of-self-in-Added c =
     let w = (goal.at.invariant_of-self-in-Added c).After-find_or_add in
-    let placed : IsPlaced c.saturating_sub-room.result (c.args.lo, c.args.hi) c.index_mut-slot.result.now.shard (Ok c.in_ok-index.field-0) c.find_or_add.new.self = c.in_ok-index.ensures in
+    let placed : IsPlaced c.saturating_sub-room.result (c.args.lo, c.args.hi) c.index_mut-slot.result.now.shard (Ok c.in_ok-placed.placed) c.find_or_add.new.self = c.in_ok-placed.ensures in
     IsKept-added (old w) (new w) _ _ _ _ _ _ _ _ (placing w) c.in-Added.index (rw c.in-Added.is at placed)
 
-pub returns-in-Found : goal.returns-in-Found
-returns-in-Found c =
-    let w = (goal.at.returns-in-Found c).After-find_or_add in
-    let placed : IsPlaced c.saturating_sub-room.result (c.args.lo, c.args.hi) c.index_mut-slot.result.now.shard (Ok c.in_ok-index.field-0) c.find_or_add.new.self = c.in_ok-index.ensures in
-    rw (← c.self.view_is) (Makes-found (old w) (new w) _ _ _ _ _ _ _ _ (placing w) c.in-Found.index (rw c.in-Found.is at placed))
-
-pub returns-in-Added : goal.returns-in-Added
-returns-in-Added c =
-    let w = (goal.at.returns-in-Added c).After-find_or_add in
-    let placed : IsPlaced c.saturating_sub-room.result (c.args.lo, c.args.hi) c.index_mut-slot.result.now.shard (Ok c.in_ok-index.field-0) c.find_or_add.new.self = c.in_ok-index.ensures in
-    rw (← c.self.view_is) (Makes-added (old w) (new w) _ _ _ _ _ _ _ _ (placing w) c.in-Added.index (rw c.in-Added.is at placed))
+pub returns : goal.returns
+returns c =
+    let w = (goal.at.returns c).After-find_or_add in
+    let id : NodeId = record { level = c.args.level; shard = c.shard_of-shard.result; index = c.match-placed.index } in
+    let placed : IsPlaced c.saturating_sub-room.result (c.args.lo, c.args.hi) c.index_mut-slot.result.now.shard (Ok c.in_ok-placed.placed) c.find_or_add.new.self = c.in_ok-placed.ensures in
+    let made : Makes (old w) c.args.level c.args.lo c.args.hi (Ok (Node id)) c.match-placed.self = elim c.match-placed.branch [
+      | in-Found v ↦
+          rw (v.index-is, v.self-is) (Makes-found (old w) (new w) _ _ _ _ _ _ _ _ (placing w) v.in-Found.index (rw v.in-Found.is at placed))
+      | in-Added v ↦
+          rw (v.index-is, v.self-is) (Makes-added (old w) (new w) _ _ _ _ _ _ _ _ (placing w) v.in-Added.index (rw v.in-Added.is at placed))
+    ] in
+    rw (c.node.ensures, ← c.self.view_is) made

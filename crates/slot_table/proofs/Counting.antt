@@ -1,0 +1,44 @@
+-- How many slots there are.
+use Rattle.std.proofs.Common.{◌≡◌, ℕ, suc, ◌+◌, ◌*◌, ◌/◌, ◌<◌, ◌≤◌, sym, ◌∙◌, ap, arith, ◌⊎◌, inl, inr}
+use Rattle.std.proofs.Math.Nat.{pow-succ'}
+use Rattle.slot_table.specs.Probes.{IsSlotCount}
+
+-- no more than half of the slots are taken
+pub slots-half : (len n : ℕ) → IsSlotCount len n → 2 * len ≤ n
+slots-half len n count = elim count [ inl none ↦ omega arith | inr table ↦ table.half ]
+
+-- the slots serve one pair more
+pub slots-same : (len n : ℕ) → IsSlotCount len n → len < n / 2 → IsSlotCount (len + 1) n
+slots-same len n count lt = elim count [
+  | inl none ↦ absurd (omega arith)
+  | inr table ↦ inr (record {
+    some = omega arith;
+    power = table.power;
+    eight = table.eight;
+    half = omega arith;
+    least = elim table.least [ inl e ↦ inl e | inr few ↦ inr (omega arith) ];
+  })
+]
+
+-- twice as many slots serve one pair more
+pub slots-more : (len n more : ℕ) → IsSlotCount len n → n / 2 ≤ len
+    → ((n ≡ 0) × (more ≡ 8)) ⊎ ((n ≡ 0 → ⊥) × (more ≡ 2 * n)) → IsSlotCount (len + 1) more
+slots-more len n more count full by = elim count [
+  | inl none ↦ elim by [
+    | inl first ↦ inr (record { some = omega arith; power = (3, first.1); eight = omega arith; half = omega arith; least = inl first.1 })
+    | inr twice ↦ absurd (twice.0 none.1)
+  ]
+  | inr table ↦
+      let eight = table.eight in
+      let half = table.half in
+      elim by [
+        | inl first ↦ absurd (omega arith)
+        | inr twice ↦ inr (record {
+          some = omega arith;
+          power = (suc table.power.0, twice.1 ∙ ap (λ k. 2 * k) table.power.1 ∙ sym (pow-succ' 2 table.power.0));
+          eight = omega arith;
+          half = omega arith;
+          least = inr (omega arith);
+        })
+      ]
+]

@@ -1,0 +1,6 @@
+pub mod Counting
+pub mod Listing
+pub mod Pigeons
+pub mod Places
+pub mod Probing
+pub mod Walking

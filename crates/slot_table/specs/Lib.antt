@@ -1,0 +1,5 @@
+pub mod Lists
+pub mod Mixing
+pub mod Pairs
+pub mod Placing
+pub mod Probes

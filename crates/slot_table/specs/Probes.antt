@@ -1,0 +1,67 @@
+-- Slots, in which the search for an item begins at its home and goes on after a slot that is not empty. An empty slot
+-- holds 0, and any other the place of an item and 1.
+use Rattle.std.specs.Prelude.{◌≡◌, ℕ, suc, ◌+◌, ◌-◌, ◌*◌, ◌^◌, ◌<◌, ◌≤◌, ◌⊎◌, nat_lt, if◌then◌else◌, List, length, slice_get, Some, bit_and}
+use Rattle.slot_table.specs.Lists.{IsOnce}
+use Rattle.slot_table.specs.declared.Sought.{Sought}
+use Rattle.slot_table.specs.declared.Sought.TheVariants.{Place, Slot}
+
+-- the slot, of n, at a distance from home: the first comes after the last
+unfoldable pub slot_of : ℕ → ℕ → ℕ → ℕ
+slot_of n home d = if nat_lt (home + d) n then (home + d) else (home + d - n)
+
+-- a slot holds a place
+abbrev pub Holds : List ℕ → ℕ → ℕ → Type 0
+Holds ts j i = slice_get ts j ≡ Some (suc i)
+
+-- the slots before a distance from home are not empty
+abbrev pub IsTaken : ℕ → ℕ → List ℕ → ℕ → Type 0
+IsTaken n home ts d = (e : ℕ) → e < d → (i : ℕ) × Holds ts (slot_of n home e) i
+
+-- a slot is the first from home that is empty
+abbrev pub IsFree : ℕ → ℕ → List ℕ → ℕ → Type 0
+IsFree n home ts j = (d : ℕ) × (d < n) × (j ≡ slot_of n home d) × (slice_get ts j ≡ Some 0) × IsTaken n home ts d
+
+-- not every slot is taken
+abbrev pub HasFree : ℕ → List ℕ → Type 0
+HasFree n ts = ((j : ℕ) → j < n → (i : ℕ) × Holds ts j i) → ⊥
+
+-- the slot, of n, in which the search for an item begins
+abbrev pub home_of : {X : Type 0} → (X → ℕ) → ℕ → X → ℕ
+home_of spread n x = bit_and (spread x) (n - 1)
+
+-- n slots find the items of a list
+pub record Probes {X : Type 0} (spread : X → ℕ) (n : ℕ) (xs : List X) (ts : List ℕ) : Type 0 where
+  pub size : length ts ≡ n
+  -- a slot holds a place of the list, and no place stands in two
+  pub valid : (j i : ℕ) → Holds ts j i → i < length xs
+  pub once : (j k i : ℕ) → Holds ts j i → Holds ts k i → j ≡ k
+  -- each item stands before an empty slot, seen from its home
+  pub reach : (i : ℕ) (x : X) → slice_get xs i ≡ Some x
+      → (d : ℕ) × (d < n) × Holds ts (slot_of n (home_of spread n x) d) i × IsTaken n (home_of spread n x) ts d
+
+-- n slots for some items: the least power of two that is at least 8 and at least twice their number
+pub record IsTableFor (items n : ℕ) : Type 0 where
+  pub some : 0 < items
+  pub power : (k : ℕ) × (n ≡ 2 ^ k)
+  pub eight : 8 ≤ n
+  pub half : 2 * items ≤ n
+  pub least : (n ≡ 8) ⊎ (n < 4 * items)
+
+-- how many slots there are for so many items: none for none
+abbrev pub IsSlotCount : ℕ → ℕ → Type 0
+IsSlotCount items n = ((items ≡ 0) × (n ≡ 0)) ⊎ IsTableFor items n
+
+-- items, each once, and slots that find them
+pub record IsTable {X : Type 0} (spread : X → ℕ) (xs : List X) (ts : List ℕ) : Type 0 where
+  pub probes : Probes spread (length ts) xs ts
+  pub count : IsSlotCount (length xs) (length ts)
+  pub once : IsOnce xs
+
+-- a slot is the first from the home of an item that is empty, where there are slots
+abbrev pub IsFreeFor : {X : Type 0} → (X → ℕ) → List ℕ → X → ℕ → Type 0
+IsFreeFor spread ts x j = 0 < length ts → IsFree (length ts) (home_of spread (length ts) x) ts j
+
+-- where the search for an item ends: at its place, or at the first empty slot where it has none
+abbrev pub IsSought : {X : Type 0} → (X → ℕ) → List X → List ℕ → X → Sought → Type 0
+IsSought spread xs ts x (Place i) = slice_get xs i ≡ Some x
+IsSought spread xs ts x (Slot j) = ((i : ℕ) × (slice_get xs i ≡ Some x) → ⊥) × IsFreeFor spread ts x j
