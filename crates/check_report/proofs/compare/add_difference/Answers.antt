@@ -1,4 +1,5 @@
-use Rattle.std.proofs.Common.{refl}
+use Rattle.std.proofs.Common.{◌≡◌, refl, rules}
+use Rattle.check_report.specs.Lines.Line.{differs}
 use Rattle.check_report.specs.Report.IsLineOf.{where_different}
 use Rattle.check_report.proofs.compare.add_difference.Goals as goal
 

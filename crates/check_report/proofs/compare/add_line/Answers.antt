@@ -1,4 +1,5 @@
-use Rattle.std.proofs.Common.{refl}
+use Rattle.std.proofs.Common.{◌≡◌, refl, rules}
+use Rattle.check_report.specs.Lines.Line.{equal}
 use Rattle.check_report.specs.Report.IsLineOf.{where_equal}
 use Rattle.check_report.proofs.compare.add_line.Goals as goal
 
