@@ -1,5 +1,5 @@
 -- How the lines of a report are added one by one.
-use Rattle.std.proofs.Common.{◌≡◌, ◌∙◌, ap, sym, refl, subst, ℕ, zero, suc, ◌+◌, ◌<◌, ◌≤◌, Bool, true, false, not, cond, List, [], ◌∷◌, ◌++◌, map, length, get_or, take, drop, append_assoc, append-nil, arith, length-append, Some}
+use Rattle.std.proofs.Common.{◌≡◌, ◌∙◌, ap, sym, refl, subst, ℕ, ◌+◌, ◌<◌, ◌≤◌, Bool, true, false, not, cond, List, [], ◌∷◌, ◌++◌, map, length, get_or, take, drop, append_assoc, append-nil, arith, length-append, Some}
 use Rattle.std.specs.Prelude.{count_by, slice_get, slice_index, All, ◌↔◌}
 use Rattle.std.specs.List.{AllZip}
 use Rattle.std.proofs.lemmas.List.{take_more, take_all, drop_more, length-map}
@@ -8,19 +8,21 @@ use Rattle.std.proofs.lemmas.List.Sums.{sum_by-append, sum_by-cons}
 use Rattle.net_bench.specs.Circuit.{Circuit}
 use Rattle.net_bench.specs.Labels.{IsFunctionOf}
 use Rattle.net_order.specs.Order.{Paired, name_of, names_of}
-use Rattle.dd_store.specs.Functions.{Agree, IsLeastDifference}
+use Rattle.dd_store.specs.Functions.{Agree}
 use Rattle.dd_store.specs.declared.reference.Ref.{Ref}
 use Rattle.dd_store.specs.Nodes.{Nodes, den}
-use Rattle.gate_plan.specs.Building.{References, AreDiagrams, reference_of, first_level, second_level}
-use Rattle.check_report.specs.declared.outcome.Outcome.{Outcome}
+use Rattle.gate_plan.specs.Building.{References, reference_of}
+use Rattle.check_report.specs.declared.outcome.Role.{Role}
+use Rattle.check_report.specs.declared.outcome.Role.TheVariants.{Output, NextState}
 use Rattle.check_report.specs.declared.outcome.Side.{Side}
+use Rattle.check_report.specs.declared.outcome.Subject.{Subject}
 use Rattle.check_report.specs.Lines.{Line, line_text, lines_text, counts_text, counted, report_text, is_equal, is_different, is_lone}
 use Rattle.check_report.specs.Lines.Line.{lone}
-use Rattle.check_report.specs.Report.{Compared, AreOutputs, IsLineOf, CallsEqual, lone_lines, IsReport}
+use Rattle.check_report.specs.Report.{Compared, AreFunctions, IsLineOf, CallsEqual, lone_lines, lone_side, subjects, IsReport}
 use Rattle.check_report.specs.declared.outcome.Side.TheVariants.{First, Second}
 use Rattle.check_report.proofs.Wording.{there, moved}
 use Rattle.check_report.proofs.Calling.{exact}
-use Rattle.check_report.specs.Comparing.{AreSignals, AreBuilt, AddsLine, HasLines}
+use Rattle.check_report.specs.Comparing.{AreSignals, AreBuilt, AddsLine, HasLines, IsInside}
 
 -- ---- lists
 
@@ -57,14 +59,14 @@ text_push vs ls l before mid now e f =
     f ∙ ap (λ z. z ++ (line_text vs l ++ 10 ∷ [])) e ∙ append_assoc before (lines_text vs ls) (line_text vs l ++ 10 ∷ [])
     ∙ ap (λ z. before ++ z) (sym (lines_more vs ls (l ∷ [])))
 
--- ---- the lines of pairs
+-- ---- the lines of what is compared
 
 module _ (sizes : Bool) (a b : Circuit) (p : Paired) where
   pub start : (text : List ℕ) → HasLines sizes a b p [] text text 0 0
   start text = record {
     compared = [];
     lines = [];
-    outputs = tt;
+    functions = tt;
     are_lines = tt;
     text = sym (append-nil text);
     equal_are = refl;
@@ -73,38 +75,38 @@ module _ (sizes : Bool) (a b : Circuit) (p : Paired) where
     all = refl;
   }
 
-  -- the functions of two outputs, by their diagrams
-  pub outputs_of : (S : Nodes) (refs : References) → AreBuilt a b p S refs → (pair : ℕ × ℕ) → pair.0 < length a.names → pair.1 < length b.names → (name : List ℕ) (first second : Ref) → name ≡ name_of a pair.0 →
-      first ≡ reference_of refs.first pair.0 → second ≡ reference_of refs.second pair.1 → AreOutputs a b p pair (record { name = name; first = den S first; second = den S second })
-  outputs_of S refs built pair lf ls name first second e ef es = record {
+  -- the functions of two signals, by their diagrams
+  pub functions_of : (S : Nodes) (refs : References) → AreBuilt a b p S refs → (subject : Subject) → IsInside a b subject → (role : Role) (name : List ℕ) (first second : Ref) → role ≡ subject.role → name ≡ name_of a subject.named →
+      first ≡ reference_of refs.first subject.first → second ≡ reference_of refs.second subject.second → AreFunctions a b p subject (record { role = role; name = name; first = den S first; second = den S second })
+  functions_of S refs built subject inside role name first second er e ef es = record {
+    role = er;
     name = e;
-    first = subst (λ r. IsFunctionOf a (slice_index p.first) (length p.names) pair.0 (den S r)) (sym ef)
-        (subst (λ n. IsFunctionOf a (slice_index p.first) n pair.0 (den S (reference_of refs.first pair.0))) built.levels (built.first.functions pair.0 lf));
-    second = subst (λ r. IsFunctionOf b (slice_index p.second) (length p.names) pair.1 (den S r)) (sym es)
-        (subst (λ n. IsFunctionOf b (slice_index p.second) n pair.1 (den S (reference_of refs.second pair.1))) built.levels (built.second.functions pair.1 ls));
+    first = subst (λ r. IsFunctionOf a (slice_index p.first) (length p.names) subject.first (den S r)) (sym ef)
+        (subst (λ n. IsFunctionOf a (slice_index p.first) n subject.first (den S (reference_of refs.first subject.first))) built.levels (built.first.functions subject.first inside.1));
+    second = subst (λ r. IsFunctionOf b (slice_index p.second) (length p.names) subject.second (den S r)) (sym es)
+        (subst (λ n. IsFunctionOf b (slice_index p.second) n subject.second (den S (reference_of refs.second subject.second))) built.levels (built.second.functions subject.second inside.2));
   }
 
-  -- the outputs of a pair are signals
-  pub pair_known : (pairs : List (ℕ × ℕ)) (i : ℕ) (pair : ℕ × ℕ) → pairs ≡ p.pairs → i < length pairs → get_or pairs i pair ≡ pair → AreSignals a b p → (pair.0 < length a.names) × (pair.1 < length b.names)
-  pair_known pairs i pair e lt here signals =
-      let all = subst (λ ps. All (λ (q : ℕ × ℕ). (q.0 < length a.names) × (q.1 < length b.names)) ps) (sym e) signals.pairs in
-      subst (λ q. (q.0 < length a.names) × (q.1 < length b.names)) here (All-get_or (λ (q : ℕ × ℕ). (q.0 < length a.names) × (q.1 < length b.names)) pairs i pair lt all)
+  -- what is compared are signals
+  pub subject_known : (all : List Subject) (i : ℕ) (subject : Subject) → all ≡ subjects a b p → i < length all → get_or all i subject ≡ subject → AreSignals a b p → IsInside a b subject
+  subject_known all i subject e lt here signals =
+      subst (IsInside a b) here (All-get_or (IsInside a b) all i subject lt (subst (All (IsInside a b)) (sym e) signals.compared))
 
-  pub next : (S : Nodes) (pairs : List (ℕ × ℕ)) (i : ℕ) (pair : ℕ × ℕ) (name : List ℕ) (first second : Ref) (before mid now : List ℕ) (was_equal was_different : ℕ) (e : Bool) (equal different : ℕ) →
-      S.levels ≡ length p.names → i < length pairs → get_or pairs i pair ≡ pair →
-      HasLines sizes a b p (take i pairs) before mid was_equal was_different →
-      AreOutputs a b p pair (record { name = name; first = den S first; second = den S second }) →
-      (names : List (List ℕ)) → names ≡ p.names → AddsLine sizes S names name first second mid now e →
+  pub next : (S : Nodes) (all : List Subject) (i : ℕ) (subject : Subject) (role : Role) (name : List ℕ) (first second : Ref) (before mid now : List ℕ) (was_equal was_different : ℕ) (e : Bool) (equal different : ℕ) →
+      S.levels ≡ length p.names → i < length all → get_or all i subject ≡ subject →
+      HasLines sizes a b p (take i all) before mid was_equal was_different →
+      AreFunctions a b p subject (record { role = role; name = name; first = den S first; second = den S second }) →
+      (names : List (List ℕ)) → names ≡ p.names → AddsLine sizes S names role name first second mid now e →
       equal ≡ was_equal + one_if e → different ≡ was_different + one_if (not e) →
-      HasLines sizes a b p (take (i + 1) pairs) before now equal different
-  next S pairs i pair name first second before mid now was_equal was_different e equal different levels lt here h outputs names named there_added q r =
-      let added = subst (λ vs. AddsLine sizes S vs name first second mid now e) named there_added in
-      let c : Compared = record { name = name; first = den S first; second = den S second } in
-      let more : take (i + 1) pairs ≡ take i pairs ++ pair ∷ [] = take_more pairs i pair lt ∙ ap (λ z. take i pairs ++ z ∷ []) here in
+      HasLines sizes a b p (take (i + 1) all) before now equal different
+  next S all i subject role name first second before mid now was_equal was_different e equal different levels lt here h functions names named there_added q r =
+      let added = subst (λ vs. AddsLine sizes S vs role name first second mid now e) named there_added in
+      let c : Compared = record { role = role; name = name; first = den S first; second = den S second } in
+      let more : take (i + 1) all ≡ take i all ++ subject ∷ [] = take_more all i subject lt ∙ ap (λ z. take i all ++ z ∷ []) here in
       record {
         compared = h.compared ++ c ∷ [];
         lines = h.lines ++ added.line ∷ [];
-        outputs = subst (λ ps. AllZip (AreOutputs a b p) ps (h.compared ++ c ∷ [])) (sym more) (zip_push (AreOutputs a b p) (take i pairs) h.compared pair c h.outputs outputs);
+        functions = subst (λ us. AllZip (AreFunctions a b p) us (h.compared ++ c ∷ [])) (sym more) (zip_push (AreFunctions a b p) (take i all) h.compared subject c h.functions functions);
         are_lines = zip_push (IsLineOf (length p.names) sizes) h.compared h.lines c added.line h.are_lines (subst (λ n. IsLineOf n sizes c added.line) levels added.is_line);
         text = text_push p.names h.lines added.line before mid now h.text added.text;
         equal_are = q ∙ ap (λ n. n + one_if e) h.equal_are ∙ sym (count_push is_equal h.lines added.line e added.equal_is);
@@ -113,99 +115,124 @@ module _ (sizes : Bool) (a b : Circuit) (p : Paired) where
         all = by e q r;
       }
     where
-      long : length (take (i + 1) pairs) ≡ length (take i pairs) + 1
-      long = ap length (take_more pairs i pair lt) ∙ length-append (take i pairs) (get_or pairs i pair ∷ [])
+      long : length (take (i + 1) all) ≡ length (take i all) + 1
+      long = ap length (take_more all i subject lt) ∙ length-append (take i all) (get_or all i subject ∷ [])
 
-      by : (e : Bool) → equal ≡ was_equal + one_if e → different ≡ was_different + one_if (not e) → equal + different ≡ length (take (i + 1) pairs)
+      by : (e : Bool) → equal ≡ was_equal + one_if e → different ≡ was_different + one_if (not e) → equal + different ≡ length (take (i + 1) all)
       by true q r = let k = h.all in omega (arith, long)
       by false q r = let k = h.all in omega (arith, long)
 
-  -- all pairs have their lines
-  pub all_added : (pairs : List (ℕ × ℕ)) (i : ℕ) (before now : List ℕ) (equal different : ℕ) → pairs ≡ p.pairs → length pairs ≤ i →
-      HasLines sizes a b p (take i pairs) before now equal different → HasLines sizes a b p p.pairs before now equal different
-  all_added pairs i before now equal different e le h =
-      subst (λ ps. HasLines sizes a b p ps before now equal different) (take_all i pairs le ∙ e) h
+  -- all have their lines
+  pub all_added : (all : List Subject) (i : ℕ) (before now : List ℕ) (equal different : ℕ) → all ≡ subjects a b p → length all ≤ i →
+      HasLines sizes a b p (take i all) before now equal different → HasLines sizes a b p (subjects a b p) before now equal different
+  all_added all i before now equal different e le h =
+      subst (λ us. HasLines sizes a b p us before now equal different) (take_all i all le ∙ e) h
 
--- ---- the lines of outputs without a partner
+-- ---- the lines of what has no partner
 
-pub lone_next : (c : Circuit) (side : Side) (signals : List ℕ) (i s : ℕ) (name : List ℕ) (vs : List (List ℕ)) (whole text more : List ℕ) → i < length signals → s ≡ get_or signals i s → slice_get c.names s ≡ Some name →
-    text ++ lines_text vs (map (lone side) (names_of c (drop i signals))) ≡ whole → more ≡ text ++ (line_text [] (lone side name) ++ 10 ∷ []) →
-    more ++ lines_text vs (map (lone side) (names_of c (drop (i + 1) signals))) ≡ whole
-lone_next c side signals i s name vs whole text more lt item named done added =
-    moved whole text more (line_text [] (lone side name) ++ 10 ∷ []) (lines_text vs (map (lone side) (names_of c (drop (i + 1) signals)))) _ done
-    (ap (λ ss. lines_text vs (map (lone side) (names_of c ss))) (drop_more signals i s lt ∙ ap (λ z. z ∷ drop (i + 1) signals) (sym item))
-    ∙ ap (λ n. line_text vs (lone side n) ++ (10 ∷ lines_text vs (map (lone side) (names_of c (drop (i + 1) signals))))) (there c.names s name [] named)
-    ∙ sym (append_assoc (line_text vs (lone side name)) (10 ∷ []) (lines_text vs (map (lone side) (names_of c (drop (i + 1) signals))))))
+pub lone_next : (c : Circuit) (side : Side) (role : Role) (signals : List ℕ) (i s : ℕ) (name : List ℕ) (vs : List (List ℕ)) (whole text more : List ℕ) → i < length signals → s ≡ get_or signals i s → slice_get c.names s ≡ Some name →
+    text ++ lines_text vs (map (lone side role) (names_of c (drop i signals))) ≡ whole → more ≡ text ++ (line_text [] (lone side role name) ++ 10 ∷ []) →
+    more ++ lines_text vs (map (lone side role) (names_of c (drop (i + 1) signals))) ≡ whole
+lone_next c side role signals i s name vs whole text more lt item named done added =
+    moved whole text more (line_text [] (lone side role name) ++ 10 ∷ []) (lines_text vs (map (lone side role) (names_of c (drop (i + 1) signals)))) _ done
+    (ap (λ ss. lines_text vs (map (lone side role) (names_of c ss))) (drop_more signals i s lt ∙ ap (λ z. z ∷ drop (i + 1) signals) (sym item))
+    ∙ ap (λ n. line_text vs (lone side role n) ++ (10 ∷ lines_text vs (map (lone side role) (names_of c (drop (i + 1) signals))))) (there c.names s name [] named)
+    ∙ sym (append_assoc (line_text vs (lone side role name)) (10 ∷ []) (lines_text vs (map (lone side role) (names_of c (drop (i + 1) signals))))))
     added
 
-three : (vs : List (List ℕ)) (xs ys zs : List Line) → (lines_text vs xs ++ lines_text vs ys) ++ lines_text vs zs ≡ lines_text vs (xs ++ (ys ++ zs))
-three vs xs ys zs =
-    append_assoc (lines_text vs xs) (lines_text vs ys) (lines_text vs zs) ∙ ap (λ z. lines_text vs xs ++ z) (sym (lines_more vs ys zs))
-    ∙ sym (lines_more vs xs (ys ++ zs))
+-- lines behind lines
+pub lines_two : (vs : List (List ℕ)) (xs ys : List Line) (t0 t1 t2 : List ℕ) → t1 ≡ t0 ++ lines_text vs xs → t2 ≡ t1 ++ lines_text vs ys → t2 ≡ t0 ++ lines_text vs (xs ++ ys)
+lines_two vs xs ys t0 t1 t2 e f =
+    f ∙ ap (λ z. z ++ lines_text vs ys) e ∙ append_assoc t0 (lines_text vs xs) (lines_text vs ys) ∙ ap (λ z. t0 ++ z) (sym (lines_more vs xs ys))
 
-lone_none : (p : Line → Bool) (side : Side) → ((n : List ℕ) → p (lone side n) ≡ false) → (ns : List (List ℕ)) → count_by p (map (lone side) ns) ≡ 0
-lone_none p side e [] = refl
-lone_none p side e (n ∷ ns) =
-    sum_by-cons (λ l. cond (p l) 1 0) (lone side n) (map (lone side) ns)
-    ∙ ap (λ z. cond z 1 0 + count_by p (map (lone side) ns)) (e n) ∙ ap (λ z. 0 + z) (lone_none p side e ns)
+count_two : (p : Line → Bool) (xs ys : List Line) → count_by p (xs ++ ys) ≡ count_by p xs + count_by p ys
+count_two p xs ys = sum_by-append (λ y. cond (p y) 1 0) xs ys
 
-lone_all : (side : Side) (ns : List (List ℕ)) → count_by is_lone (map (lone side) ns) ≡ length ns
-lone_all side [] = refl
-lone_all side (n ∷ ns) =
-    let k = lone_all side ns in
-    let h = sum_by-cons (λ l. cond (is_lone l) 1 0) (lone side n) (map (lone side) ns) in
+module _ (p : Line → Bool) (none : (side : Side) (role : Role) (n : List ℕ) → p (lone side role n) ≡ false) where
+  lone_none : (side : Side) (role : Role) (ns : List (List ℕ)) → count_by p (map (lone side role) ns) ≡ 0
+  lone_none side role [] = refl
+  lone_none side role (n ∷ ns) =
+      sum_by-cons (λ l. cond (p l) 1 0) (lone side role n) (map (lone side role) ns)
+      ∙ ap (λ z. cond z 1 0 + count_by p (map (lone side role) ns)) (none side role n) ∙ ap (λ z. 0 + z) (lone_none side role ns)
+
+  side_none : (side : Side) (c : Circuit) (outputs registers : List ℕ) → count_by p (lone_side side c outputs registers) ≡ 0
+  side_none side c outputs registers =
+      count_two p (map (lone side Output) (names_of c outputs)) (map (lone side NextState) (names_of c registers))
+      ∙ ap (λ n. n + count_by p (map (lone side NextState) (names_of c registers))) (lone_none side Output (names_of c outputs))
+      ∙ ap (λ n. 0 + n) (lone_none side NextState (names_of c registers))
+
+  -- no line of what has no partner is of this kind
+  none_of : (a b : Circuit) (q : Paired) → count_by p (lone_lines a b q) ≡ 0
+  none_of a b q =
+      count_two p (lone_side First a q.outputs.only_first q.registers.only_first) (lone_side Second b q.outputs.only_second q.registers.only_second)
+      ∙ ap (λ n. n + count_by p (lone_side Second b q.outputs.only_second q.registers.only_second)) (side_none First a q.outputs.only_first q.registers.only_first)
+      ∙ ap (λ n. 0 + n) (side_none Second b q.outputs.only_second q.registers.only_second)
+
+lone_all : (side : Side) (role : Role) (ns : List (List ℕ)) → count_by is_lone (map (lone side role) ns) ≡ length ns
+lone_all side role [] = refl
+lone_all side role (n ∷ ns) =
+    let k = lone_all side role ns in
+    let h = sum_by-cons (λ l. cond (is_lone l) 1 0) (lone side role n) (map (lone side role) ns) in
     omega (arith, h, k)
 
-count_more : (p : Line → Bool) (xs ys zs : List Line) → count_by p (xs ++ (ys ++ zs)) ≡ count_by p xs + (count_by p ys + count_by p zs)
-count_more p xs ys zs =
-    sum_by-append (λ y. cond (p y) 1 0) xs (ys ++ zs) ∙ ap (λ n. count_by p xs + n) (sum_by-append (λ y. cond (p y) 1 0) ys zs)
+side_all : (side : Side) (c : Circuit) (outputs registers : List ℕ) → count_by is_lone (lone_side side c outputs registers) ≡ length outputs + length registers
+side_all side c outputs registers =
+    let k = count_two is_lone (map (lone side Output) (names_of c outputs)) (map (lone side NextState) (names_of c registers)) in
+    let k1 = lone_all side Output (names_of c outputs) in
+    let k2 = lone_all side NextState (names_of c registers) in
+    let m1 = length-map outputs (name_of c) in
+    let m2 = length-map registers (name_of c) in
+    omega (arith, k, k1, k2, m1, m2)
+
+-- each line of what has no partner is one, and there is one for each
+pub lone_count : (a b : Circuit) (q : Paired) → count_by is_lone (lone_lines a b q) ≡ (length q.outputs.only_first + length q.registers.only_first) + (length q.outputs.only_second + length q.registers.only_second)
+lone_count a b q =
+    let k = count_two is_lone (lone_side First a q.outputs.only_first q.registers.only_first) (lone_side Second b q.outputs.only_second q.registers.only_second) in
+    let k1 = side_all First a q.outputs.only_first q.registers.only_first in
+    let k2 = side_all Second b q.outputs.only_second q.registers.only_second in
+    omega (arith, k, k1, k2)
 
 module _ (sizes : Bool) (a b : Circuit) (p : Paired) where
   -- the text of all lines, with the counts behind it
-  pub whole : (equal different : ℕ) (ones twos : List ℕ) (t0 t1 t2 t3 t4 : List ℕ) → t0 ≡ [] → ones ≡ p.only_first → twos ≡ p.only_second → HasLines sizes a b p p.pairs t0 t1 equal different →
-      t2 ≡ t1 ++ lines_text p.names (map (lone First) (names_of a ones)) → t3 ≡ t2 ++ lines_text p.names (map (lone Second) (names_of b twos)) →
-      t4 ≡ t3 ++ (counts_text (record { equal = equal; different = different; unmatched = length ones + length twos }) ++ 10 ∷ []) →
-      IsReport sizes a b p (record { equal = equal; different = different; unmatched = length ones + length twos }) t4
-  whole equal different ones twos t0 t1 t2 t3 t4 e0 o1 o2 h e2 e3 e4 = record {
+  pub whole : (equal different unmatched : ℕ) (t0 t1 t2 t3 : List ℕ) → t0 ≡ [] → HasLines sizes a b p (subjects a b p) t0 t1 equal different →
+      t2 ≡ t1 ++ lines_text p.names (lone_lines a b p) → unmatched ≡ count_by is_lone (lone_lines a b p) →
+      t3 ≡ t2 ++ (counts_text (record { equal = equal; different = different; unmatched = unmatched }) ++ 10 ∷ []) →
+      IsReport sizes a b p (record { equal = equal; different = different; unmatched = unmatched }) t3
+  whole equal different unmatched t0 t1 t2 t3 e0 h e2 u e3 = record {
     compared = h.compared;
-    outputs = h.outputs;
+    functions = h.functions;
     lines = h.lines;
     are_lines = h.are_lines;
     called_equal = zip_map (IsLineOf (length p.names) sizes) (λ c line. CallsEqual line ↔ Agree (length p.names) c.first c.second) (exact (length p.names) sizes) h.compared h.lines h.are_lines;
-    counts = rw (← o1, ← o2) counts;
-    text = rw (← o1, ← o2) text;
+    counts = counts;
+    text = text;
   }
     where
-      of_equal : equal ≡ count_by is_equal (h.lines ++ (map (lone First) (names_of a ones) ++ map (lone Second) (names_of b twos)))
+      of_equal : equal ≡ count_by is_equal (h.lines ++ lone_lines a b p)
       of_equal =
-          let k = count_more is_equal h.lines (map (lone First) (names_of a ones)) (map (lone Second) (names_of b twos)) in
-          let k1 = lone_none is_equal First (λ n. refl) (names_of a ones) in
-          let k2 = lone_none is_equal Second (λ n. refl) (names_of b twos) in
+          let k = count_two is_equal h.lines (lone_lines a b p) in
+          let k1 = none_of is_equal (λ side role n. refl) a b p in
           let q = h.equal_are in
-          omega (arith, k, k1, k2, q)
+          omega (arith, k, k1, q)
 
-      of_different : different ≡ count_by is_different (h.lines ++ (map (lone First) (names_of a ones) ++ map (lone Second) (names_of b twos)))
+      of_different : different ≡ count_by is_different (h.lines ++ lone_lines a b p)
       of_different =
-          let k = count_more is_different h.lines (map (lone First) (names_of a ones)) (map (lone Second) (names_of b twos)) in
-          let k1 = lone_none is_different First (λ n. refl) (names_of a ones) in
-          let k2 = lone_none is_different Second (λ n. refl) (names_of b twos) in
+          let k = count_two is_different h.lines (lone_lines a b p) in
+          let k1 = none_of is_different (λ side role n. refl) a b p in
           let q = h.different_are in
-          omega (arith, k, k1, k2, q)
+          omega (arith, k, k1, q)
 
-      of_lone : length ones + length twos ≡ count_by is_lone (h.lines ++ (map (lone First) (names_of a ones) ++ map (lone Second) (names_of b twos)))
+      of_lone : unmatched ≡ count_by is_lone (h.lines ++ lone_lines a b p)
       of_lone =
-          let k = count_more is_lone h.lines (map (lone First) (names_of a ones)) (map (lone Second) (names_of b twos)) in
-          let k1 = lone_all First (names_of a ones) in
-          let k2 = lone_all Second (names_of b twos) in
-          let m1 = length-map ones (name_of a) in
-          let m2 = length-map twos (name_of b) in
+          let k = count_two is_lone h.lines (lone_lines a b p) in
           let q = h.none_lone in
-          omega (arith, k, k1, k2, m1, m2, q)
+          omega (arith, k, q, u)
 
-      counts : record { equal = equal; different = different; unmatched = length ones + length twos } ≡ counted (h.lines ++ (map (lone First) (names_of a ones) ++ map (lone Second) (names_of b twos)))
+      counts : record { equal = equal; different = different; unmatched = unmatched } ≡ counted (h.lines ++ lone_lines a b p)
       counts = λ i. record { equal = of_equal i; different = of_different i; unmatched = of_lone i }
 
-      text : t4 ≡ report_text p.names (h.lines ++ (map (lone First) (names_of a ones) ++ map (lone Second) (names_of b twos)))
+      text : t3 ≡ report_text p.names (h.lines ++ lone_lines a b p)
       text =
-          e4 ∙ ap (λ z. z ++ (counts_text (record { equal = equal; different = different; unmatched = length ones + length twos }) ++ 10 ∷ [])) (e3 ∙ ap (λ z. z ++ lines_text p.names (map (lone Second) (names_of b twos))) (e2 ∙ ap (λ z. z ++ lines_text p.names (map (lone First) (names_of a ones))) (h.text ∙ ap (λ z. z ++ lines_text p.names h.lines) e0)) ∙ three p.names h.lines (map (lone First) (names_of a ones)) (map (lone Second) (names_of b twos)))
-          ∙ ap (λ z. lines_text p.names (h.lines ++ (map (lone First) (names_of a ones) ++ map (lone Second) (names_of b twos))) ++ (counts_text z ++ 10 ∷ [])) counts
+          e3 ∙ ap (λ z. z ++ (counts_text (record { equal = equal; different = different; unmatched = unmatched }) ++ 10 ∷ []))
+          (lines_two p.names h.lines (lone_lines a b p) [] t1 t2 (h.text ∙ ap (λ z. z ++ lines_text p.names h.lines) e0) e2)
+          ∙ ap (λ z. lines_text p.names (h.lines ++ lone_lines a b p) ++ (counts_text z ++ 10 ∷ [])) counts

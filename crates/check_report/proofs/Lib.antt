@@ -1,5 +1,6 @@
 pub mod Written
 pub mod Wording
+pub mod Subjects
 pub mod Adding
 pub mod Calling
 pub mod Limiting

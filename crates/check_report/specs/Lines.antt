@@ -1,14 +1,16 @@
 -- The lines of a report and their bytes. A name is a list of bytes.
 use Rattle.std.specs.Prelude.{ℕ, Bool, true, false, List, [], ◌∷◌, ◌++◌, Option, Some, None, codes, decimal, count_by}
 use Rattle.check_report.specs.declared.outcome.Outcome.{Outcome}
+use Rattle.check_report.specs.declared.outcome.Role.{Role}
+use Rattle.check_report.specs.declared.outcome.Role.TheVariants.{Output, NextState}
 use Rattle.check_report.specs.declared.outcome.Side.{Side}
 use Rattle.check_report.specs.declared.outcome.Side.TheVariants.{First, Second}
 
--- A line speaks of two outputs that are compared, or of an output that has no partner.
+-- A line speaks of two outputs or two next states that are compared, or of an output or a register that has no partner.
 pub data Line : Type 0 where
-  equal : (name : List ℕ) (size : Option ℕ) → Line
-  differs : (name : List ℕ) (at : List Bool) (first second : Bool) (sizes : Option (ℕ × ℕ)) → Line
-  lone : (side : Side) (name : List ℕ) → Line
+  equal : (role : Role) (name : List ℕ) (size : Option ℕ) → Line
+  differs : (role : Role) (name : List ℕ) (at : List Bool) (first second : Bool) (sizes : Option (ℕ × ℕ)) → Line
+  lone : (side : Side) (role : Role) (name : List ℕ) → Line
 
 -- the digit of a bit
 abbrev pub bit_text : Bool → List ℕ
@@ -35,12 +37,17 @@ abbrev pub side_text : Side → List ℕ
 side_text First = codes "FIRST"
 side_text Second = codes "SECOND"
 
+-- a name, that of a next state behind its word
+abbrev pub subject_text : Role → List ℕ → List ℕ
+subject_text Output name = name
+subject_text NextState name = codes "NEXT " ++ name
+
 -- a line without its end; the variables stand by level
 abbrev pub line_text : List (List ℕ) → Line → List ℕ
-line_text variables (equal name size) = codes "EQUAL " ++ (name ++ size_text size)
-line_text variables (differs name at first second sizes) =
-    codes "DIFFER " ++ (name ++ (codes " at" ++ (assignment_text variables at ++ (codes " first=" ++ (bit_text first ++ (codes " second=" ++ (bit_text second ++ sizes_text sizes)))))))
-line_text variables (lone side name) = codes "ONLY " ++ (side_text side ++ (codes " " ++ name))
+line_text variables (equal role name size) = codes "EQUAL " ++ (subject_text role name ++ size_text size)
+line_text variables (differs role name at first second sizes) =
+    codes "DIFFER " ++ (subject_text role name ++ (codes " at" ++ (assignment_text variables at ++ (codes " first=" ++ (bit_text first ++ (codes " second=" ++ (bit_text second ++ sizes_text sizes)))))))
+line_text variables (lone side role name) = codes "ONLY " ++ (side_text side ++ (codes " " ++ subject_text role name))
 
 -- lines, each with its end
 abbrev pub lines_text : List (List ℕ) → List Line → List ℕ
@@ -49,19 +56,19 @@ lines_text variables (l ∷ ls) = line_text variables l ++ (10 ∷ lines_text va
 
 -- the kinds of lines
 abbrev pub is_equal : Line → Bool
-is_equal (equal name size) = true
-is_equal (differs name at first second sizes) = false
-is_equal (lone side name) = false
+is_equal (equal role name size) = true
+is_equal (differs role name at first second sizes) = false
+is_equal (lone side role name) = false
 
 abbrev pub is_different : Line → Bool
-is_different (equal name size) = false
-is_different (differs name at first second sizes) = true
-is_different (lone side name) = false
+is_different (equal role name size) = false
+is_different (differs role name at first second sizes) = true
+is_different (lone side role name) = false
 
 abbrev pub is_lone : Line → Bool
-is_lone (equal name size) = false
-is_lone (differs name at first second sizes) = false
-is_lone (lone side name) = true
+is_lone (equal role name size) = false
+is_lone (differs role name at first second sizes) = false
+is_lone (lone side role name) = true
 
 -- how many lines of each kind there are
 abbrev pub counted : List Line → Outcome

@@ -1,20 +1,39 @@
 -- The report of two netlists. It knows functions and their sizes alone: no diagrams, no references and no numbers of nodes.
-use Rattle.std.specs.Prelude.{◌≡◌, ℕ, Bool, true, false, List, [], ◌∷◌, ◌++◌, map, length, Option, Some, None, slice_index, ◌↔◌}
+use Rattle.std.specs.Prelude.{◌≡◌, ℕ, Bool, true, false, List, ◌++◌, ◌==◌, map, find, length, Option, Some, None, slice_index, ◌↔◌}
 use Rattle.std.specs.List.{AllZip}
 use Rattle.net_bench.specs.Circuit.{Circuit}
 use Rattle.net_bench.specs.Labels.{IsFunctionOf}
-use Rattle.net_order.specs.declared.order.Match.{Match}
-use Rattle.net_order.specs.declared.order.Order.{Order}
-use Rattle.net_order.specs.Order.{Paired, IsPairing, name_of, names_of}
+use Rattle.net_order.specs.Order.{Paired, gate_operands, name_of, names_of}
 use Rattle.dd_store.specs.Functions.{Agree, IsLeastDifference}
 use Rattle.dd_store.specs.Size.{HasSize}
 use Rattle.check_report.specs.declared.outcome.Outcome.{Outcome}
+use Rattle.check_report.specs.declared.outcome.Role.{Role}
+use Rattle.check_report.specs.declared.outcome.Role.TheVariants.{Output, NextState}
+use Rattle.check_report.specs.declared.outcome.Side.{Side}
 use Rattle.check_report.specs.declared.outcome.Side.TheVariants.{First, Second}
+use Rattle.check_report.specs.declared.outcome.Subject.{Subject}
 use Rattle.check_report.specs.Lines.{Line, report_text, counted}
 use Rattle.check_report.specs.Lines.Line.{equal, differs, lone}
 
--- Two outputs that are compared: the name that their line has, and the function of each.
+-- The signal that a register takes next: its operand.
+abbrev pub next_of : Circuit → ℕ → ℕ
+next_of c register = slice_index (gate_operands (find (λ g. g.out == register) c.registers)) 0
+
+-- two outputs that are compared
+abbrev pub output_subject : ℕ × ℕ → Subject
+output_subject pair = record { role = Output; named = pair.0; first = pair.0; second = pair.1 }
+
+-- the next states of two registers that are compared; their line has the name of the first netlist's register
+abbrev pub next_subject : Circuit → Circuit → ℕ × ℕ → Subject
+next_subject a b pair = record { role = NextState; named = pair.0; first = next_of a pair.0; second = next_of b pair.1 }
+
+-- all that is compared: outputs, then next states
+abbrev pub subjects : Circuit → Circuit → Paired → List Subject
+subjects a b p = map output_subject p.outputs.pairs ++ map (next_subject a b) p.registers.pairs
+
+-- What is compared as its line tells it: as what, by which name, and the two functions.
 pub record Compared : Type 0 where
+  pub role : Role
   pub name : List ℕ
   pub first : List Bool → Bool
   pub second : List Bool → Bool
@@ -29,37 +48,42 @@ abbrev pub AreSizesShown : Bool → ℕ → (List Bool → Bool) → (List Bool 
 AreSizesShown false n f g shown = shown ≡ None
 AreSizesShown true n f g shown = (k : ℕ) × (m : ℕ) × HasSize n f k × HasSize n g m × (shown ≡ Some (k, m))
 
--- The line of two outputs: EQUAL where their functions of n bits are equal, else DIFFER with the least difference and the
+-- The line of what is compared: EQUAL where their functions of n bits are equal, else DIFFER with the least difference and the
 -- two values there. There is no line of another kind.
 pub data IsLineOf (n : ℕ) (sizes : Bool) (c : Compared) : Line → Type 0 where
-  where_equal : {shown : Option ℕ} → Agree n c.first c.second → IsSizeShown sizes n c.first shown → IsLineOf n sizes c (equal c.name shown)
+  where_equal : {shown : Option ℕ} → Agree n c.first c.second → IsSizeShown sizes n c.first shown → IsLineOf n sizes c (equal c.role c.name shown)
   where_different : {x : List Bool} {shown : Option (ℕ × ℕ)} → IsLeastDifference n c.first c.second x → AreSizesShown sizes n c.first c.second shown →
-      IsLineOf n sizes c (differs c.name x (c.first x) (c.second x) shown)
+      IsLineOf n sizes c (differs c.role c.name x (c.first x) (c.second x) shown)
 
--- the outputs s of the first and t of the second netlist: the first's name, and the function of each signal
-pub record AreOutputs (a b : Circuit) (p : Paired) (pair : ℕ × ℕ) (c : Compared) : Type 0 where
-  pub name : c.name ≡ name_of a pair.0
-  pub first : IsFunctionOf a (slice_index p.first) (length p.names) pair.0 c.first
-  pub second : IsFunctionOf b (slice_index p.second) (length p.names) pair.1 c.second
+-- the function of each of the two signals, over the variables of the pairing
+pub record AreFunctions (a b : Circuit) (p : Paired) (subject : Subject) (c : Compared) : Type 0 where
+  pub role : c.role ≡ subject.role
+  pub name : c.name ≡ name_of a subject.named
+  pub first : IsFunctionOf a (slice_index p.first) (length p.names) subject.first c.first
+  pub second : IsFunctionOf b (slice_index p.second) (length p.names) subject.second c.second
 
--- the lines of the outputs that have no partner
+-- the lines of one netlist's outputs that have no partner, then of its registers
+abbrev pub lone_side : Side → Circuit → List ℕ → List ℕ → List Line
+lone_side side c outputs registers = map (lone side Output) (names_of c outputs) ++ map (lone side NextState) (names_of c registers)
+
+-- the lines of what has no partner
 abbrev pub lone_lines : Circuit → Circuit → Paired → List Line
-lone_lines a b p = map (lone First) (names_of a p.only_first) ++ map (lone Second) (names_of b p.only_second)
+lone_lines a b p = lone_side First a p.outputs.only_first p.registers.only_first ++ lone_side Second b p.outputs.only_second p.registers.only_second
 
--- a line calls its two outputs equal
+-- a line calls its two functions equal
 abbrev pub CallsEqual : Line → Type 0
-CallsEqual (equal name size) = Unit {0}
-CallsEqual (differs name at first second sizes) = ⊥
-CallsEqual (lone side name) = ⊥
+CallsEqual (equal role name size) = Unit {0}
+CallsEqual (differs role name at first second sizes) = ⊥
+CallsEqual (lone side role name) = ⊥
 
--- The report of two netlists whose inputs and outputs are paired: a line for each pair of outputs, then the outputs
--- without a partner, then the counts. The variables stand by level.
+-- The report of two netlists that are paired: a line for each pair of outputs, then for the next states of each pair of registers,
+-- then for the outputs and registers without a partner, then the counts. The variables stand by level.
 pub record IsReport (sizes : Bool) (a b : Circuit) (p : Paired) (o : Outcome) (bytes : List ℕ) : Type 0 where
   pub compared : List Compared
-  pub outputs : AllZip (AreOutputs a b p) p.pairs compared
+  pub functions : AllZip (AreFunctions a b p) (subjects a b p) compared
   pub lines : List Line
   pub are_lines : AllZip (IsLineOf (length p.names) sizes) compared lines
-  -- two outputs are called equal exactly where their functions are equal
+  -- two outputs, or two next states, are called equal exactly where their functions are equal
   pub called_equal : AllZip (λ c line. CallsEqual line ↔ Agree (length p.names) c.first c.second) compared lines
   pub counts : o ≡ counted (lines ++ lone_lines a b p)
   pub text : bytes ≡ report_text p.names (lines ++ lone_lines a b p)

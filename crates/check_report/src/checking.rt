@@ -73,7 +73,7 @@ fn compare<'a, H: Threads + Wait + Sync, G: Gate>(
     }
 }
 
-/// Reads two netlists, compares their outputs and writes the report. The gates' diagrams are built by as many threads as the
+/// Reads two netlists, compares their outputs and the next states of their registers, and writes the report. The gates' diagrams are built by as many threads as the
 /// settings have workers. Nothing is written before the whole report stands.
 pub fn check<H: Threads + Wait + Sync, R1: Source, R2: Source, G: Gate, W: Sink>(
     rt: &H,
@@ -84,8 +84,8 @@ pub fn check<H: Threads + Wait + Sync, R1: Source, R2: Source, G: Gate, W: Sink>
     gate: &G,
     out: &mut W,
 ) -> Result<Outcome, CheckFault>
-    // What was written is the report of what was read, and nothing else. In it two outputs are called equal exactly
-    // where their functions are equal.
+    // What was written is the report of what was read, and nothing else. In it two outputs, or the next states of two
+    // registers, are called equal exactly where their functions are equal.
     ensures report { IfOk result (λ o. (bytes : List ℕ) × IsChecked (R1.remaining first.old) (R2.remaining second.old) settings.now.matching settings.now.order settings.now.sizes o bytes × Appends (W.contents out.old) (W.contents out.new) bytes) }
     // The nodes that the two netlists need are within the limit where there is a report, and Full comes only where they are not.
     ensures within { OnOk result (AreWithin (R1.remaining first.old) (R2.remaining second.old) settings.now.matching settings.now.order settings.now.limit) }

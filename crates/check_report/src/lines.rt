@@ -1,11 +1,18 @@
 //! The lines of a report as bytes.
 ghost use Rattle.std.specs.Prelude.{◌≡◌, ◌++◌, ℕ, List, [], ◌∷◌, length, OnOk, codes};
-ghost use Rattle.check_report.specs.Lines.{line_text, assignment_text, bit_text, side_text, sizes_text, counts_text};
+ghost use Rattle.check_report.specs.Lines.{line_text, assignment_text, bit_text, side_text, sizes_text, subject_text, counts_text};
 ghost use Rattle.check_report.specs.Lines.Line.{equal, differs, lone};
 
-use crate::outcome::{Outcome, Side};
+use crate::outcome::{Outcome, Role, Side};
 use net_order::names::Names;
 use std::alloc::{AllocError, Global};
+
+/// What a line speaks of: as what, and by which name.
+#[derive(Clone, Copy, Drop)]
+pub struct Label<'a> {
+    pub role: Role,
+    pub name: &'a [u8],
+}
 
 /// The word of a bit.
 fn bit_word(bit: bool) -> &'static [u8]
@@ -36,17 +43,29 @@ fn add_assignment(text: &mut Vec<u8>, names: &Names, bits: &[bool]) -> Result<()
     Ok(())
 }
 
-/// Adds the line of two equal outputs.
+/// Adds a name, that of a next state behind its word.
+fn add_label(text: &mut Vec<u8>, label: Label<'_>) -> Result<(), AllocError>
+    ensures { OnOk result (text.new.items ≡ text.old.items ++ subject_text label.entry.role label.entry.name.now) }
+{
+    match label.role {
+        Role::Output => {}
+        Role::NextState => text.extend_from_slice(b"NEXT ")?,
+    }
+    text.extend_from_slice(label.name)?;
+    Ok(())
+}
+
+/// Adds the line of two equal functions.
 pub fn add_equal(
     alloc: Global,
     text: &mut Vec<u8>,
-    name: &[u8],
+    label: Label<'_>,
     size: Option<u64>,
 ) -> Result<(), AllocError>
-    ensures { OnOk result (text.new.items ≡ text.old.items ++ (line_text [] (equal name.now size) ++ 10 ∷ [])) }
+    ensures { OnOk result (text.new.items ≡ text.old.items ++ (line_text [] (equal label.entry.role label.entry.name.now size) ++ 10 ∷ [])) }
 {
     text.extend_from_slice(b"EQUAL ")?;
-    text.extend_from_slice(name)?;
+    add_label(text, label)?;
     if let Some(size) = size {
         let shown = format!(in alloc; " size {size}")?;
         text.extend_from_slice(shown.as_bytes())?;
@@ -85,20 +104,20 @@ pub struct Difference<'a> {
     pub second: bool,
 }
 
-/// Adds the line of two different outputs.
+/// Adds the line of two different functions.
 pub fn add_different(
     alloc: Global,
     text: &mut Vec<u8>,
     names: &Names,
-    name: &[u8],
+    label: Label<'_>,
     at: Difference<'_>,
     sizes: Option<(u64, u64)>,
 ) -> Result<(), AllocError>
     requires { length at.bits.now ≡ length names.now }
-    ensures { OnOk result (text.new.items ≡ text.old.items ++ (line_text names.now (differs name.now at.entry.bits.now at.entry.first at.entry.second sizes) ++ 10 ∷ [])) }
+    ensures { OnOk result (text.new.items ≡ text.old.items ++ (line_text names.now (differs label.entry.role label.entry.name.now at.entry.bits.now at.entry.first at.entry.second sizes) ++ 10 ∷ [])) }
 {
     text.extend_from_slice(b"DIFFER ")?;
-    text.extend_from_slice(name)?;
+    add_label(text, label)?;
     text.extend_from_slice(b" at")?;
     add_assignment(text, names, at.bits)?;
     add_values(text, at.first, at.second)?;
@@ -117,14 +136,14 @@ fn side_word(side: Side) -> &'static [u8]
     }
 }
 
-/// Adds the line of an output that has no partner.
-pub fn add_lone(text: &mut Vec<u8>, side: Side, name: &[u8]) -> Result<(), AllocError>
-    ensures { OnOk result (text.new.items ≡ text.old.items ++ (line_text [] (lone side name.now) ++ 10 ∷ [])) }
+/// Adds the line of an output or a register that has no partner.
+pub fn add_lone(text: &mut Vec<u8>, side: Side, label: Label<'_>) -> Result<(), AllocError>
+    ensures { OnOk result (text.new.items ≡ text.old.items ++ (line_text [] (lone side label.entry.role label.entry.name.now) ++ 10 ∷ [])) }
 {
     text.extend_from_slice(b"ONLY ")?;
     text.extend_from_slice(side_word(side))?;
     text.extend_from_slice(b" ")?;
-    text.extend_from_slice(name)?;
+    add_label(text, label)?;
     text.extend_from_slice(b"\n")?;
     Ok(())
 }

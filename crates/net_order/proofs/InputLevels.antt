@@ -1,4 +1,4 @@
--- Levels of inputs: each is a level of the variables, and inputs of one netlist have different ones.
+-- Levels of variables: each is one of the levels, and variables of one netlist have different ones.
 use Rattle.std.proofs.Common.{◌≡◌, ◌≢◌, ℕ, zero, suc, ◌<◌, ◌≤◌, inl, inr, List, [], ◌∷◌, true, false, refl, sym, ap, ◌∙◌, subst, length, arith}
 use Rattle.std.specs.Prelude.{cond, ◌||◌, ◌==◌, Contains, slice_index, slice_index_or}
 use Rattle.std.proofs.lemmas.Bool.{cases_lt}
@@ -7,8 +7,9 @@ use Rattle.net_bench.proofs.Numbers.{in_distinct, or_left, or_right, number_low,
 use Rattle.net_order.specs.declared.order.Match.{Match}
 use Rattle.net_order.specs.declared.order.Match.TheVariants.{Name, Position}
 use Rattle.net_order.specs.declared.order.Order.{Order}
-use Rattle.net_order.specs.Order.{is_member, AreCounted, IsPairing, Paired, declared, input_names, level_of, name_of, names_of, ordered, partner, second_name, second_names}
-use Rattle.net_order.proofs.Members.{left_names, right_names, named_member}
+use Rattle.net_order.specs.Order.{is_member, AreCounted, IsPairing, Paired, declared, all_names, level_of, name_of, ordered, partner, second_name}
+use Rattle.net_order.proofs.AllNames.{first_all, second_all}
+use Rattle.net_order.proofs.Members.{named_member}
 use Rattle.net_order.proofs.Orders.{ordered_all, ordered_count}
 use Rattle.net_order.proofs.Seconds.{same_counts}
 
@@ -34,18 +35,18 @@ module _ (how : Match) (a b : Circuit) (order : Order) (p : Paired) (h : IsPairi
   pub few_names : length p.names ≤ 4096
   few_names = omega (arith, names_count, h.few)
 
-  level_low : (n : List ℕ) → is_name_in (input_names how a b) n ≡ true → level_of (ordered how a b order) n < length p.names
+  level_low : (n : List ℕ) → is_name_in (all_names how a b) n ≡ true → level_of (ordered how a b order) n < length p.names
   level_low n e =
-      let there : is_name_in (ordered how a b order) n ≡ true = ordered_all how a b order h.fit n (in_distinct (input_names how a b) n ∙ e) in
+      let there : is_name_in (ordered how a b order) n ≡ true = ordered_all how a b order h.fit n (in_distinct (all_names how a b) n ∙ e) in
       let low : level_of (ordered how a b order) n < length (ordered how a b order) = number_low (ordered how a b order) n there in
       subst (λ k. level_of (ordered how a b order) n < k) (sym (ap length h.names)) low
 
-  first_named : (s : ℕ) → is_member s (variables_of a) ≡ true → is_name_in (input_names how a b) (name_of a s) ≡ true
-  first_named s e = left_names (names_of a (variables_of a)) (names_of a (variables_of a)) (second_names how a b (variables_of b)) (λ n k. k) (name_of a s) (named_member (name_of a) (variables_of a) s e)
+  first_named : (s : ℕ) → is_member s (variables_of a) ≡ true → is_name_in (all_names how a b) (name_of a s) ≡ true
+  first_named s e = first_all how a b (name_of a s) (named_member (name_of a) (variables_of a) s e)
 
-  second_named : (s : ℕ) → is_member s (variables_of b) ≡ true → is_name_in (input_names how a b) (second_name how a b s) ≡ true
+  second_named : (s : ℕ) → is_member s (variables_of b) ≡ true → is_name_in (all_names how a b) (second_name how a b s) ≡ true
   second_named s e =
-      right_names (second_names how a b (variables_of b)) (names_of a (variables_of a)) (second_names how a b (variables_of b)) (λ n k. k) (second_name how a b s)
+      second_all how a b (second_name how a b s)
       (named_member (second_name how a b) (variables_of b) s e)
 
   first_is : (s : ℕ) → Contains (variables_of a) s → slice_index p.first s ≡ level_of (ordered how a b order) (name_of a s)
@@ -61,11 +62,11 @@ module _ (how : Match) (a b : Circuit) (order : Order) (p : Paired) (h : IsPairi
   pub second_below : (s : ℕ) → Contains (variables_of b) s → slice_index p.second s < length p.names
   second_below s e = subst (λ k. k < length p.names) (sym (second_is s e)) (level_low (second_name how a b s) (second_named s (contains_member (variables_of b) s e)))
 
-  same_level : (m n : List ℕ) → is_name_in (input_names how a b) m ≡ true → is_name_in (input_names how a b) n ≡ true →
+  same_level : (m n : List ℕ) → is_name_in (all_names how a b) m ≡ true → is_name_in (all_names how a b) n ≡ true →
       level_of (ordered how a b order) m ≡ level_of (ordered how a b order) n → m ≡ n
   same_level m n e f same =
-      numbers_differ (ordered how a b order) m n (ordered_all how a b order h.fit m (in_distinct (input_names how a b) m ∙ e))
-      (ordered_all how a b order h.fit n (in_distinct (input_names how a b) n ∙ f)) same
+      numbers_differ (ordered how a b order) m n (ordered_all how a b order h.fit m (in_distinct (all_names how a b) m ∙ e))
+      (ordered_all how a b order h.fit n (in_distinct (all_names how a b) n ∙ f)) same
 
   -- inputs at one level have one name
   pub first_name : (s t : ℕ) → Contains (variables_of a) s → Contains (variables_of a) t → slice_index p.first s ≡ slice_index p.first t → name_of a s ≡ name_of a t

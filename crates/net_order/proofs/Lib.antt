@@ -9,9 +9,10 @@ pub mod Ranking
 pub mod Walks
 pub mod Different
 pub mod Members
+pub mod AllNames
 pub mod Weaving
 pub mod Woven
 pub mod Orders
 pub mod InputLevels
-pub mod OutputPairs
+pub mod Matching
 pub mod NameTexts

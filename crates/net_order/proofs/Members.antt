@@ -1,4 +1,4 @@
--- Members of lists, and the inputs that walks meet.
+-- Members of lists, and the variables that walks meet.
 use Rattle.std.proofs.Common.{◌≡◌, ℕ, zero, suc, ◌<◌, inl, inr, List, [], ◌∷◌, ◌++◌, Bool, true, false, refl, sym, ap, ◌∙◌, subst, length, map, arith, get_or, All, IsTrue}
 use Rattle.std.specs.Prelude.{cond, ◌||◌, ◌==◌, flat_map, fold, bytes_eq}
 use Rattle.std.proofs.lemmas.List.Folds.{list_any-append}
@@ -6,13 +6,13 @@ use Rattle.net_bench.specs.Circuit.{Circuit, Net, IsNet, circuit, is_name_in, di
 use Rattle.net_bench.proofs.Numbers.{same_name, name_itself, in_distinct, or_left, or_right, or_cases}
 use Rattle.net_order.specs.declared.walk.Way.{Way}
 use Rattle.net_order.specs.declared.walk.Way.TheVariants.{Written}
-use Rattle.net_order.specs.Order.{is_member, leaves, below, with_number, met, met_below, steps_of}
+use Rattle.net_order.specs.Order.{is_member, leaves, below, with_number, met, met_below, roots, steps_of}
 use Rattle.net_order.specs.Walk.{Among}
 use Rattle.net_order.proofs.Walking.{in_append}
 use Rattle.net_order.proofs.Leaves.{member_at}
 use Rattle.net_order.proofs.Different.{AmongNames}
 
--- ---- the inputs that are met are inputs
+-- ---- what is met are variables
 
 pub no_true : false ≡ true → ⊥
 no_true e = cc
@@ -56,7 +56,7 @@ fold_among (x ∷ xs) found zs h k =
 
 pub met_inputs : (c : Circuit) → Among (met c) (variables_of c)
 met_inputs c =
-    fold_among (flat_map (below Written c) c.outputs) [] (variables_of c) (λ x e. absurd (no_true e)) (flat_among (below Written c) c.outputs (variables_of c) (leaves_inputs Written c (length c.gates)))
+    fold_among (flat_map (below Written c) (roots c)) [] (variables_of c) (λ x e. absurd (no_true e)) (flat_among (below Written c) (roots c) (variables_of c) (leaves_inputs Written c (length c.gates)))
 
 pub below_inputs : (way : Way) (c : Circuit) (s : ℕ) → Among (below way c s) (variables_of c)
 below_inputs way c s = leaves_inputs way c (length c.gates) s

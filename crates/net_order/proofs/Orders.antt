@@ -9,9 +9,10 @@ use Rattle.net_order.specs.declared.order.Match.{Match}
 use Rattle.net_order.specs.declared.order.Order.{Order}
 use Rattle.net_order.specs.declared.order.Order.TheVariants.{Declared, Depth, Interleave, Listed}
 use Rattle.std.specs.List.{slice_index_or}
-use Rattle.net_order.specs.Order.{is_member, met, names_of, second_name, second_names, input_names, declared, by_depth, interleaved, woven, variable_name, ordered, bad_place, IsListing, IsFit, name_of}
+use Rattle.net_order.specs.Order.{is_member, met, names_of, second_name, second_names, all_names, declared, by_depth, interleaved, woven, variable_name, ordered, bad_place, IsListing, IsFit, name_of}
 use Rattle.net_order.specs.Tables.{with_names}
-use Rattle.net_order.proofs.Members.{joined_names, member_head, left_names, right_names, distinct_names, named_among, met_inputs, no_true}
+use Rattle.net_order.proofs.AllNames.{first_all, second_all}
+use Rattle.net_order.proofs.Members.{joined_names, member_head, right_names, distinct_names, named_among, met_inputs, no_true}
 use Rattle.net_order.proofs.Named.{joined}
 use Rattle.net_order.proofs.Woven.{woven_low}
 use Rattle.net_order.proofs.Different.{AmongNames, no_more, all_different, all_there}
@@ -25,48 +26,48 @@ name_there (n ∷ names) zero low = or_left (bytes_eq n n) (is_name_in names n) 
 name_there (n ∷ names) (suc v) low = or_right (bytes_eq n (slice_index_or names v [])) (is_name_in names (slice_index_or names v [])) (name_there names v (omega arith))
 
 module _ (how : Match) (a b : Circuit) where
-  pub met_first : AmongNames (names_of a (met a)) (input_names how a b)
-  met_first = left_names (names_of a (met a)) (names_of a (variables_of a)) (second_names how a b (variables_of b)) (named_among (name_of a) (met a) (variables_of a) (met_inputs a))
+  pub met_first : AmongNames (names_of a (met a)) (all_names how a b)
+  met_first n e = first_all how a b n (named_among (name_of a) (met a) (variables_of a) (met_inputs a) n e)
 
-  met_second : AmongNames (second_names how a b (met b)) (input_names how a b)
-  met_second = right_names (second_names how a b (met b)) (names_of a (variables_of a)) (second_names how a b (variables_of b)) (named_among (second_name how a b) (met b) (variables_of b) (met_inputs b))
+  met_second : AmongNames (second_names how a b (met b)) (all_names how a b)
+  met_second n e = second_all how a b n (named_among (second_name how a b) (met b) (variables_of b) (met_inputs b) n e)
 
-  pub met_both : AmongNames (names_of a (met a) ++ second_names how a b (met b)) (input_names how a b)
-  met_both = joined_names (names_of a (met a)) (second_names how a b (met b)) (input_names how a b) met_first met_second
+  pub met_both : AmongNames (names_of a (met a) ++ second_names how a b (met b)) (all_names how a b)
+  met_both = joined_names (names_of a (met a)) (second_names how a b (met b)) (all_names how a b) met_first met_second
 
-  pub met_all : AmongNames (names_of a (met a) ++ second_names how a b (met b) ++ input_names how a b) (input_names how a b)
-  met_all = joined_names (names_of a (met a) ++ second_names how a b (met b)) (input_names how a b) (input_names how a b) met_both (λ n e. e)
+  pub met_all : AmongNames (names_of a (met a) ++ second_names how a b (met b) ++ all_names how a b) (all_names how a b)
+  met_all = joined_names (names_of a (met a) ++ second_names how a b (met b)) (all_names how a b) (all_names how a b) met_both (λ n e. e)
 
   -- names of inputs are no more than the variables
-  pub few_of : (xs : List (List ℕ)) → AmongNames xs (input_names how a b) → length (distinct xs) ≤ length (declared how a b)
-  few_of xs h = no_more (distinct xs) (declared how a b) (all_different xs) (distinct_names xs (input_names how a b) h)
+  pub few_of : (xs : List (List ℕ)) → AmongNames xs (all_names how a b) → length (distinct xs) ≤ length (declared how a b)
+  few_of xs h = no_more (distinct xs) (declared how a b) (all_different xs) (distinct_names xs (all_names how a b) h)
 
   -- what stands at a place of the declared names is a variable
-  at_declared : (v : ℕ) → v < length (declared how a b) → is_name_in (input_names how a b) (variable_name how a b v) ≡ true
-  at_declared v low = sym (in_distinct (input_names how a b) (variable_name how a b v)) ∙ name_there (declared how a b) v low
+  at_declared : (v : ℕ) → v < length (declared how a b) → is_name_in (all_names how a b) (variable_name how a b v) ≡ true
+  at_declared v low = sym (in_distinct (all_names how a b) (variable_name how a b v)) ∙ name_there (declared how a b) v low
 
-  numbered : (vs : List ℕ) → ((v : ℕ) → is_member v vs ≡ true → v < length (declared how a b)) → AmongNames (map (variable_name how a b) vs) (input_names how a b)
+  numbered : (vs : List ℕ) → ((v : ℕ) → is_member v vs ≡ true → v < length (declared how a b)) → AmongNames (map (variable_name how a b) vs) (all_names how a b)
   numbered [] low n e = absurd (no_true e)
   numbered (v ∷ vs) low n e = elim (or_cases (bytes_eq (variable_name how a b v) n) (is_name_in (map (variable_name how a b) vs) n) e) [
-    | inl same ↦ ap (is_name_in (input_names how a b)) (sym (same_name (variable_name how a b v) n same)) ∙ at_declared v (low v (member_head v vs))
+    | inl same ↦ ap (is_name_in (all_names how a b)) (sym (same_name (variable_name how a b v) n same)) ∙ at_declared v (low v (member_head v vs))
     | inr more ↦ numbered vs (λ w k. low w (or_right (v == w) (is_member w vs) k)) n more
   ]
 
-  pub woven_names : AmongNames (map (variable_name how a b) (woven how a b)) (input_names how a b)
+  pub woven_names : AmongNames (map (variable_name how a b) (woven how a b)) (all_names how a b)
   woven_names = numbered (woven how a b) (woven_low how a b)
 
-  pub woven_all : AmongNames (map (variable_name how a b) (woven how a b) ++ input_names how a b) (input_names how a b)
-  woven_all = joined_names (map (variable_name how a b) (woven how a b)) (input_names how a b) (input_names how a b) woven_names (λ n e. e)
+  pub woven_all : AmongNames (map (variable_name how a b) (woven how a b) ++ all_names how a b) (all_names how a b)
+  woven_all = joined_names (map (variable_name how a b) (woven how a b)) (all_names how a b) (all_names how a b) woven_names (λ n e. e)
 
   interleaved_has : AmongNames (declared how a b) (interleaved how a b)
   interleaved_has =
-      distinct_names (input_names how a b) (map (variable_name how a b) (woven how a b) ++ input_names how a b)
-      (right_names (input_names how a b) (map (variable_name how a b) (woven how a b)) (input_names how a b) (λ n e. e))
+      distinct_names (all_names how a b) (map (variable_name how a b) (woven how a b) ++ all_names how a b)
+      (right_names (all_names how a b) (map (variable_name how a b) (woven how a b)) (all_names how a b) (λ n e. e))
 
   depth_all : AmongNames (declared how a b) (by_depth how a b)
   depth_all =
-      distinct_names (input_names how a b) (names_of a (met a) ++ second_names how a b (met b) ++ input_names how a b)
-      (right_names (input_names how a b) (names_of a (met a) ++ second_names how a b (met b)) (input_names how a b) (λ n e. e))
+      distinct_names (all_names how a b) (names_of a (met a) ++ second_names how a b (met b) ++ all_names how a b)
+      (right_names (all_names how a b) (names_of a (met a) ++ second_names how a b (met b)) (all_names how a b) (λ n e. e))
 
 -- ---- the tables of depth order, one after the other
 
@@ -79,8 +80,8 @@ module _ (how : Match) (a b : Circuit) (t : List (List ℕ)) where
       ap (λ n. with_names n (second_names how a b others)) e ∙ ap (λ xs. with_names (distinct (names_of a (met a))) (second_names how a b xs)) o ∙
       joined [] (names_of a (met a)) (second_names how a b (met b))
 
-  pub whole_table : t ≡ distinct (names_of a (met a) ++ second_names how a b (met b)) → with_names t (input_names how a b) ≡ by_depth how a b
-  whole_table e = ap (λ n. with_names n (input_names how a b)) e ∙ joined [] (names_of a (met a) ++ second_names how a b (met b)) (input_names how a b)
+  pub whole_table : t ≡ distinct (names_of a (met a) ++ second_names how a b (met b)) → with_names t (all_names how a b) ≡ by_depth how a b
+  whole_table e = ap (λ n. with_names n (all_names how a b)) e ∙ joined [] (names_of a (met a) ++ second_names how a b (met b)) (all_names how a b)
 
 module _ (how : Match) (a b : Circuit) (t : List (List ℕ)) where
   pub first_few : t ≡ distinct (names_of a (met a)) → length t ≤ length (declared how a b)
@@ -92,7 +93,7 @@ module _ (how : Match) (a b : Circuit) (t : List (List ℕ)) where
   pub whole_few : t ≡ by_depth how a b → length t ≤ length (declared how a b)
   whole_few e =
       subst (λ n. length n ≤ length (declared how a b)) (sym e)
-      (few_of how a b (names_of a (met a) ++ second_names how a b (met b) ++ input_names how a b) (met_all how a b))
+      (few_of how a b (names_of a (met a) ++ second_names how a b (met b) ++ all_names how a b) (met_all how a b))
 
 -- ---- the tables of interleaved order, one after the other
 
@@ -100,8 +101,8 @@ module _ (how : Match) (a b : Circuit) (t : List (List ℕ)) where
   pub woven_table : (vs : List ℕ) → t ≡ [] → vs ≡ woven how a b → with_names t (map (variable_name how a b) vs) ≡ distinct (map (variable_name how a b) (woven how a b))
   woven_table vs e i = ap (λ n. with_names n (map (variable_name how a b) vs)) e ∙ ap (λ xs. with_names [] (map (variable_name how a b) xs)) i
 
-  pub interleaved_table : t ≡ distinct (map (variable_name how a b) (woven how a b)) → with_names t (input_names how a b) ≡ interleaved how a b
-  interleaved_table e = ap (λ n. with_names n (input_names how a b)) e ∙ joined [] (map (variable_name how a b) (woven how a b)) (input_names how a b)
+  pub interleaved_table : t ≡ distinct (map (variable_name how a b) (woven how a b)) → with_names t (all_names how a b) ≡ interleaved how a b
+  interleaved_table e = ap (λ n. with_names n (all_names how a b)) e ∙ joined [] (map (variable_name how a b) (woven how a b)) (all_names how a b)
 
   pub woven_few : t ≡ distinct (map (variable_name how a b) (woven how a b)) → length t ≤ length (declared how a b)
   woven_few e = subst (λ n. length n ≤ length (declared how a b)) (sym e) (few_of how a b (map (variable_name how a b) (woven how a b)) (woven_names how a b))
@@ -109,7 +110,7 @@ module _ (how : Match) (a b : Circuit) (t : List (List ℕ)) where
   pub interleaved_few : t ≡ interleaved how a b → length t ≤ length (declared how a b)
   interleaved_few e =
       subst (λ n. length n ≤ length (declared how a b)) (sym e)
-      (few_of how a b (map (variable_name how a b) (woven how a b) ++ input_names how a b) (woven_all how a b))
+      (few_of how a b (map (variable_name how a b) (woven how a b) ++ all_names how a b) (woven_all how a b))
 
 -- ---- a list of names that fits
 
@@ -166,18 +167,18 @@ module _ (how : Match) (a b : Circuit) where
 
   -- no name stands twice
   pub ordered_different : (order : Order) → IsFit how a b order → IsDistinct bytes_eq (ordered how a b order)
-  ordered_different Declared fit = all_different (input_names how a b)
-  ordered_different Depth fit = all_different (names_of a (met a) ++ second_names how a b (met b) ++ input_names how a b)
-  ordered_different Interleave fit = all_different (map (variable_name how a b) (woven how a b) ++ input_names how a b)
+  ordered_different Declared fit = all_different (all_names how a b)
+  ordered_different Depth fit = all_different (names_of a (met a) ++ second_names how a b (met b) ++ all_names how a b)
+  ordered_different Interleave fit = all_different (map (variable_name how a b) (woven how a b) ++ all_names how a b)
   ordered_different (Listed names) fit = listed_different names fit
 
   -- each of the names is a variable
   pub ordered_known : (order : Order) → IsFit how a b order → AmongNames (ordered how a b order) (declared how a b)
   ordered_known Declared fit n e = e
   ordered_known Depth fit n e =
-      distinct_names (names_of a (met a) ++ second_names how a b (met b) ++ input_names how a b) (input_names how a b) (met_all how a b) n e
+      distinct_names (names_of a (met a) ++ second_names how a b (met b) ++ all_names how a b) (all_names how a b) (met_all how a b) n e
   ordered_known Interleave fit n e =
-      distinct_names (map (variable_name how a b) (woven how a b) ++ input_names how a b) (input_names how a b) (woven_all how a b) n e
+      distinct_names (map (variable_name how a b) (woven how a b) ++ all_names how a b) (all_names how a b) (woven_all how a b) n e
   ordered_known (Listed names) fit n e = (fitting (declared how a b) [] names 1 fit).known n e
 
   -- each variable is one of the names
@@ -194,5 +195,5 @@ module _ (how : Match) (a b : Circuit) where
       omega (
         arith,
         no_more (ordered how a b order) (declared how a b) (ordered_different order fit) (ordered_known order fit),
-        no_more (declared how a b) (ordered how a b order) (all_different (input_names how a b)) (ordered_all order fit),
+        no_more (declared how a b) (ordered how a b order) (all_different (all_names how a b)) (ordered_all order fit),
       )

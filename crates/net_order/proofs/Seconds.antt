@@ -1,16 +1,16 @@
--- The second netlist's inputs under the first's names.
+-- The second netlist's variables under the first's names.
 use Rattle.std.proofs.Common.{◌≡◌, ℕ, zero, ◌+◌, ◌<◌, ◌≤◌, List, [], ◌∷◌, ◌++◌, Bool, true, false, refl, sym, ap, ◌∙◌, subst, inl, inr, suc, length, map, arith, get_or, add-one}
 use Rattle.std.specs.Prelude.{cond, ◌||◌, ◌==◌, All, IsTrue, Result, Ok, Err, IfErr, IfOk, slice_index_or, Vec}
 use Rattle.std.specs.Global.{Global}
 use Rattle.std.proofs.lemmas.Grind.{common_steps}
-use Rattle.std.proofs.lemmas.List.{length-append, length-map}
+use Rattle.std.proofs.lemmas.List.{length-append}
 use Rattle.std.proofs.lemmas.List.Elements.{All-map, All-from_get_or}
 use Rattle.net_bench.specs.Circuit.{Circuit, variables_of}
 use Rattle.net_order.specs.declared.order.Match.{Match}
 use Rattle.net_order.specs.declared.order.Match.TheVariants.{Name, Position}
 use Rattle.net_order.specs.declared.order.OrderFault.{OrderFault}
 use Rattle.net_order.specs.declared.order.OrderFault.TheVariants.{OutOfMemory}
-use Rattle.net_order.specs.Order.{name_of, names_of, partner, is_member, second_names, AreCounted, level_of}
+use Rattle.net_order.specs.Order.{name_of, names_of, partner, is_member, registers_of, second_names, AreCounted, level_of}
 use Rattle.net_order.specs.Tables.{with_names, IsOverflow}
 use Rattle.net_order.proofs.Named.{joined, longer}
 
@@ -63,13 +63,13 @@ pub no_overflow : (f : OrderFault) (names : List (List ℕ)) → length names �
 no_overflow f names few (inl e) = e
 no_overflow f names few (inr (e, h)) = absurd (omega arith)
 
-variables_count : (c : Circuit) → length (variables_of c) ≡ length c.inputs + length c.registers
-variables_count c = length-append c.inputs (map (λ g. g.out) c.registers) ∙ ap (λ k. length c.inputs + k) (length-map c.registers (λ g. g.out))
+variables_count : (c : Circuit) → length (variables_of c) ≡ length c.inputs + length (registers_of c)
+variables_count c = length-append c.inputs (registers_of c)
 
 pub same_counts : (how : Match) (a b : Circuit) → how ≡ Position → AreCounted how a b → length (variables_of b) ≡ length (variables_of a)
 same_counts how a b e h =
     let both : AreCounted Position a b = subst (λ m. AreCounted m a b) e h in
-    omega (arith, both.0, both.2, both.3, variables_count a, variables_count b)
+    omega (arith, both.0, both.2, variables_count a, variables_count b)
 
 -- ---- levels
 

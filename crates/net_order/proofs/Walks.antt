@@ -5,7 +5,8 @@ use Rattle.std.specs.List.{sum_by}
 use Rattle.std.proofs.lemmas.Bool.Decides.{nat_tests}
 use Rattle.std.proofs.lemmas.Grind.{get_or_default_zero}
 use Rattle.std.proofs.lemmas.List.Sums.{sum_by-cons, fold-append}
-use Rattle.std.proofs.lemmas.List.{reverse-append, append-nil, take_more, drop_more}
+use Rattle.std.proofs.lemmas.List.{reverse-append, append-nil, take_more, drop_more, flat_map_more}
+use Rattle.std.proofs.lemmas.List.Elements.{All-append}
 use Rattle.net_bench.specs.declared.netlist.GateLine.{GateLine}
 use Rattle.net_bench.specs.Circuit.{Circuit, Net, IsNet, circuit}
 use Rattle.net_order.specs.declared.walk.Frame.{Frame}
@@ -180,7 +181,24 @@ lists_more f gates i g old new l low at is_l is_new before =
     is_new ∙ ap (λ xs. xs ++ l ∷ []) before ∙ ap (λ x. map f (take i gates) ++ x ∷ []) is_l ∙ sym (map_more f (take i gates) g) ∙
     ap (map f) (sym (take_more gates i g low ∙ ap (λ y. take i gates ++ y ∷ []) (sym at)))
 
--- ---- outputs, one after the other
+-- ---- where walks begin
+
+pub low_next : (n : Net) → IsNet n → (registers : List GateLine) (i : ℕ) (g : GateLine) (os : List ℕ) → registers ≡ n.registers → i < length registers → g ≡ get_or registers i g → os ≡ g.operands → All (λ s. s < length n.names) os
+low_next n sound registers i g os e low at is_os =
+    let there : i < length n.registers = subst (λ gs. i < length gs) e low in
+    let here : g ≡ get_or n.registers i g = at ∙ ap (λ gs. get_or gs i g) e in
+    subst (All (λ s. s < length n.names)) (sym is_os) (subst (λ h. All (λ s. s < length n.names) h.operands) (sym here) (sound.next i g there).0)
+
+pub next_root : (outs : List ℕ) (registers : List GateLine) (i : ℕ) (g : GateLine) (old new os : List ℕ) → i < length registers → g ≡ get_or registers i g → os ≡ g.operands → new ≡ old ++ os →
+    old ≡ outs ++ flat_map (λ h. h.operands) (take i registers) → new ≡ outs ++ flat_map (λ h. h.operands) (take (i + 1) registers)
+next_root outs registers i g old new os low at is_os is_new before =
+    is_new ∙ ap (λ xs. xs ++ os) before ∙ ap (λ xs. (outs ++ flat_map (λ h. h.operands) (take i registers)) ++ xs) is_os ∙ flat_map_more (λ h. h.operands) outs (take i registers) g ∙
+    ap (λ xs. outs ++ flat_map (λ h. h.operands) xs) (sym (take_more registers i g low ∙ ap (λ y. take i registers ++ y ∷ []) (sym at)))
+
+pub low_more : (count : ℕ) (old new os : List ℕ) → new ≡ old ++ os → All (λ s. s < count) old → All (λ s. s < count) os → All (λ s. s < count) new
+low_more count old new os is_new h k = subst (All (λ s. s < count)) (sym is_new) (All-append (λ s. s < count) old os h k)
+
+-- ---- signals, one after the other
 
 pub next_output : (below_it : ℕ → List ℕ) (outs found new total : List ℕ) (i s : ℕ) → i < length outs → s ≡ get_or outs i s → new ≡ fold with_number found (below_it s) →
     fold with_number found (flat_map below_it (drop i outs)) ≡ total → fold with_number new (flat_map below_it (drop (i + 1) outs)) ≡ total
@@ -188,11 +206,11 @@ next_output below_it outs found new total i s low at is_new e =
     ap (λ xs. fold with_number xs (flat_map below_it (drop (i + 1) outs))) is_new ∙ sym (fold-append with_number found (below_it s) (flat_map below_it (drop (i + 1) outs))) ∙
     sym (ap (λ xs. fold with_number found (flat_map below_it xs)) (drop_more outs i s low ∙ ap (λ x. x ∷ drop (i + 1) outs) (sym at))) ∙ e
 
-pub low_ranked : (n : Net) (sound : IsNet n) (outs ranked listed : List ℕ) (i s v count : ℕ) → outs ≡ n.outputs → ranked ≡ taken ByRank (circuit n) outs → listed ≡ ranked → i < length listed → s ≡ get_or listed i s → v ≡ s →
+pub low_ranked : (n : Net) (outs ranked listed : List ℕ) (i s v count : ℕ) → All (λ t. t < length n.names) outs → ranked ≡ taken ByRank (circuit n) outs → listed ≡ ranked → i < length listed → s ≡ get_or listed i s → v ≡ s →
     count ≡ length n.names → v < count
-low_ranked n sound outs ranked listed i s v count is_outs is_ranked is_listed low at is_v is_count =
+low_ranked n outs ranked listed i s v count low_outs is_ranked is_listed low at is_v is_count =
     let all : All (λ t. t < length n.names) listed =
-    subst (All (λ t. t < length n.names)) (sym (is_listed ∙ is_ranked)) (taken_all ByRank (circuit n) (λ t. t < length n.names) outs (subst (All (λ t. t < length n.names)) (sym is_outs) sound.outputs)) in
+    subst (All (λ t. t < length n.names)) (sym (is_listed ∙ is_ranked)) (taken_all ByRank (circuit n) (λ t. t < length n.names) outs low_outs) in
     let here : s < length n.names = subst (λ t. t < length n.names) (sym at) (all i s low) in
     omega (arith, here, is_v, is_count)
 

@@ -6,10 +6,11 @@ use Rattle.net_bench.proofs.Numbers.{or_left, or_right, or_cases, in_distinct, n
 use Rattle.net_bench.specs.Circuit.{Circuit, is_name_in, variables_of}
 use Rattle.net_order.specs.declared.order.Match.{Match}
 use Rattle.net_order.specs.declared.walk.Way.TheVariants.{ByRank}
-use Rattle.net_order.specs.Order.{below, declared, first_variable, input_names, is_member, level_of, met_below, name_of, names_of, second_name, second_names, second_variable, weave, weave_below, weave_netlist, with_number, woven, falling, rank_of}
+use Rattle.net_order.specs.Order.{below, declared, all_names, first_variable, is_member, level_of, met_below, name_of, second_name, second_variable, weave, weave_below, weave_netlist, with_number, woven, falling, rank_of, roots}
 use Rattle.net_order.specs.Walk.{Among}
+use Rattle.net_order.proofs.AllNames.{first_all, second_all}
 use Rattle.net_order.proofs.Leaves.{member_at}
-use Rattle.net_order.proofs.Members.{at_place, equal_numbers, left_names, member_head, met_below_inputs, named_member, no_true, right_names}
+use Rattle.net_order.proofs.Members.{at_place, equal_numbers, member_head, met_below_inputs, named_member, no_true}
 use Rattle.net_order.proofs.Walking.{in_append}
 use Rattle.net_order.proofs.Weaving.{weave_from, weave_has, weave_keeps, weave_nothing}
 
@@ -168,27 +169,27 @@ outputs_same c f g h (s ∷ outs) order =
     ap (λ vs. fold (weave_below c f) (weave order None vs) outs) (map_same f g (met_below ByRank c s) (λ x e. h x (met_below_inputs ByRank c s x e))) ∙
     outputs_same c f g h outs (weave_below c g order s)
 
--- what is the variable of a signal matters for inputs alone
+-- what is the variable of a signal matters for variables alone
 pub netlist_same : (c : Circuit) (f g : ℕ → ℕ) → ((s : ℕ) → is_member s (variables_of c) ≡ true → f s ≡ g s) → (order : List ℕ) → weave_netlist c f order ≡ weave_netlist c g order
-netlist_same c f g h order = outputs_same c f g h (falling (rank_of c) c.outputs) order
+netlist_same c f g h order = outputs_same c f g h (falling (rank_of c) (roots c)) order
 
 -- ---- the numbers of variables
 
 module _ (how : Match) (a b : Circuit) where
-  variable_low : (n : List ℕ) → is_name_in (input_names how a b) n ≡ true → level_of (declared how a b) n < length (declared how a b)
-  variable_low n e = number_low (declared how a b) n (in_distinct (input_names how a b) n ∙ e)
+  variable_low : (n : List ℕ) → is_name_in (all_names how a b) n ≡ true → level_of (declared how a b) n < length (declared how a b)
+  variable_low n e = number_low (declared how a b) n (in_distinct (all_names how a b) n ∙ e)
 
   pub first_low : (s : ℕ) → is_member s (variables_of a) ≡ true → first_variable how a b s < length (declared how a b)
-  first_low s e = variable_low (name_of a s) (left_names (names_of a (variables_of a)) (names_of a (variables_of a)) (second_names how a b (variables_of b)) (λ n k. k) (name_of a s) (named_member (name_of a) (variables_of a) s e))
+  first_low s e = variable_low (name_of a s) (first_all how a b (name_of a s) (named_member (name_of a) (variables_of a) s e))
 
   pub second_low : (s : ℕ) → is_member s (variables_of b) ≡ true → second_variable how a b s < length (declared how a b)
   second_low s e =
       variable_low (second_name how a b s)
-      (right_names (second_names how a b (variables_of b)) (names_of a (variables_of a)) (second_names how a b (variables_of b)) (λ n k. k) (second_name how a b s) (named_member (second_name how a b) (variables_of b) s e))
+      (second_all how a b (second_name how a b s) (named_member (second_name how a b) (variables_of b) s e))
 
   pub woven_low : (x : ℕ) → is_member x (woven how a b) ≡ true → x < length (declared how a b)
-  woven_low x e = elim (netlist_from b (second_variable how a b) (falling (rank_of b) b.outputs) (weave_netlist a (first_variable how a b) []) x e) [
-    | inl before ↦ elim (netlist_from a (first_variable how a b) (falling (rank_of a) a.outputs) [] x before) [
+  woven_low x e = elim (netlist_from b (second_variable how a b) (falling (rank_of b) (roots b)) (weave_netlist a (first_variable how a b) []) x e) [
+    | inl before ↦ elim (netlist_from a (first_variable how a b) (falling (rank_of a) (roots a)) [] x before) [
       | inl none ↦ absurd (no_true none)
       | inr (m, input, is) ↦ subst (λ y. y < length (declared how a b)) is (first_low m input)
     ]

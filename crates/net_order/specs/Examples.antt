@@ -6,7 +6,7 @@ use Rattle.net_bench.specs.Statement.{Statement}
 use Rattle.net_bench.specs.Circuit.{Circuit, circuit_of}
 use Rattle.net_bench.specs.Judge.{judge, answer}
 use Rattle.net_order.specs.declared.order.Match.TheVariants.{Name, Position}
-use Rattle.net_order.specs.Order.{declared, by_depth, bad_place, IsListing, output_pairs, only_in}
+use Rattle.net_order.specs.Order.{declared, by_depth, bad_place, IsListing, matched, only_in, registers_of}
 
 -- The circuit of the statements that are answered, without any where a fault is.
 abbrev read : Result (List Statement) BenchFault → Circuit
@@ -44,13 +44,44 @@ unfolding tokens_in pieces_in judge
 crossed = refl
 
 -- outputs that only one netlist has
-lone : output_pairs Name (netlist (codes "INPUT(a) OUTPUT(a) OUTPUT(b) b = NOT(a)")) (netlist (codes "INPUT(a) OUTPUT(c) OUTPUT(a) c = NOT(a)")) ≡ (0, 0) ∷ []
+abbrev two : Circuit
+two = netlist (codes "INPUT(a) OUTPUT(a) OUTPUT(b) b = NOT(a)")
+
+abbrev other : Circuit
+other = netlist (codes "INPUT(a) OUTPUT(c) OUTPUT(a) c = NOT(a)")
+
+lone : matched Name two other two.outputs other.outputs ≡ (0, 0) ∷ []
 unfolding tokens_in pieces_in judge
 lone = refl
 
-lone_first : only_in Name (netlist (codes "INPUT(a) OUTPUT(a) OUTPUT(b) b = NOT(a)")) (netlist (codes "INPUT(a) OUTPUT(c) OUTPUT(a) c = NOT(a)")) ≡ 1 ∷ []
+lone_first : only_in Name two other two.outputs other.outputs ≡ 1 ∷ []
 unfolding tokens_in pieces_in judge
 lone_first = refl
+
+-- registers stand behind the inputs of both netlists
+abbrev one_register : Circuit
+one_register = netlist (codes "OUTPUT(q) q = DFF(n) n = XOR(q, c) INPUT(c)")
+
+abbrev more_inputs : Circuit
+more_inputs = netlist (codes "INPUT(d) r = DFF(d) OUTPUT(r) INPUT(c)")
+
+registers_last : declared Name one_register more_inputs ≡ map (λ d. d ∷ []) (codes "cdqr")
+unfolding tokens_in pieces_in judge
+registers_last = refl
+
+-- walks begin at the outputs and go on at the next states; a register ends a chain of operands
+registers_met : by_depth Name one_register more_inputs ≡ map (λ d. d ∷ []) (codes "qcrd")
+unfolding tokens_in pieces_in judge
+registers_met = refl
+
+-- a register is compared with a register of its name, and by position with the one of its number
+renamed : matched Name one_register more_inputs (registers_of one_register) (registers_of more_inputs) ≡ []
+unfolding tokens_in pieces_in judge
+renamed = refl
+
+by_number : matched Position one_register more_inputs (registers_of one_register) (registers_of more_inputs) ≡ (0, 1) ∷ []
+unfolding tokens_in pieces_in judge
+by_number = refl
 
 -- The names x1 to x6.
 abbrev six : List (List ℕ)

@@ -5,7 +5,7 @@ use Rattle.net_order.specs.declared.order.OrderFault.TheVariants.{CountsDiffer, 
 
 -- What is printed of a fault.
 abbrev pub order_fault_text : OrderFault → List ℕ
-order_fault_text CountsDiffer = codes "the netlists have different numbers of inputs or outputs"
+order_fault_text CountsDiffer = codes "the netlists have different numbers of inputs, outputs or registers"
 order_fault_text (NotAPermutation place) = codes "name " ++ decimal place ++ codes " of the list does not fit"
 order_fault_text TooManyInputs = codes "more than 4096 variables"
 order_fault_text OutOfMemory = codes "out of memory"

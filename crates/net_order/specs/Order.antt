@@ -20,11 +20,15 @@ name_of c s = slice_index_or c.names s []
 abbrev pub names_of : Circuit → List ℕ → List (List ℕ)
 names_of c ss = map (name_of c) ss
 
+-- The registers' signals, in their order.
+abbrev pub registers_of : Circuit → List ℕ
+registers_of c = map (λ g. g.out) c.registers
+
 -- Whether the number stands in the list.
 abbrev pub is_member : ℕ → List ℕ → Bool
 is_member s ss = list_any (λ t. t == s) ss
 
--- ---- walks below the outputs
+-- ---- walks below the outputs and the next states
 
 -- Whether a signal is a variable of its netlist, an input or a register: a walk meets it and goes no further.
 abbrev pub is_variable : Circuit → ℕ → Bool
@@ -84,9 +88,13 @@ with_number ss s = if is_member s ss then ss else ss ++ s ∷ []
 abbrev pub met_below : Way → Circuit → ℕ → List ℕ
 met_below way c s = fold with_number [] (below way c s)
 
--- The variables below all outputs, each where it is met first, operands from left to right.
+-- Where walks begin: at the outputs, then at the registers' operands, which are their next states.
+abbrev pub roots : Circuit → List ℕ
+roots c = c.outputs ++ flat_map (λ g. g.operands) c.registers
+
+-- The variables below all outputs and next states, each where it is met first, operands from left to right.
 abbrev pub met : Circuit → List ℕ
-met c = fold with_number [] (flat_map (below Written c) c.outputs)
+met c = fold with_number [] (flat_map (below Written c) (roots c))
 
 -- ---- variables
 
@@ -100,26 +108,32 @@ partner [] ts s = 0
 partner (x ∷ xs) [] s = 0
 partner (x ∷ xs) (t ∷ ts) s = if x == s then t else partner xs ts s
 
--- The variable of an input of the second netlist. By position, input i of both is one variable, with the first netlist's name.
+-- The variable of an input or register of the second netlist. By position, input i of both is one variable, with the first netlist's
+-- name, and so is register i.
 abbrev pub second_name : Match → Circuit → Circuit → ℕ → List ℕ
 second_name Name a b s = name_of b s
 second_name Position a b s = name_of a (partner (variables_of b) (variables_of a) s)
 
--- The variables of inputs of the second netlist, in their order.
+-- The variables of inputs or registers of the second netlist, in their order.
 abbrev pub second_names : Match → Circuit → Circuit → List ℕ → List (List ℕ)
 second_names how a b ss = map (second_name how a b) ss
 
--- The names of all inputs, the first netlist's and then the second's, as often as they stand.
-abbrev pub input_names : Match → Circuit → Circuit → List (List ℕ)
-input_names how a b = names_of a (variables_of a) ++ second_names how a b (variables_of b)
+-- The names of signals of the first netlist, then those of the variables of signals of the second.
+abbrev pub both_names : Match → Circuit → Circuit → List ℕ → List ℕ → List (List ℕ)
+both_names how a b ss ts = names_of a ss ++ second_names how a b ts
 
--- The variables: the first netlist's inputs, then the second's that are not there yet.
+-- The names of all variables, as often as they stand: the first netlist's inputs, the second's, the first's registers, the second's.
+abbrev pub all_names : Match → Circuit → Circuit → List (List ℕ)
+all_names how a b = both_names how a b a.inputs b.inputs ++ both_names how a b (registers_of a) (registers_of b)
+
+-- The variables as they are declared, each at its first place.
 abbrev pub declared : Match → Circuit → Circuit → List (List ℕ)
-declared how a b = distinct (input_names how a b)
+declared how a b = distinct (all_names how a b)
 
--- The inputs as they are met below the first netlist's outputs, then below the second's, then the others as they are declared.
+-- The variables as they are met below the first netlist's outputs and next states, then below the second's, then the others as they
+-- are declared.
 abbrev pub by_depth : Match → Circuit → Circuit → List (List ℕ)
-by_depth how a b = distinct (names_of a (met a) ++ second_names how a b (met b) ++ input_names how a b)
+by_depth how a b = distinct (both_names how a b (met a) (met b) ++ all_names how a b)
 
 -- A variable's level in an order of names is its place among them.
 abbrev pub level_of : List (List ℕ) → List ℕ → ℕ
@@ -143,13 +157,13 @@ abbrev pub weave : List ℕ → Option ℕ → List ℕ → List ℕ
 weave order last [] = order
 weave order last (v ∷ vs) = weave (with_variable last v order) (Some v) vs
 
--- A netlist is woven into an order: one walk below each output, the outputs and the operands of each gate by falling rank. The
--- function gives a signal's variable.
+-- A netlist is woven into an order: one walk below each output and next state, these and the operands of each gate by falling rank.
+-- The function gives a signal's variable.
 abbrev pub weave_below : Circuit → (ℕ → ℕ) → List ℕ → ℕ → List ℕ
 weave_below c variable order s = weave order None (map variable (met_below ByRank c s))
 
 abbrev pub weave_netlist : Circuit → (ℕ → ℕ) → List ℕ → List ℕ
-weave_netlist c variable order = fold (weave_below c variable) order (falling (rank_of c) c.outputs)
+weave_netlist c variable order = fold (weave_below c variable) order (falling (rank_of c) (roots c))
 
 -- A variable's number is its place among the declared ones.
 abbrev pub first_variable : Match → Circuit → Circuit → ℕ → ℕ
@@ -168,7 +182,7 @@ variable_name how a b v = slice_index_or (declared how a b) v []
 
 -- The variables that walks meet, then the others as they are declared.
 abbrev pub interleaved : Match → Circuit → Circuit → List (List ℕ)
-interleaved how a b = distinct (map (variable_name how a b) (woven how a b) ++ input_names how a b)
+interleaved how a b = distinct (map (variable_name how a b) (woven how a b) ++ all_names how a b)
 
 -- ---- the orders
 
@@ -191,54 +205,71 @@ bad_place variables before (n ∷ ns) place =
 abbrev pub IsListing : List (List ℕ) → List (List ℕ) → Type 0
 IsListing variables names = bad_place variables [] names 1 ≡ None
 
--- ---- outputs
+-- ---- what is compared
 
--- The signal, where it is an output.
-abbrev pub where_output : Circuit → Option ℕ → Option ℕ
-where_output c None = None
-where_output c (Some t) = if is_member t c.outputs then Some t else None
+-- The signal, where it stands among these.
+abbrev pub where_among : List ℕ → Option ℕ → Option ℕ
+where_among ts None = None
+where_among ts (Some t) = if is_member t ts then Some t else None
 
--- The output of this name.
-abbrev pub output_named : Circuit → List ℕ → Option ℕ
-output_named c n = where_output c (number c.names n)
+-- The signal of this name among these.
+abbrev pub signal_named : Circuit → List ℕ → List ℕ → Option ℕ
+signal_named c ts n = where_among ts (number c.names n)
 
 -- The pairs behind the pair of a signal and its partner, where it has one.
 abbrev pub with_pair : ℕ → Option ℕ → List (ℕ × ℕ) → List (ℕ × ℕ)
 with_pair s None ps = ps
 with_pair s (Some t) ps = (s, t) ∷ ps
 
--- By name: the outputs that both have, in the first netlist's order.
-abbrev pub pairs_by_name : Circuit → Circuit → List ℕ → List (ℕ × ℕ)
-pairs_by_name a b [] = []
-pairs_by_name a b (s ∷ ss) = with_pair s (output_named b (name_of a s)) (pairs_by_name a b ss)
+-- By name: each of the signals with the one of that name among these of the other netlist, where there is one.
+abbrev pub pairs_by_name : Circuit → Circuit → List ℕ → List ℕ → List (ℕ × ℕ)
+pairs_by_name a b ts [] = []
+pairs_by_name a b ts (s ∷ ss) = with_pair s (signal_named b ts (name_of a s)) (pairs_by_name a b ts ss)
 
--- The outputs that are compared. By position: output i of both.
-abbrev pub output_pairs : Match → Circuit → Circuit → List (ℕ × ℕ)
-output_pairs Name a b = pairs_by_name a b a.outputs
-output_pairs Position a b = zip a.outputs b.outputs
+-- The pairs of these signals of two netlists. By position: signal i of both.
+abbrev pub matched : Match → Circuit → Circuit → List ℕ → List ℕ → List (ℕ × ℕ)
+matched Name a b ss ts = pairs_by_name a b ts ss
+matched Position a b ss ts = zip ss ts
 
 -- The signals behind a signal that has no partner.
 abbrev pub without_pair : ℕ → Option ℕ → List ℕ → List ℕ
 without_pair s None ss = s ∷ ss
 without_pair s (Some t) ss = ss
 
--- The signals among these whose name no output of the other netlist has.
-abbrev pub unmatched : Circuit → Circuit → List ℕ → List ℕ
-unmatched a b [] = []
-unmatched a b (s ∷ ss) = without_pair s (output_named b (name_of a s)) (unmatched a b ss)
+-- The signals whose name none of these of the other netlist has.
+abbrev pub unmatched : Circuit → Circuit → List ℕ → List ℕ → List ℕ
+unmatched a b ts [] = []
+unmatched a b ts (s ∷ ss) = without_pair s (signal_named b ts (name_of a s)) (unmatched a b ts ss)
 
--- The outputs of one netlist that are in no pair.
-abbrev pub only_in : Match → Circuit → Circuit → List ℕ
-only_in Name a b = unmatched a b a.outputs
-only_in Position a b = []
+-- The signals of one netlist that are in no pair.
+abbrev pub only_in : Match → Circuit → Circuit → List ℕ → List ℕ → List ℕ
+only_in Name a b ss ts = unmatched a b ts ss
+only_in Position a b ss ts = []
+
+-- Signals of two netlists that are compared: the pairs, in the first netlist's order, and those of either that are in none.
+pub record Corresponding : Type 0 where
+  pub pairs : List (ℕ × ℕ)
+  pub only_first : List ℕ
+  pub only_second : List ℕ
+
+-- How these signals of the one netlist correspond to these of the other.
+abbrev pub correspondence : Match → Circuit → Circuit → List ℕ → List ℕ → Corresponding
+correspondence how a b ss ts = record {
+  pairs = matched how a b ss ts;
+  only_first = only_in how a b ss ts;
+  only_second = only_in how b a ts ss;
+}
 
 -- ---- what is answered
 
--- Neither netlist has a register, since their next states are not compared yet; and by position, the numbers of inputs and of outputs agree.
+-- By position, there are as many of the one as of the other.
+abbrev pub AreAsMany : Match → List ℕ → List ℕ → Type 0
+AreAsMany Name ss ts = Unit {0}
+AreAsMany Position ss ts = length ss ≡ length ts
+
+-- By position, the numbers of inputs, of outputs and of registers agree.
 abbrev pub AreCounted : Match → Circuit → Circuit → Type 0
-AreCounted Name a b = (length a.registers ≡ 0) × (length b.registers ≡ 0)
-AreCounted Position a b =
-    (length a.inputs ≡ length b.inputs) × (length a.outputs ≡ length b.outputs) × (length a.registers ≡ 0) × (length b.registers ≡ 0)
+AreCounted how a b = AreAsMany how a.inputs b.inputs × AreAsMany how a.outputs b.outputs × AreAsMany how (registers_of a) (registers_of b)
 
 -- A list that is asked for has each variable's name exactly once.
 abbrev pub IsFit : Match → Circuit → Circuit → Order → Type 0
@@ -247,17 +278,17 @@ IsFit how a b Depth = Unit {0}
 IsFit how a b Interleave = Unit {0}
 IsFit how a b (Listed names) = IsListing (declared how a b) names
 
--- A pairing as its users see it: the variables by level, and by signal the level of an input of each netlist.
+-- A pairing as its users see it: the variables by level, by signal the level of an input or register of each netlist, and which
+-- outputs and which registers are compared.
 pub record Paired : Type 0 where
   pub names : List (List ℕ)
   pub first : List ℕ
   pub second : List ℕ
-  pub pairs : List (ℕ × ℕ)
-  pub only_first : List ℕ
-  pub only_second : List ℕ
+  pub outputs : Corresponding
+  pub registers : Corresponding
 
--- This is the pairing of two netlists: its variables are few and in the order that is asked for, each input has its variable's level,
--- and its outputs are the pairs and those that are in none.
+-- This is the pairing of two netlists: its variables are few and in the order that is asked for, each input or register has its
+-- variable's level, and outputs correspond to outputs, registers to registers.
 pub record IsPairing (how : Match) (a b : Circuit) (order : Order) (p : Paired) : Type 0 where
   pub counted : AreCounted how a b
   pub few : length (declared how a b) ≤ max_variables
@@ -265,9 +296,8 @@ pub record IsPairing (how : Match) (a b : Circuit) (order : Order) (p : Paired) 
   pub names : p.names ≡ ordered how a b order
   pub first : All (λ s. slice_index p.first s ≡ level_of (ordered how a b order) (name_of a s)) (variables_of a)
   pub second : All (λ s. slice_index p.second s ≡ level_of (ordered how a b order) (second_name how a b s)) (variables_of b)
-  pub pairs : p.pairs ≡ output_pairs how a b
-  pub only_first : p.only_first ≡ only_in how a b
-  pub only_second : p.only_second ≡ only_in how b a
+  pub outputs : p.outputs ≡ correspondence how a b a.outputs b.outputs
+  pub registers : p.registers ≡ correspondence how a b (registers_of a) (registers_of b)
 
 -- Why there is no pairing, each cause only where none comes before it. Want of memory is said apart.
 abbrev pub IsRefused : Match → Circuit → Circuit → Order → OrderFault → Type 0

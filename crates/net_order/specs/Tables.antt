@@ -1,9 +1,16 @@
 -- What the tables of the code hold.
 use Rattle.std.specs.Prelude.{◌≡◌, ◌⊎◌, ◌<◌, ℕ, Bool, true, false, List, fold, length, slice_index_or}
-use Rattle.net_bench.specs.Circuit.{with_name}
+use Rattle.net_bench.specs.Circuit.{Circuit, with_name}
+use Rattle.net_order.specs.declared.kinds.VariableKind.{VariableKind}
+use Rattle.net_order.specs.declared.kinds.VariableKind.TheVariants.{Input, Register}
 use Rattle.net_order.specs.declared.order.OrderFault.{OrderFault}
 use Rattle.net_order.specs.declared.order.OrderFault.TheVariants.{TooManyInputs, OutOfMemory}
-use Rattle.net_order.specs.Order.{is_member, max_variables}
+use Rattle.net_order.specs.Order.{is_member, max_variables, registers_of}
+
+-- The variables of one kind.
+abbrev pub of_kind : VariableKind → Circuit → List ℕ
+of_kind Input c = c.inputs
+of_kind Register c = registers_of c
 
 -- Names, and then more, each where it is not there yet.
 abbrev pub with_names : List (List ℕ) → List (List ℕ) → List (List ℕ)

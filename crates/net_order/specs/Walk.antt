@@ -59,7 +59,7 @@ IsWalk way c goal found marks todo = IsWalking (below way c) (length c.names) go
 abbrev pub IsSettled : Way → Circuit → List ℕ → List Bool → Type 0
 IsSettled way c found marks = IsWalk way c found found marks []
 
--- How many steps a walk below a signal takes where no mark cuts it short: one for an input, and for a gate two beside its operands'.
+-- How many steps a walk below a signal takes where no mark cuts it short: one for a variable, and for a gate two beside its operands'.
 -- The first number bounds the depth.
 abbrev pub steps_within : Way → Circuit → ℕ → ℕ → ℕ
 steps_within way c zero s = if is_variable c s then 1 else 2

@@ -5,10 +5,11 @@ ghost use Rattle.net_bench.specs.Circuit.{circuit, variables_of};
 ghost use Rattle.net_order.specs.Order.{AreCounted, declared, interleaved, put_behind, weave, weave_netlist, with_variable, woven};
 ghost use Rattle.net_order.specs.Tables.{IsMarked, with_names};
 
+use crate::kinds::roots_of;
 use crate::levels::{first_levels, second_levels};
 use crate::order::{Match, OrderFault};
 use crate::ranked::by_rank;
-use crate::variables::{MAX_VARIABLES, add_inputs};
+use crate::variables::{MAX_VARIABLES, add_all};
 use crate::walk::{Way, met_below, no_marks, paths_of, walk_below};
 use net_bench::name_table::NameTable;
 use net_bench::netlist::Signal;
@@ -95,8 +96,8 @@ fn weave(
     Ok(())
 }
 
-/// Weaves a netlist into the order. Only a walk that meets an input that no walk before it has met is put in: any other would
-/// change nothing.
+/// Weaves a netlist into the order. Only a walk that meets a variable that no walk before it has met is put in: any other
+/// would change nothing.
 fn weave_netlist(
     alloc: Global,
     order: &mut Vec<u32>,
@@ -111,15 +112,16 @@ fn weave_netlist(
     ensures woven { OnOk result (order.new.items ≡ weave_netlist (circuit net.now) (slice_index variables.now) order.old.items) }
 {
     let paths = paths_of(alloc, net, Way::ByRank)?;
-    let ranked = by_rank(alloc, net, net.outputs())?;
-    let outputs = ranked.as_slice();
+    let roots = roots_of(alloc, net)?;
+    let ranked = by_rank(alloc, net, roots.as_slice())?;
+    let ranked = ranked.as_slice();
     let mut found = Vec::new(alloc);
     let mut walked = no_marks(alloc, &paths)?;
-    for output in outputs {
+    for root in ranked {
         let before = found.len();
-        walk_below(alloc, &paths, &mut found, &mut walked, output.number())?;
+        walk_below(alloc, &paths, &mut found, &mut walked, root.number())?;
         if found.len() > before {
-            let met = met_below(alloc, &paths, output.number())?;
+            let met = met_below(alloc, &paths, root.number())?;
             weave(order, marks, variables, met.as_slice())?;
         }
     }
@@ -182,6 +184,6 @@ pub fn interleaved_table(
     let order = woven(alloc, first, second, how, variables)?;
     let mut table = NameTable::new(alloc);
     add_variables(alloc, &mut table, variables, order.as_slice())?;
-    add_inputs(alloc, &mut table, first, second, how)?;
+    add_all(alloc, &mut table, first, second, how)?;
     Ok(table)
 }

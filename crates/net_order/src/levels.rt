@@ -1,4 +1,4 @@
-//! The levels of inputs.
+//! The levels of inputs and registers.
 ghost use Rattle.std.specs.Prelude.{◌≡◌, ℕ, ◌<◌, length, All, IfOk, slice_index};
 ghost use Rattle.net_bench.specs.Circuit.{circuit, variables_of};
 ghost use Rattle.net_order.specs.Order.{AreCounted, name_of, second_name, level_of};
@@ -10,7 +10,7 @@ use net_bench::netlist::Signal;
 use net_bench::reader::Netlist;
 use std::alloc::{AllocError, Global};
 
-/// By signal below `count`, the level of the variable that it is. Input i has the variable that `called[i]` of `net` names.
+/// By signal below `count`, the level of the variable that it is. Signal i has the variable that `called[i]` of `net` names.
 fn levels(
     alloc: Global,
     table: &NameTable,
@@ -22,7 +22,7 @@ fn levels(
     requires inside { All (λ s. s < count) inputs.now }
     requires same { length inputs.now ≡ length called.now }
     requires known { All (λ s. s < length net.now.names) called.now }
-    // an input that stands twice has one variable
+    // a signal that stands twice has one variable
     requires clear { (i j : ℕ) → i < length inputs.now → j < length inputs.now → slice_index inputs.now i ≡ slice_index inputs.now j → slice_index called.now i ≡ slice_index called.now j }
     ensures each { IfOk result (λ v. (k : ℕ) → k < length inputs.now →
         slice_index v.items (slice_index inputs.now k) ≡ level_of table.now (name_of (circuit net.now) (slice_index called.now k))) }

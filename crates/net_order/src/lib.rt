@@ -1,13 +1,14 @@
-//! Which variables two netlists have, in which order they stand, and which outputs are compared.
+//! Which variables two netlists have, in which order they stand, and which outputs and registers are compared.
 #![tactic(auto)]
 
+pub mod correspondence;
 mod interleave;
+mod kinds;
 mod levels;
 mod listed;
 pub mod names;
 pub mod order;
 pub mod order_file;
-mod outputs;
 pub mod pairing;
 mod partners;
 mod ranked;

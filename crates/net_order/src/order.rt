@@ -8,24 +8,26 @@ use std::alloc::AllocError;
 use std::fmt;
 use thiserror::Error;
 
-/// How inputs and outputs of two netlists are paired.
+/// How inputs, outputs and registers of two netlists are paired.
 #[derive(Clone, Copy, Debug, PartialEq, Eq)]
 pub enum Match {
     /// Equal names are paired.
     Name,
-    /// Input i is paired with input i, and output i with output i.
+    /// Input i is paired with input i, output i with output i, and register i with register i.
     Position,
 }
 
 /// The order of the variables, from the top level down.
 #[derive(Drop)]
 pub enum Order {
-    /// The first netlist's inputs as they are declared, then the second's that are not there yet.
+    /// The first netlist's inputs as they are declared, then the second's, the first's registers, the second's, each name at its first
+    /// place.
     Declared,
-    /// The inputs as they are met below the outputs, operands from left to right, then the others as they are declared.
+    /// The variables as they are met below the first netlist's outputs and next states, operands from left to right, then below the
+    /// second's, then the others as they are declared.
     Depth,
-    /// As walks below the outputs interleave them, each with what it met last: outputs and operands by falling rank. Then the others
-    /// as they are declared.
+    /// As walks below the outputs and next states interleave them, each with what it met last: these and operands by falling rank. Then
+    /// the others as they are declared.
     Interleave,
     /// The names of a list, which must have each variable once.
     Listed(Names),
@@ -34,7 +36,7 @@ pub enum Order {
 /// Why two netlists were not paired, or an order file not read.
 #[derive(Clone, Copy, Debug, PartialEq, Eq, Error)]
 pub enum OrderFault {
-    /// By position: the netlists have different numbers of inputs or of outputs. Until next states are paired also: a netlist has a register.
+    /// By position: the netlists have different numbers of inputs, of outputs or of registers.
     CountsDiffer,
     /// The list does not have each variable once. The place, counted from 1, is that of the first name that is no variable or
     /// stood before, or one past the end of a list that is short.
@@ -58,7 +60,7 @@ impl fmt::Display for OrderFault {
         match self {
             OrderFault::CountsDiffer => write!(
                 f,
-                "the netlists have different numbers of inputs or outputs"
+                "the netlists have different numbers of inputs, outputs or registers"
             ),
             OrderFault::NotAPermutation { place } => write!(
                 f,

@@ -1,14 +1,15 @@
 //! The pairing of two netlists.
-ghost use Rattle.std.specs.Prelude.{◌≡◌, ◌≤◌, ◌⊎◌, ◌↔◌, length, All, IfOk, IfErr, IsTrue, slice_index, zip};
+ghost use Rattle.std.specs.Prelude.{◌≡◌, ◌≤◌, ◌⊎◌, ◌↔◌, length, All, IfOk, IfErr, IsTrue, slice_index};
 ghost use Rattle.net_bench.specs.Circuit.{circuit, variables_of};
-ghost use Rattle.net_order.specs.Order.{AreCounted, IsFit, IsPairing, IsRefused, Paired, max_variables, declared, ordered, output_pairs, only_in, level_of, name_of, second_name};
+ghost use Rattle.net_order.specs.Order.{AreAsMany, AreCounted, IsFit, IsPairing, IsRefused, Paired, max_variables, correspondence, declared, ordered, level_of, name_of, registers_of, second_name};
 
+use crate::correspondence::{Correspondence, correspond};
 use crate::interleave::interleaved_table;
+use crate::kinds::registers_of;
 use crate::levels::{first_levels, second_levels};
 use crate::listed::listed;
 use crate::names::Names;
 use crate::order::{Match, Order, OrderFault};
-use crate::outputs::{lone_outputs, marked, pairs_of};
 use crate::variables::{declared_table, depth_table};
 use net_bench::name_table::NameTable;
 use net_bench::netlist::Signal;
@@ -16,15 +17,14 @@ use net_bench::reader::Netlist;
 use std::alloc::{AllocError, Global};
 use std::marker::Model;
 
-/// Which variables two netlists have, at which levels, and which of their outputs are compared.
+/// Which variables two netlists have, at which levels, and which of their outputs and registers are compared.
 #[derive(Drop)]
 pub struct Pairing {
     names: Names,
     first: Vec<u32>,
     second: Vec<u32>,
-    pairs: Vec<(Signal, Signal)>,
-    only_first: Vec<Signal>,
-    only_second: Vec<Signal>,
+    outputs: Correspondence,
+    registers: Correspondence,
 }
 
 impl Model for Pairing {
@@ -37,9 +37,8 @@ impl Model for Pairing {
       names = a.names;
       first = a.first.items;
       second = a.second.items;
-      pairs = a.pairs.items;
-      only_first = a.only_first.items;
-      only_second = a.only_second.items;
+      outputs = a.outputs;
+      registers = a.registers;
     } };
 
     ghost invariant = { λ a. length a.names ≤ max_variables };
@@ -76,40 +75,64 @@ impl Pairing {
 
     /// The outputs that are compared, the first netlist's signal first.
     pub fn output_pairs(&self) -> &[(Signal, Signal)]
-        ensures { result.now ≡ self.now.pairs }
+        ensures { result.now ≡ self.now.outputs.pairs }
     {
-        self.pairs.as_slice()
+        self.outputs.pairs()
     }
 
     /// The first netlist's outputs that are in no pair.
     pub fn only_first(&self) -> &[Signal]
-        ensures { result.now ≡ self.now.only_first }
+        ensures { result.now ≡ self.now.outputs.only_first }
     {
-        self.only_first.as_slice()
+        self.outputs.only_first()
     }
 
     /// The second netlist's outputs that are in no pair.
     pub fn only_second(&self) -> &[Signal]
-        ensures { result.now ≡ self.now.only_second }
+        ensures { result.now ≡ self.now.outputs.only_second }
     {
-        self.only_second.as_slice()
+        self.outputs.only_second()
+    }
+
+    /// The registers whose next states are compared, the first netlist's signal first.
+    pub fn next_pairs(&self) -> &[(Signal, Signal)]
+        ensures { result.now ≡ self.now.registers.pairs }
+    {
+        self.registers.pairs()
+    }
+
+    /// The first netlist's registers that are in no pair.
+    pub fn only_first_next(&self) -> &[Signal]
+        ensures { result.now ≡ self.now.registers.only_first }
+    {
+        self.registers.only_first()
+    }
+
+    /// The second netlist's registers that are in no pair.
+    pub fn only_second_next(&self) -> &[Signal]
+        ensures { result.now ≡ self.now.registers.only_second }
+    {
+        self.registers.only_second()
     }
 }
 
-/// Whether neither netlist has a register; and by position, whether the numbers of inputs and of outputs agree.
+/// By position, whether there are as many of the one as of the other.
+fn are_as_many(how: Match, signals: &[Signal], others: &[Signal]) -> bool
+    ensures { IsTrue result ↔ AreAsMany how signals.now others.now }
+{
+    match how {
+        Match::Name => true,
+        Match::Position => signals.len() == others.len(),
+    }
+}
+
+/// By position, whether the numbers of inputs, of outputs and of registers agree.
 fn are_counted(first: &Netlist, second: &Netlist, how: Match) -> bool
     ensures { IsTrue result ↔ AreCounted how (circuit first.now) (circuit second.now) }
 {
-    if !first.registers().is_empty() || !second.registers().is_empty() {
-        return false;
-    }
-    match how {
-        Match::Name => true,
-        Match::Position => {
-            first.inputs().len() == second.inputs().len()
-                && first.outputs().len() == second.outputs().len()
-        }
-    }
+    are_as_many(how, first.inputs(), second.inputs())
+        && are_as_many(how, first.outputs(), second.outputs())
+        && are_as_many(how, registers_of(first), registers_of(second))
 }
 
 /// The names by level, in the order that is asked for.
@@ -137,59 +160,6 @@ fn ordered_table(
     }
 }
 
-/// The outputs that are compared.
-fn all_pairs(
-    alloc: Global,
-    first: &Netlist,
-    second: &Netlist,
-    how: Match,
-) -> Result<Vec<(Signal, Signal)>, AllocError>
-    requires { AreCounted how (circuit first.now) (circuit second.now) }
-    ensures { IfOk result (λ v. v.items ≡ output_pairs how (circuit first.now) (circuit second.now)) }
-{
-    match how {
-        Match::Name => {
-            let marks = marked(alloc, second.count(), second.outputs())?;
-            pairs_of(alloc, first, second, marks.as_slice())
-        }
-        Match::Position => zipped(alloc, first.outputs(), second.outputs()),
-    }
-}
-
-/// Output i of both.
-fn zipped(
-    alloc: Global,
-    left: &[Signal],
-    right: &[Signal],
-) -> Result<Vec<(Signal, Signal)>, AllocError>
-    requires { length left.now ≡ length right.now }
-    ensures { IfOk result (λ v. v.items ≡ zip left.now right.now) }
-{
-    let mut pairs = Vec::new(alloc);
-    for i in 0..left.len() {
-        pairs.push((left[i], right[i]))?;
-    }
-    Ok(pairs)
-}
-
-/// The outputs of a netlist that are in no pair.
-fn all_lone(
-    alloc: Global,
-    net: &Netlist,
-    other: &Netlist,
-    how: Match,
-) -> Result<Vec<Signal>, AllocError>
-    ensures { IfOk result (λ v. v.items ≡ only_in how (circuit net.now) (circuit other.now)) }
-{
-    match how {
-        Match::Name => {
-            let marks = marked(alloc, other.count(), other.outputs())?;
-            lone_outputs(alloc, net, other, marks.as_slice())
-        }
-        Match::Position => Ok(Vec::new(alloc)),
-    }
-}
-
 /// The parts of a pairing whose names by level are these.
 fn finish(
     alloc: Global,
@@ -203,27 +173,31 @@ fn finish(
     ensures names { IfOk result (λ p. p.names ≡ table) }
     ensures first { IfOk result (λ p. All (λ s. slice_index p.first s ≡ level_of table (name_of (circuit first.now) s)) (variables_of (circuit first.now))) }
     ensures second { IfOk result (λ p. All (λ s. slice_index p.second s ≡ level_of table (second_name how (circuit first.now) (circuit second.now) s)) (variables_of (circuit second.now))) }
-    ensures pairs { IfOk result (λ p. p.pairs ≡ output_pairs how (circuit first.now) (circuit second.now)) }
-    ensures only_first { IfOk result (λ p. p.only_first ≡ only_in how (circuit first.now) (circuit second.now)) }
-    ensures only_second { IfOk result (λ p. p.only_second ≡ only_in how (circuit second.now) (circuit first.now)) }
+    ensures outputs { IfOk result (λ p. p.outputs ≡ correspondence how (circuit first.now) (circuit second.now) first.now.outputs second.now.outputs) }
+    ensures registers { IfOk result (λ p. p.registers ≡ correspondence how (circuit first.now) (circuit second.now) (registers_of (circuit first.now)) (registers_of (circuit second.now))) }
 {
     let first_levels = first_levels(alloc, &table, first)?;
     let second_levels = second_levels(alloc, &table, first, second, how)?;
-    let pairs = all_pairs(alloc, first, second, how)?;
-    let only_first = all_lone(alloc, first, second, how)?;
-    let only_second = all_lone(alloc, second, first, how)?;
+    let outputs = correspond(alloc, first, second, how, first.outputs(), second.outputs())?;
+    let registers = correspond(
+        alloc,
+        first,
+        second,
+        how,
+        registers_of(first),
+        registers_of(second),
+    )?;
     let names = table.to_names(alloc)?;
     Ok(Pairing {
         names: Names::of(names),
         first: first_levels,
         second: second_levels,
-        pairs,
-        only_first,
-        only_second,
+        outputs,
+        registers,
     })
 }
 
-/// Pairs two netlists, their variables in the order that is asked for. A netlist with registers is refused as `CountsDiffer` until next states are paired.
+/// Pairs two netlists, their variables in the order that is asked for.
 pub fn pair(
     alloc: Global,
     first: &Netlist,

@@ -1,4 +1,4 @@
-//! The inputs of the second netlist as those of the first, by position.
+//! The variables of the second netlist as those of the first, by position.
 ghost use Rattle.std.specs.Prelude.{◌≡◌, ℕ, ◌<◌, length, map, All, IfOk, slice_index};
 ghost use Rattle.net_order.specs.Order.{partner};
 

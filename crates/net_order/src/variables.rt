@@ -1,9 +1,10 @@
-//! The variables of two netlists, as they are declared and as they are met below the outputs.
+//! The variables of two netlists, as they are declared and as they are met below outputs and next states.
 ghost use Rattle.std.specs.Prelude.{◌≡◌, ◌<◌, ◌≤◌, length, All, IsTrue, OnOk, IfOk, IfErr};
 ghost use Rattle.net_bench.specs.Circuit.{circuit, variables_of};
-ghost use Rattle.net_order.specs.Order.{AreCounted, by_depth, declared, input_names, is_member, names_of, second_names};
-ghost use Rattle.net_order.specs.Tables.{IsOverflow, with_names};
+ghost use Rattle.net_order.specs.Order.{AreCounted, all_names, both_names, by_depth, declared, is_member, names_of, second_names};
+ghost use Rattle.net_order.specs.Tables.{IsOverflow, of_kind, with_names};
 
+use crate::kinds::{VariableKind, of_kind};
 use crate::order::{Match, OrderFault};
 use crate::partners::partners;
 use crate::walk::met;
@@ -38,7 +39,7 @@ fn add_names(
     Ok(())
 }
 
-/// Puts the variables of these inputs of the second netlist into the table, each where it is not there yet.
+/// Puts the variables of these inputs or registers of the second netlist into the table, each where it is not there yet.
 fn add_second(
     alloc: Global,
     table: &mut NameTable,
@@ -50,7 +51,7 @@ fn add_second(
     requires counted { AreCounted how (circuit first.now) (circuit second.now) }
     requires room { length table.old ≤ MAX_VARIABLES }
     requires known { All (λ s. s < length second.now.names) signals.now }
-    requires inputs { All (λ s. IsTrue (is_member s (variables_of (circuit second.now)))) signals.now }
+    requires variables { All (λ s. IsTrue (is_member s (variables_of (circuit second.now)))) signals.now }
     ensures ok { OnOk result (table.new ≡ with_names table.old (second_names how (circuit first.now) (circuit second.now) signals.now)) }
     ensures few { OnOk result (length table.new ≤ MAX_VARIABLES) }
     ensures err { IfErr result (IsOverflow (with_names table.old (second_names how (circuit first.now) (circuit second.now) signals.now))) }
@@ -70,8 +71,27 @@ fn add_second(
     }
 }
 
-/// Puts the variables of all inputs into the table, as they are declared, each where it is not there yet.
-pub fn add_inputs(
+/// Puts the variables of one kind into the table, the first netlist's and then the second's, each where it is not there yet.
+fn add_kind(
+    alloc: Global,
+    table: &mut NameTable,
+    first: &Netlist,
+    second: &Netlist,
+    how: Match,
+    kind: VariableKind,
+) -> Result<(), OrderFault>
+    requires counted { AreCounted how (circuit first.now) (circuit second.now) }
+    requires room { length table.old ≤ MAX_VARIABLES }
+    ensures ok { OnOk result (table.new ≡ with_names table.old (both_names how (circuit first.now) (circuit second.now) (of_kind kind (circuit first.now)) (of_kind kind (circuit second.now)))) }
+    ensures few { OnOk result (length table.new ≤ MAX_VARIABLES) }
+    ensures err { IfErr result (IsOverflow (with_names table.old (both_names how (circuit first.now) (circuit second.now) (of_kind kind (circuit first.now)) (of_kind kind (circuit second.now))))) }
+{
+    add_names(alloc, table, first, of_kind(first, kind))?;
+    add_second(alloc, table, first, second, how, of_kind(second, kind))
+}
+
+/// Puts all variables into the table, as they are declared, each where it is not there yet.
+pub fn add_all(
     alloc: Global,
     table: &mut NameTable,
     first: &Netlist,
@@ -80,12 +100,12 @@ pub fn add_inputs(
 ) -> Result<(), OrderFault>
     requires counted { AreCounted how (circuit first.now) (circuit second.now) }
     requires room { length table.old ≤ MAX_VARIABLES }
-    ensures ok { OnOk result (table.new ≡ with_names table.old (input_names how (circuit first.now) (circuit second.now))) }
+    ensures ok { OnOk result (table.new ≡ with_names table.old (all_names how (circuit first.now) (circuit second.now))) }
     ensures few { OnOk result (length table.new ≤ MAX_VARIABLES) }
-    ensures err { IfErr result (IsOverflow (with_names table.old (input_names how (circuit first.now) (circuit second.now)))) }
+    ensures err { IfErr result (IsOverflow (with_names table.old (all_names how (circuit first.now) (circuit second.now)))) }
 {
-    add_names(alloc, table, first, first.variables())?;
-    add_second(alloc, table, first, second, how, second.variables())
+    add_kind(alloc, table, first, second, how, VariableKind::Input)?;
+    add_kind(alloc, table, first, second, how, VariableKind::Register)
 }
 
 /// The variables in declared order.
@@ -101,7 +121,7 @@ pub fn declared_table(
     ensures err { IfErr result (IsOverflow (declared how (circuit first.now) (circuit second.now))) }
 {
     let mut table = NameTable::new(alloc);
-    add_inputs(alloc, &mut table, first, second, how)?;
+    add_all(alloc, &mut table, first, second, how)?;
     Ok(table)
 }
 
@@ -119,10 +139,10 @@ pub fn depth_table(
     ensures err { IfErr result (λ fault. fault ≡ OrderFault.OutOfMemory) }
 {
     let mut table = NameTable::new(alloc);
-    let inputs = met(alloc, first)?;
-    add_names(alloc, &mut table, first, inputs.as_slice())?;
-    let others = met(alloc, second)?;
-    add_second(alloc, &mut table, first, second, how, others.as_slice())?;
-    add_inputs(alloc, &mut table, first, second, how)?;
+    let met_first = met(alloc, first)?;
+    add_names(alloc, &mut table, first, met_first.as_slice())?;
+    let met_second = met(alloc, second)?;
+    add_second(alloc, &mut table, first, second, how, met_second.as_slice())?;
+    add_all(alloc, &mut table, first, second, how)?;
     Ok(table)
 }

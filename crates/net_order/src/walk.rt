@@ -4,6 +4,7 @@ ghost use Rattle.net_bench.specs.Circuit.{circuit, variables_of};
 ghost use Rattle.net_order.specs.Order.{below, is_member, met, met_below, taken, with_number};
 ghost use Rattle.net_order.specs.Walk.{ArePaths, HasGates, IsGoing, IsSettled, IsStepsOf, IsWalk, entered, outcome, steps_left};
 
+use crate::kinds::roots_of;
 use crate::ranked::by_rank;
 use net_bench::netlist::Signal;
 use net_bench::reader::Netlist;
@@ -30,13 +31,13 @@ pub enum Frame {
 pub struct Paths<'a> {
     pub net: &'a Netlist,
     pub way: Way,
-    /// By signal, the place of its gate, counted from 1, and 0 for an input.
+    /// By signal, the place of its gate, counted from 1, and 0 for a variable.
     pub table: Vec<usize>,
     /// By gate, its operands in the order in which walks take them.
     pub steps: Vec<Vec<Signal>>,
 }
 
-/// By signal, the place of its gate, counted from 1, and 0 for an input.
+/// By signal, the place of its gate, counted from 1, and 0 for a variable.
 fn gate_table(alloc: Global, net: &Netlist, count: usize) -> Result<Vec<usize>, AllocError>
     requires { count ≡ length net.now.names }
     ensures len { IfOk result (λ v. length v.items ≡ count) }
@@ -117,7 +118,7 @@ fn push_operands(stack: &mut Vec<Frame>, operands: &[Signal]) -> Result<(), Allo
     Ok(())
 }
 
-/// The operands of the signal's gate as walks take them, none for an input.
+/// The operands of the signal's gate as walks take them, none for a variable.
 fn steps_of<'a>(paths: &'a Paths<'_>, signal: u32) -> Option<&'a [Signal]>
     requires inside { signal < length paths.now.table.items }
     requires paths { ArePaths paths.now.way paths.now.net.now paths.now.table.items (map (λ l. l.items) paths.now.steps.items) }
@@ -133,7 +134,7 @@ fn steps_of<'a>(paths: &'a Paths<'_>, signal: u32) -> Option<&'a [Signal]>
     }
 }
 
-/// Enters a signal: passes it where it has been walked, and else puts an input among those found, or opens a gate.
+/// Enters a signal: passes it where it has been walked, and else puts a variable among those found, or opens a gate.
 fn enter(
     paths: &Paths<'_>,
     found: &mut Vec<Signal>,
@@ -163,7 +164,7 @@ fn enter(
     }
 }
 
-/// Walks below a signal: puts the inputs that are met for the first time behind those that were found before.
+/// Walks below a signal: puts the variables that are met for the first time behind those that were found before.
 pub fn walk_below(
     alloc: Global,
     paths: &Paths<'_>,
@@ -197,7 +198,7 @@ pub fn no_marks(alloc: Global, paths: &Paths<'_>) -> Result<Vec<bool>, AllocErro
     Vec::from_elem(alloc, false, paths.net.count())
 }
 
-/// The inputs below one signal, each where a walk meets it first.
+/// The variables below one signal, each where a walk meets it first.
 pub fn met_below(alloc: Global, paths: &Paths<'_>, root: u32) -> Result<Vec<Signal>, AllocError>
     requires paths { ArePaths paths.now.way paths.now.net.now paths.now.table.items (map (λ l. l.items) paths.now.steps.items) }
     requires inside { root < length paths.now.net.now.names }
@@ -209,18 +210,19 @@ pub fn met_below(alloc: Global, paths: &Paths<'_>, root: u32) -> Result<Vec<Sign
     Ok(found)
 }
 
-/// The inputs below the outputs, each where it is met first, operands from left to right.
+/// The variables below the outputs and next states, each where it is met first, operands from left to right.
 pub fn met(alloc: Global, net: &Netlist) -> Result<Vec<Signal>, AllocError>
     ensures met { IfOk result (λ v. v.items ≡ met (circuit net.now)) }
     ensures known { IfOk result (λ v. All (λ s. s < length net.now.names) v.items) }
-    ensures inputs { IfOk result (λ v. All (λ s. IsTrue (is_member s (variables_of (circuit net.now)))) v.items) }
+    ensures variables { IfOk result (λ v. All (λ s. IsTrue (is_member s (variables_of (circuit net.now)))) v.items) }
 {
     let paths = paths_of(alloc, net, Way::Written)?;
     let mut found = Vec::new(alloc);
     let mut marks = no_marks(alloc, &paths)?;
-    let outputs = net.outputs();
-    for output in outputs {
-        walk_below(alloc, &paths, &mut found, &mut marks, output.number())?;
+    let roots = roots_of(alloc, net)?;
+    let roots = roots.as_slice();
+    for root in roots {
+        walk_below(alloc, &paths, &mut found, &mut marks, root.number())?;
     }
     Ok(found)
 }

@@ -1,4 +1,4 @@
-use Rattle.std.proofs.Common.{◌≡◌, ◌++◌, ℕ, List, take, drop}
+use Rattle.std.proofs.Common.{◌≡◌, ◌++◌, ℕ, List, drop}
 use Rattle.std.specs.Prelude.{map}
 use Rattle.net_bench.specs.Circuit.{circuit}
 use Rattle.net_order.specs.Order.{names_of}
@@ -10,5 +10,5 @@ use Rattle.check_report.proofs.compare.add_lone_lines.Given as goal
 abbrev pub invariant-loop-signal : goal.invariant-loop-signal
 invariant-loop-signal l =
     (variables : List (List ℕ)) →
-    l.text.items ++ lines_text variables (map (lone l.side) (names_of (circuit l.net) (drop l.signal-index l.signals)))
-    ≡ l.fn.text.items ++ lines_text variables (map (lone l.side) (names_of (circuit l.net) l.signals))
+    l.text.items ++ lines_text variables (map (lone l.side l.role) (names_of (circuit l.net) (drop l.signal-index l.signals)))
+    ≡ l.fn.text.items ++ lines_text variables (map (lone l.side l.role) (names_of (circuit l.net) l.signals))

@@ -3,7 +3,7 @@ use Rattle.std.specs.Prelude.{None, fold, slice_index}
 use Rattle.net_bench.specs.Circuit.{Net, circuit}
 use Rattle.net_order.specs.declared.walk.Way.{Way}
 use Rattle.net_order.specs.declared.walk.Way.TheVariants.{ByRank}
-use Rattle.net_order.specs.Order.{below, met_below, weave, weave_below, with_number}
+use Rattle.net_order.specs.Order.{below, met_below, taken, weave, weave_below, with_number}
 use Rattle.net_order.specs.Walk.{IsSettled}
 use Rattle.net_order.proofs.Walks.{low_ranked}
 use Rattle.net_order.proofs.Woven.{all_met, more_in, next, next_still, still_in}
@@ -12,56 +12,56 @@ use Rattle.net_order.proofs.interleave.weave_netlist.Goals.{then-len-before+in_o
 
 pub walk_below-requires-clause-inside : goal.walk_below-requires-clause-inside
 walk_below-requires-clause-inside c =
-    low_ranked c.args.net.now c.outputs.ensures.sound c.outputs.result.now c.in_ok-ranked.ranked.items c.as_slice-outputs.result.now c.loop-output.output-index c.output-item.result c.number.result (length c.in_ok-paths.paths.net.now.names)
-    c.outputs.ensures.value c.in_ok-ranked.ensures c.as_slice-outputs.ensures.value c.loop-output-test.true c.output-item.is c.number.ensures (ap (λ (n : Net). length n.names) c.in_ok-paths.ensures.net)
+    low_ranked c.args.net.now c.in_ok-roots.roots.items c.in_ok-ranked.ranked.items c.as_slice-ranked.result.now c.loop-root.root-index c.root-item.result c.number.result (length c.in_ok-paths.paths.net.now.names)
+    c.in_ok-roots.ensures.known (c.in_ok-ranked.ensures ∙ ap (taken ByRank (circuit c.args.net.now)) c.as_slice.ensures.value) c.as_slice-ranked.ensures.value c.loop-root-test.true c.root-item.is c.number.ensures (ap (λ (n : Net). length n.names) c.in_ok-paths.ensures.net)
 
 pub met_below-requires-clause-inside : goal.met_below-requires-clause-inside
 met_below-requires-clause-inside c =
-    low_ranked c.args.net.now c.outputs.ensures.sound c.outputs.result.now c.in_ok-ranked.ranked.items c.as_slice-outputs.result.now c.loop-output.output-index c.output-item.result c.number-then-len-before.result (length c.in_ok-paths.paths.net.now.names)
-    c.outputs.ensures.value c.in_ok-ranked.ensures c.as_slice-outputs.ensures.value c.loop-output-test.true c.output-item.is c.number-then-len-before.ensures (ap (λ (n : Net). length n.names) c.in_ok-paths.ensures.net)
+    low_ranked c.args.net.now c.in_ok-roots.roots.items c.in_ok-ranked.ranked.items c.as_slice-ranked.result.now c.loop-root.root-index c.root-item.result c.number-then-len-before.result (length c.in_ok-paths.paths.net.now.names)
+    c.in_ok-roots.ensures.known (c.in_ok-ranked.ensures ∙ ap (taken ByRank (circuit c.args.net.now)) c.as_slice.ensures.value) c.as_slice-ranked.ensures.value c.loop-root-test.true c.root-item.is c.number-then-len-before.ensures (ap (λ (n : Net). length n.names) c.in_ok-paths.ensures.net)
 
 pub weave-requires-clause-low : goal.weave-requires-clause-low
 weave-requires-clause-low c =
-    subst (λ k. All (λ s. slice_index c.args.variables.now s < k) c.as_slice.result.now) (sym c.loop-output.invariant.len)
-    (all_met (λ s. slice_index c.args.variables.now s < length c.args.marks.now.items) (circuit c.args.net.now) c.output-item.result c.as_slice.result.now c.requires.low
-    (c.as_slice.ensures.value ∙ c.in_ok-met.ensures ∙ ap (λ (w : Way). met_below w (circuit c.in_ok-paths.paths.net.now) c.number-then-len-before.result) c.in_ok-paths.ensures.way ∙
+    subst (λ k. All (λ s. slice_index c.args.variables.now s < k) c.as_slice-then-len-before.result.now) (sym c.loop-root.invariant.len)
+    (all_met (λ s. slice_index c.args.variables.now s < length c.args.marks.now.items) (circuit c.args.net.now) c.root-item.result c.as_slice-then-len-before.result.now c.requires.low
+    (c.as_slice-then-len-before.ensures.value ∙ c.in_ok-met.ensures ∙ ap (λ (w : Way). met_below w (circuit c.in_ok-paths.paths.net.now) c.number-then-len-before.result) c.in_ok-paths.ensures.way ∙
     ap (λ (n : Net). met_below ByRank (circuit n) c.number-then-len-before.result) c.in_ok-paths.ensures.net ∙ ap (met_below ByRank (circuit c.args.net.now)) c.number-then-len-before.ensures))
 
-pub loop-output-preserved : goal.loop-output-preserved
-loop-output-preserved c =
+pub loop-root-preserved : goal.loop-root-preserved
+loop-root-preserved c =
     let n = circuit c.args.net.now in
     let variable = slice_index c.args.variables.now in
-    let s = c.output-item.result in
+    let s = c.root-item.result in
     let now = c.walk_below.new.found.items in
     let settled : IsSettled ByRank (circuit c.args.net.now) c.walk_below.new.found.items c.walk_below.new.marks.items =
     subst (λ (m : Net). IsSettled ByRank (circuit m) c.walk_below.new.found.items c.walk_below.new.marks.items) c.in_ok-paths.ensures.net
     (subst (λ (w : Way). IsSettled w (circuit c.in_ok-paths.paths.net.now) c.walk_below.new.found.items c.walk_below.new.marks.items) c.in_ok-paths.ensures.way c.in_ok-walk_below.ensures.settled) in
-    let is_now : c.walk_below.new.found.items ≡ fold with_number c.loop-output.found.items (below ByRank (circuit c.args.net.now) c.output-item.result) =
-    c.in_ok-walk_below.ensures.found ∙ ap (λ (w : Way). fold with_number c.loop-output.found.items (below w (circuit c.in_ok-paths.paths.net.now) c.number.result)) c.in_ok-paths.ensures.way ∙
-    ap (λ (m : Net). fold with_number c.loop-output.found.items (below ByRank (circuit m) c.number.result)) c.in_ok-paths.ensures.net ∙
-    ap (λ k. fold with_number c.loop-output.found.items (below ByRank (circuit c.args.net.now) k)) c.number.ensures in
+    let is_now : c.walk_below.new.found.items ≡ fold with_number c.loop-root.found.items (below ByRank (circuit c.args.net.now) c.root-item.result) =
+    c.in_ok-walk_below.ensures.found ∙ ap (λ (w : Way). fold with_number c.loop-root.found.items (below w (circuit c.in_ok-paths.paths.net.now) c.number.result)) c.in_ok-paths.ensures.way ∙
+    ap (λ (m : Net). fold with_number c.loop-root.found.items (below ByRank (circuit m) c.number.result)) c.in_ok-paths.ensures.net ∙
+    ap (λ k. fold with_number c.loop-root.found.items (below ByRank (circuit c.args.net.now) k)) c.number.ensures in
     elim c.if-len-before.branch [
       | then-len-before+in_ok-met+in_ok-weave w ↦
-          let is_met : w.as_slice.result.now ≡ met_below ByRank (circuit c.args.net.now) c.output-item.result =
-          w.as_slice.ensures.value ∙ w.in_ok-met.ensures ∙ ap (λ (x : Way). met_below x (circuit c.in_ok-paths.paths.net.now) w.number-then-len-before.result) c.in_ok-paths.ensures.way ∙
+          let is_met : w.as_slice-then-len-before.result.now ≡ met_below ByRank (circuit c.args.net.now) c.root-item.result =
+          w.as_slice-then-len-before.ensures.value ∙ w.in_ok-met.ensures ∙ ap (λ (x : Way). met_below x (circuit c.in_ok-paths.paths.net.now) w.number-then-len-before.result) c.in_ok-paths.ensures.way ∙
           ap (λ (m : Net). met_below ByRank (circuit m) w.number-then-len-before.result) c.in_ok-paths.ensures.net ∙ ap (met_below ByRank (circuit c.args.net.now)) w.number-then-len-before.ensures in
-          let is_new : w.weave.new.order.items ≡ weave_below (circuit c.args.net.now) (slice_index c.args.variables.now) c.loop-output.order.items c.output-item.result =
-          w.in_ok-weave.ensures.woven ∙ ap (λ xs. weave c.loop-output.order.items None (map (slice_index c.args.variables.now) xs)) is_met in
+          let is_new : w.weave.new.order.items ≡ weave_below (circuit c.args.net.now) (slice_index c.args.variables.now) c.loop-root.order.items c.root-item.result =
+          w.in_ok-weave.ensures.woven ∙ ap (λ xs. weave c.loop-root.order.items None (map (slice_index c.args.variables.now) xs)) is_met in
           rw (w.order-is, w.marks-is) (record {
             settled = settled;
             marked = w.in_ok-weave.ensures.marked;
-            len = w.in_ok-weave.ensures.len ∙ c.loop-output.invariant.len;
-            held = more_in n variable c.loop-output.order.items w.weave.new.order.items c.loop-output.found.items now s c.loop-output.invariant.held is_now is_new;
-            rest = next n variable c.as_slice-outputs.result.now c.loop-output.order.items w.weave.new.order.items _ c.loop-output.output-index s c.loop-output-test.true c.output-item.is is_new c.loop-output.invariant.rest;
+            len = w.in_ok-weave.ensures.len ∙ c.loop-root.invariant.len;
+            held = more_in n variable c.loop-root.order.items w.weave.new.order.items c.loop-root.found.items now s c.loop-root.invariant.held is_now is_new;
+            rest = next n variable c.as_slice-ranked.result.now c.loop-root.order.items w.weave.new.order.items _ c.loop-root.root-index s c.loop-root-test.true c.root-item.is is_new c.loop-root.invariant.rest;
           })
       | else-len-before w ↦
-          let few : length c.walk_below.new.found.items ≤ length c.loop-output.found.items =
-          omega (arith, w.if-len-before.false, c.len.ensures, c.len-before.ensures, c.walk_below.new.found.ok.0, c.loop-output.found.ok.0) in
+          let few : length c.walk_below.new.found.items ≤ length c.loop-root.found.items =
+          omega (arith, w.if-len-before.false, c.len.ensures, c.len-before.ensures, c.walk_below.new.found.ok.0, c.loop-root.found.ok.0) in
           rw (w.order-is, w.marks-is) (record {
             settled = settled;
-            marked = c.loop-output.invariant.marked;
-            len = c.loop-output.invariant.len;
-            held = still_in n variable c.loop-output.order.items c.loop-output.found.items now s c.loop-output.invariant.held is_now few;
-            rest = next_still n variable c.as_slice-outputs.result.now c.loop-output.order.items c.loop-output.found.items now _ c.loop-output.output-index s c.loop-output-test.true c.output-item.is c.loop-output.invariant.held is_now few c.loop-output.invariant.rest;
+            marked = c.loop-root.invariant.marked;
+            len = c.loop-root.invariant.len;
+            held = still_in n variable c.loop-root.order.items c.loop-root.found.items now s c.loop-root.invariant.held is_now few;
+            rest = next_still n variable c.as_slice-ranked.result.now c.loop-root.order.items c.loop-root.found.items now _ c.loop-root.root-index s c.loop-root-test.true c.root-item.is c.loop-root.invariant.held is_now few c.loop-root.invariant.rest;
           })
     ]

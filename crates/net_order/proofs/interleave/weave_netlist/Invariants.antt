@@ -8,11 +8,11 @@ use Rattle.net_order.specs.Walk.{IsSettled}
 use Rattle.net_order.proofs.Woven.{AreIn}
 use Rattle.net_order.proofs.interleave.weave_netlist.Given as goal
 
-abbrev pub invariant-loop-output : goal.invariant-loop-output
-invariant-loop-output l = record {
+abbrev pub invariant-loop-root : goal.invariant-loop-root
+invariant-loop-root l = record {
   settled : IsSettled ByRank (circuit l.net) l.found.items l.walked.items;
   marked : IsMarked l.marks.items l.order.items;
   len : length l.marks.items ≡ length l.fn.marks.items;
   held : AreIn (slice_index l.variables) l.found.items l.order.items;
-  rest : fold (weave_below (circuit l.net) (slice_index l.variables)) l.order.items (drop l.output-index l.outputs) ≡ weave_netlist (circuit l.net) (slice_index l.variables) l.fn.order.items;
+  rest : fold (weave_below (circuit l.net) (slice_index l.variables)) l.order.items (drop l.root-index l.ranked) ≡ weave_netlist (circuit l.net) (slice_index l.variables) l.fn.order.items;
 }

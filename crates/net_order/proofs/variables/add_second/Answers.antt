@@ -11,7 +11,7 @@ add_names-requires-in-Position-clause-known c =
     all_called (λ s. s < length c.args.first.now.names) c.variables.result.now c.variables-in-Position.result.now c.args.signals.now c.as_slice.result.now (c.as_slice.ensures.value ∙ c.in_ok-called-in-Position.ensures)
     (subst (All (λ s. s < length c.args.first.now.names)) (sym c.variables-in-Position.ensures.value) c.variables-in-Position.ensures.sound.variables)
     (ap length c.variables.ensures.value ∙ same_counts c.args.how (circuit c.args.first.now) (circuit c.args.second.now) c.in-Position.is c.requires.counted ∙ sym (ap length c.variables-in-Position.ensures.value))
-    (subst (λ xs. All (λ s. IsTrue (is_member s xs)) c.args.signals.now) (sym c.variables.ensures.value) c.requires.inputs)
+    (subst (λ xs. All (λ s. IsTrue (is_member s xs)) c.args.signals.now) (sym c.variables.ensures.value) c.requires.variables)
 
 pub returns-in-Name-clause-err : goal.returns-in-Name-clause-err
 returns-in-Name-clause-err c =

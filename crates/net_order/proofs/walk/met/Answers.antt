@@ -7,10 +7,10 @@ use Rattle.net_order.proofs.walk.met.Goals as goal
 
 pub returns-clause-known : goal.returns-clause-known
 returns-clause-known c =
-    met_low c.args.net.now c.outputs-outputs.ensures.sound c.loop-output.found.items
-    (no_output (below Written (circuit c.args.net.now)) c.outputs-outputs.result.now c.loop-output.found.items (met (circuit c.args.net.now)) c.loop-output.output-index c.loop-output-test.false c.loop-output.invariant.rest)
+    met_low c.args.net.now c.in_ok-paths.ensures.paths.sound c.loop-root.found.items
+    (no_output (below Written (circuit c.args.net.now)) c.as_slice-roots.result.now c.loop-root.found.items (met (circuit c.args.net.now)) c.loop-root.root-index c.loop-root-test.false c.loop-root.invariant.rest)
 
-pub returns-clause-inputs : goal.returns-clause-inputs
-returns-clause-inputs c =
-    met_members c.args.net.now c.outputs-outputs.ensures.sound c.loop-output.found.items
-    (no_output (below Written (circuit c.args.net.now)) c.outputs-outputs.result.now c.loop-output.found.items (met (circuit c.args.net.now)) c.loop-output.output-index c.loop-output-test.false c.loop-output.invariant.rest)
+pub returns-clause-variables : goal.returns-clause-variables
+returns-clause-variables c =
+    met_members c.args.net.now c.in_ok-paths.ensures.paths.sound c.loop-root.found.items
+    (no_output (below Written (circuit c.args.net.now)) c.as_slice-roots.result.now c.loop-root.found.items (met (circuit c.args.net.now)) c.loop-root.root-index c.loop-root-test.false c.loop-root.invariant.rest)

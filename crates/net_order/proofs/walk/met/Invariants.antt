@@ -6,8 +6,8 @@ use Rattle.net_order.specs.Order.{below, met, with_number}
 use Rattle.net_order.specs.Walk.{IsSettled}
 use Rattle.net_order.proofs.walk.met.Given as goal
 
-abbrev pub invariant-loop-output : goal.invariant-loop-output
-invariant-loop-output l = record {
+abbrev pub invariant-loop-root : goal.invariant-loop-root
+invariant-loop-root l = record {
   settled : IsSettled Written (circuit l.net) l.found.items l.marks.items;
-  rest : fold with_number l.found.items (flat_map (below Written (circuit l.net)) (drop l.output-index l.outputs)) ≡ met (circuit l.net);
+  rest : fold with_number l.found.items (flat_map (below Written (circuit l.net)) (drop l.root-index l.roots)) ≡ met (circuit l.net);
 }
