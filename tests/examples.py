@@ -60,6 +60,16 @@ def wires(seen):
     return seen.status == 1 and b"DIFFER" in seen.out and b"EQUAL" not in seen.out
 
 
+def machine(last, status):
+    """s27's output and the first two next states are equal."""
+    out = lines("EQUAL G17", "EQUAL NEXT G5", "EQUAL NEXT G6", *last)
+    return Run(status, out, b"")
+
+
+def register_alone(seen):
+    return seen.status == 1 and b"ONLY FIRST NEXT G7\nONLY SECOND NEXT R7\n" in seen.out and b" R7=" in seen.out
+
+
 SEEN = {
     "examples/adder8_ripple.bench examples/adder8_lookahead.bench": adders_equal,
     "--sizes --order depth examples/adder8_ripple.bench examples/adder8_lookahead.bench": twenty_four,
@@ -72,6 +82,11 @@ SEEN = {
     "examples/never.bench examples/never_by_and.bench": equal("o"),
     "examples/or.bench examples/xor.bench": differ_at_both,
     "examples/wire.bench examples/buffer.bench": wires,
+    "examples/s27.bench examples/s27_rewritten.bench": machine(["EQUAL NEXT G7", "4 equal, 0 different, 0 unmatched"], 0),
+    "examples/s27.bench examples/s27_wrong.bench": machine(
+        ["DIFFER NEXT G7 at G0=0 G1=0 G2=0 G3=0 G5=0 G6=0 G7=0 first=0 second=1", "3 equal, 1 different, 0 unmatched"], 1
+    ),
+    "examples/s27.bench examples/s27_renamed.bench": register_alone,
     "examples/c17.bench examples/c17_of_four.bench": of_four,
     "examples/one_and.bench examples/one_buf.bench": equal("x"),
     "examples/empty.bench examples/empty.bench": equal(),
@@ -84,6 +99,9 @@ SEEN = {
 MORE = {
     "--match position examples/c17.bench examples/c17c.bench": equal("22", "23"),
     "--sizes --order-file examples/pairs_apart.order examples/pairs.bench examples/pairs.bench": equal("o", sizes=[14]),
+    "--match position examples/s27.bench examples/s27_renamed.bench": machine(
+        ["EQUAL NEXT G7", "4 equal, 0 different, 0 unmatched"], 0
+    ),
     "--match position examples/wire.bench examples/buffer.bench": equal("a"),
 }
 

@@ -85,13 +85,13 @@ def rewritten(rng, statements):
 
 
 def changed(rng, statements):
-    """Some gate is another one."""
-    places = [i for i, statement in enumerate(statements) if len(statement) == 3 and statement[0] in WIDE]
+    """Some gate is another one, or some register has another next state."""
+    places = [i for i, statement in enumerate(statements) if len(statement) == 3 and statement[0] in [*WIDE, "DFF"]]
     if not places:
         return statements
     place = rng.choice(places)
     word, name, operands = statements[place]
-    if rng.random() < 0.5:
+    if word != "DFF" and rng.random() < 0.5:
         word = rng.choice(WIDE)
     else:
         inputs = [statement[1] for statement in statements if statement[0] == "INPUT" and len(statement) == 2]
@@ -116,6 +116,10 @@ def renamed(rng, statements, match):
         if ports:
             place = rng.choice(ports)
             statements = statements[:place] + statements[place + 1 :]
+    if rng.random() < 0.1:
+        # A register is forgotten: its signal is an input.
+        forgotten = rng.choice([None, *(statement[1] for statement in statements if statement[0] == "DFF")])
+        statements = [("INPUT", s[1]) if s[0] == "DFF" and s[1] == forgotten else s for s in statements]
     if rng.random() < 0.1:
         statements = [("INPUT", "more"), *statements, ("OUTPUT", "more")]
     return statements

@@ -10,8 +10,7 @@ from kit import FEATURES, Run
 from reading import Fault, Netlist, read, read_names, split
 
 MOST_VARIABLES = 4096
-COUNTS_DIFFER = "the netlists have different numbers of inputs or outputs"
-COUNTS_DIFFER_WITH_REGISTERS = "the netlists have different numbers of inputs, outputs or registers"
+COUNTS_DIFFER = "the netlists have different numbers of inputs, outputs or registers"
 
 
 @dataclass
@@ -51,12 +50,8 @@ class Paired:
     def __init__(self, first, second, match, given):
         self.first, self.second, self.given = first, second, given
         self.by_position = match == "position"
-        if not FEATURES["registers"] and (first.registers or second.registers):
-            raise Refusal("order: " + COUNTS_DIFFER)
         if self.by_position and counts(first) != counts(second):
-            raise Refusal(
-                "order: " + (COUNTS_DIFFER_WITH_REGISTERS if FEATURES["registers"] else COUNTS_DIFFER)
-            )
+            raise Refusal("order: " + COUNTS_DIFFER)
         names = lambda net: [*net.inputs, *net.registers]
         self.called = dict(zip(names(second), names(first))) if self.by_position else {}
 

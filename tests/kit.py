@@ -14,7 +14,7 @@ TOP = pathlib.Path(__file__).resolve().parent.parent
 
 # What the program can do beyond its first form. A new option is turned on here, and then the fuzz takes it.
 FEATURES = {
-    "registers": False,  # registers are compared; before, a netlist that has one is not paired
+    "registers": True,  # registers are compared
     "given": False,  # --given FILE
     "interleave": True,  # --order interleave
     "marks": False,  # a function and its complement share their nodes, which --sizes and --limit count

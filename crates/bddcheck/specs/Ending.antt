@@ -40,7 +40,7 @@ pub record IsSaid (w : Written) (fault : ToolFault) (status : ℕ) : Type 0 wher
   pub line : Says w (fault_line said)
   pub code : status ≡ fault_status said
 
--- the status of a report: 0 where all outputs are paired and equal, else 1
+-- the status of a report: 0 where all outputs and next states are paired and equal, else 1
 pub record IsReportStatus (outcome : Outcome) (status : ℕ) : Type 0 where
   pub bound : status ≤ 1
   pub zero : (status ≡ 0) ↔ ((outcome.different ≡ 0) × (outcome.unmatched ≡ 0))

@@ -64,7 +64,7 @@ fn refuse_words<W: Sink, E: Sink>(
     }
 }
 
-/// The status of a comparison: 0 where all outputs are paired and equal.
+/// The status of a comparison: 0 where all outputs and next states are paired and equal.
 fn status_of(outcome: Outcome) -> u8
     ensures { IsReportStatus outcome result }
 {

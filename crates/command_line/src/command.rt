@@ -11,15 +11,16 @@ static MATCHES: [&str; 2] = ["name", "position"];
 static ORDERS: [&str; 3] = ["declared", "depth", "interleave"];
 
 static ABOUT: &str =
-    "Decides for each pair of outputs of two bench netlists whether both compute the same Boolean function";
+    "Decides for each pair of outputs and of registers of two bench netlists whether both compute the same Boolean function";
 
 static MORE: &str = "\
 For each pair of outputs a line EQUAL or DIFFER is printed, the latter with the least assignment on which the two differ;
-then the outputs without a partner (ONLY), and last the counts. Without FIRST and SECOND both netlists are read from
-standard input, with a line `%%` between them.
+the next states of each pair of registers are compared in the same way (NEXT); then come the outputs and registers without
+a partner (ONLY), and last the counts. Without FIRST and SECOND both netlists are read from standard input, with a line
+`%%` between them.
 
 Status:
-  0  all outputs are paired and equal
+  0  all outputs and next states are paired and equal
   1  some are different, or have no partner
   2  the command line, a file, a netlist or the order was refused
   3  out of memory, more nodes than the limit, no worker, or the report could not be written";
@@ -34,7 +35,7 @@ fn matching<'a>(alloc: Global) -> Arg<'a>
         .value_name("HOW")
         .value_parser(MATCHES.as_slice())
         .default_value("name")
-        .help("Pair inputs and outputs by their names or by their places")
+        .help("Pair inputs, outputs and registers by their names or by their places")
 }
 
 fn order<'a>(alloc: Global) -> Arg<'a>

@@ -1,7 +1,7 @@
 //! Which variables two netlists have, in which order they stand, and which outputs and registers are compared.
 #![tactic(auto)]
 
-pub mod correspondence;
+mod correspondence;
 mod interleave;
 mod kinds;
 mod levels;
