@@ -1,7 +1,7 @@
 //! References to nodes, and the two numbers that decide where a node lies.
 ghost use Rattle.std.specs.Prelude.{◌≡◌, ◌↔◌, IsTrue, Some};
 ghost use Rattle.dd_store.specs.Codes.{code_of, shard_of_pair};
-ghost use Rattle.dd_store.specs.Words.{word_of, is_terminal};
+ghost use Rattle.dd_store.specs.Words.{word_of, reference_of, IsWord, is_terminal};
 
 use std::cmp::Ordering;
 use std::fmt;
@@ -103,10 +103,20 @@ impl Ref {
     }
 
     /// Its eight bytes as a number, different for each.
-    pub(crate) fn word(self) -> u64
-        ensures { result ≡ word_of self }
+    pub fn word(self) -> u64
+        ensures word { result ≡ word_of self }
+        ensures within { IsWord result }
+        ensures back { reference_of result ≡ self }
     {
         self.word
+    }
+
+    /// The reference with these eight bytes.
+    pub fn of_word(word: u64) -> Ref
+        requires { IsWord word }
+        ensures { result ≡ reference_of word }
+    {
+        Ref { word }
     }
 }
 
