@@ -8,7 +8,7 @@ use Rattle.std.proofs.lemmas.Option.{slice_get_within}
 use Rattle.dd_store.specs.declared.StoreFault.{StoreFault}
 use Rattle.dd_store.specs.declared.StoreFault.TheVariants as store_faults
 use Rattle.dd_store.specs.declared.reference.Ref.{Ref}
-use Rattle.dd_store.specs.declared.reference.Ref.TheVariants.{False, True}
+use Rattle.dd_store.specs.declared.reference.Reference.TheVariants.{False, True}
 use Rattle.dd_store.specs.Functions.{Agree}
 use Rattle.dd_store.specs.Graph.{bit}
 use Rattle.dd_store.specs.Nodes.{Nodes, den, IsSound, count_of, shard_at, with_node, Makes, IsNeeded as IsMissing}

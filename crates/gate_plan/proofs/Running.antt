@@ -6,7 +6,7 @@ use Rattle.std.proofs.lemmas.List.Elements.{Contains-append_cases}
 use Rattle.std.proofs.lemmas.Slice.Zip.{AllZip-long}
 use Rattle.std.proofs.lemmas.Bool.{ne_eqb}
 use Rattle.dd_store.specs.declared.reference.Ref.{Ref}
-use Rattle.dd_store.specs.declared.reference.Ref.TheVariants.{False}
+use Rattle.dd_store.specs.declared.reference.Reference.TheVariants.{False}
 use Rattle.dd_store.specs.Graph.{bit}
 use Rattle.dd_store.specs.Nodes.{Nodes, den, IsSound, IsDiagram}
 use Rattle.dd_store.specs.View.{Has, Keeps}

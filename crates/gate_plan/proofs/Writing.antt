@@ -4,7 +4,7 @@ use Rattle.std.specs.Prelude.{Contains, All}
 use Rattle.std.specs.List.{AllZip}
 use Rattle.std.proofs.lemmas.List.{get_or-set_same, get_or-set_other, length-set}
 use Rattle.dd_store.specs.declared.reference.Ref.{Ref}
-use Rattle.dd_store.specs.declared.reference.Ref.TheVariants.{False}
+use Rattle.dd_store.specs.declared.reference.Reference.TheVariants.{False}
 use Rattle.gate_plan.specs.declared.steps.Step.{Step}
 use Rattle.gate_plan.specs.declared.steps.Copied.{Copied}
 use Rattle.gate_plan.specs.Building.{reference_of, copied_all, answered_all, IsStepBelow, IsCopyBelow}

@@ -3,7 +3,7 @@ use Rattle.std.specs.Prelude.{◌≡◌, ℕ, ◌+◌, ◌<◌, ◌≤◌, ◌�
 use Rattle.dd_store.specs.declared.StoreFault.{StoreFault}
 use Rattle.dd_store.specs.declared.StoreFault.TheVariants as store_faults
 use Rattle.dd_store.specs.declared.reference.Ref.{Ref}
-use Rattle.dd_store.specs.declared.reference.Ref.TheVariants.{False}
+use Rattle.dd_store.specs.declared.reference.Reference.TheVariants.{False}
 use Rattle.dd_store.specs.Graph.{bit}
 use Rattle.dd_store.specs.Nodes.{Nodes, den}
 use Rattle.dd_store.specs.View.{Has}

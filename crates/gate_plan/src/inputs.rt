@@ -74,7 +74,7 @@ pub fn input_references(
     requires { (s : ℕ) → Contains (variables_of (circuit netlist.now)) s → level_in which pairing.now s < length variables.now }
     ensures { IfOk result (λ v. AreInputs netlist.now (level_in which pairing.now) variables.now v.items) }
 {
-    let mut references = Vec::from_elem(alloc, Ref::False, netlist.count())?;
+    let mut references = Vec::from_elem(alloc, Ref::FALSE, netlist.count())?;
     for input in netlist.variables() {
         let level = level_of(pairing, which, *input);
         references[input.number() as usize] = variables[level as usize];

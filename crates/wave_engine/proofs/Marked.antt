@@ -1,10 +1,10 @@
 -- Levels are marked where they have requests.
-use Rattle.std.proofs.Common.{◌≡◌, ◌≢◌, ℕ, ◌+◌, ◌*◌, ◌<◌, ◌≤◌, inl, inr, List, [], ◌∷◌, length, set, Some, slice_get, sym, ◌∙◌, ap, subst, arith}
+use Rattle.std.proofs.Common.{◌≡◌, ℕ, ◌<◌, inl, inr, List, length, set, Some, slice_get, sym, ap, subst, arith}
 use Rattle.std.proofs.lemmas.List.{length-set}
 use Rattle.std.proofs.lemmas.Option.{slice_get_within}
 use Rattle.req_table.specs.declared.Key.{Key}
 use Rattle.wave_engine.specs.Marks.{IsMarked}
-use Rattle.wave_engine.specs.Places.{row, StandsAt, Enters, AreMarked}
+use Rattle.wave_engine.specs.Places.{row, Enters, AreMarked}
 use Rattle.wave_engine.proofs.Placing.{same_level, stands_some, row_own, row_other}
 
 -- a request enters a level that has some

@@ -1,14 +1,13 @@
 -- The bits of a word, and the marks of levels by them.
-use Rattle.std.proofs.Common.{◌≡◌, ◌≢◌, ℕ, zero, suc, ◌+◌, ◌-◌, ◌*◌, ◌/◌, ◌%◌, ◌^◌, ◌<◌, ◌≤◌, ◌⊎◌, inl, inr, List, length, get_or, set, min, max, Option, None, Some, refl, sym, ◌∙◌, ap, subst, arith, lit<, w64, pow-add, pow-suc, div-le_self}
-use Rattle.std.specs.Prelude.{bit_and, bit_or}
+use Rattle.std.proofs.Common.{◌≡◌, ◌≢◌, ℕ, suc, ◌+◌, ◌-◌, ◌*◌, ◌/◌, ◌%◌, ◌^◌, ◌<◌, ◌≤◌, inl, inr, List, length, get_or, set, min, None, Some, sym, ◌∙◌, ap, subst, arith, lit<, w64, pow-add, pow-suc, div-le_self}
+use Rattle.std.specs.Prelude.{bit_and}
 use Rattle.std.specs.Int.{bit_at, trailing_zeros, leading_zeros}
 use Rattle.std.proofs.Math.Nat.{div-div-eq-div-mul}
-use Rattle.std.proofs.Math.ListN.{get_or-eq_default}
 use Rattle.std.proofs.lemmas.Bool.{cases_lt, cases_eq}
 use Rattle.std.proofs.lemmas.List.{get_or-set_same, get_or-set_other}
 use Rattle.std.proofs.lemmas.Nat.{leading_top, and_le_r}
-use Rattle.std.proofs.lemmas.Nat.Bits.{bit_at-zero, bit_at-lt, bit_at_above, bit_at_cat_high, bit_at_and, bit_at_ones, bit_at_ones_above, bit_at-trailing_zeros, bit_at_set_same, bit_at_set_other, bit_at_clear_same, bit_at_clear_other, ones_shr}
-use Rattle.wave_engine.specs.Marks.{mark_of, IsMarked, IsLowestFrom, IsHighestBefore, IsNextFrom, IsLastBefore}
+use Rattle.std.proofs.lemmas.Nat.Bits.{bit_at-zero, bit_at-lt, bit_at_above, bit_at_cat_high, bit_at_and, bit_at_ones, bit_at_ones_above, bit_at-trailing_zeros, ones_shr}
+use Rattle.wave_engine.specs.Marks.{mark_of, IsLowestFrom, IsHighestBefore}
 
 -- the bits of a word that is shifted down
 pub bit_at_shifted : (n a k : ℕ) → bit_at (n / 2 ^ a) k ≡ bit_at n (a + k)

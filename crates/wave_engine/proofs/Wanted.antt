@@ -4,7 +4,7 @@ use Rattle.std.proofs.lemmas.Bool.{cases_lt}
 use Rattle.std.proofs.lemmas.List.{length-append, take-append-drop}
 use Rattle.std.proofs.Math.ListN.{length-take, length-drop}
 use Rattle.dd_store.specs.declared.reference.Ref.{Ref}
-use Rattle.dd_store.specs.declared.reference.Ref.TheVariants.{False, True, Node}
+use Rattle.dd_store.specs.declared.reference.Reference.TheVariants.{False, True, Node}
 use Rattle.dd_store.specs.Parts.Part.{node}
 use Rattle.dd_store.proofs.View.{kept_den, kept_top, keeps-trans}
 use Rattle.dd_store.specs.Functions.{Agree, IsFixedSomehow, DependsOn}

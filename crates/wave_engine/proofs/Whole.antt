@@ -6,7 +6,7 @@ use Rattle.std.specs.List.{AllZip}
 use Rattle.std.proofs.lemmas.List.Elements.{All-contains}
 use Rattle.std.proofs.lemmas.Option.{slice_get_within}
 use Rattle.dd_store.specs.declared.reference.Ref.{Ref}
-use Rattle.dd_store.specs.declared.reference.Ref.TheVariants.{False, True, Node}
+use Rattle.dd_store.specs.declared.reference.Reference.TheVariants.{False, True, Node}
 use Rattle.dd_store.specs.declared.reference.NodeId.{NodeId}
 use Rattle.dd_store.specs.Functions.{IsFixedSomehow, DependsOn}
 use Rattle.dd_store.specs.Graph.{Pair}

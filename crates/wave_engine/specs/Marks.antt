@@ -1,5 +1,5 @@
 -- A set of levels, by a bit of each, 64 in a word.
-use Rattle.std.specs.Prelude.{◌≡◌, ℕ, ◌+◌, ◌*◌, ◌/◌, ◌%◌, ◌<◌, ◌≤◌, List, length, slice_index_or, Option, None, Some}
+use Rattle.std.specs.Prelude.{◌≡◌, ℕ, ◌*◌, ◌/◌, ◌%◌, ◌<◌, ◌≤◌, List, length, slice_index_or, Option, None, Some}
 use Rattle.std.specs.Int.{bit_at}
 
 -- the bit of level w

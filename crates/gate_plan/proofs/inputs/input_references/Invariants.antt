@@ -1,5 +1,5 @@
 use Rattle.std.proofs.Common.{◌≡◌, ◌<◌, ℕ, length, get_or}
-use Rattle.dd_store.specs.declared.reference.Ref.TheVariants.{False}
+use Rattle.dd_store.specs.declared.reference.Reference.TheVariants.{False}
 use Rattle.gate_plan.specs.Building.{reference_of, level_in}
 use Rattle.gate_plan.proofs.inputs.input_references.Given as goal
 

@@ -1,10 +1,10 @@
-use Rattle.std.proofs.Common.{◌≡◌, ℕ, ◌+◌, ◌<◌, true, false, List, [], ◌∷◌, ◌++◌, length, slice_get, Some, sym, subst, ap, arith}
+use Rattle.std.proofs.Common.{◌≡◌, ℕ, ◌+◌, ◌<◌, true, false, List, [], ◌∷◌, ◌++◌, length, sym, subst, ap, arith}
 use Rattle.req_table.specs.declared.Record.{Record}
 use Rattle.req_table.specs.declared.Key.{Key}
 use Rattle.req_table.specs.Keys.{child_of}
 use Rattle.wave_engine.specs.Places.{StandsAt, IsPlaced, Admits}
 use Rattle.wave_engine.specs.Down.{IsRowExpanded}
-use Rattle.wave_engine.proofs.Placing.{row_more, row_read}
+use Rattle.wave_engine.proofs.Placing.{row_more}
 use Rattle.wave_engine.proofs.down.expand_level.Goals as goal
 
 pub loop-place-preserved : goal.loop-place-preserved

@@ -1,12 +1,9 @@
-use Rattle.std.proofs.Common.{◌≡◌, ℕ, rules, List, [], ◌∷◌, ◌++◌, take, get_or, sym, subst, Contains}
+use Rattle.std.proofs.Common.{◌≡◌, ℕ, rules, List, [], ◌∷◌, ◌++◌, take, sym, subst, Contains}
 use Rattle.std.specs.List.{AllZip}
-use Rattle.std.proofs.lemmas.List.{take_more}
 use Rattle.std.proofs.lemmas.Slice.Zip.{all_zipped_more}
-use Rattle.dd_store.specs.declared.reference.Ref.TheVariants.{False}
-use Rattle.req_table.specs.declared.Op.TheVariants.{And}
 use Rattle.req_table.specs.Keys.{IsChildIn, child as child_at}
 use Rattle.reduce_up.specs.Waves.{Entry}
-use Rattle.reduce_up.proofs.Rooted.{entry_at}
+use Rattle.reduce_up.proofs.Rooted.{item_at, item_next}
 use Rattle.wave_engine.specs.declared.lists.Placed.{Placed}
 use Rattle.wave_engine.specs.Places.{IsPlaced, Admits}
 use Rattle.wave_engine.proofs.Placing.{admitted_more, all_placed_kept, root_admitted}
@@ -16,8 +13,8 @@ pub loop-entry-preserved : goal.loop-entry-preserved
 loop-entry-preserved c =
     let i : ℕ = c.loop-entry.entry-index in
     let es : List Entry = c.args.entries.now in
-    let e : Entry = get_or es i (And, False, False) in
-    let member : Contains es e = entry_at es i (And, False, False) c.loop-entry-test.true in
+    let e : Entry = c.entry-item.result in
+    let member : Contains es e = item_at es i e c.loop-entry-test.true c.entry-item.is in
     let stands : IsChildIn c.args.store.now (child_at c.args.store.now e.0 e.1 e.2) = subst (IsChildIn c.args.store.now) c.child-asked.ensures.value c.child-asked.ensures.stands in
     let m : Admits c.loop-entry.requests (child_at c.args.store.now e.0 e.1 e.2) c.place_child.new.requests =
     subst (λ z. Admits c.loop-entry.requests z c.place_child.new.requests) c.child-asked.ensures.value c.place_child.ensures.admits in
@@ -27,7 +24,7 @@ loop-entry-preserved c =
     record {
       admitted = admitted_more c.args.store.now es c.loop-entry.requests (child_at c.args.store.now e.0 e.1 e.2) c.place_child.new.requests c.loop-entry.invariant.admitted m
           (root_admitted c.args.store.now es e member stands);
-      placed = rw (take_more es i (And, False, False) c.loop-entry-test.true)
+      placed = rw (item_next es i e c.loop-entry-test.true c.entry-item.is)
           (subst (AllZip (λ (e : Entry) (p : Placed). IsPlaced c.place_child.new.requests p (child_at c.args.store.now e.0 e.1 e.2)) (take i es ++ e ∷ [])) (sym grown)
           (all_zipped_more (λ (e : Entry) (p : Placed). IsPlaced c.place_child.new.requests p (child_at c.args.store.now e.0 e.1 e.2)) (take i es) c.loop-entry.roots.items e c.in_ok-root.root
           (all_placed_kept c.args.store.now c.loop-entry.requests c.place_child.new.requests m.kept (take i es) c.loop-entry.roots.items c.loop-entry.invariant.placed) placed));

@@ -1,4 +1,4 @@
-use Rattle.std.proofs.Common.{◌≡◌, ◌∙◌, ◌<◌, ◌++◌, ℕ, List, length, map, ap, arith}
+use Rattle.std.proofs.Common.{◌∙◌, ◌<◌, ◌++◌, ℕ, List, length, map, ap, arith}
 use Rattle.req_table.specs.declared.Key.{Key}
 use Rattle.wave_engine.specs.Front.{entry_for}
 use Rattle.wave_engine.proofs.Fronting.{front_more}

@@ -1,4 +1,3 @@
-use Rattle.std.proofs.Common.{arith}
 use Rattle.wave_engine.proofs.Marking.{highest_none, highest_some}
 use Rattle.wave_engine.proofs.marks.highest_before.Goals as goal
 

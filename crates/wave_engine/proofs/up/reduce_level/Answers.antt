@@ -1,15 +1,13 @@
-use Rattle.std.proofs.Common.{rules, ◌≡◌, ℕ, ◌<◌, ◌∙◌, refl, List, [], ◌∷◌, ◌++◌, length, get_or, slice_get, Some, sym, subst, ap, arith}
+use Rattle.std.proofs.Common.{rules, ◌≡◌, ℕ, ◌∙◌, refl, List, [], ◌∷◌, ◌++◌, slice_get, Some, sym, subst, ap}
 use Rattle.std.specs.Prelude.{Ok, Err}
 use Rattle.std.proofs.lemmas.Option.{slice_get-get_or}
 use Rattle.dd_store.specs.declared.reference.Ref.{Ref}
-use Rattle.dd_store.specs.declared.reference.Ref.TheVariants.{False}
 use Rattle.req_table.specs.declared.Key.{Key}
 use Rattle.reduce_up.specs.Reducing.{IsRecordAt, IsAnswer, AddsDescribed, AskedBy}
 use Rattle.reduce_up.proofs.Reduction.{record_done, adds_none}
 use Rattle.reduce_up.proofs.Missing.{record_fault}
 use Rattle.wave_engine.specs.declared.lists.Placed.{Placed}
-use Rattle.wave_engine.specs.declared.lists.Placed.TheVariants.{Done}
-use Rattle.wave_engine.specs.Up.{ComesTo, IsLevelFault, AskedAt, IsLevelReduced}
+use Rattle.wave_engine.specs.Up.{IsLevelFault, AskedAt, IsLevelReduced}
 use Rattle.wave_engine.proofs.Raising.{rec, here, low_comes, high_comes, is_record, adds_one, one_more, one_fault, level_start}
 use Rattle.wave_engine.proofs.up.reduce_level.Goals as goal
 
@@ -25,24 +23,24 @@ pub resolve-low-requires : goal.resolve-low-requires
 resolve-low-requires c =
     let i : ℕ = c.loop-pair.pair-index in
     let v : ℕ = c.args.level in
-    let d : Placed × Placed = get_or c.args.pairs.now i (Done False, Done False) in
-    let at : slice_get c.args.pairs.now i ≡ Some d = slice_get-get_or c.args.pairs.now i (Done False, Done False) c.loop-pair-test.true in
+    let d : Placed × Placed = c.pair-item.result in
+    let at : slice_get c.args.pairs.now i ≡ Some d = slice_get-get_or c.args.pairs.now i d c.loop-pair-test.true ∙ ap (λ z. Some z) (sym c.pair-item.is) in
     (low_comes c.args.store.now c.requires.held c.args.requests.now c.args.pairs.now c.args.answers.now v c.requires.ready i c.loop-pair.store c.loop-pair.own c.loop-pair.invariant d at)
 
 pub resolve-high-requires : goal.resolve-high-requires
 resolve-high-requires c =
     let i : ℕ = c.loop-pair.pair-index in
     let v : ℕ = c.args.level in
-    let d : Placed × Placed = get_or c.args.pairs.now i (Done False, Done False) in
-    let at : slice_get c.args.pairs.now i ≡ Some d = slice_get-get_or c.args.pairs.now i (Done False, Done False) c.loop-pair-test.true in
+    let d : Placed × Placed = c.pair-item.result in
+    let at : slice_get c.args.pairs.now i ≡ Some d = slice_get-get_or c.args.pairs.now i d c.loop-pair-test.true ∙ ap (λ z. Some z) (sym c.pair-item.is) in
     (high_comes c.args.store.now c.requires.held c.args.requests.now c.args.pairs.now c.args.answers.now v c.requires.ready i c.loop-pair.store c.loop-pair.own c.loop-pair.invariant d at)
 
 pub make-requires-clause-lo_here : goal.make-requires-clause-lo_here
 make-requires-clause-lo_here c =
     let i : ℕ = c.loop-pair.pair-index in
     let v : ℕ = c.args.level in
-    let d : Placed × Placed = get_or c.args.pairs.now i (Done False, Done False) in
-    let at : slice_get c.args.pairs.now i ≡ Some d = slice_get-get_or c.args.pairs.now i (Done False, Done False) c.loop-pair-test.true in
+    let d : Placed × Placed = c.pair-item.result in
+    let at : slice_get c.args.pairs.now i ≡ Some d = slice_get-get_or c.args.pairs.now i d c.loop-pair-test.true ∙ ap (λ z. Some z) (sym c.pair-item.is) in
     let lo : Ref = c.resolve-low.result in
     let hi : Ref = c.resolve-high.result in
     let k : Key = (here c.args.store.now c.requires.held c.args.requests.now c.args.pairs.now c.args.answers.now v c.requires.ready i c.loop-pair.store c.loop-pair.own c.loop-pair.invariant d at).0 in
@@ -54,8 +52,8 @@ pub make-requires-clause-hi_here : goal.make-requires-clause-hi_here
 make-requires-clause-hi_here c =
     let i : ℕ = c.loop-pair.pair-index in
     let v : ℕ = c.args.level in
-    let d : Placed × Placed = get_or c.args.pairs.now i (Done False, Done False) in
-    let at : slice_get c.args.pairs.now i ≡ Some d = slice_get-get_or c.args.pairs.now i (Done False, Done False) c.loop-pair-test.true in
+    let d : Placed × Placed = c.pair-item.result in
+    let at : slice_get c.args.pairs.now i ≡ Some d = slice_get-get_or c.args.pairs.now i d c.loop-pair-test.true ∙ ap (λ z. Some z) (sym c.pair-item.is) in
     let lo : Ref = c.resolve-low.result in
     let hi : Ref = c.resolve-high.result in
     let k : Key = (here c.args.store.now c.requires.held c.args.requests.now c.args.pairs.now c.args.answers.now v c.requires.ready i c.loop-pair.store c.loop-pair.own c.loop-pair.invariant d at).0 in
@@ -67,8 +65,8 @@ pub make-requires-clause-above_lo : goal.make-requires-clause-above_lo
 make-requires-clause-above_lo c =
     let i : ℕ = c.loop-pair.pair-index in
     let v : ℕ = c.args.level in
-    let d : Placed × Placed = get_or c.args.pairs.now i (Done False, Done False) in
-    let at : slice_get c.args.pairs.now i ≡ Some d = slice_get-get_or c.args.pairs.now i (Done False, Done False) c.loop-pair-test.true in
+    let d : Placed × Placed = c.pair-item.result in
+    let at : slice_get c.args.pairs.now i ≡ Some d = slice_get-get_or c.args.pairs.now i d c.loop-pair-test.true ∙ ap (λ z. Some z) (sym c.pair-item.is) in
     let lo : Ref = c.resolve-low.result in
     let hi : Ref = c.resolve-high.result in
     let k : Key = (here c.args.store.now c.requires.held c.args.requests.now c.args.pairs.now c.args.answers.now v c.requires.ready i c.loop-pair.store c.loop-pair.own c.loop-pair.invariant d at).0 in
@@ -80,8 +78,8 @@ pub make-requires-clause-above_hi : goal.make-requires-clause-above_hi
 make-requires-clause-above_hi c =
     let i : ℕ = c.loop-pair.pair-index in
     let v : ℕ = c.args.level in
-    let d : Placed × Placed = get_or c.args.pairs.now i (Done False, Done False) in
-    let at : slice_get c.args.pairs.now i ≡ Some d = slice_get-get_or c.args.pairs.now i (Done False, Done False) c.loop-pair-test.true in
+    let d : Placed × Placed = c.pair-item.result in
+    let at : slice_get c.args.pairs.now i ≡ Some d = slice_get-get_or c.args.pairs.now i d c.loop-pair-test.true ∙ ap (λ z. Some z) (sym c.pair-item.is) in
     let lo : Ref = c.resolve-low.result in
     let hi : Ref = c.resolve-high.result in
     let k : Key = (here c.args.store.now c.requires.held c.args.requests.now c.args.pairs.now c.args.answers.now v c.requires.ready i c.loop-pair.store c.loop-pair.own c.loop-pair.invariant d at).0 in
@@ -93,8 +91,8 @@ pub returns-in-Err-clause-fault : goal.returns-in-Err-clause-fault
 returns-in-Err-clause-fault c =
     let i : ℕ = c.loop-pair.pair-index in
     let v : ℕ = c.args.level in
-    let d : Placed × Placed = get_or c.args.pairs.now i (Done False, Done False) in
-    let at : slice_get c.args.pairs.now i ≡ Some d = slice_get-get_or c.args.pairs.now i (Done False, Done False) c.loop-pair-test.true in
+    let d : Placed × Placed = c.pair-item.result in
+    let at : slice_get c.args.pairs.now i ≡ Some d = slice_get-get_or c.args.pairs.now i d c.loop-pair-test.true ∙ ap (λ z. Some z) (sym c.pair-item.is) in
     let lo : Ref = c.resolve-low.result in
     let hi : Ref = c.resolve-high.result in
     let k : Key = (here c.args.store.now c.requires.held c.args.requests.now c.args.pairs.now c.args.answers.now v c.requires.ready i c.loop-pair.store c.loop-pair.own c.loop-pair.invariant d at).0 in
@@ -108,8 +106,8 @@ pub returns-then-is_err-2-clause-adds : goal.returns-then-is_err-2-clause-adds
 returns-then-is_err-2-clause-adds c =
     let i : ℕ = c.loop-pair.pair-index in
     let v : ℕ = c.args.level in
-    let d : Placed × Placed = get_or c.args.pairs.now i (Done False, Done False) in
-    let at : slice_get c.args.pairs.now i ≡ Some d = slice_get-get_or c.args.pairs.now i (Done False, Done False) c.loop-pair-test.true in
+    let d : Placed × Placed = c.pair-item.result in
+    let at : slice_get c.args.pairs.now i ≡ Some d = slice_get-get_or c.args.pairs.now i d c.loop-pair-test.true ∙ ap (λ z. Some z) (sym c.pair-item.is) in
     let lo : Ref = c.resolve-low.result in
     let hi : Ref = c.resolve-high.result in
     let k : Key = (here c.args.store.now c.requires.held c.args.requests.now c.args.pairs.now c.args.answers.now v c.requires.ready i c.loop-pair.store c.loop-pair.own c.loop-pair.invariant d at).0 in
@@ -123,8 +121,8 @@ pub loop-pair-preserved : goal.loop-pair-preserved
 loop-pair-preserved c =
     let i : ℕ = c.loop-pair.pair-index in
     let v : ℕ = c.args.level in
-    let d : Placed × Placed = get_or c.args.pairs.now i (Done False, Done False) in
-    let at : slice_get c.args.pairs.now i ≡ Some d = slice_get-get_or c.args.pairs.now i (Done False, Done False) c.loop-pair-test.true in
+    let d : Placed × Placed = c.pair-item.result in
+    let at : slice_get c.args.pairs.now i ≡ Some d = slice_get-get_or c.args.pairs.now i d c.loop-pair-test.true ∙ ap (λ z. Some z) (sym c.pair-item.is) in
     let lo : Ref = c.resolve-low.result in
     let hi : Ref = c.resolve-high.result in
     let k : Key = (here c.args.store.now c.requires.held c.args.requests.now c.args.pairs.now c.args.answers.now v c.requires.ready i c.loop-pair.store c.loop-pair.own c.loop-pair.invariant d at).0 in

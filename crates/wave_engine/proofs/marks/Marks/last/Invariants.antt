@@ -1,4 +1,4 @@
-use Rattle.std.proofs.Common.{◌≡◌, ℕ, ◌*◌, ◌+◌, ◌<◌, ◌≤◌, length}
+use Rattle.std.proofs.Common.{ℕ, ◌*◌, ◌+◌, ◌<◌, ◌≤◌, length}
 use Rattle.wave_engine.specs.Marks.{IsMarked}
 use Rattle.wave_engine.proofs.marks.Marks.last.Given as goal
 

@@ -1,4 +1,4 @@
-use Rattle.std.proofs.Common.{◌≡◌, ℕ, ◌*◌, ◌<◌, ◌≤◌}
+use Rattle.std.proofs.Common.{ℕ, ◌*◌, ◌<◌, ◌≤◌}
 use Rattle.wave_engine.specs.Marks.{IsMarked}
 use Rattle.wave_engine.proofs.marks.Marks.next.Given as goal
 
