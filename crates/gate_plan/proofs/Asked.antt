@@ -1,10 +1,10 @@
 -- Where a build leaves a store over its limit, no step of a gate had to be asked for.
-use Rattle.std.proofs.Common.{◌≡◌, ◌≢◌, ℕ, zero, suc, ◌+◌, ◌-◌, ◌<◌, ◌≤◌, ◌==◌, ◌⊎◌, inl, inr, Bool, true, false, cond, min, List, [], ◌∷◌, ◌++◌, length, map, Some, None, refl, sym, ◌∙◌, ap, subst, arith, eq-eqb}
+use Rattle.std.proofs.Common.{◌≡◌, ◌≢◌, ℕ, zero, suc, ◌+◌, ◌-◌, ◌<◌, ◌≤◌, ◌⊎◌, inl, inr, Bool, true, false, cond, min, List, [], ◌∷◌, ◌++◌, length, map, Some, None, sym, ◌∙◌, ap, subst, arith, eq-eqb}
 use Rattle.std.specs.Prelude.{Contains, slice_index, unwrap_or}
 use Rattle.std.proofs.lemmas.List.Elements.{Contains-append_left, Contains-append_right}
 use Rattle.std.proofs.lemmas.Bool.{ne_eqb}
 use Rattle.dd_store.specs.declared.reference.Ref.{Ref}
-use Rattle.dd_store.specs.Nodes.{Nodes, den, IsSound, count_of}
+use Rattle.dd_store.specs.Nodes.{Nodes, IsSound, count_of}
 use Rattle.dd_store.specs.View.{Has}
 use Rattle.dd_store.proofs.View.{one_diagram}
 use Rattle.net_bench.specs.declared.netlist.GateLine.{GateLine}
@@ -13,7 +13,7 @@ use Rattle.net_bench.specs.Labels.{bit_of}
 use Rattle.net_bench.proofs.Built.{has_labelling}
 use Rattle.req_table.specs.declared.Op.{Op}
 use Rattle.req_table.specs.Short.{short_of}
-use Rattle.reduce_up.specs.Waves.{Entry, HasRequest, IsWithinLimit}
+use Rattle.reduce_up.specs.Waves.{HasRequest, IsWithinLimit}
 use Rattle.gate_plan.specs.declared.steps.Step.{Step}
 use Rattle.gate_plan.specs.Plans.{operand_at, folds_of, step_of, step_at, rank_of, plan_steps, plan_folds}
 use Rattle.gate_plan.specs.Building.{Placed, input_level, reference_of, first_operand, entry_of, Denotes, value_after, AreFolded}
@@ -21,7 +21,7 @@ use Rattle.gate_plan.specs.Needing.{IsStillWithin}
 use Rattle.gate_plan.specs.Asking.{first_taken, second_taken, IsAsked, Asks, EitherAsksAt, EitherAsksIn, IsWithinOrUnasked}
 use Rattle.gate_plan.proofs.Lists.{same_number}
 use Rattle.gate_plan.proofs.Ranks.{above_none, operand_lower, some_operand, operand_below, rank_top}
-use Rattle.gate_plan.proofs.Picking.{has_pick, folds_within, has_step_of, nand_step, fold_step_of, step_one, step_many, folds_one, folds_many, among_operands}
+use Rattle.gate_plan.proofs.Picking.{has_pick, folds_within, has_step_of, step_one, step_many, folds_one, folds_many, among_operands}
 
 image : {A B : Type 0} (f : A → B) (xs : List A) (x : A) → Contains xs x → Contains (map f xs) (f x)
 image f [] x (k, lt, e) = absurd (omega arith)

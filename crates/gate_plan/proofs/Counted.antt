@@ -22,7 +22,7 @@ use Rattle.dd_store.proofs.View.{parts, denotes, same_ref, keeps-refl, keeps-tra
 use Rattle.expand_work.specs.declared.fault.WaveFault.{WaveFault}
 use Rattle.expand_work.specs.declared.fault.WaveFault.TheVariants as wave_faults
 use Rattle.reduce_up.specs.Reducing.{AddsDescribed}
-use Rattle.reduce_up.specs.Waves.{Entry, entry_value, IsWanted, IsWithinLimit, IsWaveFault}
+use Rattle.reduce_up.specs.Waves.{Entry, entry_value, IsWanted, IsWaveFault}
 use Rattle.gate_plan.specs.Building.{wave_fault_of}
 use Rattle.gate_plan.specs.Folds.{IsVariable}
 use Rattle.gate_plan.specs.Need.{IsCounted, IsLean, IsComplete, HasNode}
@@ -97,10 +97,6 @@ module _ (S T : Nodes) (entries : List Entry) (Values : (List Bool → Bool) →
   wave_fault kept wave_faults.Full (asked, inl over) = inl over
   wave_fault kept wave_faults.Full (asked, inr full) =
       inr (full.0, (full.1.0, full.1.1, wanted_counted full.1.0 full.1.1 full.1.2, λ r h agree. full.1.3 r h (subst (λ n. Agree n (den T r) full.1.1) (sym kept.levels) agree)))
-
-pub wave_within : (S T : Nodes) (entries : List Entry) → IsWithinLimit S entries T → IsStillWithin S T
-wave_within S T entries (inl le) = inl le
-wave_within S T entries (inr k) = inr k.1
 
 -- ---- variables
 
