@@ -30,6 +30,12 @@ const THROUGH: &str = "INPUT(a) OUTPUT(a)";
 
 const BUFFERED: &str = "INPUT(x) OUTPUT(a) a = BUFF(x)";
 
+/// A register whose next state depends on itself and an input.
+const TOGGLED: &str = "OUTPUT(q) q = DFF(n) n = XOR(q, c) INPUT(c)";
+
+/// A register of another name, and an input more.
+const HELD: &str = "INPUT(d) r = DFF(d) OUTPUT(r) INPUT(c)";
+
 fn netlist(alloc: Global, text: &str) -> Result<Netlist, Fail> {
     Ok(parse_bench(alloc, text.as_bytes())?)
 }
@@ -133,6 +139,8 @@ fn declared_and_depth(rt: HostRuntime) -> Result<(), Fail> {
         (BUFFERED, THROUGH, Match::Name, true, "x a "),
         (THROUGH, BUFFERED, Match::Position, false, "a "),
         (BUFFERED, THROUGH, Match::Position, true, "x "),
+        (TOGGLED, HELD, Match::Name, false, "c d q r "),
+        (TOGGLED, HELD, Match::Name, true, "q c r d "),
     ];
     for (first, second, how, depth, names) in rows {
         let order = if depth { Order::Depth } else { Order::Declared };
@@ -203,6 +211,26 @@ fn outputs(rt: HostRuntime) -> Result<(), Fail> {
     assert_eq!(rt; found.1, first.find(b"23"));
     assert_eq!(rt; found.2, second.find(b"24"));
     assert_eq!(rt; pairing.output_pairs().len(), 1);
+    Ok(())
+}
+
+#[test]
+fn registers(rt: HostRuntime) -> Result<(), Fail> {
+    let alloc = rt.alloc();
+    let first = netlist(alloc, TOGGLED)?;
+    let second = netlist(alloc, HELD)?;
+    let same = pair(alloc, &first, &first, Match::Name, &Order::Interleave)?;
+    assert_eq!(rt;
+        same.next_pairs().first().copied(),
+        pair_named(&first, &first, b"q")
+    );
+    let other = pair(alloc, &first, &second, Match::Name, &Order::Declared)?;
+    assert!(rt; other.next_pairs().is_empty());
+    assert_eq!(rt; other.only_first_next().first().copied(), first.find(b"q"));
+    assert_eq!(rt;
+        other.only_second_next().first().copied(),
+        second.find(b"r")
+    );
     Ok(())
 }
 
@@ -320,7 +348,7 @@ fn faults(rt: HostRuntime) -> Result<(), Fail> {
     let texts = [
         (
             OrderFault::CountsDiffer,
-            "the netlists have different numbers of inputs or outputs",
+            "the netlists have different numbers of inputs, outputs or registers",
         ),
         (
             OrderFault::NotAPermutation { place: 12 },

@@ -89,7 +89,7 @@ fn lines_of_faults(rt: HostRuntime) -> Result<(), Fail> {
         ),
         (
             order(OrderFault::CountsDiffer),
-            "order: the netlists have different numbers of inputs or outputs",
+            "order: the netlists have different numbers of inputs, outputs or registers",
             2,
         ),
         (

@@ -140,7 +140,7 @@ fn refused_texts() -> [Row; 20] {
             C17_OF_FOUR,
             "",
             2,
-            "order: the netlists have different numbers of inputs or outputs",
+            "order: the netlists have different numbers of inputs, outputs or registers",
         ),
         (
             "--order-file list",
