@@ -123,13 +123,23 @@ fn add_line(
     requires second_known { Has store.now of.second }
     ensures { IfOk result (AddsLine sizes store.now names.now of.entry.label.role of.entry.label.name.now of.entry.first of.entry.second text.old.items text.new.items) }
 {
-    match least_difference(alloc, store, of.first, of.second)? {
+    let Diagrams {
+        label,
+        first,
+        second,
+    } = of;
+    match least_difference(alloc, store, first, second)? {
         None => {
-            let size = size_of(store, of.first, sizes)?;
-            add_equal(alloc, text, of.label, size)?;
+            let size = size_of(store, first, sizes)?;
+            add_equal(alloc, text, label, size)?;
             Ok(true)
         }
         Some(bits) => {
+            let of = Diagrams {
+                label,
+                first,
+                second,
+            };
             add_difference(alloc, text, store, names, of, bits.as_slice(), sizes)?;
             Ok(false)
         }
