@@ -123,13 +123,23 @@ fn add_line(
     requires second_known { Has store.now outputs.second }
     ensures { IfOk result (AddsLine sizes store.now names.now outputs.entry.name.now outputs.entry.first outputs.entry.second text.old.items text.new.items) }
 {
-    match least_difference(alloc, store, outputs.first, outputs.second)? {
+    let Outputs {
+        name,
+        first,
+        second,
+    } = outputs;
+    match least_difference(alloc, store, first, second)? {
         None => {
-            let size = size_of(store, outputs.first, sizes)?;
-            add_equal(alloc, text, outputs.name, size)?;
+            let size = size_of(store, first, sizes)?;
+            add_equal(alloc, text, name, size)?;
             Ok(true)
         }
         Some(bits) => {
+            let outputs = Outputs {
+                name,
+                first,
+                second,
+            };
             add_difference(alloc, text, store, names, outputs, bits.as_slice(), sizes)?;
             Ok(false)
         }

@@ -1,7 +1,7 @@
 //! References to nodes, and the two numbers that decide where a node lies.
 ghost use Rattle.std.specs.Prelude.{◌≡◌, ◌↔◌, IsTrue, Some};
 ghost use Rattle.dd_store.specs.Codes.{code_of, shard_of_pair};
-ghost use Rattle.dd_store.specs.Words.{is_terminal};
+ghost use Rattle.dd_store.specs.Words.{word_of, reference_of, IsWord, is_terminal};
 
 use slot_table::Spread;
 use std::cmp::Ordering;
@@ -102,6 +102,23 @@ impl Ref {
     {
         self.word < 2
     }
+
+    /// Its eight bytes as a number, different for each.
+    pub fn word(self) -> u64
+        ensures word { result ≡ word_of self }
+        ensures within { IsWord result }
+        ensures back { reference_of result ≡ self }
+    {
+        self.word
+    }
+
+    /// The reference with these eight bytes.
+    pub fn of_word(word: u64) -> Ref
+        requires { IsWord word }
+        ensures { result ≡ reference_of word }
+    {
+        Ref { word }
+    }
 }
 
 impl Spread for Ref {
@@ -110,7 +127,6 @@ impl Spread for Ref {
 
     ghost spread_of = { word_of };
 
-    /// Its eight bytes as a number, different for each.
     fn spread(&self) -> u64 {
         self.word
     }

@@ -5,7 +5,7 @@ use Rattle.req_table.specs.declared.Child.{Child}
 use Rattle.req_table.specs.declared.Child.TheVariants as child
 use Rattle.wave_engine.specs.Marks.{IsMarked}
 use Rattle.wave_engine.specs.declared.lists.Placed.{Placed}
-use Rattle.wave_engine.specs.declared.lists.Placed.TheVariants.{Done, Ask}
+use Rattle.wave_engine.specs.declared.lists.PlacedChild.TheVariants.{Done, Ask}
 
 -- the list of a level
 abbrev pub row : {X : Type 0} → List (List X) → ℕ → List X

@@ -22,10 +22,10 @@ fn place_child(store: &Store, requests: &mut Requests, asked: Child) -> Result<P
 {
     let _ = store.levels();
     match asked {
-        Child::Done(answer) => Ok(Placed::Done(answer)),
+        Child::Done(answer) => Ok(Placed::done(answer)),
         Child::Ask { level, key } => {
             let place = requests.admit(level, key)?;
-            Ok(Placed::Ask { level, place })
+            Ok(Placed::ask(level, place))
         }
     }
 }

@@ -8,7 +8,7 @@ ghost use Rattle.wave_engine.specs.Down.{AreExpanded};
 ghost use Rattle.wave_engine.specs.Up.{ComesTo, IsReadyAt, AskedAt, IsLevelReduced, IsLevelFault, AreReducedBelow};
 
 use crate::engine::Down;
-use crate::lists::{Answers, Placed};
+use crate::lists::{Answers, Placed, PlacedChild};
 use crate::requests::Requests;
 use dd_store::{Ref, Store, StoreFault};
 use expand_work::WaveFault;
@@ -20,9 +20,9 @@ pub(crate) fn resolve(answers: &[Answers], child: Placed) -> Ref
     requires { (r : RefValue) × ComesTo answers.now child r }
     ensures { ComesTo answers.now child result }
 {
-    match child {
-        Placed::Done(answer) => answer,
-        Placed::Ask { level, place } => answers[level as usize].at(place as usize),
+    match child.view() {
+        PlacedChild::Done(answer) => answer,
+        PlacedChild::Ask { level, place } => answers[level as usize].at(place as usize),
     }
 }
 

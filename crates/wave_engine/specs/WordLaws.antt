@@ -1,0 +1,25 @@
+-- The word of a placed child gives back what it says.
+use Rattle.std.specs.Prelude.{◌≡◌, ℕ, ◌-◌, ◌/◌, ◌%◌, ◌^◌, ◌<◌, ◌≤◌}
+use Rattle.std.proofs.Common.{◌∙◌, ap, arith, inl, inr}
+use Rattle.std.proofs.lemmas.Bool.Decides.{nat_tests}
+use Rattle.dd_store.specs.Words.{reference_of, IsWord}
+use Rattle.dd_store.specs.WordLaws.{word_of-reference_of}
+use Rattle.wave_engine.specs.declared.lists.PlacedChild.TheVariants.{Done, Ask}
+use Rattle.wave_engine.specs.Words.{placed_word, placed_of, IsPlacedWord}
+
+-- a word below the bit of a request is that of an answer
+answer : (w : ℕ) → w < 2 ^ 63 → placed_of w ≡ Done (reference_of w)
+answer w small = grind (arith, nat_tests)
+
+request : (w : ℕ) → 2 ^ 63 ≤ w → placed_of w ≡ Ask ((w - 2 ^ 63) / 2 ^ 32) ((w - 2 ^ 63) % 2 ^ 32)
+request w big = grind (arith, nat_tests)
+
+-- the words of references are below it
+small_word : (w : ℕ) → IsWord w → w < 2 ^ 63
+small_word w (inl small) = omega arith
+small_word w (inr big) = omega arith
+
+-- a word gives back what it says
+pub placed_word-placed_of : (w : ℕ) → IsPlacedWord w → placed_word (placed_of w) ≡ w
+placed_word-placed_of w (inl h) = ap placed_word (answer w (small_word w h)) ∙ word_of-reference_of w h
+placed_word-placed_of w (inr big) = ap placed_word (request w big.0) ∙ omega arith
