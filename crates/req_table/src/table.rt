@@ -4,14 +4,14 @@ ghost use Rattle.req_table.specs.Operation.{Operation};
 ghost use Rattle.req_table.specs.Tables.{Offers};
 
 use crate::Key;
-use indexmap::IndexSet;
+use slot_table::{Placed, SlotTable};
 use std::alloc::{AllocError, Global};
 use std::marker::Model;
 
 /// The list of admitted keys, without repeats.
 #[derive(Drop)]
 pub struct Table {
-    keys: IndexSet<Key>,
+    keys: SlotTable<Key>,
 }
 
 impl Model for Table {
@@ -20,7 +20,7 @@ impl Model for Table {
 
     ghost Value = { List Operation };
 
-    ghost view = { λ t. t.keys.keys };
+    ghost view = { λ t. t.keys };
 }
 
 impl Table {
@@ -29,7 +29,7 @@ impl Table {
         ensures { result ≡ Ok [] }
     {
         Ok(Table {
-            keys: IndexSet::new(alloc),
+            keys: SlotTable::new(alloc),
         })
     }
 
@@ -39,7 +39,12 @@ impl Table {
         ensures refused { OnErr result (self.new ≡ self.old) }
         ensures absent { OnErr result (¬ Contains self.old key) }
     {
-        Ok(self.keys.insert(key)?)
+        let room = (u32::MAX as u64).saturating_sub(self.keys.len() as u64);
+        match self.keys.find_or_add(key, room) {
+            Ok(Placed::Added(_)) => Ok(true),
+            Ok(Placed::Found(_)) => Ok(false),
+            Err(_) => Err(AllocError),
+        }
     }
 
     /// The number of keys.
@@ -54,14 +59,14 @@ impl Table {
         requires { place < length self.now }
         ensures { slice_get self.now place ≡ Some result }
     {
-        self.keys.as_slice()[place]
+        self.keys.at(place)
     }
 
     /// Whether a key was admitted.
     pub fn contains(&self, key: Key) -> bool
         ensures { IsTrue result ↔ Contains self.now key }
     {
-        self.keys.contains(&key)
+        self.keys.find(key).is_some()
     }
 
     /// All keys, in order of admission.
