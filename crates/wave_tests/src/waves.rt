@@ -94,8 +94,8 @@ pub(crate) fn start<R: Abort>(rt: &R, alloc: Global, store: &mut Store) -> Vec<R
     ensures { All (Has store.new) result.items }
 {
     let mut known = Vec::new(alloc);
-    known.push(Ref::False).expect(rt, "memory");
-    known.push(Ref::True).expect(rt, "memory");
+    known.push(Ref::FALSE).expect(rt, "memory");
+    known.push(Ref::TRUE).expect(rt, "memory");
     for level in 0..store.levels() {
         let variable = store.variable(level).expect(rt, "a variable");
         known.push(variable).expect(rt, "memory");
@@ -248,16 +248,16 @@ fn wave_entries(rt: HostRuntime) -> Result<(), Fail> {
                 way,
             );
             assert!(rt; answer.is_ok());
-            let both = node(&rt, &store, 0, Ref::False, b);
+            let both = node(&rt, &store, 0, Ref::FALSE, b);
             let wanted = [
-                Ref::False,
-                Ref::True,
+                Ref::FALSE,
+                Ref::TRUE,
                 a,
                 b,
                 both,
                 both,
-                Ref::False,
-                Ref::False,
+                Ref::FALSE,
+                Ref::FALSE,
             ];
             assert_eq!(rt; known.as_slice(), wanted.as_slice());
             assert_eq!(rt; store.count(), 3);
@@ -285,13 +285,13 @@ fn limit_of_a_wave(rt: HostRuntime) -> Result<(), Fail> {
             let answer = run(&rt, rt.alloc(), &mut store, &mut known, &steps, 2, way);
             if fits {
                 assert!(rt; answer.is_ok());
-                let not_b = node(&rt, &store, 1, Ref::True, Ref::False);
+                let not_b = node(&rt, &store, 1, Ref::TRUE, Ref::FALSE);
                 let wanted = [
-                    node(&rt, &store, 0, Ref::False, b),
-                    node(&rt, &store, 0, b, Ref::True),
+                    node(&rt, &store, 0, Ref::FALSE, b),
+                    node(&rt, &store, 0, b, Ref::TRUE),
                     node(&rt, &store, 0, b, not_b),
-                    node(&rt, &store, 0, Ref::True, not_b),
-                    node(&rt, &store, 0, not_b, Ref::False),
+                    node(&rt, &store, 0, Ref::TRUE, not_b),
+                    node(&rt, &store, 0, not_b, Ref::FALSE),
                     node(&rt, &store, 0, not_b, b),
                 ];
                 assert_eq!(rt; known.get(6 - 2..), Some(wanted.as_slice()));
@@ -335,10 +335,10 @@ fn full_store(rt: HostRuntime) -> Result<(), Fail> {
         &rt,
         &store,
         0,
-        Ref::False,
+        Ref::FALSE,
         known_at(&rt, &store, known.as_slice(), B),
     );
-    assert_eq!(rt; known.get(4..), Some([both, Ref::True, both].as_slice()));
+    assert_eq!(rt; known.get(4..), Some([both, Ref::TRUE, both].as_slice()));
     Ok(())
 }
 
@@ -356,10 +356,10 @@ fn second_wave(rt: HostRuntime) -> Result<(), Fail> {
             let product = [(Op::And, 5, 6)];
             assert!(rt; run(&rt, alloc, &mut store, &mut known, &product, workers, way).is_ok());
             let c = known_at(&rt, &store, known.as_slice(), C);
-            let both = node(&rt, &store, 1, Ref::False, c);
+            let both = node(&rt, &store, 1, Ref::FALSE, c);
             assert_eq!(rt;
                 known.get(7).copied(),
-                Some(node(&rt, &store, 0, both, Ref::True))
+                Some(node(&rt, &store, 0, both, Ref::TRUE))
             );
             assert_eq!(rt; store.count(), 7);
         }
@@ -389,8 +389,8 @@ fn core_reduced(rt: HostRuntime) -> Result<(), Fail> {
             match reduce(&rt, alloc, &mut store, &records, &Free) {
                 Ok(results) => {
                     assert!(rt; fits);
-                    let first = node(&rt, &store, 0, Ref::False, c);
-                    let last = node(&rt, &store, 3, Ref::True, Ref::False);
+                    let first = node(&rt, &store, 0, Ref::FALSE, c);
+                    let last = node(&rt, &store, 3, Ref::TRUE, Ref::FALSE);
                     assert_eq!(rt; only(&rt, &records, &results, 0, roots[0]), first);
                     assert_eq!(rt; only(&rt, &records, &results, 3, roots[1]), last);
                     assert_eq!(rt; store.count(), 6);

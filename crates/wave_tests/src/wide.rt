@@ -48,10 +48,10 @@ fn found<R: Abort>(rt: &R, alloc: Global, store: &Store, variables: u16) -> Vec<
     for second in 1..variables {
         for other in second..variables {
             if other > second {
-                let last = node(rt, store, other, Ref::False, Ref::True);
-                let both = node(rt, store, second, last, Ref::True);
+                let last = node(rt, store, other, Ref::FALSE, Ref::TRUE);
+                let both = node(rt, store, second, last, Ref::TRUE);
                 answers
-                    .push(node(rt, store, 0, Ref::False, both))
+                    .push(node(rt, store, 0, Ref::FALSE, both))
                     .expect(rt, "memory");
             }
         }

@@ -39,7 +39,10 @@ fn are_numbered(ports: &[Port], workers: u32) -> bool {
 
 /// Whether the child is this answer.
 fn is_answer(child: Child, wanted: Ref) -> bool {
-    matches!(child, Child::Done(answer) if answer == wanted)
+    match child {
+        Child::Done(answer) => answer == wanted,
+        Child::Ask { .. } => false,
+    }
 }
 
 /// Whether these are the one record of this request, whose children are answers.
@@ -76,7 +79,7 @@ fn merged_roots(rt: HostRuntime) -> Result<(), Fail> {
         is_record(
             records.level(0),
             first,
-            Ref::False,
+            Ref::FALSE,
             variable(&rt, &store, 1)
         )
     );
@@ -141,20 +144,20 @@ fn two_at_a_level(rt: HostRuntime) -> Result<(), Fail> {
         is_record(
             records.level(0),
             roots[0],
-            Ref::False,
+            Ref::FALSE,
             variable(&rt, &store, 2)
         )
     );
     assert!(rt; records.level(1).is_empty() && records.level(2).is_empty());
-    assert!(rt; is_record(records.level(3), roots[1], Ref::True, Ref::False));
+    assert!(rt; is_record(records.level(3), roots[1], Ref::TRUE, Ref::FALSE));
     assert!(rt; are_numbered(expanded.ports(), 2));
     assert_eq!(rt; put_by(expanded.ports()), 18);
     let gate = AtFirst(Meeting::of(2));
     let entries = two_entries(&rt, &store);
     let answers = wave(&rt, rt.alloc(), &mut store, &entries, 2, &gate)?;
     assert!(rt; gate.0.met());
-    let both = store.find(0, Ref::False, entries[0].2);
-    let not_d = store.find(3, Ref::True, Ref::False);
+    let both = store.find(0, Ref::FALSE, entries[0].2);
+    let not_d = store.find(3, Ref::TRUE, Ref::FALSE);
     assert!(rt; both.is_some() && both == answers.first().copied());
     assert!(rt; not_d.is_some() && not_d == answers.last().copied());
     Ok(())

@@ -67,7 +67,7 @@ fn found(rt: &impl Abort, store: &Store, level: u16) -> Ref
     ensures { Has store.now result }
 {
     store
-        .find(level, Ref::False, Ref::True)
+        .find(level, Ref::FALSE, Ref::TRUE)
         .expect(rt, "no such variable")
 }
 

@@ -28,7 +28,7 @@ pub fn variable(rt: &impl Abort, store: &Store, level: u16) -> Ref
     ensures { Has store.now result }
 {
     store
-        .find(level, Ref::False, Ref::True)
+        .find(level, Ref::FALSE, Ref::TRUE)
         .expect(rt, "no such variable")
 }
 
@@ -51,24 +51,24 @@ fn short_answers(rt: HostRuntime) -> Result<(), Fail> {
     let a = variable(&rt, &store, 0);
     let b = variable(&rt, &store, 1);
     for (op, f, g, answer) in [
-        (Op::And, Ref::False, a, Some(Ref::False)),
-        (Op::And, Ref::True, a, Some(a)),
+        (Op::And, Ref::FALSE, a, Some(Ref::FALSE)),
+        (Op::And, Ref::TRUE, a, Some(a)),
         (Op::And, a, a, Some(a)),
-        (Op::Or, Ref::True, a, Some(Ref::True)),
-        (Op::Or, Ref::False, a, Some(a)),
+        (Op::Or, Ref::TRUE, a, Some(Ref::TRUE)),
+        (Op::Or, Ref::FALSE, a, Some(a)),
         (Op::Or, a, a, Some(a)),
-        (Op::Xor, a, a, Some(Ref::False)),
-        (Op::Xor, Ref::False, a, Some(a)),
-        (Op::Nand, Ref::False, a, Some(Ref::True)),
-        (Op::Nor, Ref::True, a, Some(Ref::False)),
-        (Op::Xnor, a, a, Some(Ref::True)),
-        (Op::Xnor, Ref::True, a, Some(a)),
-        (Op::Nand, Ref::True, Ref::True, Some(Ref::False)),
-        (Op::Xor, Ref::False, Ref::True, Some(Ref::True)),
-        (Op::Nor, Ref::False, Ref::False, Some(Ref::True)),
+        (Op::Xor, a, a, Some(Ref::FALSE)),
+        (Op::Xor, Ref::FALSE, a, Some(a)),
+        (Op::Nand, Ref::FALSE, a, Some(Ref::TRUE)),
+        (Op::Nor, Ref::TRUE, a, Some(Ref::FALSE)),
+        (Op::Xnor, a, a, Some(Ref::TRUE)),
+        (Op::Xnor, Ref::TRUE, a, Some(a)),
+        (Op::Nand, Ref::TRUE, Ref::TRUE, Some(Ref::FALSE)),
+        (Op::Xor, Ref::FALSE, Ref::TRUE, Some(Ref::TRUE)),
+        (Op::Nor, Ref::FALSE, Ref::FALSE, Some(Ref::TRUE)),
         (Op::Nand, a, a, None),
-        (Op::Xor, Ref::True, a, None),
-        (Op::Nor, Ref::False, a, None),
+        (Op::Xor, Ref::TRUE, a, None),
+        (Op::Nor, Ref::FALSE, a, None),
         (Op::And, a, b, None),
     ] {
         assert_eq!(rt; short(op, f, g), answer);
@@ -117,17 +117,17 @@ fn children(rt: HostRuntime) -> Result<(), Fail> {
     assert_eq!(rt; key.g(), b);
     let both = split(&store, key);
     assert_eq!(rt; both.key, key);
-    assert_eq!(rt; tell(both.low), Ok(Ref::False));
+    assert_eq!(rt; tell(both.low), Ok(Ref::FALSE));
     assert_eq!(rt; tell(both.high), Ok(b));
-    assert!(rt; short(Op::Nand, b, Ref::True).is_none());
-    let complement = normal(Op::Nand, b, Ref::True);
+    assert!(rt; short(Op::Nand, b, Ref::TRUE).is_none());
+    let complement = normal(Op::Nand, b, Ref::TRUE);
     assert_eq!(rt; complement.op(), Op::Nand);
-    assert_eq!(rt; complement.f(), Ref::True);
+    assert_eq!(rt; complement.f(), Ref::TRUE);
     assert_eq!(rt; complement.g(), b);
     let not_both = split(&store, request(&rt, &store, Op::Nand, 1, 0));
-    assert_eq!(rt; tell(not_both.low), Ok(Ref::True));
+    assert_eq!(rt; tell(not_both.low), Ok(Ref::TRUE));
     assert_eq!(rt; tell(not_both.high), Err((1, complement)));
-    assert_eq!(rt; tell(child(&store, Op::Or, b, Ref::True)), Ok(Ref::True));
+    assert_eq!(rt; tell(child(&store, Op::Or, b, Ref::TRUE)), Ok(Ref::TRUE));
     Ok(())
 }
 

@@ -59,7 +59,7 @@ fn found(rt: &impl Abort, store: &Store, level: u16) -> Ref
     ensures { Has store.now result }
 {
     store
-        .find(level, Ref::False, Ref::True)
+        .find(level, Ref::FALSE, Ref::TRUE)
         .expect(rt, "no such variable")
 }
 
@@ -71,7 +71,7 @@ fn make_or(rt: &impl Abort, store: &mut Store, level: u16)
     let variable = found(rt, store, level);
     assert!(rt; store.top(variable) > 0);
     store
-        .make(0, variable, Ref::True)
+        .make(0, variable, Ref::TRUE)
         .expect(rt, "a node is refused");
 }
 
@@ -82,7 +82,7 @@ fn found_or(rt: &impl Abort, store: &Store, level: u16) -> Ref
 {
     let variable = found(rt, store, level);
     store
-        .find(0, variable, Ref::True)
+        .find(0, variable, Ref::TRUE)
         .expect(rt, "no such node")
 }
 
@@ -169,8 +169,8 @@ fn one_worker_records_what_it_is_asked_for(rt: HostRuntime) -> Result<(), Fail> 
     let c = found(&rt, &store, 2);
     let child = conjunction(&rt, &store, b, c);
     assert_eq!(rt; part.rows.levels(), 3);
-    assert!(rt; is_row(part.rows.level(0), root, Err((1, child)), Ok(Ref::True)));
-    assert!(rt; is_row(part.rows.level(1), child, Ok(Ref::False), Ok(c)));
+    assert!(rt; is_row(part.rows.level(0), root, Err((1, child)), Ok(Ref::TRUE)));
+    assert!(rt; is_row(part.rows.level(1), child, Ok(Ref::FALSE), Ok(c)));
     assert!(rt; part.rows.level(2).is_empty());
     assert_eq!(rt; (part.port.number(), part.port.put()), (0, 5));
     assert!(rt; !stop.load(Ordering::SeqCst));
