@@ -43,7 +43,8 @@ pub struct Report {
 /// What a line speaks of, and the two diagrams that it compares.
 #[derive(Clone, Copy, Drop)]
 struct Diagrams<'a> {
-    label: Label<'a>,
+    role: Role,
+    name: &'a [u8],
     first: Ref,
     second: Ref,
 }
@@ -95,7 +96,7 @@ fn add_difference(
     requires first_known { Has store.now of.first }
     requires second_known { Has store.now of.second }
     requires least { IsLeastDifference store.now.levels (den store.now of.first) (den store.now of.second) bits.now }
-    ensures { OnOk result (AddsLine sizes store.now names.now of.entry.label.role of.entry.label.name.now of.entry.first of.entry.second text.old.items text.new.items false) }
+    ensures { OnOk result (AddsLine sizes store.now names.now of.entry.role of.entry.name.now of.entry.first of.entry.second text.old.items text.new.items false) }
 {
     let first = value(store, of.first, bits);
     let second = value(store, of.second, bits);
@@ -105,7 +106,11 @@ fn add_difference(
         first,
         second,
     };
-    add_different(alloc, text, names, of.label, at, shown)?;
+    let label = Label {
+        role: of.role,
+        name: of.name,
+    };
+    add_different(alloc, text, names, label, at, shown)?;
     Ok(())
 }
 
@@ -121,22 +126,24 @@ fn add_line(
     requires levels { store.now.levels ≡ length names.now }
     requires first_known { Has store.now of.first }
     requires second_known { Has store.now of.second }
-    ensures { IfOk result (AddsLine sizes store.now names.now of.entry.label.role of.entry.label.name.now of.entry.first of.entry.second text.old.items text.new.items) }
+    ensures { IfOk result (AddsLine sizes store.now names.now of.entry.role of.entry.name.now of.entry.first of.entry.second text.old.items text.new.items) }
 {
     let Diagrams {
-        label,
+        role,
+        name,
         first,
         second,
     } = of;
     match least_difference(alloc, store, first, second)? {
         None => {
             let size = size_of(store, first, sizes)?;
-            add_equal(alloc, text, label, size)?;
+            add_equal(alloc, text, Label { role, name }, size)?;
             Ok(true)
         }
         Some(bits) => {
             let of = Diagrams {
-                label,
+                role,
+                name,
                 first,
                 second,
             };
@@ -203,20 +210,18 @@ fn subjects_of(alloc: Global, of: &Comparison<'_>) -> Result<Vec<Subject>, Alloc
     Ok(subjects)
 }
 
-/// The label and the diagrams of what is compared.
+/// The role, the name and the diagrams of what is compared.
 fn diagrams_of<'a>(of: &Comparison<'a>, subject: Subject) -> Diagrams<'a>
     requires built { AreBuilt (circuit of.now.first.now) (circuit of.now.second.now) of.now.pairing.now of.now.store.now of.now.built.now }
     requires inside { IsInside (circuit of.now.first.now) (circuit of.now.second.now) subject }
-    ensures role { result.label.role ≡ subject.role }
-    ensures name { result.label.name.now ≡ name_of (circuit of.now.first.now) subject.named }
+    ensures role { result.role ≡ subject.role }
+    ensures name { result.name.now ≡ name_of (circuit of.now.first.now) subject.named }
     ensures first { result.first ≡ reference_of of.now.built.now.first subject.first }
     ensures second { result.second ≡ reference_of of.now.built.now.second subject.second }
 {
     Diagrams {
-        label: Label {
-            role: subject.role,
-            name: of.first.name(subject.named),
-        },
+        role: subject.role,
+        name: of.first.name(subject.named),
         first: of.built.first(subject.first),
         second: of.built.second(subject.second),
     }
