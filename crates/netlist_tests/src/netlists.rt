@@ -312,9 +312,9 @@ fn add_lines(
 ) -> Result<(), AllocError> {
     for gate in lines {
         text.extend_from_slice(b";")?;
-        add_names(&mut text, net, &[gate.out])?;
+        add_names(text, net, &[gate.out])?;
         text.extend_from_slice(format!(in alloc; " {:?}", gate.kind)?.as_bytes())?;
-        add_names(&mut text, net, gate.operands.as_slice())?;
+        add_names(text, net, gate.operands.as_slice())?;
         text.extend_from_slice(format!(in alloc;
             " rank {:?}",
             rank_of(net, gate.out)
