@@ -1,3 +1,4 @@
+pub mod Asking
 pub mod Building
 pub mod Folds
 pub mod Need

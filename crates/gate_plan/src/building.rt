@@ -5,7 +5,8 @@ ghost use Rattle.dd_store.specs.View.{Keeps};
 ghost use Rattle.net_bench.specs.Circuit.{circuit, variables_of};
 ghost use Rattle.reduce_up.specs.Reducing.{AddsDescribed};
 ghost use Rattle.gate_plan.specs.Need.{IsCounted};
-ghost use Rattle.gate_plan.specs.Needing.{IsNeeded, IsNeededValue, HasNeed, IsBuildFault, IsStillWithin, IsPlacedValue};
+ghost use Rattle.gate_plan.specs.Needing.{IsNeeded, IsNeededValue, HasNeed, IsBuildFault, IsPlacedValue};
+ghost use Rattle.gate_plan.specs.Asking.{EitherAsks, EitherAsksAt, EitherAsksIn, IsWithinOrUnasked};
 ghost use Rattle.gate_plan.specs.Plans.{IsPlan, plan_steps, plan_copies, plan_folds};
 ghost use Rattle.gate_plan.specs.Building.{IsPaired, first_level, second_level, input_level, AreDiagrams, AreInputs, AreRight, AreFolded, IsStepBelow, entry_of};
 
@@ -164,7 +165,7 @@ fn build_fold<R: Threads + Wait + Sync, G: Gate>(
     ensures adds { AddsDescribed store.old store.new (IsCounted store.old.levels (IsPlacedValue store.old.levels sides.now.first sides.now.second)) }
     ensures first_next { OnOk result (AreFolded sides.now.first.net (input_level sides.now.first) store.new built.new.first rank (fold + 1)) }
     ensures second_next { OnOk result (AreFolded sides.now.second.net (input_level sides.now.second) store.new built.new.second rank (fold + 1)) }
-    ensures within { OnOk result (IsStillWithin store.old store.new) }
+    ensures within { OnOk result (IsWithinOrUnasked (EitherAsksAt sides.now.first sides.now.second store.new rank fold) store.old store.new) }
     ensures fault { IfErr result (IsBuildFault store.old.levels (IsPlacedValue store.old.levels sides.now.first sides.now.second) store.new) }
 {
     let ours = sides.first.steps(rank, fold);
@@ -198,7 +199,7 @@ fn build_rank<R: Threads + Wait + Sync, G: Gate>(
     ensures adds { AddsDescribed store.old store.new (IsCounted store.old.levels (IsPlacedValue store.old.levels sides.now.first sides.now.second)) }
     ensures first_next { OnOk result (AreRight sides.now.first.net (input_level sides.now.first) store.new built.new.first (rank + 1)) }
     ensures second_next { OnOk result (AreRight sides.now.second.net (input_level sides.now.second) store.new built.new.second (rank + 1)) }
-    ensures within { OnOk result (IsStillWithin store.old store.new) }
+    ensures within { OnOk result (IsWithinOrUnasked (EitherAsksIn sides.now.first sides.now.second store.new rank) store.old store.new) }
     ensures fault { IfErr result (IsBuildFault store.old.levels (IsPlacedValue store.old.levels sides.now.first sides.now.second) store.new) }
 {
     let _ = store.levels();
@@ -254,7 +255,8 @@ pub fn build<R: Threads + Wait + Sync, G: Gate>(
     ensures second { IfOk result (λ b. AreDiagrams (circuit second.now) (second_level pairing.now) store.new b.second) }
     // Each node that is added is needed, also where the build is refused.
     ensures adds { AddsDescribed store.old store.new (IsNeeded (circuit first.now) (circuit second.now) pairing.now) }
-    ensures within { OnOk result (IsStillWithin store.old store.new) }
+    // A store that is over its limit after a build is as it was, and no step of a gate had to be asked for.
+    ensures within { OnOk result (IsWithinOrUnasked (EitherAsks (circuit first.now) (circuit second.now) pairing.now store.new) store.old store.new) }
     // A store without nodes gets the nodes that are needed and no others, within its limit.
     ensures need { count_of store.old ≡ 0 → OnOk result (HasNeed (circuit first.now) (circuit second.now) pairing.now store.new) }
     // Full is answered only where the store has more nodes than its limit, or as many and lacks one that is needed.

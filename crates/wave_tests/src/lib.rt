@@ -7,3 +7,5 @@ mod plans;
 mod waves;
 #[cfg(test)]
 mod wide;
+#[cfg(test)]
+mod widths;

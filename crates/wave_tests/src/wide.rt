@@ -5,9 +5,11 @@ use expand_work::{Gate, WaveFault};
 use req_table::Op;
 use std::alloc::Global;
 use std::process::Abort;
+use std::sync::Wait;
 use std::sync::atomic::{AtomicBool, AtomicU32, AtomicU64, Ordering};
 use std::test::Fail;
 use std::thread;
+use std::thread::Threads;
 use wave_engine::wave;
 
 // The first variable is the factor of all products; the constants stand before it, and the products behind all variables.
@@ -128,16 +130,18 @@ impl Gate for Shards {
     fn at_level(&self, _worker: u32, _level: u16) {}
 }
 
-// A level of 2,047 records is left to the caller's thread; of one with 2,048 each shard is told once.
-#[test]
-fn shards_of_a_wide_level(rt: HostRuntime) -> Result<(), Fail> {
-    let alloc = rt.alloc();
+/// How often each shard is come to in a wave of so many records at one level, and whether another level's is.
+fn told_shards<R: Threads + Wait + Abort + Sync>(
+    rt: &R,
+    alloc: Global,
+    records: usize,
+) -> Result<(u64, bool), Fail> {
     let mut store = Store::new(alloc, 66, 10_000)?;
-    let mut known = start(&rt, alloc, &mut store);
-    let factors = products(&rt, alloc, 66);
-    let steps = sums(&rt, alloc, 66);
+    let mut known = start(rt, alloc, &mut store);
+    let factors = products(rt, alloc, 66);
+    let steps = sums(rt, alloc, 66);
     let made = run(
-        &rt,
+        rt,
         alloc,
         &mut store,
         &mut known,
@@ -146,17 +150,26 @@ fn shards_of_a_wide_level(rt: HostRuntime) -> Result<(), Fail> {
         Way::Upto(0),
     );
     assert!(rt; made.is_ok());
-    for (records, told) in [(2_047, 0), (2_048, 0x1111_1111_1111_1111)] {
-        let steps = &steps[..records];
-        let entries = entries_of(&rt, alloc, &store, known.as_slice(), steps);
-        let gate = Shards {
-            counts: AtomicU64::new(0),
-            elsewhere: AtomicBool::new(false),
-        };
-        assert!(rt; wave(&rt, alloc, &mut store, entries.as_slice(), 2, &gate).is_ok());
-        assert_eq!(rt; gate.counts.load(Ordering::SeqCst), told);
-        assert!(rt; !gate.elsewhere.load(Ordering::SeqCst));
-    }
+    let steps = steps.get(..records).expect(rt, "fewer products");
+    let entries = entries_of(rt, alloc, &store, known.as_slice(), steps);
+    let gate = Shards {
+        counts: AtomicU64::new(0),
+        elsewhere: AtomicBool::new(false),
+    };
+    assert!(rt; wave(rt, alloc, &mut store, entries.as_slice(), 2, &gate).is_ok());
+    Ok((
+        gate.counts.load(Ordering::SeqCst),
+        gate.elsewhere.load(Ordering::SeqCst),
+    ))
+}
+
+// A level of 2,047 records is left to the caller's thread; of one with 2,048 each shard is told once.
+#[test]
+fn shards_of_a_wide_level(rt: HostRuntime) -> Result<(), Fail> {
+    let few = told_shards(&rt, rt.alloc(), 2_047)?;
+    assert_eq!(rt; few, (0, false));
+    let many = told_shards(&rt, rt.alloc(), 2_048)?;
+    assert_eq!(rt; many, (0x1111_1111_1111_1111, false));
     Ok(())
 }
 

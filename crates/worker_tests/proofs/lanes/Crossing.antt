@@ -9,7 +9,9 @@ use denote.Param.Send.{IsSend, IsSync, sendable}
 use Rattle.dd_store.proofs.store.Store.TheSendSync as store
 use Rattle.req_table.proofs.Key.TheSendSync as key
 use Rattle.lane_queue.proofs.Sent.{port_send, lanes_sync}
-use Rattle.std.proofs.Crossing.{crosses}
+use Rattle.std.proofs.Crossing.{crosses, frees, send as heap_send}
+use Rattle.std.specs.contracts.alloc.Global as Heap
+use Rattle.std.specs.contracts.sync.atomic.AtomicBool as AtomicBool
 use Rattle.dd_store.specs.contracts.store.Store as Store
 use Rattle.req_table.specs.contracts.Key as Key
 use Rattle.lane_queue.specs.contracts.lanes.Lanes as Lanes
@@ -25,3 +27,11 @@ key_send = key.the_send
 pub sender_send : (ν : _) (ℓ ℓ' ℓ'' : Lifetime) (κ κ' κ'' : Lft) (R : RattleType) → IsSync R
     → IsSend (TupleAt ν (ShrRef ℓ κ R ∷ ShrRef ℓ' κ' Store.the_row ∷ ShrRef ℓ'' κ'' Lanes.the_row ∷ Port.the_row ∷ Key.the_row ∷ Key.the_row ∷ []))
 sender_send ν ℓ ℓ' ℓ'' κ κ' κ'' R r = search (sendable, crosses, lanes_sync, port_send, store_sync, key_send) depth 30
+
+flag_sync : IsSync AtomicBool.the_row
+flag_sync = search (sendable, crosses, frees) depth 30
+
+-- the thread of a worker that another stops
+pub worker_send : (ν : _) (ℓ ℓ' ℓ'' ℓ'3 ℓ'4 : Lifetime) (κ κ' κ'' κ'3 κ'4 : Lft) (R : RattleType) → IsSync R
+    → IsSend (TupleAt ν (ShrRef ℓ κ R ∷ Heap.the_row ∷ ShrRef ℓ' κ' Lanes.the_row ∷ Port.the_row ∷ ShrRef ℓ'' κ'' Store.the_row ∷ ShrRef ℓ'3 κ'3 AtomicBool.the_row ∷ ShrRef ℓ'4 κ'4 AtomicBool.the_row ∷ []))
+worker_send ν ℓ ℓ' ℓ'' ℓ'3 ℓ'4 κ κ' κ'' κ'3 κ'4 R r = search (sendable, crosses, lanes_sync, port_send, store_sync, flag_sync, heap_send) depth 30

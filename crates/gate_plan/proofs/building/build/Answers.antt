@@ -1,4 +1,4 @@
-use Rattle.std.proofs.Common.{refl, sym, inl, arith, ◌∙◌, ◌≡◌, ◌<◌, ◌+◌, max, ℕ, length, map, ap, subst}
+use Rattle.std.proofs.Common.{refl, sym, inl, arith, ◌∙◌, ◌≡◌, ◌<◌, ◌≤◌, ◌+◌, max, ℕ, length, map, ap, subst}
 use Rattle.std.proofs.lemmas.Result.{err_from_is_err_and}
 use Rattle.net_bench.specs.Circuit.{circuit, greatest}
 use Rattle.gate_plan.specs.declared.inputs.Which.TheVariants.{First, Second}
@@ -6,7 +6,9 @@ use Rattle.gate_plan.specs.Building.{Placed, first_level, second_level, AreVaria
 use Rattle.gate_plan.specs.Folds.{IsVariable}
 use Rattle.gate_plan.specs.Needing.{IsPlacedValue}
 use Rattle.gate_plan.specs.Plans.{rank_of}
-use Rattle.gate_plan.proofs.Counted.{adds_more, adds_next, fault_next, within_next}
+use Rattle.gate_plan.specs.Asking.{EitherAsksIn}
+use Rattle.gate_plan.proofs.Asked.{none_unasked, next_unasked, all_unasked, still_within}
+use Rattle.gate_plan.proofs.Counted.{adds_more, adds_next, fault_next}
 use Rattle.gate_plan.proofs.Needed.{ArePlaced, needed_adds, needed_fault, variables_needed, variables_fault, need_left}
 use Rattle.gate_plan.proofs.Pairs.{first_fits, second_fits}
 use Rattle.gate_plan.proofs.Running.{inputs_right, all_right, variables_kept}
@@ -54,7 +56,7 @@ loop-below-init g c =
     record {
       sound = c.make_variables.ensures.sound;
       adds = adds_more c.args.store.now c.make_variables.new.store c.args.store.now.levels (IsVariable c.args.store.now.levels) (IsPlacedValue c.args.store.now.levels one two) (λ f v. inl v) c.make_variables.ensures.adds;
-      within = c.make_variables.ensures.within;
+      within = none_unasked c.args.store.now c.make_variables.new.store (λ k. EitherAsksIn one two c.make_variables.new.store (k + 1)) c.make_variables.ensures.within;
       variables = c.in_ok-variables.ensures.made;
       first = inputs_right c.args.first.now c.in-Ok.ensures.sound (first_level c.args.pairing.now) c.make_variables.new.store c.as_slice.result.now c.in-Ok-start.built.first made c.in-Ok-start.ensures.first
           (first_fits c.args.first.now c.args.second.now c.args.pairing.now (length c.as_slice.result.now) c.requires.paired count);
@@ -88,7 +90,7 @@ loop-below-preserved g c =
     record {
       sound = c.build_rank.ensures.sound;
       adds = adds_next c.args.store.now c.loop-below.store c.build_rank.new.store (λ n. IsPlacedValue n one two) c.loop-below.invariant.sound c.loop-below.invariant.adds c.build_rank.ensures.adds;
-      within = within_next c.args.store.now c.loop-below.store c.build_rank.new.store c.loop-below.invariant.within c.in_ok-build_rank.ensures.within;
+      within = next_unasked c.args.store.now c.loop-below.store c.build_rank.new.store (λ S k. EitherAsksIn one two S (k + 1)) c.loop-below.below c.loop-below.invariant.within c.in_ok-build_rank.ensures.within;
       variables = variables_kept c.loop-below.store c.build_rank.new.store c.in_ok-variables.variables.items c.loop-below.invariant.sound c.build_rank.ensures.adds.keeps c.loop-below.invariant.variables;
       first = c.in_ok-build_rank.ensures.first_next;
       second = c.in_ok-build_rank.ensures.second_next;
@@ -126,6 +128,16 @@ returns-clause-need g c = λ none.
     let le : c.ranks.result < c.loop-below.below + 1 = omega arith in
     let le' : c.ranks-2.result < c.loop-below.below + 1 = omega arith in
     need_left c.args.first.now c.args.second.now c.args.pairing.now one two placed c.args.store.now c.loop-below.store c.in_ok-variables.variables.items c.loop-below.built.first c.loop-below.built.second (c.loop-below.below + 1)
-    c.requires.levels c.loop-below.invariant.sound c.loop-below.invariant.adds c.loop-below.invariant.within c.loop-below.invariant.variables c.in-Ok.ensures.sound c.in-Ok-new.ensures.sound
+    c.requires.levels c.loop-below.invariant.sound c.loop-below.invariant.adds (still_within c.args.store.now c.loop-below.store _ c.loop-below.invariant.within) c.loop-below.invariant.variables c.in-Ok.ensures.sound c.in-Ok-new.ensures.sound
     c.loop-below.invariant.first c.loop-below.invariant.second
     (subst (λ (n : ℕ). n < c.loop-below.below + 1) (c.ranks.ensures ∙ c.in-Ok.ensures.ranks) le) (subst (λ (n : ℕ). n < c.loop-below.below + 1) (c.ranks-2.ensures ∙ c.in-Ok-new.ensures.ranks) le') none
+
+pub returns-clause-within : goal.returns-clause-within
+returns-clause-within g c =
+    let one : Placed = record { net = c.args.first.now; which = First; pairing = c.args.pairing.now; plan = c.in-Ok.first_plan } in
+    let two : Placed = record { net = c.args.second.now; which = Second; pairing = c.args.pairing.now; plan = c.in-Ok-new.second_plan } in
+    let most : c.max-below-end.result ≡ max c.ranks.result c.ranks-2.result = c.max-below-end.ensures in
+    let le : c.ranks.result ≤ c.loop-below.below = omega arith in
+    let le' : c.ranks-2.result ≤ c.loop-below.below = omega arith in
+    all_unasked one two c.in-Ok.ensures.sound c.in-Ok-new.ensures.sound c.args.store.now c.loop-below.store c.loop-below.below
+    (subst (λ (n : ℕ). n ≤ c.loop-below.below) (c.ranks.ensures ∙ c.in-Ok.ensures.ranks) le) (subst (λ (n : ℕ). n ≤ c.loop-below.below) (c.ranks-2.ensures ∙ c.in-Ok-new.ensures.ranks) le') c.loop-below.invariant.within

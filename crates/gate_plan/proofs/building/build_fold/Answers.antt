@@ -2,6 +2,7 @@ use Rattle.std.proofs.Common.{arith, ◌∙◌, ◌≡◌, ◌+◌, length, take
 use Rattle.std.proofs.lemmas.Result.{err_from_is_err_and}
 use Rattle.gate_plan.specs.Building.{input_level}
 use Rattle.gate_plan.specs.Needing.{IsPlacedValue}
+use Rattle.gate_plan.proofs.Asked.{wave_unasked}
 use Rattle.gate_plan.proofs.Counted.{wave_adds, wave_fault}
 use Rattle.gate_plan.proofs.Running.{steps_fit, fold_next, all_entries, all_asked, answers_long, first_answers, second_answers}
 use Rattle.gate_plan.proofs.building.build_fold.Goals as goal
@@ -88,3 +89,8 @@ returns-clause-adds g c =
     (all_asked c.args.sides.now.first c.args.sides.now.second c.requires.first_plan.sound c.requires.second_plan.sound c.args.store.now c.args.built.now.first c.args.built.now.second c.args.rank c.args.fold c.steps-ours.result.now c.steps-theirs.result.now c.as_slice.result.now
     c.requires.first_folded c.requires.second_folded c.steps-ours.ensures c.steps-theirs.ensures (c.as_slice.ensures.value ∙ c.in-Ok.ensures))
     c.wave.ensures.adds
+
+pub returns-clause-within : goal.returns-clause-within
+returns-clause-within g c =
+    wave_unasked c.args.sides.now.first c.args.sides.now.second c.requires.first_plan.sound c.requires.second_plan.sound c.args.store.now c.wave.new.store c.levels.ensures.sound c.args.built.now.first c.args.built.now.second c.args.rank c.args.fold c.steps-ours.result.now c.steps-theirs.result.now c.as_slice.result.now
+    c.requires.first_folded c.requires.second_folded c.steps-ours.ensures c.steps-theirs.ensures (c.as_slice.ensures.value ∙ c.in-Ok.ensures) c.in_ok-answers.ensures.within

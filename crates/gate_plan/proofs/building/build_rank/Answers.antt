@@ -3,7 +3,9 @@ use Rattle.std.proofs.lemmas.Result.{err_from_is_err_and}
 use Rattle.gate_plan.specs.Building.{input_level}
 use Rattle.gate_plan.specs.Need.{IsCounted}
 use Rattle.gate_plan.specs.Needing.{IsPlacedValue}
-use Rattle.gate_plan.proofs.Counted.{adds_same, adds_next, fault_next, within_next}
+use Rattle.gate_plan.specs.Asking.{EitherAsksAt}
+use Rattle.gate_plan.proofs.Asked.{none_unasked, next_unasked, rank_unasked}
+use Rattle.gate_plan.proofs.Counted.{adds_same, adds_next, fault_next}
 use Rattle.gate_plan.proofs.Running.{copies_fit, copies_next, rank_right}
 use Rattle.gate_plan.proofs.building.build_rank.Goals as goal
 
@@ -21,7 +23,7 @@ pub loop-fold-init : goal.loop-fold-init
 loop-fold-init g c = record {
   sound = c.levels.ensures.sound;
   adds = adds_same c.args.store.now c.args.store.now (IsCounted c.args.store.now.levels (IsPlacedValue c.args.store.now.levels c.args.sides.now.first c.args.sides.now.second)) refl;
-  within = inr refl;
+  within = none_unasked c.args.store.now c.args.store.now (λ j. EitherAsksAt c.args.sides.now.first c.args.sides.now.second c.args.store.now c.args.rank j) (inr refl);
   first = copies_next c.args.sides.now.first.net c.requires.first_plan.sound (input_level c.args.sides.now.first) c.args.store.now c.args.built.now.first c.built.inside.first.items c.copy_all.new.references.items c.args.rank c.copies.result.now
       c.requires.first_right (ap (λ z. z.first) c.built.view_is) c.copies.ensures c.copy_all.ensures;
   second = copies_next c.args.sides.now.second.net c.requires.second_plan.sound (input_level c.args.sides.now.second) c.args.store.now c.args.built.now.second c.built.inside.second.items c.copy_all-2.new.references.items c.args.rank c.copies-2.result.now
@@ -47,7 +49,7 @@ pub loop-fold-preserved : goal.loop-fold-preserved
 loop-fold-preserved g c = record {
   sound = c.build_fold.ensures.sound;
   adds = adds_next c.args.store.now c.loop-fold.store c.build_fold.new.store (λ n. IsPlacedValue n c.args.sides.now.first c.args.sides.now.second) c.loop-fold.invariant.sound c.loop-fold.invariant.adds c.build_fold.ensures.adds;
-  within = within_next c.args.store.now c.loop-fold.store c.build_fold.new.store c.loop-fold.invariant.within c.in_ok-build_fold.ensures.within;
+  within = next_unasked c.args.store.now c.loop-fold.store c.build_fold.new.store (λ S j. EitherAsksAt c.args.sides.now.first c.args.sides.now.second S c.args.rank j) c.loop-fold.fold c.loop-fold.invariant.within c.in_ok-build_fold.ensures.within;
   first = c.in_ok-build_fold.ensures.first_next;
   second = c.in_ok-build_fold.ensures.second_next;
 }
@@ -59,7 +61,12 @@ pub returns-clause-adds : goal.returns-clause-adds
 returns-clause-adds g c = c.loop-fold.invariant.adds
 
 pub returns-clause-within : goal.returns-clause-within
-returns-clause-within g c = c.loop-fold.invariant.within
+returns-clause-within g c =
+    let most : c.max-fold-end.result ≡ max c.folds.result c.folds-2.result = c.max-fold-end.ensures in
+    let few : c.folds.result ≤ c.loop-fold.fold = omega arith in
+    let few' : c.folds-2.result ≤ c.loop-fold.fold = omega arith in
+    rank_unasked c.args.sides.now.first c.args.sides.now.second c.args.store.now c.loop-fold.store c.args.rank c.loop-fold.fold
+    (subst (λ (n : ℕ). n ≤ c.loop-fold.fold) c.folds.ensures few) (subst (λ (n : ℕ). n ≤ c.loop-fold.fold) c.folds-2.ensures few') c.loop-fold.invariant.within
 
 pub returns-clause-first_next : goal.returns-clause-first_next
 returns-clause-first_next g c =

@@ -1,0 +1,179 @@
+//! Waves that one engine does at every width, in stores that are large enough and in stores that are not.
+ghost use Rattle.std.specs.Prelude.{All, IfOk};
+ghost use Rattle.dd_store.specs.View.{Has, Keeps};
+ghost use Rattle.reduce_up.specs.Waves.{IsEntry};
+
+use crate::waves::{Step, Way, entries_of, run, start};
+use dd_store::{Ref, Store, Watch};
+use expand_work::{Gate, WaveFault};
+use req_table::Op;
+use std::alloc::Global;
+use std::process::Abort;
+use std::sync::Wait;
+use std::sync::atomic::{AtomicU32, Ordering};
+use std::test::Fail;
+use std::thread::Threads;
+use wave_engine::{Engine, Workers};
+
+/// No level has more requests.
+const NEVER: u32 = u32::MAX;
+
+/// Lets the caller's thread have so many requests of a level, and counts how often a worker comes to a level.
+#[derive(Drop)]
+struct Width {
+    most: AtomicU32,
+    told: AtomicU32,
+}
+
+impl Watch for Width {
+    fn at_shard(&self, _shard: u8, _level: u16) {}
+}
+
+impl Gate for Width {
+    fn at_level(&self, _worker: u32, _level: u16) {
+        self.told.fetch_add(1, Ordering::SeqCst);
+    }
+
+    fn most_alone(&self, _workers: u32) -> usize {
+        self.most.load(Ordering::SeqCst) as usize
+    }
+}
+
+/// Numbers that look random, from a seed.
+#[derive(Drop)]
+struct Random {
+    state: u64,
+}
+
+impl Random {
+    fn below(&mut self, count: usize) -> usize {
+        self.state = self
+            .state
+            .wrapping_mul(6364136223846793005)
+            .wrapping_add(1442695040888963407);
+        (self.state >> 33) as usize % count.max(1)
+    }
+
+    fn op(&mut self) -> Op {
+        match self.below(6) {
+            0 => Op::And,
+            1 => Op::Or,
+            2 => Op::Xor,
+            3 => Op::Nand,
+            4 => Op::Nor,
+            _ => Op::Xnor,
+        }
+    }
+}
+
+/// Steps on so many known references.
+fn random_steps<R: Abort>(rt: &R, alloc: Global, random: &mut Random, known: usize) -> Vec<Step> {
+    let mut steps = Vec::new(alloc);
+    for _ in 0..=random.below(8) {
+        let op = random.op();
+        let step = (op, random.below(known), random.below(known));
+        steps.push(step).expect(rt, "memory");
+    }
+    steps
+}
+
+/// The answers of a wave of the engine.
+fn answers_of<R: Threads + Wait + Sync>(
+    engine: &mut Engine<'_, R, Width>,
+    store: &mut Store,
+    entries: &[(Op, Ref, Ref)],
+) -> Result<Vec<Ref>, WaveFault>
+    requires operands { All (IsEntry store.old) entries.now }
+    ensures known { IfOk result (λ answers. All (Has store.new) answers.items) }
+    ensures keeps { Keeps store.old store.new }
+{
+    engine.wave(store, entries)
+}
+
+/// Runs a wave of steps by the engine, and adds its answers to the known references.
+fn run_engine<R: Abort + Threads + Wait + Sync>(
+    rt: &R,
+    engine: &mut Engine<'_, R, Width>,
+    store: &mut Store,
+    known: &mut Vec<Ref>,
+    steps: &[Step],
+) -> Result<(), WaveFault>
+    requires known { All (Has store.old) known.old.items }
+    ensures { All (Has store.new) known.new.items }
+{
+    let entries = entries_of(rt, engine.alloc(), store, known.as_slice(), steps);
+    let answers = answers_of(engine, store, entries.as_slice())?;
+    known
+        .extend_from_slice(answers.as_slice())
+        .expect(rt, "memory");
+    Ok(())
+}
+
+/// Does some waves of a seed in a new store, up to the first that is refused, each by the engine and then by the workers on one
+/// thread. These find all nodes there, answer the same, and are refused alike. Answers how many nodes the store has then, and
+/// whether a wave was refused.
+fn waves_of<R: Abort + Threads + Wait + Sync>(
+    rt: &R,
+    engine: &mut Engine<'_, R, Width>,
+    seed: u64,
+    limit: u32,
+) -> (u64, bool) {
+    let alloc = engine.alloc();
+    let mut random = Random { state: seed };
+    let mut store = Store::new(alloc, 6, limit as u64).expect(rt, "memory");
+    let mut known = start(rt, alloc, &mut store);
+    for _ in 0..5 {
+        let steps = random_steps(rt, alloc, &mut random, known.len());
+        let before = known.len();
+        let answer = run_engine(rt, engine, &mut store, &mut known, steps.as_slice());
+        let count = store.count();
+        let between = known.len();
+        let again = run(
+            rt,
+            alloc,
+            &mut store,
+            &mut known,
+            steps.as_slice(),
+            2,
+            Way::Alone(&[3, 1, 2]),
+        );
+        assert!(rt; again == answer);
+        assert_eq!(rt; store.count(), count);
+        assert_eq!(rt; known.get(before..between), known.get(between..));
+        if answer.is_err() {
+            assert!(rt; answer == Err(WaveFault::Full));
+            return (count, true);
+        }
+    }
+    (store.count(), false)
+}
+
+// One engine after the other width, and after each refused wave, as if it were new: what the workers on one thread answer, it answers.
+#[test]
+fn widths(rt: HostRuntime) -> Result<(), Fail> {
+    for workers in [1, 2, 3] {
+        let gate = Width {
+            most: AtomicU32::new(0),
+            told: AtomicU32::new(0),
+        };
+        let mut engine = Engine::new(&rt, rt.alloc(), Workers::new(workers), &gate);
+        let mut refused = false;
+        for seed in 0..12 {
+            for limit in [10_000, 40] {
+                gate.most.store(NEVER, Ordering::SeqCst);
+                let told = gate.told.load(Ordering::SeqCst);
+                let wanted = waves_of(&rt, &mut engine, seed, limit);
+                refused = refused || wanted.1;
+                assert_eq!(rt; gate.told.load(Ordering::SeqCst), told);
+                for width in 0..6 {
+                    gate.most.store(width, Ordering::SeqCst);
+                    let ended = waves_of(&rt, &mut engine, seed, limit);
+                    assert_eq!(rt; ended, wanted);
+                }
+            }
+        }
+        assert!(rt; refused);
+        assert!(rt; gate.told.load(Ordering::SeqCst) > 0);
+    }
+    Ok(())
+}
