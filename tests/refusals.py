@@ -56,7 +56,9 @@ EACH, EACH_START, STARTS_FROM, GROWTHS_FROM = ("gs", "at"), ("s", "at"), ("s", "
 WAYS = [EACH, GROWTHS_FROM, EACH_START, STARTS_FROM]
 
 
+# Wide enough that a wave calls its workers in, so that a run takes seconds.
 WIDER = "wider products by 2"
+CALLED_IN = 21
 
 
 @dataclass
@@ -67,6 +69,7 @@ class Row:
     words: list
     whole: tuple = ()
     given: bytes = b""
+    draws: int = 10
 
 
 def rows(place):
@@ -74,9 +77,8 @@ def rows(place):
     c17, c17b = written(place, "c17", C17), written(place, "c17b", C17B)
     order = written(place, "order", lines("7 6 3", "2 1"))
     chain, tree = written(place, "chain", parity("chain", 24)), written(place, "tree", parity("tree", 24))
-    # Wide enough that threads share the reduction of a level, and wide enough that a wave needs its workers.
     one, folded = written(place, "one", products(13)), written(place, "folded", products(13, "chain"))
-    wider, wider_folded = written(place, "wider", products(14)), written(place, "wider_folded", products(14, "chain"))
+    wider = written(place, "wider", products(CALLED_IN))
     for workers in (1, 2, 4):
         yield Row(f"c17 by {workers}", ["--workers", workers, c17, c17b], (EACH, EACH_START, STARTS_FROM))
     yield Row("c17 on standard input", ["--workers", 2, "--sizes"], (), C17 + b"%%\n" + C17B)
@@ -89,7 +91,7 @@ def rows(place):
     for workers in (1, 2, 4):
         yield Row(f"parity by {workers}", ["--workers", workers, chain, tree])
         yield Row(f"products by {workers}", ["--workers", workers, "--sizes", one, folded])
-    yield Row(WIDER, ["--workers", 2, wider, wider_folded], (EACH_START,))
+    yield Row(WIDER, ["--workers", 2, wider, wider], draws=2)
 
 
 @dataclass
@@ -165,7 +167,7 @@ def try_places(refuser, row, what, mode, places, whole):
 
 def most_counted(refuser, row, what):
     """How many growths or starts a run asks for, at most; schedules differ."""
-    return max(refuser.run(row, what)[1] or 0 for _ in range(3))
+    return max(refuser.run(row, what)[1] or 0 for _ in range(3 if row.name != WIDER else 1))
 
 
 def every_place(most):
@@ -177,9 +179,6 @@ def compiled(place):
     source = TOP / "tests" / "refuse.c"
     subprocess.run(["cc", "-O2", "-shared", "-fPIC", "-o", library, str(source), "-ldl"], check=True)
     return library
-
-
-DRAWS = 10
 
 
 def whole_tasks(refuser, pool):
@@ -199,7 +198,7 @@ def drawn_tasks(refuser, pool, rng, most):
             if key not in most:
                 most[key] = most_counted(refuser, row, what)
             if most[key] and (what, mode) not in row.whole:
-                places = rng.sample(range(1, most[key] + 1), min(DRAWS, most[key]))
+                places = rng.sample(range(1, most[key] + 1), min(row.draws, most[key]))
                 name = f"{row.name}: some of the {named(what, mode)}"
                 yield name, pool.submit(try_places, refuser, row, what, mode, places, False)
 

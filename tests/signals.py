@@ -16,7 +16,7 @@ from refusals import products
 
 def long_run(program, workers, place, out):
     """A run that takes seconds; it is seen to be at work before this returns."""
-    wide = written(place, "wide", products(20))
+    wide = written(place, "wide", products(21))
     child = subprocess.Popen([program, "--workers", str(workers), wide, wide], stdout=out, stderr=subprocess.PIPE)
     begun = time.monotonic()
     while processor_time(child.pid) < 0.2 and child.poll() is None and time.monotonic() - begun < 60:

@@ -12,13 +12,10 @@ pub trait Gate: Watch + Sync {
     }
 }
 
-/// Where four workers and more take less time for a level than the caller's thread.
-const WIDE_FOR_FOUR: usize = 2048;
+/// Up to so many requests of a level the caller's thread was measured, and was faster than any number of workers.
+const WIDE: usize = 1 << 20;
 
-/// The same for two workers and three.
-const WIDE_FOR_TWO: usize = 4096;
-
-/// A gate that does nothing. A wave is the caller's alone as long as that is faster.
+/// A gate that does nothing. A wave is the caller's alone as long as that is known to be faster.
 #[derive(Clone, Copy, Drop, Debug, PartialEq, Eq)]
 pub struct Free;
 
@@ -30,10 +27,6 @@ impl Gate for Free {
     fn at_level(&self, _worker: u32, _level: u16) {}
 
     fn most_alone(&self, workers: u32) -> usize {
-        match workers {
-            0 | 1 => usize::MAX,
-            2 | 3 => WIDE_FOR_TWO,
-            _ => WIDE_FOR_FOUR,
-        }
+        if workers <= 1 { usize::MAX } else { WIDE }
     }
 }
