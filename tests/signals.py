@@ -14,10 +14,16 @@ from kit import C17, C17B, C17_DIFFERS, Run, Tally, written
 from refusals import products
 
 
+def heed_interrupts():
+    """What a shell starts in the background ignores SIGINT, and so would the program."""
+    signal.signal(signal.SIGINT, signal.SIG_DFL)
+
+
 def long_run(program, workers, place, out):
     """A run that takes seconds; it is seen to be at work before this returns."""
     wide = written(place, "wide", products(21))
-    child = subprocess.Popen([program, "--workers", str(workers), wide, wide], stdout=out, stderr=subprocess.PIPE)
+    words = [program, "--workers", str(workers), wide, wide]
+    child = subprocess.Popen(words, stdout=out, stderr=subprocess.PIPE, preexec_fn=heed_interrupts)
     begun = time.monotonic()
     while processor_time(child.pid) < 0.2 and child.poll() is None and time.monotonic() - begun < 60:
         time.sleep(0.01)
