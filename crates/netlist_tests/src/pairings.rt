@@ -214,23 +214,33 @@ fn outputs(rt: HostRuntime) -> Result<(), Fail> {
     Ok(())
 }
 
+/// The first registers that are paired, and the first of each side that stands alone.
+fn first_registers(
+    pairing: &Pairing,
+) -> (Option<(Signal, Signal)>, Option<Signal>, Option<Signal>) {
+    (
+        pairing.next_pairs().first().copied(),
+        pairing.only_first_next().first().copied(),
+        pairing.only_second_next().first().copied(),
+    )
+}
+
 #[test]
-fn registers(rt: HostRuntime) -> Result<(), Fail> {
-    let alloc = rt.alloc();
-    let first = netlist(alloc, TOGGLED)?;
-    let second = netlist(alloc, HELD)?;
-    let same = pair(alloc, &first, &first, Match::Name, &Order::Interleave)?;
-    assert_eq!(rt;
-        same.next_pairs().first().copied(),
-        pair_named(&first, &first, b"q")
-    );
-    let other = pair(alloc, &first, &second, Match::Name, &Order::Declared)?;
-    assert!(rt; other.next_pairs().is_empty());
-    assert_eq!(rt; other.only_first_next().first().copied(), first.find(b"q"));
-    assert_eq!(rt;
-        other.only_second_next().first().copied(),
-        second.find(b"r")
-    );
+fn paired_registers(rt: HostRuntime) -> Result<(), Fail> {
+    let net = netlist(rt.alloc(), TOGGLED)?;
+    let same = pair(rt.alloc(), &net, &net, Match::Name, &Order::Interleave)?;
+    let want = (pair_named(&net, &net, b"q"), None, None);
+    assert_eq!(rt; first_registers(&same), want);
+    Ok(())
+}
+
+#[test]
+fn lone_registers(rt: HostRuntime) -> Result<(), Fail> {
+    let first = netlist(rt.alloc(), TOGGLED)?;
+    let second = netlist(rt.alloc(), HELD)?;
+    let other = pair(rt.alloc(), &first, &second, Match::Name, &Order::Declared)?;
+    let want = (None, first.find(b"q"), second.find(b"r"));
+    assert_eq!(rt; first_registers(&other), want);
     Ok(())
 }
 
