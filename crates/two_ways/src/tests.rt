@@ -13,12 +13,21 @@ fn ok(rt: &impl Abort, answer: Result<Ref, StoreFault>) -> Ref
 }
 
 #[test]
-fn either(rt: HostRuntime) -> Result<(), Fail> {
+fn of_two_variables(rt: HostRuntime) -> Result<(), Fail> {
     let mut store = Store::new(rt.alloc(), 2, 100)?;
     let f = ok(&rt, store.variable(0));
     let g = ok(&rt, store.variable(1));
     let ways = two_ways(&rt, rt.alloc(), &mut store, f, g);
-    let want = store.find(0, g, Ref::TRUE);
-    assert!(rt; ways.is_ok_and(|ways| Some(ways.0) == want && Some(ways.1) == want));
+    assert!(rt; ways.is_ok_and(|ways| ways.0 == ways.1 && ways.0 != f && ways.0 != g));
+    assert_eq!(rt; store.count(), 5);
+    Ok(())
+}
+
+#[test]
+fn of_a_variable_and_0(rt: HostRuntime) -> Result<(), Fail> {
+    let mut store = Store::new(rt.alloc(), 1, 100)?;
+    let f = ok(&rt, store.variable(0));
+    let ways = two_ways(&rt, rt.alloc(), &mut store, f, Ref::FALSE);
+    assert!(rt; ways.is_ok_and(|ways| ways.0 == f && ways.1 == f));
     Ok(())
 }
