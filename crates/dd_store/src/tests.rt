@@ -30,6 +30,26 @@ fn limit_of_three(rt: HostRuntime) -> Result<(), Fail> {
     assert_eq!(rt; store.find(0, Ref::FALSE, b), Some(r));
     assert!(rt; store.make(0, b, Ref::TRUE) == Err(StoreFault::Full));
     assert_eq!(rt; store.find(0, b, Ref::TRUE), None);
+    for (level, shard, slots) in [(0, 2, 8), (0, 3, 8), (1, 3, 8), (0, 0, 0)] {
+        assert!(rt; level < store.levels());
+        assert_eq!(rt; store.slots(level, shard), slots);
+    }
+    Ok(())
+}
+
+#[test]
+fn names_of_nodes_far_back(rt: HostRuntime) -> Result<(), Fail> {
+    for index in [0, 65_535, 65_536, 1_048_577, u32::MAX] {
+        for level in [0, 4_095, 65_535] {
+            let id = NodeId {
+                level,
+                shard: 15,
+                index,
+            };
+            assert!(rt; Ref::node(id).view() == Reference::Node(id));
+            assert!(rt; Ref::node(id) > Ref::TRUE);
+        }
+    }
     Ok(())
 }
 
