@@ -50,6 +50,7 @@ known_is ss table h w i e = at_symbol (slice_get table.symbols.items i) refl
   where
     low : i < length table.symbols.items
     low = subst (λ n. i < n) (sym h.each) (found_low table.names w.text i e)
+
     at_symbol : (o : Option Symbol) → slice_get table.symbols.items i ≡ o → known_symbol (slice_get table.symbols.items i) ≡ is_defined ss w
     at_symbol (Some s) at =
         let is : IsSymbol ss w.text s = h.symbols w.text i s e at in

@@ -143,12 +143,13 @@ begins table names symbols inputs outputs gates registers uses begun operands = 
   each = ap length symbols ∙ sym (ap length names);
   symbols = λ n i s e there. absurd (none_there i s (subst (λ ss. slice_get ss i ≡ Some s) symbols there));
   uses = subst (λ us. AreFound table.names us []) (sym uses) tt;
-  parts = λ later l. record { inputs = inputs; outputs = outputs; gates = gates; registers = registers; };
+  parts = λ later l. record { inputs = inputs; outputs = outputs; gates = gates; registers = registers };
   few = subst (λ (ns : List (List ℕ)). length ns ≤ max_signals) (sym names) (omega arith);
   low = subst (λ n. n ≤ max_operands) (sym operands) (omega arith);
 }
   where
     false_true : false ≡ true → ⊥
     false_true e = cc
+
     none_there : (i : ℕ) (s : Symbol) → slice_get [] i ≡ Some s → ⊥
     none_there i s e = cc

@@ -208,7 +208,7 @@ symbols_after done names symbols x k s each were here at once n i t e there =
     elim (differ i k) [
       | inl same ↦
           let is : t ≡ symbol_after x s = slice_get-set_same symbols k (symbol_after x s) t (subst (λ l. k < l) (sym each) (found_low names (subject x).text k here))
-              (subst (λ j. slice_get (slice_set symbols k (symbol_after x s)) j ≡ Some t) same there) in
+          (subst (λ j. slice_get (slice_set symbols k (symbol_after x s)) j ≡ Some t) same there) in
           let name : (subject x).text ≡ n = one_name names (subject x).text n k here (subst (λ j. find names n ≡ Some j) same e) in
           subst (λ m. IsSymbol (done ++ x ∷ []) m t) name
           (subst (IsSymbol (done ++ x ∷ []) (subject x).text) (sym is) (own_symbol done x s once (were (subject x).text k s here at)))

@@ -58,12 +58,11 @@ returns-in-Err c = record {
 
 pub tokens-preserved : goal.tokens-preserved
 tokens-preserved c =
-    let on = c.in-Ok.ensures.goes c.tokens.invariant.0 c.tokens.invariant.2 in
-    (
+    let on = c.in-Ok.ensures.goes c.tokens.invariant.0 c.tokens.invariant.2 in (
       on.1.0,
       goes_to (tokens_at 1 c.args.text.now) c.tokens.invariant.0 (state_of c.tokens.invariant.0 c.tokens.part) (state_of on.1.0 c.in-Ok.part) c.next-line.result.0
-      (seen c.next-line.result.0 c.next-line.result.1) c.next-line.new.self c.tokens.scanner c.tokens.symbols
-      (one_taken c.tokens.scanner c.next-line.new.self c.next-line.result.0 c.next-line.result.1 c.in_default.not-End c.next-line.ensures)
-      c.tokens.invariant.1 c.tokens.invariant.2 on.0 on.1.1,
+          (seen c.next-line.result.0 c.next-line.result.1) c.next-line.new.self c.tokens.scanner c.tokens.symbols
+          (one_taken c.tokens.scanner c.next-line.new.self c.next-line.result.0 c.next-line.result.1 c.in_default.not-End c.next-line.ensures)
+          c.tokens.invariant.1 c.tokens.invariant.2 on.0 on.1.1,
       on.1.2,
     )

@@ -23,8 +23,8 @@ ranks_for-requires-clause-gates c = c.as_slice-6.ensures.value ∙ ap (λ (n : N
 pub invariant_of-result : goal.invariant_of-result
 invariant_of-result c = (
   subst IsNet (sym (same_net (statements_in c.args.text.now) c.args.symbols c.in-Ok-ranks_for.ranks.items c.requires.told))
-    (net (statements_in c.args.text.now) c.requires.sound (all_defined (statements_in c.args.text.now) c.args.symbols c.requires.told
-    (c.in_default.ensures ∙ ap (λ ss. undefined_use ss c.as_slice-2.result.now) c.as_slice.ensures.value ∙ ap (undefined_use c.args.symbols.symbols.items) c.as_slice-2.ensures.value)) c.in-Ok-ranks_for.ranks.items c.in-Ok-ranks_for.ensures.ranks),
+      (net (statements_in c.args.text.now) c.requires.sound (all_defined (statements_in c.args.text.now) c.args.symbols c.requires.told
+      (c.in_default.ensures ∙ ap (λ ss. undefined_use ss c.as_slice-2.result.now) c.as_slice.ensures.value ∙ ap (undefined_use c.args.symbols.symbols.items) c.as_slice-2.ensures.value)) c.in-Ok-ranks_for.ranks.items c.in-Ok-ranks_for.ensures.ranks),
   c.in-Ok.ensures ∙ ap (λ xs. xs ++ map (λ (g : GateLine). g.out) c.as_slice-4.result.now) c.as_slice-3.ensures.value ∙
       ap (λ gs. c.args.symbols.inputs.items ++ map (λ (g : GateLine). g.out) gs) c.as_slice-4.ensures.value,
 )
@@ -33,8 +33,8 @@ pub returns-in-Ok-ranks_for-clause-accepted : goal.returns-in-Ok-ranks_for-claus
 returns-in-Ok-ranks_for-clause-accepted c = (
   ap circuit (same_net (statements_in c.args.text.now) c.args.symbols c.in-Ok-ranks_for.ranks.items c.requires.told),
   (all_defined (statements_in c.args.text.now) c.args.symbols c.requires.told
-    (c.in_default.ensures ∙ ap (λ ss. undefined_use ss c.as_slice-2.result.now) c.as_slice.ensures.value ∙ ap (undefined_use c.args.symbols.symbols.items) c.as_slice-2.ensures.value)),
+      (c.in_default.ensures ∙ ap (λ ss. undefined_use ss c.as_slice-2.result.now) c.as_slice.ensures.value ∙ ap (undefined_use c.args.symbols.symbols.items) c.as_slice-2.ensures.value)),
   subst IsNet (sym (same_net (statements_in c.args.text.now) c.args.symbols c.in-Ok-ranks_for.ranks.items c.requires.told))
-    (net (statements_in c.args.text.now) c.requires.sound (all_defined (statements_in c.args.text.now) c.args.symbols c.requires.told
-    (c.in_default.ensures ∙ ap (λ ss. undefined_use ss c.as_slice-2.result.now) c.as_slice.ensures.value ∙ ap (undefined_use c.args.symbols.symbols.items) c.as_slice-2.ensures.value)) c.in-Ok-ranks_for.ranks.items c.in-Ok-ranks_for.ensures.ranks),
+      (net (statements_in c.args.text.now) c.requires.sound (all_defined (statements_in c.args.text.now) c.args.symbols c.requires.told
+      (c.in_default.ensures ∙ ap (λ ss. undefined_use ss c.as_slice-2.result.now) c.as_slice.ensures.value ∙ ap (undefined_use c.args.symbols.symbols.items) c.as_slice-2.ensures.value)) c.in-Ok-ranks_for.ranks.items c.in-Ok-ranks_for.ensures.ranks),
 )
