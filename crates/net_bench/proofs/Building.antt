@@ -1,25 +1,23 @@
 -- A netlist put together from its parts.
-use Rattle.std.proofs.Common.{◌≡◌, inl, inr, ℕ, List, [], ◌∷◌, Bool, true, false, refl, sym, ap, ◌∙◌, map}
-use Rattle.std.specs.Prelude.{cond, ◌||◌, bytes_eq, flat_map, filter, filter_map, Some, None}
+use Rattle.std.proofs.Common.{◌≡◌, inl, inr, ℕ, ◌<◌, List, [], ◌∷◌, Bool, true, false, refl, sym, ap, ◌∙◌, subst, length}
+use Rattle.std.specs.Prelude.{cond, ◌||◌, bytes_eq, flat_map, slice_get, Option, Some, None}
+use Rattle.std.proofs.lemmas.Option.{slice_get-get_or}
+use Rattle.net_bench.specs.declared.symbols.Symbol.{Symbol}
+use Rattle.net_bench.specs.declared.symbols.Role.{Role}
+use Rattle.net_bench.specs.declared.symbols.Use.{Use}
 use Rattle.std.proofs.lemmas.List.Folds.{list_any-append}
 use Rattle.net_bench.specs.declared.symbols.SymbolTable.{SymbolTable}
 use Rattle.net_bench.specs.Machine.{Between}
-use Rattle.net_bench.specs.Symbols.{IsTold, is_known}
-use Rattle.net_bench.specs.declared.netlist.GateLine.{GateLine}
+use Rattle.net_bench.specs.Symbols.{AreFound, AreParts, IsSymbol, IsTold, is_defined_role, is_driven_role, is_input_role, known_symbol, undefined_use}
 use Rattle.net_bench.specs.declared.netlist.BenchFault.TheVariants.{Undefined}
 use Rattle.net_bench.specs.Text.{Word}
-use Rattle.net_bench.specs.Statement.{Statement, input_name, output_name, gate_name, defined, uses}
-use Rattle.net_bench.specs.Circuit.{Net, distinct, names_of, number_of, gate_line, is_gate, is_register, is_name_in}
+use Rattle.net_bench.specs.Statement.{Statement, input_name, gate_name, defined, uses}
+use Rattle.net_bench.specs.Circuit.{Net, names_of, find, is_name_in}
 use Rattle.net_bench.specs.Fault.{is_defined}
 use Rattle.net_bench.specs.Judge.{undefined_line}
 use Rattle.net_bench.specs.Sound.{AreDefined, IsLate, net_of}
-use Rattle.net_bench.proofs.Numbers.{in_distinct}
+use Rattle.net_bench.proofs.Found.{found_low}
 use Rattle.net_bench.proofs.Tables.{undefined_split, undefined_none}
-
-undefined_same : (g h : Word → Bool) (ws : List Word) → ((w : Word) → g w ≡ h w) → undefined_line g ws ≡ undefined_line h ws
-undefined_same g h [] e = refl
-undefined_same g h (w ∷ ws) e =
-    ap (λ b. cond b (undefined_line g ws) (Some w.line)) (e w) ∙ ap (λ o. cond (h w) o (Some w.line)) (undefined_same g h ws e)
 
 or_swap : (i g j h : Bool) → ((i || g) || (j || h)) ≡ ((i || j) || (g || h))
 or_swap true g j h = refl
@@ -43,32 +41,48 @@ either_in (s ∷ ss) n =
 abbrev IsOf : List Statement → SymbolTable → Type 0
 IsOf ss table = IsTold ss (Between ss) table
 
-known_is : (ss : List Statement) (table : SymbolTable) → IsOf ss table → (w : Word) → is_known table w.text ≡ is_defined ss w
-known_is ss table h w =
-    ap (λ b. b || is_name_in table.gates w.text) (ap (λ t. is_name_in t w.text) h.inputs ∙ in_distinct (flat_map input_name ss) w.text) ∙
-    ap (λ b. is_name_in (flat_map input_name ss) w.text || b) (ap (λ t. is_name_in t w.text) h.gates ∙ in_distinct (flat_map gate_name ss) w.text) ∙
-    sym (either_in ss w.text)
+or_both : (r : Role) (a b : Bool) → is_input_role r ≡ a → is_driven_role r ≡ b → is_defined_role r ≡ (a || b)
+or_both r a b e f = ap (λ c. c || is_driven_role r) e ∙ ap (λ c. a || c) f
 
-by_table : (ss : List Statement) (table : SymbolTable) → IsOf ss table →
-    undefined_line (λ w. is_known table w.text) (flat_map uses ss) ≡ undefined_line (is_defined ss) (flat_map uses ss)
-by_table ss table h = undefined_same (λ w. is_known table w.text) (is_defined ss) (flat_map uses ss) (known_is ss table h)
+-- a word's symbol has a definition exactly where the word is defined
+known_is : (ss : List Statement) (table : SymbolTable) → IsOf ss table → (w : Word) (i : ℕ) → find table.names w.text ≡ Some i → known_symbol (slice_get table.symbols.items i) ≡ is_defined ss w
+known_is ss table h w i e = at_symbol (slice_get table.symbols.items i) refl
+  where
+    low : i < length table.symbols.items
+    low = subst (λ n. i < n) (sym h.each) (found_low table.names w.text i e)
 
-pub late_undefined : (ss : List Statement) (table : SymbolTable) (line : ℕ) → IsOf ss table →
-    Some line ≡ undefined_line (λ w. is_known table w.text) (flat_map uses ss) → IsLate ss (Undefined line)
+    at_symbol : (o : Option Symbol) → slice_get table.symbols.items i ≡ o → known_symbol (slice_get table.symbols.items i) ≡ is_defined ss w
+    at_symbol (Some s) at =
+        let is : IsSymbol ss w.text s = h.symbols w.text i s e at in
+        ap known_symbol at ∙ or_both s.role (is_name_in (flat_map input_name ss) w.text) (is_name_in (flat_map gate_name ss) w.text) is.input is.driven ∙ sym (either_in ss w.text)
+    at_symbol None at = let some = slice_get-get_or table.symbols.items i Rattle.net_bench.specs.Symbols.blank low in cc
+
+uses_undefined : (ss : List Statement) (table : SymbolTable) → IsOf ss table → (us : List Use) (ws : List Word) → AreFound table.names us ws →
+    undefined_use table.symbols.items us ≡ undefined_line (is_defined ss) ws
+uses_undefined ss table h [] [] found = refl
+uses_undefined ss table h (u ∷ us) (w ∷ ws) found =
+    ap (λ b. cond b (undefined_use table.symbols.items us) (Some u.line)) (known_is ss table h w u.signal found.0) ∙
+    ap (λ l. cond (is_defined ss w) (undefined_use table.symbols.items us) (Some l)) found.1 ∙
+    ap (λ o. cond (is_defined ss w) o (Some w.line)) (uses_undefined ss table h us ws found.2)
+uses_undefined ss table h [] (w ∷ ws) found = absurd found
+uses_undefined ss table h (u ∷ us) [] found = absurd found
+
+by_table : (ss : List Statement) (table : SymbolTable) → IsOf ss table → undefined_use table.symbols.items table.uses.items ≡ undefined_line (is_defined ss) (flat_map uses ss)
+by_table ss table h = uses_undefined ss table h table.uses.items (flat_map uses ss) h.uses
+
+pub late_undefined : (ss : List Statement) (table : SymbolTable) (line : ℕ) → IsOf ss table → Some line ≡ undefined_use table.symbols.items table.uses.items → IsLate ss (Undefined line)
 late_undefined ss table line h e = inr (inl (line, refl, undefined_split (is_defined ss) (flat_map uses ss) line (sym (e ∙ by_table ss table h))))
 
-pub all_defined : (ss : List Statement) (table : SymbolTable) → IsOf ss table →
-    None ≡ undefined_line (λ w. is_known table w.text) (flat_map uses ss) → AreDefined ss
+pub all_defined : (ss : List Statement) (table : SymbolTable) → IsOf ss table → None ≡ undefined_use table.symbols.items table.uses.items → AreDefined ss
 all_defined ss table h e = undefined_none (is_defined ss) (flat_map uses ss) (sym (e ∙ by_table ss table h))
 
-pub same_net : (ss : List Statement) (table : SymbolTable) (inputs outputs : List ℕ) (gates registers : List GateLine) (ranks : List ℕ) → IsOf ss table →
-    inputs ≡ map (number_of table.names) table.inputs → outputs ≡ map (number_of table.names) table.outputs → gates ≡ filter is_gate (filter_map (gate_line table.names) ss) →
-    registers ≡ filter is_register (filter_map (gate_line table.names) ss) →
-    (let n : Net = record { names = table.names; inputs = inputs; outputs = outputs; gates = gates; registers = registers; ranks = ranks } in n) ≡ net_of ss ranks
-same_net ss table inputs outputs gates registers ranks h d e f k =
+pub same_net : (ss : List Statement) (table : SymbolTable) (ranks : List ℕ) → IsOf ss table →
+    (let n : Net = record { names = table.names; inputs = table.inputs.items; outputs = table.outputs.items; gates = table.gates.items; registers = table.registers.items; ranks = ranks } in n) ≡ net_of ss ranks
+same_net ss table ranks h =
     let a : table.names ≡ names_of ss = h.names in
-    let i : inputs ≡ map (number_of (names_of ss)) (distinct (flat_map input_name ss)) = d ∙ ap (λ n. map (number_of n) table.inputs) a ∙ ap (map (number_of (names_of ss))) h.inputs in
-    let o : outputs ≡ map (number_of (names_of ss)) (distinct (flat_map output_name ss)) = e ∙ ap (λ n. map (number_of n) table.outputs) a ∙ ap (map (number_of (names_of ss))) h.outputs in
-    let g : gates ≡ filter is_gate (filter_map (gate_line (names_of ss)) ss) = f ∙ ap (λ n. filter is_gate (filter_map (gate_line n) ss)) a in
-    let r : registers ≡ filter is_register (filter_map (gate_line (names_of ss)) ss) = k ∙ ap (λ n. filter is_register (filter_map (gate_line n) ss)) a in
+    let p : AreParts (names_of ss) ss table = h.parts (names_of ss) (λ n i e. subst (λ ns. find ns n ≡ Some i) a e) in
+    let i = p.inputs in
+    let o = p.outputs in
+    let g = p.gates in
+    let r = p.registers in
     cc

@@ -1,6 +1,6 @@
 -- What the tokens that lead to a state have counted.
-use Rattle.std.proofs.Common.{◌≡◌, ◌≢◌, ℕ, ◌+◌, List, [], ◌∷◌, ◌++◌, Bool, true, false, refl, sym, ap, ◌∙◌, subst, map, append_assoc, append-nil, length, length-append, arith}
-use Rattle.std.specs.Prelude.{flat_map, if◌then◌else◌}
+use Rattle.std.proofs.Common.{◌≡◌, ◌≢◌, ℕ, ◌+◌, List, [], ◌∷◌, ◌++◌, Bool, true, false, refl, sym, ap, ◌∙◌, subst, append_assoc, append-nil, length, length-append, arith}
+use Rattle.std.specs.Prelude.{flat_map, if◌then◌else◌, Some, None}
 use Rattle.std.proofs.lemmas.List.{map-append}
 use Rattle.std.proofs.lemmas.Grind.{flat_map-append}
 use Rattle.net_bench.specs.declared.syntax.Part.{Part}
@@ -10,11 +10,9 @@ use Rattle.net_bench.specs.Statement.{Statement, Input, Output, Gate, spelled, a
 use Rattle.net_bench.specs.Machine.{State, Between, First, Opened, Named, Defining, AtWord, Operands, AfterOperand, AfterComma, Finished, Failed, is_port_word, is_input_word, port, step, tokens_of}
 use Rattle.net_bench.specs.Said.{state_of}
 use Rattle.net_bench.specs.Fault.{counted_in, operands_in}
-use Rattle.net_bench.specs.Symbols.{counted_of, operands_of, newest, newest_operands}
+use Rattle.net_bench.specs.Symbols.{counted_of, operands_of, texts, begun_words, counted_words, newest, newest_operands}
+use Rattle.net_bench.specs.Judge.{closed}
 use Rattle.net_bench.proofs.Machine.{either_true, opens}
-
-abbrev texts : List Word → List (List ℕ)
-texts ws = map (λ w. w.text) ws
 
 -- ---- the names of whole statements
 
@@ -103,12 +101,12 @@ port_operands : (w n : Word) (i : Bool) → operands (if i then Input w n else O
 port_operands w n true = refl
 port_operands w n false = refl
 
-pub counted_step : (s : State) (t : Token) → step s t ≢ Failed → counted_of (step s t) ≡ counted_of s ++ newest (step s t) t
+pub counted_step : (s : State) (t : Token) → step s t ≢ Failed → counted_of (step s t) ≡ counted_of s ++ texts (newest (step s t) t)
 counted_step (Between done) (Name w) other = sym (append-nil (flat_map counted done))
 counted_step (Between done) End other = sym (append-nil (flat_map counted done))
 counted_step (First done w) Equals other = refl
 counted_step (First done w) Open other =
-    subst (λ z. counted_of z ≡ flat_map counted done ++ newest z Open) (sym (either_true (is_port_word w) (Opened done w) Failed (opens done w (is_port_word w) other)))
+    subst (λ z. counted_of z ≡ flat_map counted done ++ texts (newest z Open)) (sym (either_true (is_port_word w) (Opened done w) Failed (opens done w (is_port_word w) other)))
     (sym (append-nil (flat_map counted done)))
 counted_step (Opened done w) (Name n) other = refl
 counted_step (Named done w n) Close other =
@@ -183,3 +181,42 @@ live done (at_word out word) e = cc
 live done (operands_open out word) e = cc
 live done (after_operand g) e = cc
 live done (comma_behind g) e = cc
+
+-- ---- the words of the statement that is not whole yet
+
+pub begun_step : (s : State) (t : Token) → closed s t ≡ None → step s t ≢ Failed → begun_words (step s t) ≡ begun_words s ++ newest (step s t) t
+begun_step (Between done) (Name w) still other = refl
+begun_step (Between done) End still other = refl
+begun_step (First done w) Equals still other = refl
+begun_step (First done w) Open still other =
+    subst (λ z. begun_words z ≡ newest z Open) (sym (either_true (is_port_word w) (Opened done w) Failed (opens done w (is_port_word w) other))) refl
+begun_step (Opened done w) (Name n) still other = refl
+begun_step (Named done w n) Close still other = cc
+begun_step (Defining done out) (Name g) still other = refl
+begun_step (AtWord done out g) Open still other = refl
+begun_step (Operands done out g) (Name a) still other = refl
+begun_step (AfterOperand done out g a others) Comma still other = sym (append-nil (out ∷ a ∷ others))
+begun_step (AfterOperand done out g a others) Close still other = cc
+begun_step (AfterComma done out g a others) (Name b) still other = refl
+begun_step s t still other = absurd (other refl)
+
+port_words : (w n : Word) (i : Bool) → n ∷ [] ≡ counted_words (if i then Input w n else Output w n)
+port_words w n true = refl
+port_words w n false = refl
+
+some_pair : (p q : List Statement × Statement) → Some p ≡ Some q → p.1 ≡ q.1
+some_pair p q e = cc
+
+-- a statement that is closed counts them
+pub begun_closed : (s : State) (t : Token) (c : List Statement × Statement) → closed s t ≡ Some c → begun_words s ≡ counted_words c.1
+begun_closed (Named done w n) Close c e = port_words w n (is_input_word w) ∙ ap counted_words (some_pair (done, port w n) c e)
+begun_closed (AfterOperand done out g a others) Close c e = ap counted_words (some_pair (done, Gate out g a others) c e)
+begun_closed (Between done) (Name w) c e = cc
+begun_closed (Opened done w) (Name n) c e = cc
+begun_closed (Defining done w) (Name n) c e = cc
+begun_closed (AtWord done w n) Open c e = cc
+begun_closed (Operands done w n) (Name a) c e = cc
+begun_closed (AfterComma done w n a others) (Name b) c e = cc
+begun_closed (Finished done) End c e = cc
+begun_closed Failed End c e = cc
+begun_closed s t c e = cc

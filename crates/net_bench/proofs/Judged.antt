@@ -1,6 +1,6 @@
 -- The judge's walk, a token at a time.
-use Rattle.std.proofs.Common.{◌≡◌, ◌≢◌, ◌⊎◌, inl, inr, ℕ, ◌≤◌, List, [], ◌∷◌, ◌++◌, refl, sym, ap, ◌∙◌, subst, length}
-use Rattle.std.specs.Prelude.{Option, Some, None, Ok, Err}
+use Rattle.std.proofs.Common.{◌≡◌, ◌≢◌, ◌⊎◌, inl, inr, ℕ, ◌≤◌, List, [], ◌∷◌, ◌++◌, true, false, refl, sym, ap, ◌∙◌, subst, length, arith}
+use Rattle.std.specs.Prelude.{Option, Some, None, Ok, Err, slice_get}
 use Rattle.net_bench.specs.declared.symbols.SymbolTable.{SymbolTable}
 use Rattle.net_bench.specs.declared.syntax.Part.{Part}
 use Rattle.net_bench.specs.declared.syntax.Part.TheVariants.{Nothing as nothing, First as first_name, Opened as opened, Named as named, Defining as defining, AtWord as at_word, Operands as operands_open, AfterOperand as after_operand, AfterComma as comma_behind}
@@ -14,8 +14,10 @@ use Rattle.net_bench.specs.Statement.{Statement}
 use Rattle.net_bench.specs.Machine.{State, Between, Finished, Failed, step, tokens_of}
 use Rattle.net_bench.specs.Said.{state_of}
 use Rattle.net_bench.specs.Fault.{max_signals, max_operands}
-use Rattle.net_bench.specs.Judge.{Found, told, lexical, syntactic, crowded, tests, first_of, unless, judge}
-use Rattle.net_bench.specs.Symbols.{IsTold, token_tests, Tells}
+use Rattle.net_bench.specs.Judge.{Found, told, lexical, syntactic, crowded, tests, first_of, unless, judge, finished, statements_in}
+use Rattle.net_bench.specs.Pieces.{tokens_at}
+use Rattle.net_bench.specs.declared.symbols.Symbol.{Symbol}
+use Rattle.net_bench.specs.Symbols.{AreFound, IsTold, token_tests, Tells}
 use Rattle.net_bench.proofs.Machine.{go}
 use Rattle.net_bench.proofs.Telling.{skip, roomy, tells_misplaced}
 
@@ -58,7 +60,7 @@ IsAnswer all fault = (found : Found) × (judge (Between []) [] all ≡ Err found
 
 pub stops : (all : Tokens) (s : State) (line : ℕ) (t : Token) (ts left : Tokens) (fault : BenchFault) → left ≡ (line, t) ∷ ts →
     judge s (tokens_of s) left ≡ judge (Between []) [] all →
-    (fault ≡ OutOfMemory) ⊎ Tells fault (first_of (token_tests s line t)) → (fault ≡ OutOfMemory) ⊎ IsAnswer all fault
+    (fault ≡ OutOfMemory) ⊎ Tells fault s line t → (fault ≡ OutOfMemory) ⊎ IsAnswer all fault
 stops all s line t ts left fault is same (inl e) = inl e
 stops all s line t ts left fault is same (inr (f, e, tells)) =
     inr (f, sym same ∙ ap (judge s (tokens_of s)) is ∙ judge_off s (tokens_of s) line t ts f e, tells)
@@ -117,3 +119,37 @@ one_taken old new line end other h = absurd (other refl)
 pub end_taken : (old new : Tokens) (line : ℕ) (t : Scanned) → t ≡ end → Takes old line (seen line t) new → old ≡ (line, End) ∷ []
 end_taken old new line end e h = h.0
 end_taken old new line t e h = cc
+
+-- ---- the whole text
+
+pub ends_with : (text : List ℕ) (done : List Statement) → judge (Between []) [] (tokens_at 1 text) ≡ Ok (Finished done) → judge (Between []) [] (tokens_at 1 text) ≡ Ok (Finished (statements_in text))
+unfolding statements_in
+ends_with text done e = e ∙ ap (λ r. Ok (Finished (finished r))) (sym e)
+
+pub told_whole : (text : List ℕ) (done : List Statement) (table : SymbolTable) → judge (Between []) [] (tokens_at 1 text) ≡ Ok (Finished done) → IsTold done (Between done) table →
+    IsTold (statements_in text) (Between (statements_in text)) table
+unfolding statements_in
+told_whole text done table e h = subst (λ ss. IsTold ss (Between ss) table) (sym (ap finished e)) h
+
+-- the table of no tokens
+pub begins : (table : SymbolTable) → table.names ≡ [] → table.symbols.items ≡ [] → table.inputs.items ≡ [] → table.outputs.items ≡ [] → table.gates.items ≡ [] →
+    table.registers.items ≡ [] → table.uses.items ≡ [] → table.begun.items ≡ [] → table.operands ≡ 0 → IsTold [] (Between []) table
+begins table names symbols inputs outputs gates registers uses begun operands = record {
+  right = tt;
+  names = names;
+  whole = λ n e. absurd (false_true e);
+  operands = operands;
+  begun = subst (λ us. AreFound table.names us []) (sym begun) tt;
+  each = ap length symbols ∙ sym (ap length names);
+  symbols = λ n i s e there. absurd (none_there i s (subst (λ ss. slice_get ss i ≡ Some s) symbols there));
+  uses = subst (λ us. AreFound table.names us []) (sym uses) tt;
+  parts = λ later l. record { inputs = inputs; outputs = outputs; gates = gates; registers = registers };
+  few = subst (λ (ns : List (List ℕ)). length ns ≤ max_signals) (sym names) (omega arith);
+  low = subst (λ n. n ≤ max_operands) (sym operands) (omega arith);
+}
+  where
+    false_true : false ≡ true → ⊥
+    false_true e = cc
+
+    none_there : (i : ℕ) (s : Symbol) → slice_get [] i ≡ Some s → ⊥
+    none_there i s e = cc

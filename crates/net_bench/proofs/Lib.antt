@@ -20,6 +20,8 @@ pub mod CircuitOf
 pub mod Tables
 pub mod Building
 pub mod Counting
+pub mod Found
+pub mod Parts
 pub mod Telling
 pub mod Judged
 pub mod Faultless

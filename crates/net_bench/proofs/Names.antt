@@ -1,8 +1,8 @@
 -- Names among the bytes of all, and what one more leaves.
-use Rattle.std.proofs.Common.{◌≡◌, ◌≢◌, ◌⊎◌, inl, inr, ℕ, zero, suc, ◌+◌, ◌*◌, ◌<◌, ◌≤◌, List, [], ◌∷◌, ◌++◌, Bool, true, false, true≢false, refl, sym, ap, ◌∙◌, subst, map, length, get_or, set, take, drop, slice_get, arith, length-append, append-nil, add-one}
-use Rattle.std.specs.Prelude.{All, bytes_eq, cond, position, Some, None, Option, option_map}
-use Rattle.std.proofs.lemmas.List.{take-append-le, drop-append-le, length-map, map-append, length_push, length-set, get_or_default}
-use Rattle.std.proofs.Math.Seq.{drop-append_seam, take-append_seam, take-suc}
+use Rattle.std.proofs.Common.{◌≡◌, inl, inr, ℕ, zero, suc, ◌+◌, ◌*◌, ◌<◌, ◌≤◌, List, [], ◌∷◌, ◌++◌, Bool, true, false, true≢false, refl, sym, ap, ◌∙◌, subst, length, get_or, set, take, drop, slice_get, arith, length-append, add-one}
+use Rattle.std.specs.Prelude.{All, bytes_eq, Some, None, option_map}
+use Rattle.std.proofs.lemmas.List.{take-append-le, drop-append-le, length-map, map-append, length_push, length-set}
+use Rattle.std.proofs.Math.Seq.{drop-append_seam, take-suc}
 use Rattle.std.proofs.lemmas.Slice.Eq.{bytes_eq-Decides}
 use Rattle.std.proofs.lemmas.Option.{slice_get_within, slice_get-get_or, get_or_from_slice_get, slice_get-map}
 use Rattle.std.proofs.lemmas.List.Quantifiers.{position-Some}
@@ -11,7 +11,7 @@ use Rattle.net_bench.proofs.Places.{passes_none}
 use Rattle.net_bench.specs.declared.name_table.Span.{Span}
 use Rattle.net_bench.specs.Circuit.{find, is_name_in}
 use Rattle.net_bench.specs.NameTable.{name_in, names_in, IsInside, IsEachOnce, IsTable, Probes, IsFree, home_of}
-use Rattle.net_bench.proofs.Slices.{none_some, slice_get_cases-push}
+use Rattle.net_bench.proofs.Slices.{slice_get_cases-push}
 use Rattle.net_bench.proofs.Probing.{Probes-push}
 
 -- ---- bytes at the end change no name

@@ -1,23 +1,32 @@
 -- The judge's tests of a token, by states and by the symbol table.
-use Rattle.std.proofs.Common.{◌≡◌, ◌≢◌, ◌⊎◌, inl, inr, ℕ, ◌+◌, ◌<◌, ◌≤◌, List, [], ◌∷◌, ◌++◌, Bool, true, false, refl, sym, ap, ◌∙◌, subst, length, arith}
-use Rattle.std.specs.Prelude.{◌||◌, if◌then◌else◌, cond, nat_lt, flat_map, fold, Option, Some, None, option_map}
-use Rattle.std.specs.List.{list_any}
+use Rattle.std.proofs.Common.{◌≡◌, ◌≢◌, ◌⊎◌, inl, inr, ℕ, ◌+◌, ◌<◌, ◌≤◌, List, [], ◌∷◌, ◌++◌, Bool, true, false, refl, sym, ap, ◌∙◌, subst, length, length-set, arith}
+use Rattle.std.specs.Prelude.{◌||◌, if◌then◌else◌, nat_lt, flat_map, filter, filter_map, fold, slice_get, slice_set, All, option_to_list, Option, Some, None, option_map}
 use Rattle.std.proofs.lemmas.List.Sums.{fold-append}
 use Rattle.net_bench.specs.declared.symbols.SymbolTable.{SymbolTable}
 use Rattle.net_bench.specs.declared.syntax.Part.{Part}
+use Rattle.net_bench.specs.declared.syntax.Part.TheVariants.{Nothing as nothing}
+use Rattle.net_bench.specs.declared.netlist.GateLine.{GateLine}
 use Rattle.net_bench.specs.declared.netlist.BenchFault.{BenchFault}
-use Rattle.net_bench.specs.declared.netlist.BenchFault.TheVariants.{BadStatement, TooMany, OutOfMemory}
+use Rattle.net_bench.specs.declared.netlist.BenchFault.TheVariants.{BadStatement, TooMany}
+use Rattle.net_bench.specs.Statement.{Statement, counted, uses, operands, line_of}
+use Rattle.net_bench.specs.declared.symbols.Use.{Use}
+use Rattle.net_bench.specs.declared.symbols.Symbol.{Symbol}
 use Rattle.net_bench.specs.Text.{Token}
-use Rattle.net_bench.specs.Statement.{Statement, input_name, output_name, gate_name, defined, line_of}
 use Rattle.net_bench.specs.Machine.{State, Between, Failed, step, tokens_of, IsRight}
 use Rattle.net_bench.specs.Said.{state_of}
-use Rattle.net_bench.specs.Circuit.{is_name_in, with_name, distinct}
-use Rattle.net_bench.specs.Fault.{Cause, Misplaced, OperandCount, SecondDefinition, Crowded, max_signals, max_operands, counted_in, operands_in, has_wrong_operands, redefines, is_among}
+use Rattle.net_bench.specs.Circuit.{is_name_in, with_name, distinct, find, number_of, gate_line, is_gate, is_register}
+use Rattle.net_bench.specs.Fault.{Cause, Misplaced, OperandCount, SecondDefinition, Crowded, max_signals, max_operands, counted_in, operands_in, has_wrong_operands, redefines}
 use Rattle.net_bench.specs.Judge.{Found, told, lexical, syntactic, gate_word, closed, wrong_count, second, crowded, first_of}
-use Rattle.net_bench.specs.Symbols.{counted_of, operands_of, newest, newest_operands, IsTold, CountsMore, IsOver, IsCrowding, defining, redefines_by, statement_fault, token_tests, Tells}
+use Rattle.net_bench.specs.Symbols.{counted_of, operands_of, texts, begun_words, counted_words, subject, newest, newest_operands, AreFound, AreParts, IsLater, IsTold, KnowsSubject, CountsMore, IsClosed, IsOver, statement_fault, symbol_after, uses_with, token_tests, Tells, GoesOn, Defines, IsSymbol, AreSymbols, inputs_with, outputs_with, line_with}
 use Rattle.net_bench.proofs.Machine.{Goes, go}
 use Rattle.net_bench.proofs.Numbers.{in_distinct}
-use Rattle.net_bench.proofs.Counting.{counted_tokens, operands_tokens, counted_step, operands_step, newest_same, newest_operands_same, live, one_more}
+use Rattle.net_bench.proofs.Found.{found_later, found_append, found_inside, found_some, later_fold, number_found}
+use Rattle.net_bench.proofs.Parts.{whole_more, symbols_more, symbols_after, inputs_after, outputs_after, lines_after, uses_found}
+use Rattle.net_bench.proofs.Counting.{counted_tokens, operands_tokens, counted_step, operands_step, begun_step, begun_closed, newest_same, newest_operands_same, live, one_more}
+
+-- the fault tells what was found
+abbrev Says : BenchFault → Option Found → Type 0
+Says fault found = (f : Found) × (found ≡ Some f) × (fault ≡ told f)
 
 abbrev found : Cause → ℕ → Found
 found cause line = (cause, line)
@@ -34,7 +43,7 @@ nothing_told : (o : Option Found) → None ≡ option_map told o → o ≡ None
 nothing_told None e = refl
 nothing_told (Some f) e = cc
 
-something_told : (o : Option Found) (fault : BenchFault) → Some fault ≡ option_map told o → Tells fault o
+something_told : (o : Option Found) (fault : BenchFault) → Some fault ≡ option_map told o → Says fault o
 something_told None fault e = cc
 something_told (Some f) fault e = (f, refl, cc)
 
@@ -46,21 +55,20 @@ well_placed line Failed other = absurd (other refl)
 well_placed line s other = refl
 
 -- a fault at the token itself
-pub tells_lexical : (s : State) (line : ℕ) (t : Token) (fault : BenchFault) → Some fault ≡ option_map told (lexical line t) → Tells fault (first_of (token_tests s line t))
-tells_lexical s line t fault e = let f : Tells fault (lexical line t) = something_told (lexical line t) fault e in (f.0, stop (lexical line t) _ f.0 f.1, f.2)
+pub tells_lexical : (s : State) (line : ℕ) (t : Token) (fault : BenchFault) → Some fault ≡ option_map told (lexical line t) → Tells fault s line t
+tells_lexical s line t fault e = let f : Says fault (lexical line t) = something_told (lexical line t) fault e in (f.0, stop (lexical line t) _ f.0 f.1, f.2)
 
 -- the token is misplaced
-pub tells_misplaced : (s : State) (line : ℕ) (t : Token) → lexical line t ≡ None → step s t ≡ Failed → Tells (BadStatement line) (first_of (token_tests s line t))
+pub tells_misplaced : (s : State) (line : ℕ) (t : Token) → lexical line t ≡ None → step s t ≡ Failed → Tells (BadStatement line) s line t
 tells_misplaced s line t none e =
     let f : Found = found Misplaced line in
     (f, skip (lexical line t) _ none ∙ stop (syntactic line (step s t)) _ f (ap (syntactic line) e), refl)
 
 pub tells_broken : (s : State) (line : ℕ) (t : Token) (fault : BenchFault) → None ≡ option_map told (lexical line t) →
-    (fault ≡ OutOfMemory) ⊎ ((fault ≡ BadStatement line) × (step s t ≡ Failed)) → (fault ≡ OutOfMemory) ⊎ Tells fault (first_of (token_tests s line t))
-tells_broken s line t fault good (inl e) = inl e
-tells_broken s line t fault good (inr h) =
-    let f : Tells (BadStatement line) (first_of (token_tests s line t)) = tells_misplaced s line t (nothing_told (lexical line t) good) h.1 in
-    inr (f.0, f.1, h.0 ∙ f.2)
+    (fault ≡ BadStatement line) × (step s t ≡ Failed) → Tells fault s line t
+tells_broken s line t fault good h =
+    let f : Tells (BadStatement line) s line t = tells_misplaced s line t (nothing_told (lexical line t) good) h.1 in
+    (f.0, f.1, h.0 ∙ f.2)
 
 -- the first two tests pass
 two_pass : (s : State) (line : ℕ) (t : Token) → lexical line t ≡ None → step s t ≢ Failed → first_of (token_tests s line t) ≡
@@ -69,39 +77,24 @@ two_pass s line t none other = skip (lexical line t) _ none ∙ skip (syntactic 
 
 -- a gate word that names no kind
 tells_word : (s : State) (line : ℕ) (t : Token) (fault : BenchFault) → lexical line t ≡ None → step s t ≢ Failed →
-    Some fault ≡ option_map told (gate_word (step s t)) → Tells fault (first_of (token_tests s line t))
+    Some fault ≡ option_map told (gate_word (step s t)) → Tells fault s line t
 tells_word s line t fault none other e =
-    let f : Tells fault (gate_word (step s t)) = something_told (gate_word (step s t)) fault e in
+    let f : Says fault (gate_word (step s t)) = something_told (gate_word (step s t)) fault e in
     (f.0, two_pass s line t none other ∙ stop (gate_word (step s t)) _ f.0 f.1, f.2)
 
 pub tells_gate_word : (done : List Statement) (s : State) (line : ℕ) (t : Token) (p : Part) (fault : BenchFault) → None ≡ option_map told (lexical line t) → state_of done p ≡ step s t →
-    Some fault ≡ option_map told (gate_word (state_of done p)) → Tells fault (first_of (token_tests s line t))
+    Some fault ≡ option_map told (gate_word (state_of done p)) → Tells fault s line t
 tells_gate_word done s line t p fault good at e =
     tells_word s line t fault (nothing_told (lexical line t) good) (λ f. live done p (at ∙ f)) (e ∙ ap (λ z. option_map told (gate_word z)) at)
 
 -- ---- a statement that is closed
-
-any_same : (p q : List ℕ → Bool) (xs : List (List ℕ)) → ((n : List ℕ) → p n ≡ q n) → list_any p xs ≡ list_any q xs
-any_same p q [] h = refl
-any_same p q (x ∷ xs) h = ap (λ b. b || list_any p xs) (h x) ∙ ap (λ b. q x || b) (any_same p q xs h)
-
-in_table : (table xs : List (List ℕ)) → table ≡ distinct xs → (n : List ℕ) → is_name_in table n ≡ is_among n xs
-in_table table xs e n = ap (λ t. is_name_in t n) e ∙ in_distinct xs n
-
-again : (done : List Statement) (inputs gates : List (List ℕ)) (s : Statement) → inputs ≡ distinct (flat_map input_name done) → gates ≡ distinct (flat_map gate_name done) →
-    redefines_by inputs gates s ≡ redefines done s
-again done inputs gates s i g =
-    ap (λ b. b || list_any (is_name_in inputs) (gate_name s))
-    (any_same (is_name_in gates) (λ n. is_among n (flat_map gate_name done)) (defined s) (in_table gates (flat_map gate_name done) g)) ∙
-    ap (λ b. list_any (λ n. is_among n (flat_map gate_name done)) (defined s) || b)
-    (any_same (is_name_in inputs) (λ n. is_among n (flat_map input_name done)) (gate_name s) (in_table inputs (flat_map input_name done) i))
 
 abbrev pair_of : List Statement → Statement → Option (List Statement × Statement)
 pair_of done s = Some (done, s)
 
 first_wrong : (w r : Bool) (line : ℕ) (rest : List (Option Found)) (fault : BenchFault) →
     Some fault ≡ option_map told (if w then Some (found OperandCount line) else (if r then Some (found SecondDefinition line) else None)) →
-    Tells fault (first_of ((if w then Some (found OperandCount line) else None) ∷ (if r then Some (found SecondDefinition line) else None) ∷ rest))
+    Says fault (first_of ((if w then Some (found OperandCount line) else None) ∷ (if r then Some (found SecondDefinition line) else None) ∷ rest))
 first_wrong true r line rest fault e = ((found OperandCount line), refl, cc)
 first_wrong false true line rest fault e = ((found SecondDefinition line), refl, cc)
 first_wrong false false line rest fault e = cc
@@ -112,11 +105,6 @@ none_wrong : (w r : Bool) (line : ℕ) (rest : List (Option Found)) →
 none_wrong true r line rest e = cc
 none_wrong false true line rest e = cc
 none_wrong false false line rest e = refl
-
-by_lists : (done : List Statement) (inputs gates : List (List ℕ)) (x : Statement) → inputs ≡ distinct (flat_map input_name done) → gates ≡ distinct (flat_map gate_name done) →
-    statement_fault inputs gates x ≡ (if has_wrong_operands x then Some (found OperandCount (line_of x)) else (if redefines done x then Some (found SecondDefinition (line_of x)) else None))
-by_lists done inputs gates x i g =
-    ap (λ b. cond (has_wrong_operands x) (Some (found OperandCount (line_of x))) (cond b (Some (found SecondDefinition (line_of x))) None)) (again done inputs gates x i g)
 
 no_word : (s : State) (done : List Statement) → Between done ≡ s → gate_word s ≡ None
 no_word s done e = ap gate_word (sym e)
@@ -131,13 +119,11 @@ of_statement s line t done all x none at is =
     not_failed : Between all ≡ Failed → ⊥
     not_failed e = cc
 
-pub tells_statement : (s : State) (line : ℕ) (t : Token) (done all : List Statement) (x : Statement) (inputs gates : List (List ℕ)) (fault : BenchFault) →
-    lexical line t ≡ None → Between all ≡ step s t → pair_of done x ≡ closed s t →
-    inputs ≡ distinct (flat_map input_name done) → gates ≡ distinct (flat_map gate_name done) →
-    Some fault ≡ option_map told (statement_fault inputs gates x) → Tells fault (first_of (token_tests s line t))
-tells_statement s line t done all x inputs gates fault none at is i g e =
-    let f : Tells fault (first_of (wrong_count (pair_of done x) ∷ second (pair_of done x) ∷ crowded line (tokens_of s ++ t ∷ []) ∷ [])) =
-    first_wrong (has_wrong_operands x) (redefines done x) (line_of x) (crowded line (tokens_of s ++ t ∷ []) ∷ []) fault (e ∙ ap (option_map told) (by_lists done inputs gates x i g)) in
+pub tells_statement : (s : State) (line : ℕ) (t : Token) (done all : List Statement) (x : Statement) (fault : BenchFault) →
+    lexical line t ≡ None → Between all ≡ step s t → pair_of done x ≡ closed s t → Some fault ≡ option_map told (statement_fault done x) → Tells fault s line t
+tells_statement s line t done all x fault none at is e =
+    let f : Says fault (first_of (wrong_count (pair_of done x) ∷ second (pair_of done x) ∷ crowded line (tokens_of s ++ t ∷ []) ∷ [])) =
+    first_wrong (has_wrong_operands x) (redefines done x) (line_of x) (crowded line (tokens_of s ++ t ∷ []) ∷ []) fault e in
     (f.0, of_statement s line t done all x none at is ∙ f.1, f.2)
 
 -- ---- the limits
@@ -189,9 +175,10 @@ full s line t right other (inr many) =
 
 -- the table's names and operands with those of one more token
 names_after : (done : List Statement) (s : State) (t : Token) (table : SymbolTable) → IsTold done s table → step s t ≢ Failed →
-    fold with_name table.names (newest (step s t) t) ≡ distinct (counted_of (step s t))
+    fold with_name table.names (texts (newest (step s t) t)) ≡ distinct (counted_of (step s t))
 names_after done s t table h other =
-    ap (λ ns. fold with_name ns (newest (step s t) t)) h.names ∙ sym (fold-append with_name [] (counted_of s) (newest (step s t) t)) ∙ ap distinct (sym (counted_step s t other))
+    ap (λ ns. fold with_name ns (texts (newest (step s t) t))) h.names ∙ sym (fold-append with_name [] (counted_of s) (texts (newest (step s t) t))) ∙
+    ap distinct (sym (counted_step s t other))
 
 operands_after : (done : List Statement) (s : State) (t : Token) (table : SymbolTable) → IsTold done s table → step s t ≢ Failed →
     table.operands + newest_operands (step s t) t ≡ length (operands_of (step s t))
@@ -222,18 +209,15 @@ new_names done s t p at = sym (newest_same done p t) ∙ ap (λ z. newest z t) a
 new_operands : (done : List Statement) (s : State) (t : Token) (p : Part) → state_of done p ≡ step s t → newest_operands (state_of [] p) t ≡ newest_operands (step s t) t
 new_operands done s t p at = sym (newest_operands_same done p t) ∙ ap (λ z. newest_operands z t) at
 
-abbrev more_names : SymbolTable → State → Token → List (List ℕ)
-more_names table z t = fold with_name table.names (newest z t)
-
 over_is : {done : List Statement} {s : State} {line : ℕ} {t : Token} {p : Part} {table : SymbolTable} → Part_at done s line t p table →
     IsOver table (newest (state_of [] p) t) (newest_operands (state_of [] p) t) → IsCrowd (step s t)
 over_is {done} {s} {line} {t} {p} {table} h (inl many) =
-    inl (subst (λ (ns : List (List ℕ)). max_signals < length ns) (ap (fold with_name table.names) (new_names done s t p h.at) ∙ names_after done s t table h.before (goes_on done s t p h.at)) many)
+    inl (subst (λ (ns : List (List ℕ)). max_signals < length ns) (ap (λ ws. fold with_name table.names (texts ws)) (new_names done s t p h.at) ∙ names_after done s t table h.before (goes_on done s t p h.at)) many)
 over_is {done} {s} {line} {t} {p} {table} h (inr many) =
     inr (subst (λ n. max_operands < n) (ap (λ n. table.operands + n) (new_operands done s t p h.at) ∙ operands_after done s t table h.before (goes_on done s t p h.at)) many)
 
 tells_over : {done : List Statement} {s : State} {line : ℕ} {t : Token} {p : Part} {table : SymbolTable} → Part_at done s line t p table → (fault : BenchFault) → fault ≡ TooMany line →
-    IsOver table (newest (state_of [] p) t) (newest_operands (state_of [] p) t) → Tells fault (first_of (token_tests s line t))
+    IsOver table (newest (state_of [] p) t) (newest_operands (state_of [] p) t) → Tells fault s line t
 tells_over {done} {s} {line} {t} {p} {table} h fault is over =
     let f : Found = found Crowded line in
     (f, to_crowded h ∙ stop (crowded line (tokens_of s ++ t ∷ [])) [] f (full s line t h.before.right (goes_on done s t p h.at) (over_is h over)), is)
@@ -250,56 +234,100 @@ module _ (done : List Statement) (s : State) (line : ℕ) (t : Token) (p : Part)
     word_ok = ap gate_word (sym at) ∙ nothing_told (gate_word (state_of done p)) known;
   }
 
-  pub tells_crowding : (fault : BenchFault) → IsCrowding line old (newest (state_of [] p) t) (newest_operands (state_of [] p) t) fault →
-      (fault ≡ OutOfMemory) ⊎ Tells fault (first_of (token_tests s line t))
-  tells_crowding fault (inl e) = inl e
-  tells_crowding fault (inr h) = inr (tells_over here fault h.0 h.1)
+  pub tells_crowding : (fault : BenchFault) → (fault ≡ TooMany line) × IsOver old (newest (state_of [] p) t) (newest_operands (state_of [] p) t) → Tells fault s line t
+  tells_crowding fault h = tells_over here fault h.0 h.1
 
   names_now : (new : SymbolTable) → CountsMore old new (newest (state_of [] p) t) (newest_operands (state_of [] p) t) → new.names ≡ distinct (counted_of (step s t))
-  names_now new h = ap (λ x. x.names) h.counted ∙ ap (fold with_name old.names) (new_names done s t p at) ∙ names_after done s t old before (goes_on done s t p at)
+  names_now new h = h.names ∙ ap (λ ws. fold with_name old.names (texts ws)) (new_names done s t p at) ∙ names_after done s t old before (goes_on done s t p at)
 
   operands_now : (new : SymbolTable) → CountsMore old new (newest (state_of [] p) t) (newest_operands (state_of [] p) t) → new.operands ≡ length (operands_of (step s t))
-  operands_now new h = ap (λ x. x.operands) h.counted ∙ ap (λ n. old.operands + n) (new_operands done s t p at) ∙ operands_after done s t old before (goes_on done s t p at)
+  operands_now new h = h.operands ∙ ap (λ n. old.operands + n) (new_operands done s t p at) ∙ operands_after done s t old before (goes_on done s t p at)
 
   few_now : (new : SymbolTable) → CountsMore old new (newest (state_of [] p) t) (newest_operands (state_of [] p) t) → length new.names ≤ max_signals
-  few_now new h = subst (λ (ns : List (List ℕ)). length ns ≤ max_signals) (sym (ap (λ x. x.names) h.counted)) h.few
+  few_now new h = subst (λ (ns : List (List ℕ)). length ns ≤ max_signals) (sym h.names) h.few
 
   low_now : (new : SymbolTable) → CountsMore old new (newest (state_of [] p) t) (newest_operands (state_of [] p) t) → new.operands ≤ max_operands
-  low_now new h = subst (λ n. n ≤ max_operands) (sym (ap (λ x. x.operands) h.counted)) h.low
+  low_now new h = subst (λ n. n ≤ max_operands) (sym h.operands) h.low
 
-  pub clean_part : (new : SymbolTable) → CountsMore old new (newest (state_of [] p) t) (newest_operands (state_of [] p) t) → first_of (token_tests s line t) ≡ None
+  clean_part : (new : SymbolTable) → CountsMore old new (newest (state_of [] p) t) (newest_operands (state_of [] p) t) → first_of (token_tests s line t) ≡ None
   clean_part new h =
       to_crowded here ∙ skip (crowded line (tokens_of s ++ t ∷ [])) []
       (roomy s line t before.right (goes_on done s t p at)
       (subst (λ (ns : List (List ℕ)). length ns ≤ max_signals) (names_now new h) (few_now new h)) (subst (λ n. n ≤ max_operands) (operands_now new h) (low_now new h)))
 
-  pub told_part : (new : SymbolTable) → CountsMore old new (newest (state_of [] p) t) (newest_operands (state_of [] p) t) → IsTold done (state_of done p) new
+  later_now : (new : SymbolTable) → CountsMore old new (newest (state_of [] p) t) (newest_operands (state_of [] p) t) → IsLater old.names new.names
+  later_now new h = subst (IsLater old.names) (sym h.names) (later_fold (texts (newest (state_of [] p) t)) old.names)
+
+  begun_now : (new : SymbolTable) → CountsMore old new (newest (state_of [] p) t) (newest_operands (state_of [] p) t) → AreFound new.names new.begun.items (begun_words (step s t))
+  begun_now new h =
+      let all : AreFound new.names (old.begun.items ++ h.begun.0) (begun_words s ++ newest (state_of [] p) t) =
+      found_append new.names old.begun.items h.begun.0 (begun_words s) (newest (state_of [] p) t)
+      (found_later old.names new.names (later_now new h) old.begun.items (begun_words s) before.begun) h.begun.2 in
+      let words : begun_words s ++ newest (state_of [] p) t ≡ begun_words (step s t) =
+      ap (λ ws. begun_words s ++ ws) (new_names done s t p at) ∙ sym (begun_step s t (sym open_still) (goes_on done s t p at)) in
+      subst (λ us. AreFound new.names us (begun_words (step s t))) (sym h.begun.1) (subst (AreFound new.names (old.begun.items ++ h.begun.0)) words all)
+
+  parts_now : (new : SymbolTable) → CountsMore old new (newest (state_of [] p) t) (newest_operands (state_of [] p) t) → (later : List (List ℕ)) → IsLater new.names later → AreParts later done new
+  parts_now new h later l =
+      let were : AreParts later done old = before.parts later (λ n i e. l n i (later_now new h n i e)) in
+      record {
+        inputs = h.parts.inputs ∙ were.inputs;
+        outputs = h.parts.outputs ∙ were.outputs;
+        gates = h.parts.gates ∙ were.gates;
+        registers = h.parts.registers ∙ were.registers;
+      }
+
+  told_part : (new : SymbolTable) → CountsMore old new (newest (state_of [] p) t) (newest_operands (state_of [] p) t) → IsTold done (state_of done p) new
   told_part new h =
       subst (λ z. IsTold done z new) (sym at) (record {
         right = (go s t (goes_on done s t p at) before.right).0;
         names = names_now new h;
+        whole = λ n e. subst (λ ns. is_name_in ns n ≡ true) (sym h.names)
+            (whole_more done old.names (texts (newest (state_of [] p) t)) old.symbols.items new.symbols.items h.symbols.0 before.whole before.each before.symbols h.symbols.1 n e);
         operands = operands_now new h;
-        inputs = ap (λ x. x.inputs) h.counted ∙ before.inputs;
-        outputs = ap (λ x. x.outputs) h.counted ∙ before.outputs;
-        gates = ap (λ x. x.gates) h.counted ∙ before.gates;
+        begun = begun_now new h;
+        each = h.each;
+        symbols = λ n i x e there.
+            symbols_more done old.names (texts (newest (state_of [] p) t)) old.symbols.items new.symbols.items h.symbols.0 before.whole before.each before.symbols h.symbols.1 n i x
+            (subst (λ ns. find ns n ≡ Some i) h.names e) there;
+        uses = subst (λ us. AreFound new.names us (flat_map uses done)) (sym h.parts.uses) (found_later old.names new.names (later_now new h) old.uses.items (flat_map uses done) before.uses);
+        parts = parts_now new h;
         few = few_now new h;
         low = low_now new h;
       })
 
+  pub goes_part : (new : SymbolTable) → CountsMore old new (newest (state_of [] p) t) (newest_operands (state_of [] p) t) → GoesOn s line t p new
+  goes_part new h = (clean_part new h, (done, at, told_part new h))
+
 -- ---- a token that closes a statement
 
-defined_more : (f : Statement → List (List ℕ)) (done : List Statement) (x : Statement) (table : List (List ℕ)) → table ≡ distinct (flat_map f done) →
-    fold with_name table (f x) ≡ distinct (flat_map f (done ++ x ∷ []))
-defined_more f done x table e =
-    ap (λ ns. fold with_name ns (f x)) e ∙ sym (fold-append with_name [] (flat_map f done) (f x)) ∙ ap distinct (sym (one_more f done x (f x) refl))
+-- what is known of the signals of the statement
+module _ (done : List Statement) (s : State) (t : Token) (x : Statement) (old : SymbolTable) (before : IsTold done s old) (is : pair_of done x ≡ closed s t) where
+  found_begun : AreFound old.names old.begun.items (counted_words x)
+  found_begun = subst (AreFound old.names old.begun.items) (begun_closed s t (done, x) (sym is)) before.begun
+
+  pub begun_some : 0 < length old.begun.items
+  begun_some = found_some old.names old.begun.items (subject x) (operands x) found_begun
+
+  pub begun_inside : All (λ u. u.signal < length old.symbols.items) old.begun.items
+  begun_inside = subst (λ n. All (λ (u : Use). u.signal < n) old.begun.items) (sym before.each) (found_inside old.names old.begun.items (counted_words x) found_begun)
+
+  first_is : (us : List Use) (u : Use) → AreFound old.names us (counted_words x) → slice_get us 0 ≡ Some u → find old.names (subject x).text ≡ Some u.signal
+  first_is [] u h e = absurd h
+  first_is (v ∷ us) u h e = let same : v ≡ u = cc in subst (λ (w : Use). find old.names (subject x).text ≡ Some w.signal) same h.0
+
+  pub knows : KnowsSubject done old.begun.items old.symbols.items x
+  knows u y here at = before.symbols (subject x).text u.signal y (first_is old.begun.items u found_begun here) at
+
+no_second : (w r : Bool) (f g : Found) → (if w then Some f else (if r then Some g else None)) ≡ None → r ≡ false
+no_second true r f g e = cc
+no_second false true f g e = cc
+no_second false false f g e = refl
 
 module _ (done : List Statement) (s : State) (line : ℕ) (t : Token) (x : Statement) (old : SymbolTable) (before : IsTold done s old)
     (good : None ≡ option_map told (lexical line t)) (at : Between (done ++ x ∷ []) ≡ step s t) (is : pair_of done x ≡ closed s t) where
-  pub tells_close : (fault : BenchFault) → (fault ≡ OutOfMemory) ⊎ (Some fault ≡ option_map told (statement_fault old.inputs old.gates x)) →
-      (fault ≡ OutOfMemory) ⊎ Tells fault (first_of (token_tests s line t))
-  tells_close fault (inl e) = inl e
-  tells_close fault (inr e) =
-      inr (tells_statement s line t done (done ++ x ∷ []) x old.inputs old.gates fault (nothing_told (lexical line t) good) at is before.inputs before.gates e)
+  pub tells_close : (fault : BenchFault) → (KnowsSubject done old.begun.items old.symbols.items x → Some fault ≡ option_map told (statement_fault done x)) → Tells fault s line t
+  tells_close fault e = tells_statement s line t done (done ++ x ∷ []) x fault (nothing_told (lexical line t) good) at is (e (knows done s t x old before is))
 
   between_live : Between (done ++ x ∷ []) ≡ Failed → ⊥
   between_live e = cc
@@ -308,7 +336,7 @@ module _ (done : List Statement) (s : State) (line : ℕ) (t : Token) (x : State
   alive f = between_live (at ∙ f)
 
   names_stay : old.names ≡ distinct (counted_of (step s t))
-  names_stay = ap (λ z. fold with_name old.names (newest z t)) at ∙ names_after done s t old before alive
+  names_stay = ap (λ z. fold with_name old.names (texts (newest z t))) at ∙ names_after done s t old before alive
 
   none_less : (n : ℕ) → n ≡ n + 0
   none_less n = omega arith
@@ -316,22 +344,69 @@ module _ (done : List Statement) (s : State) (line : ℕ) (t : Token) (x : State
   operands_stay : old.operands ≡ length (operands_of (step s t))
   operands_stay = none_less old.operands ∙ ap (λ z. old.operands + newest_operands z t) at ∙ operands_after done s t old before alive
 
-  pub clean_close : statement_fault old.inputs old.gates x ≡ None → first_of (token_tests s line t) ≡ None
+  clean_close : statement_fault done x ≡ None → first_of (token_tests s line t) ≡ None
   clean_close e =
       of_statement s line t done (done ++ x ∷ []) x (nothing_told (lexical line t) good) at is ∙
-      none_wrong (has_wrong_operands x) (redefines done x) (line_of x) (crowded line (tokens_of s ++ t ∷ []) ∷ []) (sym (by_lists done old.inputs old.gates x before.inputs before.gates) ∙ e) ∙
+      none_wrong (has_wrong_operands x) (redefines done x) (line_of x) (crowded line (tokens_of s ++ t ∷ []) ∷ []) e ∙
       skip (crowded line (tokens_of s ++ t ∷ [])) []
       (roomy s line t before.right alive
       (subst (λ (ns : List (List ℕ)). length ns ≤ max_signals) names_stay before.few) (subst (λ n. n ≤ max_operands) operands_stay before.low))
 
-  pub told_close : (new : SymbolTable) → new ≡ defining old x → IsTold (done ++ x ∷ []) (Between (done ++ x ∷ [])) new
-  told_close new e = record {
-    right = subst IsRight (sym at) (go s t alive before.right).0;
-    names = ap (λ z. z.names) e ∙ names_stay ∙ ap (λ z. distinct (counted_of z)) (sym at);
-    operands = ap (λ z. z.operands) e ∙ operands_stay ∙ ap (λ z. length (operands_of z)) (sym at);
-    inputs = ap (λ z. z.inputs) e ∙ defined_more input_name done x old.inputs before.inputs;
-    outputs = ap (λ z. z.outputs) e ∙ defined_more output_name done x old.outputs before.outputs;
-    gates = ap (λ z. z.gates) e ∙ defined_more gate_name done x old.gates before.gates;
-    few = subst (λ (ns : List (List ℕ)). length ns ≤ max_signals) (sym (ap (λ z. z.names) e)) before.few;
-    low = subst (λ n. n ≤ max_operands) (sym (ap (λ z. z.operands) e)) before.low;
-  }
+  names_whole : old.names ≡ distinct (flat_map counted (done ++ x ∷ []))
+  names_whole = names_stay ∙ ap (λ z. distinct (counted_of z)) (sym at)
+
+  module _ (new : SymbolTable) (clean : statement_fault done x ≡ None) (u : Use) (us : List Use) (y : Symbol) (first : old.begun.items ≡ u ∷ us)
+      (there : slice_get old.symbols.items u.signal ≡ Some y) (h : Defines x u us y old new) where
+    once : redefines done x ≡ false
+    once = no_second (has_wrong_operands x) (redefines done x) _ _ clean
+
+    words_found : AreFound old.names (u ∷ us) (counted_words x)
+    words_found = subst (λ vs. AreFound old.names vs (counted_words x)) first (found_begun done s t x old before is)
+
+    symbol_is : IsSymbol done (subject x).text y
+    symbol_is = before.symbols (subject x).text u.signal y words_found.0 there
+
+    number_is : (later : List (List ℕ)) → IsLater old.names later → number_of later (subject x).text ≡ u.signal
+    number_is later l = number_found later (subject x).text u.signal (l (subject x).text u.signal words_found.0)
+
+    lines_are : (kept : GateLine → Bool) (later : List (List ℕ)) → IsLater old.names later → (were now : List GateLine) → were ≡ filter kept (filter_map (gate_line later) done) →
+        now ≡ were ++ filter kept (option_to_list (line_with x u us)) → now ≡ filter kept (filter_map (gate_line later) (done ++ x ∷ []))
+    lines_are kept later l were now e f =
+        f ∙ ap (λ gs. gs ++ filter kept (option_to_list (line_with x u us))) e ∙
+        lines_after kept later done x u us (found_later old.names later l (u ∷ us) (counted_words x) words_found)
+
+    parts_are : (later : List (List ℕ)) → IsLater new.names later → AreParts later (done ++ x ∷ []) new
+    parts_are later after =
+        let l : IsLater old.names later = subst (λ ns. IsLater ns later) h.names after in
+        let were : AreParts later done old = before.parts later l in
+        record {
+          inputs = h.inputs ∙ ap (λ is. is ++ inputs_with x u y) were.inputs ∙ inputs_after later done x u us y symbol_is (number_is later l);
+          outputs = h.outputs ∙ ap (λ os. os ++ outputs_with x u y) were.outputs ∙ outputs_after later done x u us y symbol_is (number_is later l);
+          gates = lines_are is_gate later l old.gates.items new.gates.items were.gates h.gates;
+          registers = lines_are is_register later l old.registers.items new.registers.items were.registers h.registers;
+        }
+
+    told_close : IsTold (done ++ x ∷ []) (Between (done ++ x ∷ [])) new
+    told_close = record {
+      right = subst IsRight (sym at) (go s t alive before.right).0;
+      names = h.names ∙ names_whole;
+      whole = λ n e. ap (λ ns. is_name_in ns n) (h.names ∙ names_whole) ∙ in_distinct (flat_map counted (done ++ x ∷ [])) n ∙ e;
+      operands = h.operands ∙ operands_stay ∙ ap (λ z. length (operands_of z)) (sym at);
+      begun = subst (λ us. AreFound new.names us []) (sym h.begun) tt;
+      each = ap length h.symbols ∙ length-set old.symbols.items u.signal (symbol_after x y) ∙ before.each ∙ ap length (sym h.names);
+      symbols = subst (AreSymbols (done ++ x ∷ []) new.names) (sym h.symbols)
+          (subst (λ ns. AreSymbols (done ++ x ∷ []) ns (slice_set old.symbols.items u.signal (symbol_after x y))) (sym h.names)
+          (symbols_after done old.names old.symbols.items x u.signal y before.each before.symbols words_found.0 there once));
+      uses = subst (λ ns. AreFound ns new.uses.items (flat_map uses (done ++ x ∷ []))) (sym h.names)
+          (subst (λ us. AreFound old.names us (flat_map uses (done ++ x ∷ []))) (sym h.uses)
+          (subst (AreFound old.names (old.uses.items ++ uses_with x u us)) (sym (one_more uses done x (uses x) refl))
+          (found_append old.names old.uses.items (uses_with x u us) (flat_map uses done) (uses x) before.uses (uses_found old.names x u us words_found))));
+      parts = parts_are;
+      few = subst (λ (ns : List (List ℕ)). length ns ≤ max_signals) (sym h.names) before.few;
+      low = subst (λ n. n ≤ max_operands) (sym h.operands) before.low;
+    }
+
+  pub goes_close : (new : SymbolTable) → (KnowsSubject done old.begun.items old.symbols.items x → statement_fault done x ≡ None) → IsClosed x old new → GoesOn s line t nothing new
+  goes_close new e h =
+      let clean : statement_fault done x ≡ None = e (knows done s t x old before is) in
+      (clean_close clean, (done ++ x ∷ [], at, told_close new clean h.0 h.1 h.2 h.3 h.4 h.5))

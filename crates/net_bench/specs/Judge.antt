@@ -83,6 +83,16 @@ unfoldable pub judge : State → List Token → Tokens → Result State Found
 judge s seen [] = Ok s
 judge s seen (t ∷ ts) = unless (first_of (tests s t.0 t.1 (seen ++ t.1 ∷ []))) (λ _. judge (step s t.1) (seen ++ t.1 ∷ []) ts)
 
+-- the statements that the judge has ended with
+abbrev pub finished : Result State Found → List Statement
+finished (Ok (Finished ss)) = ss
+finished (Ok s) = []
+finished (Err found) = []
+
+-- the statements of a text, none where the judge finds a fault
+unfoldable pub statements_in : List ℕ → List Statement
+statements_in text = finished (judge (Between []) [] (tokens_at 1 text))
+
 -- ---- the whole answer
 
 -- the line of the first word that is not good

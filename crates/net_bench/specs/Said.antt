@@ -21,10 +21,6 @@ statement_of (input word name) = Input (word_of word) (word_of name)
 statement_of (output word name) = Output (word_of word) (word_of name)
 statement_of (gate g) = Gate (word_of g.out) (word_of g.word) (word_of g.first) (map word_of g.others.items)
 
--- statements of the code
-abbrev pub statements_of : List Said → List Statement
-statements_of ss = map statement_of ss
-
 -- the reader's state, from the statements so far and the part of the next
 abbrev pub state_of : List Statement → Part → State
 state_of done nothing = Between done

@@ -1,20 +1,27 @@
--- What the reader keeps beside its state: the signals that the tokens so far have counted, and those that the whole statements define.
-use Rattle.std.specs.Prelude.{◌≡◌, ◌⊎◌, ℕ, ◌+◌, ◌<◌, ◌≤◌, Bool, ◌||◌, if◌then◌else◌, List, [], ◌∷◌, ◌++◌, map, flat_map, fold, length, Option, Some, None}
-use Rattle.std.specs.List.{list_any}
+-- What the reader keeps beside its state: the signals that the tokens so far have counted, and what the whole statements say of them, by number.
+use Rattle.std.specs.Prelude.{◌≡◌, ◌⊎◌, ℕ, ◌+◌, ◌<◌, ◌≤◌, Bool, true, false, ◌||◌, if◌then◌else◌, List, [], ◌∷◌, ◌++◌, map, flat_map, filter, filter_map, fold, length, replicate, slice_get, slice_set, Option, Some, None, option_map, option_to_list}
+use Rattle.net_bench.specs.declared.symbols.Symbol.{Symbol}
+use Rattle.net_bench.specs.declared.symbols.Role.{Role}
+use Rattle.net_bench.specs.declared.symbols.Role.TheVariants.{Undefined as undefined, Input as input, Gate as gate, Register as register}
+use Rattle.net_bench.specs.declared.symbols.Use.{Use}
 use Rattle.net_bench.specs.declared.symbols.SymbolTable.{SymbolTable}
+use Rattle.net_bench.specs.declared.netlist.Kind.{Kind}
+use Rattle.net_bench.specs.declared.netlist.GateLine.{GateLine}
 use Rattle.net_bench.specs.declared.netlist.BenchFault.{BenchFault}
 use Rattle.net_bench.specs.declared.netlist.BenchFault.TheVariants.{TooMany, OutOfMemory}
 use Rattle.net_bench.specs.Text.{Word, Token, Name}
-use Rattle.net_bench.specs.Statement.{Statement, counted, operands, input_name, output_name, gate_name, defined, line_of}
-use Rattle.net_bench.specs.Machine.{State, Between, First, Opened, Named, Defining, AtWord, Operands, AfterOperand, AfterComma, Finished, Failed, tokens_of, IsRight}
-use Rattle.net_bench.specs.Circuit.{is_name_in, with_name, distinct}
-use Rattle.net_bench.specs.Fault.{OperandCount, SecondDefinition, max_signals, max_operands, has_wrong_operands}
-use Rattle.net_bench.specs.Judge.{Found, tests, told}
+use Rattle.net_bench.specs.Statement.{Statement, Input, Output, Gate, counted, operands, uses, input_name, output_name, gate_name, kind_of, line_of}
+use Rattle.net_bench.specs.Machine.{State, Between, First, Opened, Named, Defining, AtWord, Operands, AfterOperand, AfterComma, Finished, Failed, tokens_of, step, IsRight}
+use Rattle.net_bench.specs.declared.syntax.Part.{Part}
+use Rattle.net_bench.specs.Said.{state_of}
+use Rattle.net_bench.specs.Circuit.{is_name_in, with_name, distinct, find, number_of, gate_line, is_gate, is_register, is_register_kind}
+use Rattle.net_bench.specs.Fault.{OperandCount, SecondDefinition, max_signals, max_operands, has_wrong_operands, redefines}
+use Rattle.net_bench.specs.Judge.{Found, first_of, tests, told}
 
 -- ---- what a state's tokens have counted
 
 -- the names of words
-abbrev texts : List Word → List (List ℕ)
+abbrev pub texts : List Word → List (List ℕ)
 texts ws = map (λ w. w.text) ws
 
 -- the names that the tokens up to this state have counted
@@ -45,11 +52,25 @@ operands_of (AfterComma done out g a others) = flat_map operands done ++ a ∷ o
 operands_of (Finished done) = flat_map operands done
 operands_of Failed = []
 
--- the name that the last token before this state has counted
-abbrev pub newest : State → Token → List (List ℕ)
-newest (Defining done out) t = out.text ∷ []
-newest (Named done w n) t = n.text ∷ []
-newest (AfterOperand done out g a others) (Name b) = b.text ∷ []
+-- the words that the part of a statement has counted
+abbrev pub begun_words : State → List Word
+begun_words (Between done) = []
+begun_words (First done w) = []
+begun_words (Opened done w) = []
+begun_words (Named done w n) = n ∷ []
+begun_words (Defining done out) = out ∷ []
+begun_words (AtWord done out g) = out ∷ []
+begun_words (Operands done out g) = out ∷ []
+begun_words (AfterOperand done out g a others) = out ∷ a ∷ others
+begun_words (AfterComma done out g a others) = out ∷ a ∷ others
+begun_words (Finished done) = []
+begun_words Failed = []
+
+-- the word that the last token before this state has counted
+abbrev pub newest : State → Token → List Word
+newest (Defining done out) t = out ∷ []
+newest (Named done w n) t = n ∷ []
+newest (AfterOperand done out g a others) (Name b) = b ∷ []
 newest s t = []
 
 -- and how many operands
@@ -57,54 +78,182 @@ abbrev pub newest_operands : State → Token → ℕ
 newest_operands (AfterOperand done out g a others) (Name b) = 1
 newest_operands s t = 0
 
+-- ---- what a statement says of numbers
+
+-- the word whose signal a statement names first
+abbrev pub subject : Statement → Word
+subject (Input word name) = name
+subject (Output word name) = name
+subject (Gate out word first others) = out
+
+-- the words that a statement counts
+abbrev pub counted_words : Statement → List Word
+counted_words x = subject x ∷ operands x
+
+-- the uses are these words, each with its number and its line
+abbrev pub AreFound : List (List ℕ) → List Use → List Word → Type 0
+AreFound names [] [] = Unit {0}
+AreFound names (u ∷ us) (w ∷ ws) = (find names w.text ≡ Some u.signal) × (u.line ≡ w.line) × AreFound names us ws
+AreFound names us ws = ⊥
+
+-- the names are there, with the same numbers
+abbrev pub IsLater : List (List ℕ) → List (List ℕ) → Type 0
+IsLater names later = (n : List ℕ) (i : ℕ) → find names n ≡ Some i → find later n ≡ Some i
+
+-- an INPUT makes the signal an input
+abbrev pub is_input_role : Role → Bool
+is_input_role undefined = false
+is_input_role input = true
+is_input_role gate = false
+is_input_role register = false
+
+-- a gate or register has the signal
+abbrev pub is_driven_role : Role → Bool
+is_driven_role undefined = false
+is_driven_role input = false
+is_driven_role gate = true
+is_driven_role register = true
+
+-- the role that a gate word gives
+abbrev pub driven_role : Option Kind → Role
+driven_role None = gate
+driven_role (Some kind) = if is_register_kind kind then register else gate
+
+-- the symbol of a signal of which no whole statement speaks
+abbrev pub blank : Symbol
+blank = record { role = undefined; is_output = false }
+
+-- what the statements say of a name
+pub record IsSymbol (done : List Statement) (n : List ℕ) (s : Symbol) : Type 0 where
+  pub input : is_input_role s.role ≡ is_name_in (flat_map input_name done) n
+  pub driven : is_driven_role s.role ≡ is_name_in (flat_map gate_name done) n
+  pub output : s.is_output ≡ is_name_in (flat_map output_name done) n
+
+-- each name has its symbol
+abbrev pub AreSymbols : List Statement → List (List ℕ) → List Symbol → Type 0
+AreSymbols done names symbols = (n : List ℕ) (i : ℕ) (s : Symbol) → find names n ≡ Some i → slice_get symbols i ≡ Some s → IsSymbol done n s
+
+-- the first of the signals of the statement that is not whole yet is that of the statement, and its symbol is that of its name behind these statements
+abbrev pub KnowsSubject : List Statement → List Use → List Symbol → Statement → Type 0
+KnowsSubject done begun symbols x =
+    (u : Use) (s : Symbol) → slice_get begun 0 ≡ Some u → slice_get symbols u.signal ≡ Some s → IsSymbol done (subject x).text s
+
+-- the symbol of a statement's signal behind it
+abbrev pub symbol_after : Statement → Symbol → Symbol
+symbol_after (Input word name) s = record { role = input; is_output = s.is_output }
+symbol_after (Output word name) s = record { role = s.role; is_output = true }
+symbol_after (Gate out word first others) s = record { role = driven_role (kind_of word.text); is_output = s.is_output }
+
+-- the inputs that a statement adds
+abbrev pub inputs_with : Statement → Use → Symbol → List ℕ
+inputs_with (Input word name) u s = if is_input_role s.role then [] else u.signal ∷ []
+inputs_with x u s = []
+
+-- the outputs that it adds
+abbrev pub outputs_with : Statement → Use → Symbol → List ℕ
+outputs_with (Output word name) u s = if s.is_output then [] else u.signal ∷ []
+outputs_with x u s = []
+
+-- its gate or register
+abbrev pub line_with : Statement → Use → List Use → Option GateLine
+line_with (Gate out word first others) u us =
+    option_map (λ kind. (let g : GateLine = record { out = u.signal; kind = kind; operands = map (λ v. v.signal) us; line = out.line } in g)) (kind_of word.text)
+line_with x u us = None
+
+-- its uses
+abbrev pub uses_with : Statement → Use → List Use → List Use
+uses_with (Input word name) u us = []
+uses_with (Output word name) u us = u ∷ []
+uses_with (Gate out word first others) u us = us
+
 -- ---- the table
+
+-- the parts of the netlist, by the numbers of these names
+pub record AreParts (names : List (List ℕ)) (done : List Statement) (table : SymbolTable) : Type 0 where
+  pub inputs : table.inputs.items ≡ map (number_of names) (distinct (flat_map input_name done))
+  pub outputs : table.outputs.items ≡ map (number_of names) (distinct (flat_map output_name done))
+  pub gates : table.gates.items ≡ filter is_gate (filter_map (gate_line names) done)
+  pub registers : table.registers.items ≡ filter is_register (filter_map (gate_line names) done)
 
 -- the table is that of this state, behind these whole statements, and no limit is passed
 pub record IsTold (done : List Statement) (s : State) (table : SymbolTable) : Type 0 where
   pub right : IsRight s
   pub names : table.names ≡ distinct (counted_of s)
+  pub whole : (n : List ℕ) → is_name_in (flat_map counted done) n ≡ true → is_name_in table.names n ≡ true
   pub operands : table.operands ≡ length (operands_of s)
-  pub inputs : table.inputs ≡ distinct (flat_map input_name done)
-  pub outputs : table.outputs ≡ distinct (flat_map output_name done)
-  pub gates : table.gates ≡ distinct (flat_map gate_name done)
+  pub begun : AreFound table.names table.begun.items (begun_words s)
+  pub each : length table.symbols.items ≡ length table.names
+  pub symbols : AreSymbols done table.names table.symbols.items
+  pub uses : AreFound table.names table.uses.items (flat_map uses done)
+  pub parts : (later : List (List ℕ)) → IsLater table.names later → AreParts later done table
   pub few : length table.names ≤ max_signals
   pub low : table.operands ≤ max_operands
 
--- the new table has these names and so many operands more, and no limit is passed
-pub record CountsMore (old new : SymbolTable) (names : List (List ℕ)) (operands : ℕ) : Type 0 where
-  pub counted : new ≡ record old { names = fold with_name old.names names; operands = old.operands + operands }
-  pub few : length (fold with_name old.names names) ≤ max_signals
-  pub low : old.operands + operands ≤ max_operands
+-- the new table has the parts of the old one
+pub record KeepsParts (old new : SymbolTable) : Type 0 where
+  pub inputs : new.inputs.items ≡ old.inputs.items
+  pub outputs : new.outputs.items ≡ old.outputs.items
+  pub gates : new.gates.items ≡ old.gates.items
+  pub registers : new.registers.items ≡ old.registers.items
+  pub uses : new.uses.items ≡ old.uses.items
 
--- with these names and so many operands more a limit is passed
-abbrev pub IsOver : SymbolTable → List (List ℕ) → ℕ → Type 0
-IsOver old names operands = (max_signals < length (fold with_name old.names names)) ⊎ (max_operands < old.operands + operands)
+-- the new table has counted these words and so many operands more, and no limit is passed
+pub record CountsMore (old new : SymbolTable) (words : List Word) (more : ℕ) : Type 0 where
+  pub names : new.names ≡ fold with_name old.names (texts words)
+  pub operands : new.operands ≡ old.operands + more
+  pub begun : (us : List Use) × (new.begun.items ≡ old.begun.items ++ us) × AreFound new.names us words
+  pub each : length new.symbols.items ≡ length new.names
+  pub symbols : (n : ℕ) × (new.symbols.items ≡ old.symbols.items ++ replicate n blank)
+  pub parts : KeepsParts old new
+  pub few : length (fold with_name old.names (texts words)) ≤ max_signals
+  pub low : old.operands + more ≤ max_operands
+
+-- with these words and so many operands more a limit is passed
+abbrev pub IsOver : SymbolTable → List Word → ℕ → Type 0
+IsOver old words operands = (max_signals < length (fold with_name old.names (texts words))) ⊎ (max_operands < old.operands + operands)
 
 -- out of memory, or a limit is passed on this line
-abbrev pub IsCrowding : ℕ → SymbolTable → List (List ℕ) → ℕ → BenchFault → Type 0
-IsCrowding line old names operands fault = (fault ≡ OutOfMemory) ⊎ ((fault ≡ TooMany line) × IsOver old names operands)
+abbrev pub IsCrowding : ℕ → SymbolTable → List Word → ℕ → BenchFault → Type 0
+IsCrowding line old words operands fault = (fault ≡ OutOfMemory) ⊎ ((fault ≡ TooMany line) × IsOver old words operands)
 
--- the table with what the statement defines
-abbrev pub defining : SymbolTable → Statement → SymbolTable
-defining t s = record t {
-  inputs = fold with_name t.inputs (input_name s);
-  outputs = fold with_name t.outputs (output_name s);
-  gates = fold with_name t.gates (gate_name s);
-}
+-- the new table has what a statement says more, whose signals are these and whose first symbol is this
+pub record Defines (x : Statement) (u : Use) (us : List Use) (s : Symbol) (old new : SymbolTable) : Type 0 where
+  pub names : new.names ≡ old.names
+  pub operands : new.operands ≡ old.operands
+  pub begun : new.begun.items ≡ []
+  pub symbols : new.symbols.items ≡ slice_set old.symbols.items u.signal (symbol_after x s)
+  pub uses : new.uses.items ≡ old.uses.items ++ uses_with x u us
+  pub inputs : new.inputs.items ≡ old.inputs.items ++ inputs_with x u s
+  pub outputs : new.outputs.items ≡ old.outputs.items ++ outputs_with x u s
+  pub gates : new.gates.items ≡ old.gates.items ++ filter is_gate (option_to_list (line_with x u us))
+  pub registers : new.registers.items ≡ old.registers.items ++ filter is_register (option_to_list (line_with x u us))
 
--- `redefines`, by the names of inputs and gates
-abbrev pub redefines_by : List (List ℕ) → List (List ℕ) → Statement → Bool
-redefines_by inputs gates s = list_any (is_name_in gates) (defined s) || list_any (is_name_in inputs) (gate_name s)
+-- the statement that is closed, by what the table knows of its signals
+abbrev pub IsClosed : Statement → SymbolTable → SymbolTable → Type 0
+IsClosed x old new =
+    (u : Use) × (us : List Use) × (s : Symbol) × (old.begun.items ≡ u ∷ us) × (slice_get old.symbols.items u.signal ≡ Some s) × Defines x u us s old new
 
--- what is wrong with a whole statement, by the names of inputs and gates before it
-abbrev pub statement_fault : List (List ℕ) → List (List ℕ) → Statement → Option Found
-statement_fault inputs gates s =
-    if has_wrong_operands s then Some (OperandCount, line_of s) else (
-    if redefines_by inputs gates s then Some (SecondDefinition, line_of s) else None)
+-- what is wrong with a whole statement behind these
+abbrev pub statement_fault : List Statement → Statement → Option Found
+statement_fault done x =
+    if has_wrong_operands x then Some (OperandCount, line_of x) else (
+    if redefines done x then Some (SecondDefinition, line_of x) else None)
 
--- the name has an INPUT or a gate
-abbrev pub is_known : SymbolTable → List ℕ → Bool
-is_known table name = is_name_in table.inputs name || is_name_in table.gates name
+-- ---- uses without a definition
+
+-- an INPUT, a gate or a register has the signal
+abbrev pub is_defined_role : Role → Bool
+is_defined_role r = is_input_role r || is_driven_role r
+
+-- the signal's symbol has a definition
+abbrev pub known_symbol : Option Symbol → Bool
+known_symbol None = false
+known_symbol (Some s) = is_defined_role s.role
+
+-- the line of the first use of a signal without definition
+abbrev pub undefined_use : List Symbol → List Use → Option ℕ
+undefined_use symbols [] = None
+undefined_use symbols (u ∷ us) = if known_symbol (slice_get symbols u.signal) then undefined_use symbols us else Some u.line
 
 -- ---- the judge by states
 
@@ -112,6 +261,11 @@ is_known table name = is_name_in table.inputs name || is_name_in table.gates nam
 abbrev pub token_tests : State → ℕ → Token → List (Option Found)
 token_tests s line t = tests s line t (tokens_of s ++ t ∷ [])
 
--- the fault tells what was found
-abbrev pub Tells : BenchFault → Option Found → Type 0
-Tells fault found = (f : Found) × (found ≡ Some f) × (fault ≡ told f)
+-- the fault tells what the tests of a token have found
+abbrev pub Tells : BenchFault → State → ℕ → Token → Type 0
+Tells fault s line t = (f : Found) × (first_of (token_tests s line t) ≡ Some f) × (fault ≡ told f)
+
+-- the tests of a token have found nothing, and the part and the table are those of the next state
+abbrev pub GoesOn : State → ℕ → Token → Part → SymbolTable → Type 0
+GoesOn s line t p table =
+    (first_of (token_tests s line t) ≡ None) × ((done : List Statement) × (state_of done p ≡ step s t) × IsTold done (state_of done p) table)

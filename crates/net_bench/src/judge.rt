@@ -1,13 +1,13 @@
 // The statements of a text without a faulty place, in one pass over its tokens, or the first fault.
-ghost use Rattle.std.specs.Prelude.{◌≡◌, ◌≢◌, ◌⊎◌, ◌≤◌, List, [], ◌∷◌, ◌++◌, length, Some, None, option_map, IfOk, IfErr, OnOk, Ok, Err};
+ghost use Rattle.std.specs.Prelude.{◌≡◌, ◌≢◌, ◌⊎◌, ◌≤◌, ◌<◌, List, [], ◌∷◌, ◌++◌, length, All, Some, None, option_map, IfOk, IfErr, OnOk, Ok, Err};
 ghost use Rattle.net_bench.specs.Text.{End};
 ghost use Rattle.net_bench.specs.Scan.{seen};
-ghost use Rattle.net_bench.specs.Said.{statement_of, statements_of, state_of};
+ghost use Rattle.net_bench.specs.Said.{statement_of, state_of};
 ghost use Rattle.net_bench.specs.Statement.{Statement};
-ghost use Rattle.net_bench.specs.Machine.{Between, Finished, step};
+ghost use Rattle.net_bench.specs.Machine.{Between, Finished};
 ghost use Rattle.net_bench.specs.Pieces.{tokens_at};
-ghost use Rattle.net_bench.specs.Judge.{Found, first_of, gate_word, judge, lexical, told};
-ghost use Rattle.net_bench.specs.Symbols.{IsTold, Tells, defining, statement_fault, token_tests};
+ghost use Rattle.net_bench.specs.Judge.{Found, gate_word, judge, lexical, statements_in, told};
+ghost use Rattle.net_bench.specs.Symbols.{GoesOn, IsClosed, IsTold, KnowsSubject, Tells, statement_fault};
 
 use crate::kinds::kind_of;
 use crate::netlist::BenchFault;
@@ -18,13 +18,6 @@ use std::alloc::Global;
 
 /// The most bytes of a name.
 const MAX_NAME: usize = 255;
-
-/// The statements of a text, and its signals.
-#[derive(Drop)]
-pub struct Judged<'a> {
-    pub said: Vec<Said<'a>>,
-    pub symbols: SymbolTable,
-}
 
 /// A byte that no statement has, or a name that is too long.
 fn token_fault(line: u32, token: Token<'_>) -> Option<BenchFault>
@@ -56,24 +49,17 @@ fn word_fault(part: &Part<'_>) -> Option<BenchFault>
 }
 
 /// Closes a statement, where nothing is wrong with it.
-fn close<'a>(
-    alloc: Global,
-    done: &mut Vec<Said<'a>>,
-    symbols: &mut SymbolTable,
-    said: Said<'a>,
-) -> Result<(), BenchFault>
-    ensures clean { OnOk result (statement_fault symbols.old.inputs symbols.old.gates (statement_of said.entry) ≡ None) }
-    ensures done { OnOk result (statements_of done.new.items ≡ statements_of done.old.items ++ statement_of said.entry ∷ []) }
-    ensures defined { OnOk result (symbols.new ≡ defining symbols.old (statement_of said.entry)) }
-    ensures fault { IfErr result (λ f. (f ≡ BenchFault.OutOfMemory) ⊎ (Some f ≡ option_map told (statement_fault symbols.old.inputs symbols.old.gates (statement_of said.entry)))) }
+fn close(alloc: Global, symbols: &mut SymbolTable, said: Said<'_>) -> Result<(), BenchFault>
+    requires some { 0 < length symbols.old.begun.items }
+    requires inside { All (λ u. u.signal < length symbols.old.symbols.items) symbols.old.begun.items }
+    ensures clean { OnOk result ((done : List Statement) → KnowsSubject done symbols.old.begun.items symbols.old.symbols.items (statement_of said.entry) → statement_fault done (statement_of said.entry) ≡ None) }
+    ensures closed { OnOk result (IsClosed (statement_of said.entry) symbols.old symbols.new) }
+    ensures fault { IfErr result (λ f. (f ≡ BenchFault.OutOfMemory) ⊎ ((done : List Statement) → KnowsSubject done symbols.old.begun.items symbols.old.symbols.items (statement_of said.entry) → Some f ≡ option_map told (statement_fault done (statement_of said.entry)))) }
 {
     if let Some(fault) = symbols.fault_of(&said) {
         return Err(fault);
     }
-    if symbols.define(alloc, &said).is_err() {
-        return Err(BenchFault::OutOfMemory);
-    }
-    match done.push(said) {
+    match symbols.define(alloc, &said) {
         Ok(()) => Ok(()),
         Err(_) => Err(BenchFault::OutOfMemory),
     }
@@ -82,18 +68,15 @@ fn close<'a>(
 /// Takes one more token, which is not the end, and answers the part of a statement that it leads to.
 fn take_token<'a>(
     alloc: Global,
-    done: &mut Vec<Said<'a>>,
     symbols: &mut SymbolTable,
     part: Part<'a>,
     line: u32,
     token: Token<'a>,
 ) -> Result<Part<'a>, BenchFault>
     requires token { seen line token ≢ End }
-    requires told { IsTold (statements_of done.old.items) (state_of (statements_of done.old.items) part) symbols.old }
-    ensures step { IfOk result (λ p. state_of (statements_of done.new.items) p ≡ step (state_of (statements_of done.old.items) part.entry) (seen line token.entry)) }
-    ensures clean { OnOk result (first_of (token_tests (state_of (statements_of done.old.items) part.entry) line (seen line token.entry)) ≡ None) }
-    ensures told { IfOk result (λ p. IsTold (statements_of done.new.items) (state_of (statements_of done.new.items) p) symbols.new) }
-    ensures fault { IfErr result (λ f. (f ≡ BenchFault.OutOfMemory) ⊎ Tells f (first_of (token_tests (state_of (statements_of done.old.items) part.entry) line (seen line token.entry)))) }
+    requires told { (done : List Statement) × IsTold done (state_of done part) symbols.old }
+    ensures goes { IfOk result (λ p. (done : List Statement) → IsTold done (state_of done part.entry) symbols.old → GoesOn (state_of done part.entry) line (seen line token.entry) p symbols.new) }
+    ensures fault { IfErr result (λ f. (f ≡ BenchFault.OutOfMemory) ⊎ ((done : List Statement) → IsTold done (state_of done part.entry) symbols.old → Tells f (state_of done part.entry) line (seen line token.entry))) }
 {
     if let Some(fault) = token_fault(line, token) {
         return Err(fault);
@@ -112,22 +95,21 @@ fn take_token<'a>(
                 Err(fault) => Err(fault),
             }
         }
-        Next::Whole(said) => match close(alloc, done, symbols, said) {
+        Next::Whole(said) => match close(alloc, symbols, said) {
             Ok(()) => Ok(Part::Nothing),
             Err(fault) => Err(fault),
         },
     }
 }
 
-/// The statements of the text, or its first fault: at each token a broken token comes first, then one that no statement has there,
-/// a gate word that names no kind, a wrong number of operands, a second definition, and last a limit that is passed.
-pub fn judge_text(alloc: Global, text: &[u8]) -> Result<Judged<'_>, BenchFault>
+/// The signals of a text and what its statements say of them, or its first fault: at each token a broken token comes first, then one that no
+/// statement has there, a gate word that names no kind, a wrong number of operands, a second definition, and last a limit that is passed.
+pub fn judge_text(alloc: Global, text: &[u8]) -> Result<SymbolTable, BenchFault>
     requires { length text.now ≤ 67108864 }
-    ensures ok { IfOk result (λ j. judge (Between []) [] (tokens_at 1 text.now) ≡ Ok (Finished (statements_of j.said.items))) }
-    ensures told { IfOk result (λ j. IsTold (statements_of j.said.items) (Between (statements_of j.said.items)) j.symbols) }
+    ensures ok { OnOk result (judge (Between []) [] (tokens_at 1 text.now) ≡ Ok (Finished (statements_in text.now))) }
+    ensures told { IfOk result (λ symbols. IsTold (statements_in text.now) (Between (statements_in text.now)) symbols) }
     ensures fault { IfErr result (λ f. (f ≡ BenchFault.OutOfMemory) ⊎ ((found : Found) × (judge (Between []) [] (tokens_at 1 text.now) ≡ Err found) × (f ≡ told found))) }
 {
-    let mut said = Vec::new(alloc);
     let mut symbols = SymbolTable::new(alloc);
     let mut part = Part::Nothing;
     let mut scanner = Scanner::new(text);
@@ -137,9 +119,9 @@ pub fn judge_text(alloc: Global, text: &[u8]) -> Result<Judged<'_>, BenchFault>
             let Part::Nothing = part else {
                 return Err(BenchFault::BadStatement { line });
             };
-            return Ok(Judged { said, symbols });
+            return Ok(symbols);
         }
-        part = match take_token(alloc, &mut said, &mut symbols, part, line, token) {
+        part = match take_token(alloc, &mut symbols, part, line, token) {
             Ok(part) => part,
             Err(fault) => return Err(fault),
         };

@@ -3,19 +3,18 @@ ghost use Rattle.std.specs.Prelude.{◌≡◌, ◌+◌, ◌<◌, ◌⊎◌, leng
 ghost use Rattle.net_bench.specs.Circuit.{circuit, circuit_of, find, variables_of, IsNet, AreRanks};
 ghost use Rattle.net_bench.specs.Fault.{IsRefused, MakesNetlist, max_text};
 ghost use Rattle.net_bench.specs.Devices.{TakesAtMost};
-ghost use Rattle.net_bench.specs.Said.{statements_of};
+ghost use Rattle.net_bench.specs.Judge.{statements_in};
 ghost use Rattle.net_bench.specs.Sound.{IsSound, AreDefined, IsLate};
 ghost use Rattle.net_bench.specs.Machine.{Between};
 ghost use Rattle.net_bench.specs.Symbols.{IsTold};
 
-use crate::build::{Lines, first_undefined, lines_of, numbers_of, variables_of};
+use crate::build::variables_of;
 use crate::device::{Source, TextFault, read_text};
-use crate::judge::{Judged, judge_text};
+use crate::judge::judge_text;
 use crate::name_table::NameTable;
 use crate::netlist::{BenchFault, GateLine, Signal};
 use crate::ranks::ranks_of;
-use crate::symbols::SymbolTable;
-use crate::syntax::Said;
+use crate::symbols::{SymbolTable, first_undefined};
 use std::alloc::Global;
 use std::marker::Model;
 
@@ -138,61 +137,53 @@ impl Netlist {
     }
 }
 
-/// The ranks of the statements' circuit.
+/// The ranks of the circuit of a text's statements.
 fn ranks_for(
     alloc: Global,
-    said: &[Said<'_>],
+    text: &[u8],
     count: usize,
     variables: &[Signal],
     gates: &[GateLine],
 ) -> Result<Vec<u32>, BenchFault>
-    requires sound { IsSound (statements_of said.now) }
-    requires defined { AreDefined (statements_of said.now) }
-    requires count { count ≡ length (circuit_of (statements_of said.now)).names }
-    requires variables { variables.now ≡ variables_of (circuit_of (statements_of said.now)) }
-    requires gates { gates.now ≡ (circuit_of (statements_of said.now)).gates }
-    ensures ranks { IfOk result (λ v. AreRanks (circuit_of (statements_of said.now)) v.items) }
-    ensures refused { IfErr result (IsLate (statements_of said.now)) }
+    requires sound { IsSound (statements_in text.now) }
+    requires defined { AreDefined (statements_in text.now) }
+    requires count { count ≡ length (circuit_of (statements_in text.now)).names }
+    requires variables { variables.now ≡ variables_of (circuit_of (statements_in text.now)) }
+    requires gates { gates.now ≡ (circuit_of (statements_in text.now)).gates }
+    ensures ranks { IfOk result (λ v. AreRanks (circuit_of (statements_in text.now)) v.items) }
+    ensures refused { IfErr result (IsLate (statements_in text.now)) }
 {
-    let _ = said;
+    let _ = text;
     match ranks_of(alloc, count, variables, gates) {
         Ok(ranks) => Ok(ranks),
         Err(fault) => Err(fault),
     }
 }
 
-/// The netlist of statements that are sound one by one.
-fn netlist_of(alloc: Global, said: &[Said<'_>], symbols: SymbolTable) -> Result<Netlist, BenchFault>
-    requires sound { IsSound (statements_of said.now) }
-    requires told { IsTold (statements_of said.now) (Between (statements_of said.now)) symbols }
-    ensures accepted { IfOk result (λ net. (circuit net ≡ circuit_of (statements_of said.now)) × AreDefined (statements_of said.now) × IsNet net) }
-    ensures refused { IfErr result (IsLate (statements_of said.now)) }
+/// The netlist of a text whose statements are sound one by one.
+fn netlist_of(alloc: Global, text: &[u8], symbols: SymbolTable) -> Result<Netlist, BenchFault>
+    requires sound { IsSound (statements_in text.now) }
+    requires told { IsTold (statements_in text.now) (Between (statements_in text.now)) symbols }
+    ensures accepted { IfOk result (λ net. (circuit net ≡ circuit_of (statements_in text.now)) × AreDefined (statements_in text.now) × IsNet net) }
+    ensures refused { IfErr result (IsLate (statements_in text.now)) }
 {
-    if let Some(line) = first_undefined(&symbols, said) {
+    if let Some(line) = first_undefined(symbols.symbols.as_slice(), symbols.uses.as_slice()) {
         return Err(BenchFault::Undefined { line });
     }
     let SymbolTable {
         names,
         inputs,
         outputs,
+        gates,
+        registers,
         ..
     } = symbols;
-    let Ok(inputs) = numbers_of(alloc, &names, &inputs) else {
-        return Err(BenchFault::OutOfMemory);
-    };
-    let Ok(outputs) = numbers_of(alloc, &names, &outputs) else {
-        return Err(BenchFault::OutOfMemory);
-    };
-    let Ok(lines) = lines_of(alloc, &names, said) else {
-        return Err(BenchFault::OutOfMemory);
-    };
-    let Lines { gates, registers } = lines;
     let Ok(variables) = variables_of(alloc, inputs.as_slice(), registers.as_slice()) else {
         return Err(BenchFault::OutOfMemory);
     };
     match ranks_for(
         alloc,
-        said,
+        text,
         names.len(),
         variables.as_slice(),
         gates.as_slice(),
@@ -221,11 +212,11 @@ pub fn parse_bench(alloc: Global, text: &[u8]) -> Result<Netlist, BenchFault>
     if text.len() > MAX_TEXT {
         return Err(BenchFault::TooLong);
     }
-    let Judged { said, symbols } = match judge_text(alloc, text) {
-        Ok(judged) => judged,
+    let symbols = match judge_text(alloc, text) {
+        Ok(symbols) => symbols,
         Err(fault) => return Err(fault),
     };
-    match netlist_of(alloc, said.as_slice(), symbols) {
+    match netlist_of(alloc, text, symbols) {
         Ok(netlist) => Ok(netlist),
         Err(fault) => Err(fault),
     }

@@ -1,18 +1,18 @@
 // The signals of a text, as its tokens count them and its statements define them.
-ghost use Rattle.std.specs.Prelude.{◌≡◌, ◌+◌, ◌≤◌, ◌||◌, [], ◌∷◌, fold, length, option_map, IfErr, OnOk};
-ghost use Rattle.net_bench.specs.Circuit.{is_name_in, with_name};
-ghost use Rattle.net_bench.specs.Fault.{has_wrong_operands, is_one_operand_kind};
+ghost use Rattle.std.specs.Prelude.{◌≡◌, ℕ, ◌+◌, ◌<◌, ◌≤◌, List, [], ◌∷◌, ◌++◌, length, replicate, slice_get, option_map, All, Some, IfErr, OnOk};
+ghost use Rattle.net_bench.specs.Fault.{has_wrong_operands, is_one_operand_kind, redefines};
 ghost use Rattle.net_bench.specs.Judge.{told};
-ghost use Rattle.net_bench.specs.Said.{statement_of, state_of};
+ghost use Rattle.net_bench.specs.Said.{word_of, statement_of, state_of};
 ghost use Rattle.net_bench.specs.Scan.{seen};
-ghost use Rattle.net_bench.specs.Statement.{kind_of};
-ghost use Rattle.net_bench.specs.Symbols.{CountsMore, IsCrowding, defining, is_known, newest, newest_operands, redefines_by, statement_fault};
+ghost use Rattle.net_bench.specs.Statement.{Statement, kind_of};
+ghost use Rattle.net_bench.specs.Symbols.{CountsMore, IsClosed, IsCrowding, IsSymbol, KeepsParts, KnowsSubject, blank, is_defined_role, is_driven_role, known_symbol, newest, newest_operands, statement_fault, subject, undefined_use};
 
+use crate::build::{add_input, add_line, add_output, add_uses, line_of, symbol_after};
 use crate::kinds::kind_of;
 use crate::name_table::NameTable;
-use crate::netlist::{BenchFault, Kind};
+use crate::netlist::{BenchFault, GateLine, Kind, Signal};
 use crate::scan::Token;
-use crate::syntax::{Part, Said};
+use crate::syntax::{Part, Said, Word};
 use std::alloc::{AllocError, Global};
 
 /// The most signals of a netlist.
@@ -21,97 +21,199 @@ const MAX_SIGNALS: usize = 1_000_000;
 /// The most operands of all gates.
 const MAX_OPERANDS: u32 = 4_000_000;
 
-/// The names that were counted, those among them that have an INPUT, an OUTPUT or a gate, and the number of operands.
+/// What defines a signal.
+#[derive(Clone, Copy, Debug, PartialEq, Eq)]
+pub enum Role {
+    Undefined,
+    Input,
+    Gate,
+    Register,
+}
+
+/// What the statements say of a signal.
+#[derive(Clone, Copy, Debug, PartialEq, Eq)]
+pub struct Symbol {
+    pub role: Role,
+    pub is_output: bool,
+}
+
+/// A signal where its name stands in a statement, and the line of the name.
+#[derive(Clone, Copy, Debug, PartialEq, Eq)]
+pub struct Use {
+    pub signal: Signal,
+    pub line: u32,
+}
+
+/// The names that were counted, each with its symbol; the parts of the netlist, by number; the uses of signals; the signals of
+/// the statement that is not whole yet; and the number of operands.
 #[derive(Drop)]
 pub struct SymbolTable {
     pub names: NameTable,
-    pub inputs: NameTable,
-    pub outputs: NameTable,
-    pub gates: NameTable,
+    pub symbols: Vec<Symbol>,
+    pub inputs: Vec<Signal>,
+    pub outputs: Vec<Signal>,
+    pub gates: Vec<GateLine>,
+    pub registers: Vec<GateLine>,
+    pub uses: Vec<Use>,
+    pub begun: Vec<Use>,
     pub operands: u32,
+}
+
+/// Whether a gate or register has the signal.
+fn is_driven(role: Role) -> bool
+    ensures { result ≡ is_driven_role role }
+{
+    matches!(role, Role::Gate | Role::Register)
+}
+
+/// Whether an INPUT, a gate or a register has the signal.
+fn is_defined(role: Role) -> bool
+    ensures { result ≡ is_defined_role role }
+{
+    !matches!(role, Role::Undefined)
+}
+
+/// The line of the first use of a signal without definition.
+pub fn first_undefined(symbols: &[Symbol], uses: &[Use]) -> Option<u32>
+    ensures { result ≡ undefined_use symbols.now uses.now }
+{
+    let mut rest = uses;
+    while let Some((used, after)) = rest.split_first() {
+        if !is_known(symbols, used.signal) {
+            return Some(used.line);
+        }
+        rest = after;
+    }
+    None
+}
+
+/// Whether the signal has a symbol with a definition.
+fn is_known(symbols: &[Symbol], signal: Signal) -> bool
+    ensures { result ≡ known_symbol (slice_get symbols.now signal) }
+{
+    match symbols.get(signal.number() as usize) {
+        Some(symbol) => is_defined(symbol.role),
+        None => false,
+    }
+}
+
+/// The symbol of a signal.
+fn symbol_of(symbols: &[Symbol], signal: Signal) -> Symbol
+    requires { signal < length symbols.now }
+    ensures { slice_get symbols.now signal ≡ Some result }
+{
+    symbols[signal.number() as usize]
 }
 
 impl SymbolTable {
     /// The table of no tokens.
     pub fn new(alloc: Global) -> Self
         ensures names { result.names ≡ [] }
-        ensures inputs { result.inputs ≡ [] }
-        ensures outputs { result.outputs ≡ [] }
-        ensures gates { result.gates ≡ [] }
+        ensures symbols { result.symbols.items ≡ [] }
+        ensures inputs { result.inputs.items ≡ [] }
+        ensures outputs { result.outputs.items ≡ [] }
+        ensures gates { result.gates.items ≡ [] }
+        ensures registers { result.registers.items ≡ [] }
+        ensures uses { result.uses.items ≡ [] }
+        ensures begun { result.begun.items ≡ [] }
         ensures operands { result.operands ≡ 0 }
     {
         SymbolTable {
             names: NameTable::new(alloc),
-            inputs: NameTable::new(alloc),
-            outputs: NameTable::new(alloc),
-            gates: NameTable::new(alloc),
+            symbols: Vec::new(alloc),
+            inputs: Vec::new(alloc),
+            outputs: Vec::new(alloc),
+            gates: Vec::new(alloc),
+            registers: Vec::new(alloc),
+            uses: Vec::new(alloc),
+            begun: Vec::new(alloc),
             operands: 0,
-        }
-    }
-
-    /// Whether the name has an INPUT or a gate.
-    pub fn knows(&self, name: &[u8]) -> bool
-        ensures { result ≡ is_known self.now name.now }
-    {
-        self.inputs.has(name) || self.gates.has(name)
-    }
-
-    /// Whether the statement defines a signal again.
-    fn redefines(&self, said: &Said<'_>) -> bool
-        ensures { result ≡ redefines_by self.now.inputs self.now.gates (statement_of said.now) }
-    {
-        match said {
-            Said::Input { name, .. } => self.gates.has(name.text),
-            Said::Output { .. } => false,
-            Said::Gate(gate) => self.gates.has(gate.out.text) || self.inputs.has(gate.out.text),
         }
     }
 
     /// What is wrong with a statement that is whole now.
     pub fn fault_of(&self, said: &Said<'_>) -> Option<BenchFault>
-        ensures { result ≡ option_map told (statement_fault self.now.inputs self.now.gates (statement_of said.now)) }
+        requires some { 0 < length self.now.begun.items }
+        requires inside { All (λ u. u.signal < length self.now.symbols.items) self.now.begun.items }
+        ensures { (done : List Statement) → KnowsSubject done self.now.begun.items self.now.symbols.items (statement_of said.now) →
+            result ≡ option_map told (statement_fault done (statement_of said.now)) }
     {
         if has_wrong_operands(said) {
             return Some(BenchFault::WrongOperands { line: said.line() });
         }
-        if self.redefines(said) {
+        let symbol = symbol_of(self.symbols.as_slice(), self.begun[0].signal);
+        if redefines(symbol, said) {
             return Some(BenchFault::Redefined { line: said.line() });
         }
         None
     }
 
-    /// Notes what the statement defines.
+    /// Notes what the statement says of its signals.
     pub fn define(&mut self, alloc: Global, said: &Said<'_>) -> Result<(), AllocError>
-        ensures { OnOk result (self.new ≡ defining self.old (statement_of said.now)) }
+        requires some { 0 < length self.old.begun.items }
+        requires inside { All (λ u. u.signal < length self.old.symbols.items) self.old.begun.items }
+        ensures { OnOk result (IsClosed (statement_of said.now) self.old self.new) }
     {
-        match said {
-            Said::Input { name, .. } => self.inputs.count(alloc, name.text)?,
-            Said::Output { name, .. } => self.outputs.count(alloc, name.text)?,
-            Said::Gate(gate) => self.gates.count(alloc, gate.out.text)?,
+        let Some((first, operands)) = self.begun.as_slice().split_first() else {
+            unreachable!()
         };
+        let first = *first;
+        let symbol = symbol_of(self.symbols.as_slice(), first.signal);
+        add_input(&mut self.inputs, said, first, symbol)?;
+        add_output(&mut self.outputs, said, first, symbol)?;
+        add_uses(&mut self.uses, said, first, operands)?;
+        let line = line_of(alloc, said, first, operands)?;
+        add_line(&mut self.gates, &mut self.registers, line)?;
+        self.symbols[first.signal.number() as usize] = symbol_after(said, symbol);
+        self.begun.clear();
+        Ok(())
+    }
+
+    /// Notes a signal that was counted in the statement that is not whole yet, and its symbol where it is new.
+    fn note(&mut self, signal: Signal, line: u32) -> Result<(), AllocError>
+        requires { length self.old.symbols.items ≤ length self.old.names }
+        ensures symbols { OnOk result ((n : ℕ) × (self.new.symbols.items ≡ self.old.symbols.items ++ replicate n blank)) }
+        ensures each { OnOk result (length self.old.names ≤ length self.old.symbols.items + 1 → length self.new.symbols.items ≡ length self.old.names) }
+        ensures begun { OnOk result (self.new.begun.items ≡ self.old.begun.items ++ (record { signal = signal; line = line }) ∷ []) }
+        ensures names { self.new.names ≡ self.old.names }
+        ensures operands { self.new.operands ≡ self.old.operands }
+        ensures parts { KeepsParts self.old self.new }
+    {
+        if self.symbols.len() < self.names.len() {
+            self.symbols.push(Symbol {
+                role: Role::Undefined,
+                is_output: false,
+            })?;
+        }
+        self.begun.push(Use { signal, line })?;
         Ok(())
     }
 
     /// Counts a signal.
-    fn count_name(&mut self, alloc: Global, line: u32, name: &[u8]) -> Result<(), BenchFault>
-        requires { self.old.operands ≤ 4000000 }
-        ensures ok { OnOk result (CountsMore self.old self.new (name.now ∷ []) 0) }
-        ensures err { IfErr result (IsCrowding line self.old (name.now ∷ []) 0) }
+    fn count_name(&mut self, alloc: Global, line: u32, name: Word<'_>) -> Result<(), BenchFault>
+        requires operands { self.old.operands ≤ 4000000 }
+        requires each { length self.old.symbols.items ≡ length self.old.names }
+        ensures ok { OnOk result (CountsMore self.old self.new (word_of name.entry ∷ []) 0) }
+        ensures err { IfErr result (IsCrowding line self.old (word_of name.entry ∷ []) 0) }
     {
-        if self.names.count(alloc, name).is_err() {
+        let Ok(number) = self.names.count(alloc, name.text) else {
             return Err(BenchFault::OutOfMemory);
-        }
+        };
         if self.names.len() > MAX_SIGNALS {
             return Err(BenchFault::TooMany { line });
         }
-        Ok(())
+        match self.note(Signal::of(number), name.line) {
+            Ok(()) => Ok(()),
+            Err(_) => Err(BenchFault::OutOfMemory),
+        }
     }
 
     /// Counts an operand, and its signal.
-    fn count_operand(&mut self, alloc: Global, line: u32, name: &[u8]) -> Result<(), BenchFault>
-        requires { self.old.operands ≤ 4000000 }
-        ensures ok { OnOk result (CountsMore self.old self.new (name.now ∷ []) 1) }
-        ensures err { IfErr result (IsCrowding line self.old (name.now ∷ []) 1) }
+    fn count_operand(&mut self, alloc: Global, line: u32, name: Word<'_>) -> Result<(), BenchFault>
+        requires operands { self.old.operands ≤ 4000000 }
+        requires each { length self.old.symbols.items ≡ length self.old.names }
+        ensures ok { OnOk result (CountsMore self.old self.new (word_of name.entry ∷ []) 1) }
+        ensures err { IfErr result (IsCrowding line self.old (word_of name.entry ∷ []) 1) }
     {
         if self.operands >= MAX_OPERANDS {
             return Err(BenchFault::TooMany { line });
@@ -135,18 +237,30 @@ impl SymbolTable {
     ) -> Result<(), BenchFault>
         requires operands { self.old.operands ≤ 4000000 }
         requires names { length self.old.names ≤ 1000000 }
+        requires each { length self.old.symbols.items ≡ length self.old.names }
         ensures ok { OnOk result (CountsMore self.old self.new (newest (state_of [] part.now) (seen line token.entry)) (newest_operands (state_of [] part.now) (seen line token.entry))) }
         ensures err { IfErr result (IsCrowding line self.old (newest (state_of [] part.now) (seen line token.entry)) (newest_operands (state_of [] part.now) (seen line token.entry))) }
     {
         match part {
-            Part::Defining { out } => self.count_name(alloc, line, out.text),
-            Part::Named { name, .. } => self.count_name(alloc, line, name.text),
+            Part::Defining { out } => self.count_name(alloc, line, *out),
+            Part::Named { name, .. } => self.count_name(alloc, line, *name),
             Part::AfterOperand(_) => match token {
-                Token::Name(text) => self.count_operand(alloc, line, text),
+                Token::Name(text) => self.count_operand(alloc, line, Word { line, text }),
                 _ => Ok(()),
             },
             _ => Ok(()),
         }
+    }
+}
+
+/// Whether the statement defines a signal again that has this symbol.
+fn redefines(symbol: Symbol, said: &Said<'_>) -> bool
+    ensures { (done : List Statement) → IsSymbol done (subject (statement_of said.now)).text symbol → result ≡ redefines done (statement_of said.now) }
+{
+    match said {
+        Said::Input { .. } => is_driven(symbol.role),
+        Said::Output { .. } => false,
+        Said::Gate(_) => is_defined(symbol.role),
     }
 }
 

@@ -1,7 +1,8 @@
-use Rattle.std.proofs.Common.{◌≡◌, [], length}
+use Rattle.std.proofs.Common.{◌≡◌, List, [], length}
 use Rattle.net_bench.specs.Pieces.{tokens_at}
+use Rattle.net_bench.specs.Statement.{Statement}
 use Rattle.net_bench.specs.Machine.{Between, tokens_of}
-use Rattle.net_bench.specs.Said.{statements_of, state_of}
+use Rattle.net_bench.specs.Said.{state_of}
 use Rattle.net_bench.specs.Judge.{judge}
 use Rattle.net_bench.specs.Symbols.{IsTold}
 use Rattle.net_bench.proofs.judge.judge_text.Given as goal
@@ -9,8 +10,8 @@ use Rattle.net_bench.proofs.judge.judge_text.Given as goal
 -- the judge has come to the token before which the scanner stands, and the table is that of its state
 abbrev pub invariant-tokens : goal.invariant-tokens
 invariant-tokens l =
-    (judge (state_of (statements_of l.said.items) l.part) (tokens_of (state_of (statements_of l.said.items) l.part)) l.scanner ≡ judge (Between []) [] (tokens_at 1 l.text)) ×
-    IsTold (statements_of l.said.items) (state_of (statements_of l.said.items) l.part) l.symbols
+    (done : List Statement) × (judge (state_of done l.part) (tokens_of (state_of done l.part)) l.scanner ≡ judge (Between []) [] (tokens_at 1 l.text)) ×
+    IsTold done (state_of done l.part) l.symbols
 
 abbrev pub decreases-tokens : goal.decreases-tokens
 decreases-tokens l = length l.scanner

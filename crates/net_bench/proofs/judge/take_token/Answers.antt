@@ -1,65 +1,67 @@
-use Rattle.std.proofs.Common.{◌∙◌, inl, inr, sym, ap, subst}
+use Rattle.std.proofs.Common.{◌∙◌, inl, inr, sym, ap}
 use Rattle.net_bench.specs.Scan.{seen}
-use Rattle.net_bench.specs.Said.{statement_of, statements_of, state_of, next_state, closing}
-use Rattle.net_bench.specs.Machine.{Between}
-use Rattle.net_bench.specs.Symbols.{IsTold}
-use Rattle.net_bench.proofs.Telling.{tells_lexical, tells_broken, tells_gate_word, tells_crowding, clean_part, told_part, tells_close, clean_close, told_close}
+use Rattle.net_bench.specs.Said.{statement_of, state_of, next_state, closing}
+use Rattle.net_bench.proofs.Telling.{tells_lexical, tells_broken, tells_gate_word, tells_crowding, goes_part, tells_close, goes_close, begun_some, begun_inside}
 use Rattle.net_bench.proofs.judge.take_token.Goals as goal
 
 pub returns-in-Some-clause-fault : goal.returns-in-Some-clause-fault
-returns-in-Some-clause-fault c =
-    inr (tells_lexical (state_of (statements_of c.args.done.now.items) c.args.part) c.args.line (seen c.args.line c.args.token) c.in-Some.fault c.in-Some.ensures)
+returns-in-Some-clause-fault c = inr (λ done told. tells_lexical (state_of done c.args.part) c.args.line (seen c.args.line c.args.token) c.in-Some.fault c.in-Some.ensures)
 
 pub returns-in-Err-clause-fault : goal.returns-in-Err-clause-fault
 returns-in-Err-clause-fault c =
-    tells_broken (state_of (statements_of c.args.done.now.items) c.args.part) c.args.line (seen c.args.line c.args.token) c.in-Err.fault c.in_default.ensures
-    (elim c.in-Err.ensures.broken [ inl e ↦ inl e | inr h ↦ inr (h.0, h.1 (statements_of c.args.done.now.items)) ])
+    elim c.in-Err.ensures.broken [
+      | inl e ↦ inl e
+      | inr h ↦ inr (λ done told. tells_broken (state_of done c.args.part) c.args.line (seen c.args.line c.args.token) c.in-Err.fault c.in_default.ensures (h.0, h.1 done))
+    ]
 
 pub returns-in-Some-word_fault-clause-fault : goal.returns-in-Some-word_fault-clause-fault
 returns-in-Some-word_fault-clause-fault c =
-    inr (tells_gate_word (statements_of c.args.done.now.items) (state_of (statements_of c.args.done.now.items) c.args.part) c.args.line (seen c.args.line c.args.token) c.in-More.part c.in-Some-word_fault.fault
-    c.in_default.ensures (ap (next_state (statements_of c.args.done.now.items)) (sym c.in-More.is) ∙ c.in-Ok.ensures.step (statements_of c.args.done.now.items))
-    (c.in-Some-word_fault.ensures (statements_of c.args.done.now.items)))
+    inr (λ done told.
+    tells_gate_word done (state_of done c.args.part) c.args.line (seen c.args.line c.args.token) c.in-More.part c.in-Some-word_fault.fault
+    c.in_default.ensures (ap (next_state done) (sym c.in-More.is) ∙ c.in-Ok.ensures.step done) (c.in-Some-word_fault.ensures done))
 
-pub returns-in-Ok-count-clause-clean : goal.returns-in-Ok-count-clause-clean
-returns-in-Ok-count-clause-clean c =
-    clean_part (statements_of c.args.done.now.items) (state_of (statements_of c.args.done.now.items) c.args.part) c.args.line (seen c.args.line c.args.token) c.in-More.part c.args.symbols.now c.requires.told
-    c.in_default.ensures (ap (next_state (statements_of c.args.done.now.items)) (sym c.in-More.is) ∙ c.in-Ok.ensures.step (statements_of c.args.done.now.items))
-    (ap (closing (statements_of c.args.done.now.items)) (sym c.in-More.is) ∙ c.in-Ok.ensures.closed (statements_of c.args.done.now.items))
-    (c.in_default-word_fault.ensures (statements_of c.args.done.now.items)) c.count.new.self c.in-Ok-count.ensures.ok
-
-pub returns-in-Ok-count-clause-told : goal.returns-in-Ok-count-clause-told
-returns-in-Ok-count-clause-told c =
-    told_part (statements_of c.args.done.now.items) (state_of (statements_of c.args.done.now.items) c.args.part) c.args.line (seen c.args.line c.args.token) c.in-More.part c.args.symbols.now c.requires.told
-    c.in_default.ensures (ap (next_state (statements_of c.args.done.now.items)) (sym c.in-More.is) ∙ c.in-Ok.ensures.step (statements_of c.args.done.now.items))
-    (ap (closing (statements_of c.args.done.now.items)) (sym c.in-More.is) ∙ c.in-Ok.ensures.closed (statements_of c.args.done.now.items))
-    (c.in_default-word_fault.ensures (statements_of c.args.done.now.items)) c.count.new.self c.in-Ok-count.ensures.ok
+pub returns-in-Ok-count-clause-goes : goal.returns-in-Ok-count-clause-goes
+returns-in-Ok-count-clause-goes c =
+    (λ done told.
+    goes_part done (state_of done c.args.part) c.args.line (seen c.args.line c.args.token) c.in-More.part c.args.symbols.now told c.in_default.ensures
+    (ap (next_state done) (sym c.in-More.is) ∙ c.in-Ok.ensures.step done) (ap (closing done) (sym c.in-More.is) ∙ c.in-Ok.ensures.closed done)
+    (c.in_default-word_fault.ensures done) c.count.new.self c.in-Ok-count.ensures.ok)
 
 pub returns-in-More-clause-fault : goal.returns-in-More-clause-fault
 returns-in-More-clause-fault c =
-    tells_crowding (statements_of c.args.done.now.items) (state_of (statements_of c.args.done.now.items) c.args.part) c.args.line (seen c.args.line c.args.token) c.in-More.part c.args.symbols.now c.requires.told
-    c.in_default.ensures (ap (next_state (statements_of c.args.done.now.items)) (sym c.in-More.is) ∙ c.in-Ok.ensures.step (statements_of c.args.done.now.items))
-    (ap (closing (statements_of c.args.done.now.items)) (sym c.in-More.is) ∙ c.in-Ok.ensures.closed (statements_of c.args.done.now.items))
-    (c.in_default-word_fault.ensures (statements_of c.args.done.now.items)) c.in-Err-count.fault c.in-Err-count.ensures.err
+    elim c.in-Err-count.ensures.err [
+      | inl e ↦ inl e
+      | inr h ↦ inr (λ done told.
+          tells_crowding done (state_of done c.args.part) c.args.line (seen c.args.line c.args.token) c.in-More.part c.args.symbols.now told c.in_default.ensures
+          (ap (next_state done) (sym c.in-More.is) ∙ c.in-Ok.ensures.step done) (ap (closing done) (sym c.in-More.is) ∙ c.in-Ok.ensures.closed done)
+          (c.in_default-word_fault.ensures done) c.in-Err-count.fault h)
+    ]
 
-pub returns-in-Ok-close-clause-clean : goal.returns-in-Ok-close-clause-clean
-returns-in-Ok-close-clause-clean c =
-    clean_close (statements_of c.args.done.now.items) (state_of (statements_of c.args.done.now.items) c.args.part) c.args.line (seen c.args.line c.args.token) (statement_of c.in-Whole.said) c.args.symbols.now c.requires.told
-    c.in_default.ensures (ap (next_state (statements_of c.args.done.now.items)) (sym c.in-Whole.is) ∙ c.in-Ok.ensures.step (statements_of c.args.done.now.items))
-    (ap (closing (statements_of c.args.done.now.items)) (sym c.in-Whole.is) ∙ c.in-Ok.ensures.closed (statements_of c.args.done.now.items))
-    c.in-Ok-close.ensures.clean
+pub close-requires-clause-some : goal.close-requires-clause-some
+close-requires-clause-some c =
+    let done = c.requires.told.0 in
+    begun_some done (state_of done c.args.part) (seen c.args.line c.args.token) (statement_of c.in-Whole.said) c.args.symbols.now c.requires.told.1
+    (ap (closing done) (sym c.in-Whole.is) ∙ c.in-Ok.ensures.closed done)
 
-pub returns-in-Ok-close-clause-told : goal.returns-in-Ok-close-clause-told
-returns-in-Ok-close-clause-told c =
-    subst (λ ss. IsTold ss (Between ss) c.close.new.symbols) (sym c.in-Ok-close.ensures.done)
-    (told_close (statements_of c.args.done.now.items) (state_of (statements_of c.args.done.now.items) c.args.part) c.args.line (seen c.args.line c.args.token) (statement_of c.in-Whole.said) c.args.symbols.now c.requires.told
-    c.in_default.ensures (ap (next_state (statements_of c.args.done.now.items)) (sym c.in-Whole.is) ∙ c.in-Ok.ensures.step (statements_of c.args.done.now.items))
-    (ap (closing (statements_of c.args.done.now.items)) (sym c.in-Whole.is) ∙ c.in-Ok.ensures.closed (statements_of c.args.done.now.items))
-    c.close.new.symbols c.in-Ok-close.ensures.defined)
+pub close-requires-clause-inside : goal.close-requires-clause-inside
+close-requires-clause-inside c =
+    let done = c.requires.told.0 in
+    begun_inside done (state_of done c.args.part) (seen c.args.line c.args.token) (statement_of c.in-Whole.said) c.args.symbols.now c.requires.told.1
+    (ap (closing done) (sym c.in-Whole.is) ∙ c.in-Ok.ensures.closed done)
+
+pub returns-in-Ok-close-clause-goes : goal.returns-in-Ok-close-clause-goes
+returns-in-Ok-close-clause-goes c =
+    (λ done told.
+    goes_close done (state_of done c.args.part) c.args.line (seen c.args.line c.args.token) (statement_of c.in-Whole.said) c.args.symbols.now told c.in_default.ensures
+    (ap (next_state done) (sym c.in-Whole.is) ∙ c.in-Ok.ensures.step done) (ap (closing done) (sym c.in-Whole.is) ∙ c.in-Ok.ensures.closed done)
+    c.close.new.symbols (c.in-Ok-close.ensures.clean done) c.in-Ok-close.ensures.closed)
 
 pub returns-clause-fault : goal.returns-clause-fault
 returns-clause-fault c =
-    tells_close (statements_of c.args.done.now.items) (state_of (statements_of c.args.done.now.items) c.args.part) c.args.line (seen c.args.line c.args.token) (statement_of c.in-Whole.said) c.args.symbols.now c.requires.told
-    c.in_default.ensures (ap (next_state (statements_of c.args.done.now.items)) (sym c.in-Whole.is) ∙ c.in-Ok.ensures.step (statements_of c.args.done.now.items))
-    (ap (closing (statements_of c.args.done.now.items)) (sym c.in-Whole.is) ∙ c.in-Ok.ensures.closed (statements_of c.args.done.now.items))
-    c.in-Err-close.fault c.in-Err-close.ensures.fault
+    elim c.in-Err-close.ensures.fault [
+      | inl e ↦ inl e
+      | inr h ↦ inr (λ done told.
+          tells_close done (state_of done c.args.part) c.args.line (seen c.args.line c.args.token) (statement_of c.in-Whole.said) c.args.symbols.now told c.in_default.ensures
+          (ap (next_state done) (sym c.in-Whole.is) ∙ c.in-Ok.ensures.step done) (ap (closing done) (sym c.in-Whole.is) ∙ c.in-Ok.ensures.closed done)
+          c.in-Err-close.fault (h done))
+    ]

@@ -1,5 +1,5 @@
 use Rattle.std.proofs.Common.{◌≡◌, ◌∙◌, ◌<◌, ◌-◌, ℕ, List, length, slice_get, Some, sym, ap, subst, arith, get_or}
-use Rattle.std.proofs.lemmas.Option.{slice_get-get_or, get_or_from_slice_get}
+use Rattle.std.proofs.lemmas.Option.{slice_get-get_or}
 use Rattle.std.proofs.lemmas.List.{length-map}
 use Rattle.net_bench.specs.NameTable.{home_of, Holds, IsTaken, name_in, names_in}
 use Rattle.net_bench.proofs.Probing.{slot-first, slot-after, held_at, Passed-more, Passed-taken, not_all_passed, not_all_taken, absent_at_empty}

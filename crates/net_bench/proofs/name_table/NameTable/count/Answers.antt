@@ -1,8 +1,7 @@
-use Rattle.std.proofs.Common.{◌≡◌, ◌∙◌, ◌++◌, ◌∷◌, [], ◌+◌, ◌-◌, ◌*◌, ◌≤◌, List, ℕ, sym, ap, subst, slice_get, length, Some, None, is_ok, if◌then◌else◌, true, arith}
+use Rattle.std.proofs.Common.{◌≡◌, ◌∙◌, ◌++◌, ◌∷◌, [], ◌+◌, ◌-◌, ◌*◌, ◌≤◌, List, ℕ, sym, ap, subst, slice_get, length, Some, is_ok, if◌then◌else◌, true, arith}
 use Rattle.net_bench.specs.declared.name_table.Span.{Span}
-use Rattle.net_bench.specs.declared.name_table.Sought.TheVariants.{Number, Slot}
-use Rattle.net_bench.specs.Circuit.{find, with_name}
-use Rattle.net_bench.specs.NameTable.{names_in, Probes, IsSought, IsFree, home_of}
+use Rattle.net_bench.specs.Circuit.{with_name}
+use Rattle.net_bench.specs.NameTable.{names_in, Probes, IsFree, home_of}
 use Rattle.net_bench.proofs.NameMap.{counted_there, counted_new, new_number}
 use Rattle.net_bench.proofs.Slices.{push_ok}
 use Rattle.net_bench.proofs.Names.{found_place, found_nowhere, more_names, names_count, IsTable-push}

@@ -1,7 +1,6 @@
 use Rattle.std.proofs.Common.{◌≡◌, ◌∙◌, List, ℕ, sym, ap, subst, slice_get, Some}
 use Rattle.net_bench.specs.Circuit.{find}
-use Rattle.net_bench.specs.NameTable.{names_in, IsSought}
-use Rattle.net_bench.specs.declared.name_table.Sought.TheVariants.{Number, Slot}
+use Rattle.net_bench.specs.NameTable.{names_in}
 use Rattle.net_bench.proofs.Names.{found_place, found_nowhere}
 use Rattle.net_bench.proofs.name_table.NameTable.find.Goals as goal
 
