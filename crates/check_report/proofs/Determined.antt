@@ -13,10 +13,11 @@ use Rattle.net_order.specs.declared.order.Match.{Match}
 use Rattle.net_order.specs.declared.order.Order.{Order}
 use Rattle.net_order.specs.Order.{Paired, IsPairing}
 use Rattle.check_report.specs.declared.outcome.Outcome.{Outcome}
-use Rattle.check_report.specs.Lines.{Line, report_text, counted}
-use Rattle.check_report.specs.Lines.Line.{equal, differs}
-use Rattle.check_report.specs.Report.{Compared, IsSizeShown, AreSizesShown, IsLineOf, AreFunctions, lone_lines, subjects, IsReport}
-use Rattle.check_report.specs.Report.IsLineOf.{where_equal, where_different}
+use Rattle.check_report.specs.declared.verdict.Verdict.{Verdict}
+use Rattle.check_report.specs.declared.verdict.Verdict.TheVariants.{Equal, Differs}
+use Rattle.check_report.specs.Lines.{Found, report_text, counted}
+use Rattle.check_report.specs.Report.{Compared, IsSizeShown, AreSizesShown, IsVerdictOf, AreFunctions, AreVerdicts, lone_verdicts, subjects, IsReport}
+use Rattle.check_report.specs.Report.IsVerdictOf.{where_equal, where_different}
 use Rattle.check_report.specs.declared.outcome.Subject.{Subject}
 use Rattle.check_report.specs.Comparing.{IsInside}
 use Rattle.check_report.proofs.Subjects.{subjects_inside}
@@ -61,27 +62,27 @@ two_sizes true n f g f' g' shown more same other s t =
     let h : s.1 ≡ t.1 = HasSize-one n g' s.1 t.1 (size_as n g g' s.1 other s.3) t.3 in
     s.4 ∙ ap (λ k. Some (k, s.1)) e ∙ ap (λ m. Some (t.0, m)) h ∙ sym t.4
 
--- ---- lines
+-- ---- verdicts
 
-CallsBoth : (n : ℕ) (sizes : Bool) → Compared → Line → Type 0
-CallsBoth n sizes c l = (shown : Option ℕ) × Agree n c.first c.second × IsSizeShown sizes n c.first shown × (l ≡ equal c.role c.name shown)
+CallsBoth : (n : ℕ) (sizes : Bool) → Compared → Verdict → Type 0
+CallsBoth n sizes c l = (shown : Option ℕ) × Agree n c.first c.second × IsSizeShown sizes n c.first shown × (l ≡ Equal c.role c.name shown)
 
-TellsApart : (n : ℕ) (sizes : Bool) → Compared → Line → Type 0
+TellsApart : (n : ℕ) (sizes : Bool) → Compared → Verdict → Type 0
 TellsApart n sizes c l =
-    (x : List Bool) × (shown : Option (ℕ × ℕ)) × IsLeastDifference n c.first c.second x × AreSizesShown sizes n c.first c.second shown × (l ≡ differs c.role c.name x (c.first x) (c.second x) shown)
+    (x : List Bool) × (shown : Option (ℕ × ℕ)) × IsLeastDifference n c.first c.second x × AreSizesShown sizes n c.first c.second shown × (l ≡ Differs c.role c.name x (c.first x) (c.second x) shown)
 
-kind_of : (n : ℕ) (sizes : Bool) (c : Compared) (l : Line) → IsLineOf n sizes c l → CallsBoth n sizes c l ⊎ TellsApart n sizes c l
+kind_of : (n : ℕ) (sizes : Bool) (c : Compared) (l : Verdict) → IsVerdictOf n sizes c l → CallsBoth n sizes c l ⊎ TellsApart n sizes c l
 unfolding CallsBoth TellsApart
 kind_of n sizes c l (where_equal {shown = shown} agree size) = inl (shown, agree, size, refl)
 kind_of n sizes c l (where_different {x = x} {shown = shown} least size) = inr (x, shown, least, size, refl)
 
-one_line : (n : ℕ) (sizes : Bool) (c d : Compared) → c.role ≡ d.role → c.name ≡ d.name → Agree n c.first d.first → Agree n c.second d.second → (l m : Line) → IsLineOf n sizes c l → IsLineOf n sizes d m → l ≡ m
+one_verdict : (n : ℕ) (sizes : Bool) (c d : Compared) → c.role ≡ d.role → c.name ≡ d.name → Agree n c.first d.first → Agree n c.second d.second → (l m : Verdict) → IsVerdictOf n sizes c l → IsVerdictOf n sizes d m → l ≡ m
 unfolding CallsBoth TellsApart
-one_line n sizes c d role name same other l m h k = by (kind_of n sizes c l h) (kind_of n sizes d m k)
+one_verdict n sizes c d role name same other l m h k = by (kind_of n sizes c l h) (kind_of n sizes d m k)
   where
     by : CallsBoth n sizes c l ⊎ TellsApart n sizes c l → CallsBoth n sizes d m ⊎ TellsApart n sizes d m → l ≡ m
     by (inl s) (inl t) =
-        s.3 ∙ ap (λ w. equal w c.name s.0) role ∙ ap (λ w. equal d.role w s.0) name ∙ ap (λ z. equal d.role d.name z) (one_size sizes n c.first d.first s.0 t.0 same s.2 t.2) ∙ sym t.3
+        s.3 ∙ ap (λ w. Equal w c.name s.0) role ∙ ap (λ w. Equal d.role w s.0) name ∙ ap (λ z. Equal d.role d.name z) (one_size sizes n c.first d.first s.0 t.0 same s.2 t.2) ∙ sym t.3
     by (inl s) (inr t) =
         absurd (t.2.differ (sym (same t.0 t.2.bits) ∙ s.1 t.0 t.2.bits ∙ other t.0 t.2.bits))
     by (inr s) (inl t) =
@@ -116,9 +117,9 @@ one_function net sound level more same n s lt f g h k = λ x len.
 module _ (n : ℕ) (sizes : Bool) (one two : Net) (sound : IsNet one) (sound' : IsNet two) (p q : Paired) (size : length p.names ≡ n) (size' : length q.names ≡ n)
     (first_same : All (λ s. slice_index p.first s ≡ slice_index q.first s) (variables_of (circuit one)))
     (second_same : All (λ s. slice_index p.second s ≡ slice_index q.second s) (variables_of (circuit two))) where
-  one_list : (all : List Subject) (cs ds : List Compared) (ls ms : List Line) → All (IsInside (circuit one) (circuit two)) all
+  one_list : (all : List Subject) (cs ds : List Compared) (ls ms : List Verdict) → All (IsInside (circuit one) (circuit two)) all
       → AllZip (AreFunctions (circuit one) (circuit two) p) all cs → AllZip (AreFunctions (circuit one) (circuit two) q) all ds
-      → AllZip (IsLineOf n sizes) cs ls → AllZip (IsLineOf n sizes) ds ms → ls ≡ ms
+      → AllZip (IsVerdictOf n sizes) cs ls → AllZip (IsVerdictOf n sizes) ds ms → ls ≡ ms
   one_list [] [] [] [] [] inside a b h k = refl
   one_list [] [] [] (l ∷ ls) ms inside a b h k = absurd h
   one_list [] [] [] [] (m ∷ ms) inside a b h k = absurd k
@@ -136,23 +137,32 @@ module _ (n : ℕ) (sizes : Bool) (one two : Net) (sound : IsNet one) (sound' : 
       let other : Agree n c.second d.second =
       one_function two sound' (slice_index p.second) (slice_index q.second) second_same n w.second low.2 c.second d.second
       (subst (λ z. IsFunctionOf (circuit two) (slice_index p.second) z w.second c.second) size a.0.second) (subst (λ z. IsFunctionOf (circuit two) (slice_index q.second) z w.second d.second) size' b.0.second) in
-      let e : l ≡ m = one_line n sizes c d (a.0.role ∙ sym b.0.role) (a.0.name ∙ sym b.0.name) same other l m h.0 k.0 in
+      let e : l ≡ m = one_verdict n sizes c d (a.0.role ∙ sym b.0.role) (a.0.name ∙ sym b.0.name) same other l m h.0 k.0 in
       let r : ls ≡ ms = one_list ws cs ds ls ms (λ i v lt. inside (suc i) v (omega arith)) a.1 b.1 h.1 k.1 in
       cc
 
--- two reports of two netlists in one order have the same counts and the same bytes
-pub one_report : (one two : Net) → IsNet one → IsNet two → (how : Match) (order : Order) (p q : Paired) → IsPairing how (circuit one) (circuit two) order p → IsPairing how (circuit one) (circuit two) order q
-    → (sizes : Bool) (o more : Outcome) (bytes text : List ℕ) → IsReport sizes (circuit one) (circuit two) p o bytes → IsReport sizes (circuit one) (circuit two) q more text → (o ≡ more) × (bytes ≡ text)
-one_report one two sound sound' how order p q h k sizes o more bytes text r t =
+-- what two comparisons of two netlists in one order find is the same
+pub one_found : (one two : Net) → IsNet one → IsNet two → (how : Match) (order : Order) (p q : Paired) → IsPairing how (circuit one) (circuit two) order p → IsPairing how (circuit one) (circuit two) order q
+    → (sizes : Bool) (found more : Found) → AreVerdicts sizes (circuit one) (circuit two) p found → AreVerdicts sizes (circuit one) (circuit two) q more → found ≡ more
+one_found one two sound sound' how order p q h k sizes found more r t =
     let names : p.names ≡ q.names = h.names ∙ sym k.names in
     let outputs : p.outputs ≡ q.outputs = h.outputs ∙ sym k.outputs in
     let registers : p.registers ≡ q.registers = h.registers ∙ sym k.registers in
     let all_same : subjects (circuit one) (circuit two) p ≡ subjects (circuit one) (circuit two) q = cc in
     let size : length p.names ≡ length q.names = ap length names in
     let inside = subjects_inside how one two order q sound sound' k in
-    let lines : r.lines ≡ t.lines =
-    one_list (length q.names) sizes one two sound sound' p q size refl (λ i d lt. h.first i d lt ∙ sym (k.first i d lt)) (λ i d lt. h.second i d lt ∙ sym (k.second i d lt)) (subjects (circuit one) (circuit two) q) r.compared t.compared r.lines t.lines
-    inside (subst (λ ws. AllZip (AreFunctions (circuit one) (circuit two) p) ws r.compared) all_same r.functions) t.functions (subst (λ n. AllZip (IsLineOf n sizes) r.compared r.lines) size r.are_lines) t.are_lines in
-    let lone : lone_lines (circuit one) (circuit two) p ≡ lone_lines (circuit one) (circuit two) q = cc in
-    let all : r.lines ++ lone_lines (circuit one) (circuit two) p ≡ t.lines ++ lone_lines (circuit one) (circuit two) q = cc in
-    (r.counts ∙ ap counted all ∙ sym t.counts, r.text ∙ ap (λ ls. report_text p.names ls) all ∙ ap (λ ns. report_text ns (t.lines ++ lone_lines (circuit one) (circuit two) q)) names ∙ sym t.text)
+    let of_pairs : r.of_pairs ≡ t.of_pairs =
+    one_list (length q.names) sizes one two sound sound' p q size refl (λ i d lt. h.first i d lt ∙ sym (k.first i d lt)) (λ i d lt. h.second i d lt ∙ sym (k.second i d lt)) (subjects (circuit one) (circuit two) q) r.compared t.compared r.of_pairs t.of_pairs
+    inside (subst (λ ws. AllZip (AreFunctions (circuit one) (circuit two) p) ws r.compared) all_same r.functions) t.functions (subst (λ n. AllZip (IsVerdictOf n sizes) r.compared r.of_pairs) size r.are_verdicts) t.are_verdicts in
+    let lone : lone_verdicts (circuit one) (circuit two) p ≡ lone_verdicts (circuit one) (circuit two) q = cc in
+    let variables : found.variables ≡ more.variables = r.variables ∙ names ∙ sym t.variables in
+    let verdicts : found.verdicts ≡ more.verdicts =
+    r.all ∙ ap (λ vs. vs ++ lone_verdicts (circuit one) (circuit two) p) of_pairs ∙ ap (λ vs. t.of_pairs ++ vs) lone ∙ sym t.all in
+    λ i. record { variables = variables i; verdicts = verdicts i }
+
+-- two reports of two netlists in one order have the same counts and the same bytes
+pub one_report : (one two : Net) → IsNet one → IsNet two → (how : Match) (order : Order) (p q : Paired) → IsPairing how (circuit one) (circuit two) order p → IsPairing how (circuit one) (circuit two) order q
+    → (sizes : Bool) (o more : Outcome) (bytes text : List ℕ) → IsReport sizes (circuit one) (circuit two) p o bytes → IsReport sizes (circuit one) (circuit two) q more text → (o ≡ more) × (bytes ≡ text)
+one_report one two sound sound' how order p q h k sizes o more bytes text r t =
+    let found : r.found ≡ t.found = one_found one two sound sound' how order p q h k sizes r.found t.found r.verdicts t.verdicts in
+    (r.counts ∙ ap (λ (f : Found). counted f.verdicts) found ∙ sym t.counts, r.text ∙ ap report_text found ∙ sym t.text)

@@ -1,5 +1,5 @@
 -- Where the needed nodes are within a limit, no store of needed nodes is beyond it.
-use Rattle.std.proofs.Common.{◌≡◌, ◌∙◌, ◌≢◌, ℕ, ◌+◌, ◌<◌, ◌≤◌, ◌⊎◌, inl, inr, Bool, List, [], ◌∷◌, length, refl, sym, ap, subst, arith}
+use Rattle.std.proofs.Common.{◌≡◌, ◌∙◌, ◌≢◌, ℕ, ◌<◌, ◌≤◌, ◌⊎◌, inl, inr, Bool, List, [], ◌∷◌, length, refl, sym, ap, subst, arith}
 use Rattle.dd_store.specs.declared.reference.Ref.{Ref}
 use Rattle.dd_store.specs.Functions.{Agree}
 use Rattle.dd_store.specs.Nodes.{Nodes, den, IsSound, count_of}
@@ -11,7 +11,7 @@ use Rattle.dd_store.proofs.Canonical.{canonical}
 use Rattle.dd_store.proofs.View.{of_part, same_ref}
 use Rattle.net_bench.specs.Circuit.{Circuit}
 use Rattle.net_order.specs.Order.{Paired}
-use Rattle.gate_plan.specs.Need.{IsCounted, IsLean, IsComplete, HasNode}
+use Rattle.gate_plan.specs.Need.{IsLean, IsComplete, HasNode}
 use Rattle.gate_plan.specs.Needing.{IsNeededValue, IsCompleteFor}
 use Rattle.check_report.specs.Limits.{FitsWithin, Exceeds}
 use Rattle.check_report.proofs.Pigeons.{Among, without, pigeons}

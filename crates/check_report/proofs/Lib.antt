@@ -2,6 +2,7 @@ pub mod Written
 pub mod Wording
 pub mod Subjects
 pub mod Adding
+pub mod Reporting
 pub mod Calling
 pub mod Limiting
 pub mod Pigeons

@@ -1,9 +1,8 @@
 -- One more write of a list of bytes.
-use Rattle.std.proofs.Common.{◌≡◌, ◌≢◌, ◌∙◌, ap, sym, ℕ, zero, suc, Bool, true, false, refl, ◌||◌, List, [], ◌∷◌, ◌++◌, ◌⊎◌, Some, None, Option, Ok, append_assoc, append-nil, IsTrue}
+use Rattle.std.proofs.Common.{◌≡◌, ◌≢◌, ◌∙◌, ap, sym, ℕ, zero, suc, Bool, true, false, refl, ◌||◌, List, [], ◌∷◌, ◌++◌, Some, None, Option, Ok, append_assoc, append-nil}
 use Rattle.std.specs.Io.KnownBytes.{Appends, Keeps}
 use Rattle.net_bench.specs.Devices.{took_none}
 use Rattle.net_bench.specs.declared.device.Failed.{Failed}
-use Rattle.check_report.specs.Writing.{AppendsFront}
 
 pub appends_more : (held middle now : Option (List ℕ)) (front part bytes rest after : List ℕ) → bytes ≡ front ++ rest → rest ≡ part ++ after
     → Appends held middle front → Appends middle now part → (x : List ℕ) × (bytes ≡ x ++ after) × Appends held now x

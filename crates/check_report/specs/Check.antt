@@ -1,18 +1,18 @@
 -- What a check has done: the report that it wrote, or why it wrote none.
-use Rattle.std.specs.Prelude.{◌≡◌, ◌≢◌, ◌⊎◌, ℕ, Bool, List, Option, IfSome}
+use Rattle.std.specs.Prelude.{◌≡◌, ◌⊎◌, ℕ, Bool, List, Option, IfSome}
 use Rattle.net_bench.specs.Circuit.{Circuit}
 use Rattle.net_bench.specs.Fault.{MakesNetlist, IsRefused as IsTextRefused}
 use Rattle.net_bench.specs.declared.netlist.BenchFault.{BenchFault}
 use Rattle.net_bench.specs.declared.netlist.BenchFault.TheVariants.{Read as ReadFailed, OutOfMemory as NoTextMemory}
 use Rattle.net_order.specs.declared.order.Match.{Match}
 use Rattle.net_order.specs.declared.order.Order.{Order}
-use Rattle.net_order.specs.declared.order.OrderFault.{OrderFault}
 use Rattle.net_order.specs.declared.order.OrderFault.TheVariants.{OutOfMemory as NoOrderMemory}
 use Rattle.net_order.specs.Order.{Paired, IsPairing, IsRefused}
 use Rattle.check_report.specs.declared.outcome.Outcome.{Outcome}
 use Rattle.check_report.specs.declared.fault.CheckFault.{CheckFault}
 use Rattle.check_report.specs.declared.fault.CheckFault.TheVariants.{First, Second, Order as OrderRefused, Wave, Write, OutOfMemory}
-use Rattle.check_report.specs.Report.{IsReport}
+use Rattle.check_report.specs.Lines.{Found}
+use Rattle.check_report.specs.Report.{AreVerdicts, IsReport}
 
 -- what a device told is the text of this netlist
 abbrev pub Gives : Option (List ℕ) → Circuit → Type 0
@@ -23,6 +23,14 @@ pub record ArePaired (one two : Option (List ℕ)) (how : Match) (order : Order)
   pub first : Gives one a
   pub second : Gives two b
   pub pairing : IsPairing how a b order p
+
+-- This is what a comparison of what the devices gave finds.
+pub record IsJudged (one two : Option (List ℕ)) (how : Match) (order : Order) (sizes : Bool) (found : Found) : Type 0 where
+  pub a : Circuit
+  pub b : Circuit
+  pub p : Paired
+  pub paired : ArePaired one two how order a b p
+  pub verdicts : AreVerdicts sizes a b p found
 
 -- The bytes are the report of what the devices gave, and these are its counts.
 pub record IsChecked (one two : Option (List ℕ)) (how : Match) (order : Order) (sizes : Bool) (o : Outcome) (bytes : List ℕ) : Type 0 where

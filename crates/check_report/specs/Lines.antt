@@ -1,16 +1,17 @@
--- The lines of a report and their bytes. A name is a list of bytes.
+-- The verdicts of a comparison, and the bytes of their lines in a report. A name is a list of bytes.
 use Rattle.std.specs.Prelude.{ℕ, Bool, true, false, List, [], ◌∷◌, ◌++◌, Option, Some, None, codes, decimal, count_by}
 use Rattle.check_report.specs.declared.outcome.Outcome.{Outcome}
 use Rattle.check_report.specs.declared.outcome.Role.{Role}
 use Rattle.check_report.specs.declared.outcome.Role.TheVariants.{Output, NextState}
 use Rattle.check_report.specs.declared.outcome.Side.{Side}
 use Rattle.check_report.specs.declared.outcome.Side.TheVariants.{First, Second}
+use Rattle.check_report.specs.declared.verdict.Verdict.{Verdict}
+use Rattle.check_report.specs.declared.verdict.Verdict.TheVariants.{Equal, Differs, Lone}
 
--- A line speaks of two outputs or two next states that are compared, or of an output or a register that has no partner.
-pub data Line : Type 0 where
-  equal : (role : Role) (name : List ℕ) (size : Option ℕ) → Line
-  differs : (role : Role) (name : List ℕ) (at : List Bool) (first second : Bool) (sizes : Option (ℕ × ℕ)) → Line
-  lone : (side : Side) (role : Role) (name : List ℕ) → Line
+-- What a comparison found: the variables by level, and the verdicts in the order of the report.
+pub record Found : Type 0 where
+  pub variables : List (List ℕ)
+  pub verdicts : List Verdict
 
 -- the digit of a bit
 abbrev pub bit_text : Bool → List ℕ
@@ -42,42 +43,42 @@ abbrev pub subject_text : Role → List ℕ → List ℕ
 subject_text Output name = name
 subject_text NextState name = codes "NEXT " ++ name
 
--- a line without its end; the variables stand by level
-abbrev pub line_text : List (List ℕ) → Line → List ℕ
-line_text variables (equal role name size) = codes "EQUAL " ++ (subject_text role name ++ size_text size)
-line_text variables (differs role name at first second sizes) =
+-- the line of a verdict, without its end; the variables stand by level
+abbrev pub line_text : List (List ℕ) → Verdict → List ℕ
+line_text variables (Equal role name size) = codes "EQUAL " ++ (subject_text role name ++ size_text size)
+line_text variables (Differs role name at first second sizes) =
     codes "DIFFER " ++ (subject_text role name ++ (codes " at" ++ (assignment_text variables at ++ (codes " first=" ++ (bit_text first ++ (codes " second=" ++ (bit_text second ++ sizes_text sizes)))))))
-line_text variables (lone side role name) = codes "ONLY " ++ (side_text side ++ (codes " " ++ subject_text role name))
+line_text variables (Lone side role name) = codes "ONLY " ++ (side_text side ++ (codes " " ++ subject_text role name))
 
 -- lines, each with its end
-abbrev pub lines_text : List (List ℕ) → List Line → List ℕ
+abbrev pub lines_text : List (List ℕ) → List Verdict → List ℕ
 lines_text variables [] = []
-lines_text variables (l ∷ ls) = line_text variables l ++ (10 ∷ lines_text variables ls)
+lines_text variables (v ∷ vs) = line_text variables v ++ (10 ∷ lines_text variables vs)
 
--- the kinds of lines
-abbrev pub is_equal : Line → Bool
-is_equal (equal role name size) = true
-is_equal (differs role name at first second sizes) = false
-is_equal (lone side role name) = false
+-- the kinds of verdicts
+abbrev pub is_equal : Verdict → Bool
+is_equal (Equal role name size) = true
+is_equal (Differs role name at first second sizes) = false
+is_equal (Lone side role name) = false
 
-abbrev pub is_different : Line → Bool
-is_different (equal role name size) = false
-is_different (differs role name at first second sizes) = true
-is_different (lone side role name) = false
+abbrev pub is_different : Verdict → Bool
+is_different (Equal role name size) = false
+is_different (Differs role name at first second sizes) = true
+is_different (Lone side role name) = false
 
-abbrev pub is_lone : Line → Bool
-is_lone (equal role name size) = false
-is_lone (differs role name at first second sizes) = false
-is_lone (lone side role name) = true
+abbrev pub is_lone : Verdict → Bool
+is_lone (Equal role name size) = false
+is_lone (Differs role name at first second sizes) = false
+is_lone (Lone side role name) = true
 
--- how many lines of each kind there are
-abbrev pub counted : List Line → Outcome
-counted ls = record { equal = count_by is_equal ls; different = count_by is_different ls; unmatched = count_by is_lone ls }
+-- how many verdicts of each kind there are
+abbrev pub counted : List Verdict → Outcome
+counted vs = record { equal = count_by is_equal vs; different = count_by is_different vs; unmatched = count_by is_lone vs }
 
 -- the last line, without its end
 abbrev pub counts_text : Outcome → List ℕ
 counts_text o = decimal o.equal ++ (codes " equal, " ++ (decimal o.different ++ (codes " different, " ++ (decimal o.unmatched ++ codes " unmatched"))))
 
--- the bytes of a report that has these lines
-abbrev pub report_text : List (List ℕ) → List Line → List ℕ
-report_text variables lines = lines_text variables lines ++ (counts_text (counted lines) ++ 10 ∷ [])
+-- the bytes of the report of what a comparison found: its lines, and last their counts
+abbrev pub report_text : Found → List ℕ
+report_text found = lines_text found.variables found.verdicts ++ (counts_text (counted found.verdicts) ++ 10 ∷ [])

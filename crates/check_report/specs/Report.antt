@@ -12,8 +12,9 @@ use Rattle.check_report.specs.declared.outcome.Role.TheVariants.{Output, NextSta
 use Rattle.check_report.specs.declared.outcome.Side.{Side}
 use Rattle.check_report.specs.declared.outcome.Side.TheVariants.{First, Second}
 use Rattle.check_report.specs.declared.outcome.Subject.{Subject}
-use Rattle.check_report.specs.Lines.{Line, report_text, counted}
-use Rattle.check_report.specs.Lines.Line.{equal, differs, lone}
+use Rattle.check_report.specs.declared.verdict.Verdict.{Verdict}
+use Rattle.check_report.specs.declared.verdict.Verdict.TheVariants.{Equal, Differs, Lone}
+use Rattle.check_report.specs.Lines.{Found, report_text, counted}
 
 -- The signal that a register takes next: its operand.
 abbrev pub next_of : Circuit → ℕ → ℕ
@@ -23,7 +24,7 @@ next_of c register = slice_index (gate_operands (find (λ g. g.out == register) 
 abbrev pub output_subject : ℕ × ℕ → Subject
 output_subject pair = record { role = Output; named = pair.0; first = pair.0; second = pair.1 }
 
--- the next states of two registers that are compared; their line has the name of the first netlist's register
+-- the next states of two registers that are compared; their verdict has the name of the first netlist's register
 abbrev pub next_subject : Circuit → Circuit → ℕ × ℕ → Subject
 next_subject a b pair = record { role = NextState; named = pair.0; first = next_of a pair.0; second = next_of b pair.1 }
 
@@ -31,7 +32,7 @@ next_subject a b pair = record { role = NextState; named = pair.0; first = next_
 abbrev pub subjects : Circuit → Circuit → Paired → List Subject
 subjects a b p = map output_subject p.outputs.pairs ++ map (next_subject a b) p.registers.pairs
 
--- What is compared as its line tells it: as what, by which name, and the two functions.
+-- What is compared as its verdict tells it: as what, by which name, and the two functions.
 pub record Compared : Type 0 where
   pub role : Role
   pub name : List ℕ
@@ -48,12 +49,12 @@ abbrev pub AreSizesShown : Bool → ℕ → (List Bool → Bool) → (List Bool 
 AreSizesShown false n f g shown = shown ≡ None
 AreSizesShown true n f g shown = (k : ℕ) × (m : ℕ) × HasSize n f k × HasSize n g m × (shown ≡ Some (k, m))
 
--- The line of what is compared: EQUAL where their functions of n bits are equal, else DIFFER with the least difference and the
--- two values there. There is no line of another kind.
-pub data IsLineOf (n : ℕ) (sizes : Bool) (c : Compared) : Line → Type 0 where
-  where_equal : {shown : Option ℕ} → Agree n c.first c.second → IsSizeShown sizes n c.first shown → IsLineOf n sizes c (equal c.role c.name shown)
+-- The verdict of what is compared: Equal where their functions of n bits are equal, else Differs with the least difference and the
+-- two values there. There is no verdict of another kind.
+pub data IsVerdictOf (n : ℕ) (sizes : Bool) (c : Compared) : Verdict → Type 0 where
+  where_equal : {shown : Option ℕ} → Agree n c.first c.second → IsSizeShown sizes n c.first shown → IsVerdictOf n sizes c (Equal c.role c.name shown)
   where_different : {x : List Bool} {shown : Option (ℕ × ℕ)} → IsLeastDifference n c.first c.second x → AreSizesShown sizes n c.first c.second shown →
-      IsLineOf n sizes c (differs c.role c.name x (c.first x) (c.second x) shown)
+      IsVerdictOf n sizes c (Differs c.role c.name x (c.first x) (c.second x) shown)
 
 -- the function of each of the two signals, over the variables of the pairing
 pub record AreFunctions (a b : Circuit) (p : Paired) (subject : Subject) (c : Compared) : Type 0 where
@@ -62,28 +63,35 @@ pub record AreFunctions (a b : Circuit) (p : Paired) (subject : Subject) (c : Co
   pub first : IsFunctionOf a (slice_index p.first) (length p.names) subject.first c.first
   pub second : IsFunctionOf b (slice_index p.second) (length p.names) subject.second c.second
 
--- the lines of one netlist's outputs that have no partner, then of its registers
-abbrev pub lone_side : Side → Circuit → List ℕ → List ℕ → List Line
-lone_side side c outputs registers = map (lone side Output) (names_of c outputs) ++ map (lone side NextState) (names_of c registers)
+-- the verdicts of one netlist's outputs that have no partner, then of its registers
+abbrev pub lone_side : Side → Circuit → List ℕ → List ℕ → List Verdict
+lone_side side c outputs registers = map (Lone side Output) (names_of c outputs) ++ map (Lone side NextState) (names_of c registers)
 
--- the lines of what has no partner
-abbrev pub lone_lines : Circuit → Circuit → Paired → List Line
-lone_lines a b p = lone_side First a p.outputs.only_first p.registers.only_first ++ lone_side Second b p.outputs.only_second p.registers.only_second
+-- the verdicts of what has no partner
+abbrev pub lone_verdicts : Circuit → Circuit → Paired → List Verdict
+lone_verdicts a b p = lone_side First a p.outputs.only_first p.registers.only_first ++ lone_side Second b p.outputs.only_second p.registers.only_second
 
--- a line calls its two functions equal
-abbrev pub CallsEqual : Line → Type 0
-CallsEqual (equal role name size) = Unit {0}
-CallsEqual (differs role name at first second sizes) = ⊥
-CallsEqual (lone side role name) = ⊥
+-- a verdict calls its two functions equal
+abbrev pub CallsEqual : Verdict → Type 0
+CallsEqual (Equal role name size) = Unit {0}
+CallsEqual (Differs role name at first second sizes) = ⊥
+CallsEqual (Lone side role name) = ⊥
 
--- The report of two netlists that are paired: a line for each pair of outputs, then for the next states of each pair of registers,
--- then for the outputs and registers without a partner, then the counts. The variables stand by level.
-pub record IsReport (sizes : Bool) (a b : Circuit) (p : Paired) (o : Outcome) (bytes : List ℕ) : Type 0 where
+-- What a comparison finds of two netlists that are paired: a verdict for each pair of outputs, then for the next states of each pair of
+-- registers, then for the outputs and registers without a partner. The variables stand by level.
+pub record AreVerdicts (sizes : Bool) (a b : Circuit) (p : Paired) (found : Found) : Type 0 where
+  pub variables : found.variables ≡ p.names
   pub compared : List Compared
   pub functions : AllZip (AreFunctions a b p) (subjects a b p) compared
-  pub lines : List Line
-  pub are_lines : AllZip (IsLineOf (length p.names) sizes) compared lines
+  pub of_pairs : List Verdict
+  pub are_verdicts : AllZip (IsVerdictOf (length p.names) sizes) compared of_pairs
   -- two outputs, or two next states, are called equal exactly where their functions are equal
-  pub called_equal : AllZip (λ c line. CallsEqual line ↔ Agree (length p.names) c.first c.second) compared lines
-  pub counts : o ≡ counted (lines ++ lone_lines a b p)
-  pub text : bytes ≡ report_text p.names (lines ++ lone_lines a b p)
+  pub called_equal : AllZip (λ c v. CallsEqual v ↔ Agree (length p.names) c.first c.second) compared of_pairs
+  pub all : found.verdicts ≡ of_pairs ++ lone_verdicts a b p
+
+-- The report of two netlists that are paired: the lines of their verdicts, then the counts.
+pub record IsReport (sizes : Bool) (a b : Circuit) (p : Paired) (o : Outcome) (bytes : List ℕ) : Type 0 where
+  pub found : Found
+  pub verdicts : AreVerdicts sizes a b p found
+  pub counts : o ≡ counted found.verdicts
+  pub text : bytes ≡ report_text found

@@ -4,15 +4,17 @@ ghost use Rattle.std.specs.Io.KnownBytes.{Appends};
 ghost use Rattle.net_bench.specs.Circuit.{circuit};
 ghost use Rattle.net_order.specs.Order.{IsPairing};
 ghost use Rattle.check_report.specs.declared.outcome.Outcome.{Outcome};
-ghost use Rattle.check_report.specs.Report.{IsReport};
-ghost use Rattle.check_report.specs.Check.{IsChecked, IsCheckFault, IsLate};
+ghost use Rattle.check_report.specs.Report.{AreVerdicts};
+ghost use Rattle.check_report.specs.Check.{IsChecked, IsJudged, IsCheckFault, IsLate};
 ghost use Rattle.check_report.specs.Limits.{FitsWithin, Exceeds, AreWithin, AreBeyond};
 ghost use Rattle.check_report.specs.Writing.{AppendsFront};
 
-use crate::compare::{Comparison, Report, report_of};
+use crate::compare::{Comparison, verdicts_of};
 use crate::fault::CheckFault;
 use crate::outcome::Outcome;
+use crate::report::report_of;
 use crate::settings::Settings;
+use crate::verdicts::Verdicts;
 use crate::write::write_whole;
 use dd_store::Store;
 use expand_work::{Gate, WaveFault};
@@ -24,21 +26,21 @@ use std::alloc::Global;
 use std::sync::Wait;
 use std::thread::Threads;
 
-/// The report of two netlists that are paired.
-fn compare<'a, H: Threads + Wait + Sync, G: Gate>(
+/// What a comparison of two netlists that are paired finds.
+fn compare<H: Threads + Wait + Sync, G: Gate>(
     rt: &H,
     alloc: Global,
-    first: &'a Netlist,
-    second: &'a Netlist,
-    pairing: &'a Pairing,
+    first: &Netlist,
+    second: &Netlist,
+    pairing: Pairing,
     settings: &Settings,
     gate: &G,
-) -> Result<Report, CheckFault>
-    requires { IsPairing settings.now.matching (circuit first.now) (circuit second.now) settings.now.order pairing.now }
-    ensures ok { IfOk result (λ r. IsReport settings.now.sizes (circuit first.now) (circuit second.now) pairing.now r.outcome r.text.items) }
+) -> Result<Verdicts, CheckFault>
+    requires { IsPairing settings.now.matching (circuit first.now) (circuit second.now) settings.now.order pairing }
+    ensures ok { IfOk result (λ v. AreVerdicts settings.now.sizes (circuit first.now) (circuit second.now) pairing v) }
     ensures err { IfErr result IsLate }
-    ensures within { OnOk result (FitsWithin settings.now.limit (circuit first.now) (circuit second.now) pairing.now) }
-    ensures full { result ≡ Err (CheckFault.Wave WaveFault.Full) → Exceeds settings.now.limit (circuit first.now) (circuit second.now) pairing.now }
+    ensures within { OnOk result (FitsWithin settings.now.limit (circuit first.now) (circuit second.now) pairing) }
+    ensures full { result ≡ Err (CheckFault.Wave WaveFault.Full) → Exceeds settings.now.limit (circuit first.now) (circuit second.now) pairing }
 {
     let _ = first.inputs();
     let _ = second.inputs();
@@ -52,7 +54,7 @@ fn compare<'a, H: Threads + Wait + Sync, G: Gate>(
         &mut store,
         first,
         second,
-        pairing,
+        &pairing,
         settings.workers,
         gate,
     ) {
@@ -62,19 +64,54 @@ fn compare<'a, H: Threads + Wait + Sync, G: Gate>(
     let comparison = Comparison {
         first,
         second,
-        pairing,
+        pairing: &pairing,
         store: &store,
         built: &built,
         sizes: settings.sizes,
     };
-    match report_of(alloc, &comparison) {
-        Ok(report) => Ok(report),
+    match verdicts_of(alloc, &comparison) {
+        Ok(verdicts) => Ok(Verdicts::of(pairing, verdicts)),
         Err(_) => Err(CheckFault::OutOfMemory),
     }
 }
 
-/// Reads two netlists, compares their outputs and the next states of their registers, and writes the report. The gates' diagrams are built by as many threads as the
-/// settings have workers. Nothing is written before the whole report stands.
+/// Reads two netlists, and compares their outputs and the next states of their registers. The gates' diagrams are built by as many threads as the
+/// settings have workers. The answer is never `CheckFault::Write`.
+pub fn judge<H: Threads + Wait + Sync, R1: Source, R2: Source, G: Gate>(
+    rt: &H,
+    alloc: Global,
+    first: &mut R1,
+    second: &mut R2,
+    settings: &Settings,
+    gate: &G,
+) -> Result<Verdicts, CheckFault>
+    // The verdicts are those of what was read. In them two outputs, or the next states of two registers, are called equal
+    // exactly where their functions are equal.
+    ensures verdicts { IfOk result (IsJudged (R1.remaining first.old) (R2.remaining second.old) settings.now.matching settings.now.order settings.now.sizes) }
+    // The nodes that the two netlists need are within the limit where there are verdicts, and Full comes only where they are not.
+    ensures within { OnOk result (AreWithin (R1.remaining first.old) (R2.remaining second.old) settings.now.matching settings.now.order settings.now.limit) }
+    ensures full { result ≡ Err (CheckFault.Wave WaveFault.Full) → AreBeyond (R1.remaining first.old) (R2.remaining second.old) settings.now.matching settings.now.order settings.now.limit }
+    // A fault has its cause, and what comes before it was accepted.
+    ensures fault { IfErr result (IsCheckFault (R1.remaining first.old) (R2.remaining second.old) (IsTrue (R1.has_failed first.new)) (IsTrue (R2.has_failed second.new)) settings.now.matching settings.now.order) }
+    ensures unwritten { result ≢ Err CheckFault.Write }
+    ensures origins { (R1.origin first.new ≡ R1.origin first.old) × (R2.origin second.new ≡ R2.origin second.old) }
+{
+    let one = match read_bench(alloc, first) {
+        Ok(net) => net,
+        Err(fault) => return Err(CheckFault::First(fault)),
+    };
+    let two = match read_bench(alloc, second) {
+        Ok(net) => net,
+        Err(fault) => return Err(CheckFault::Second(fault)),
+    };
+    let pairing = match pair(alloc, &one, &two, settings.matching, &settings.order) {
+        Ok(pairing) => pairing,
+        Err(fault) => return Err(CheckFault::Order(fault)),
+    };
+    compare(rt, alloc, &one, &two, pairing, settings, gate)
+}
+
+/// Compares two netlists as `judge` does, and writes the report. Nothing is written before the whole report stands.
 pub fn check<H: Threads + Wait + Sync, R1: Source, R2: Source, G: Gate, W: Sink>(
     rt: &H,
     alloc: Global,
@@ -100,24 +137,12 @@ pub fn check<H: Threads + Wait + Sync, R1: Source, R2: Source, G: Gate, W: Sink>
     ensures written { OnOk result ((W.has_failed out.new ≡ W.has_failed out.old) × (W.has_stopped out.new ≡ W.has_stopped out.old)) }
     ensures origins { (R1.origin first.new ≡ R1.origin first.old) × (R2.origin second.new ≡ R2.origin second.old) }
 {
-    let one = match read_bench(alloc, first) {
-        Ok(net) => net,
-        Err(fault) => return Err(CheckFault::First(fault)),
+    let verdicts = judge(rt, alloc, first, second, settings, gate)?;
+    let Ok(text) = report_of(alloc, &verdicts) else {
+        return Err(CheckFault::OutOfMemory);
     };
-    let two = match read_bench(alloc, second) {
-        Ok(net) => net,
-        Err(fault) => return Err(CheckFault::Second(fault)),
-    };
-    let pairing = match pair(alloc, &one, &two, settings.matching, &settings.order) {
-        Ok(pairing) => pairing,
-        Err(fault) => return Err(CheckFault::Order(fault)),
-    };
-    let report = match compare(rt, alloc, &one, &two, &pairing, settings, gate) {
-        Ok(report) => report,
-        Err(fault) => return Err(fault),
-    };
-    match write_whole(out, report.text.as_slice()) {
-        Ok(()) => Ok(report.outcome),
+    match write_whole(out, text.as_slice()) {
+        Ok(()) => Ok(verdicts.outcome()),
         Err(_) => Err(CheckFault::Write),
     }
 }

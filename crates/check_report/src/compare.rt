@@ -1,24 +1,20 @@
-//! The comparison of two netlists whose diagrams stand in one store: the lines of the report.
-ghost use Rattle.std.specs.Prelude.{◌≡◌, ◌+◌, ◌++◌, ℕ, ◌<◌, false, List, count_by, length, map, All, OnOk, IfOk};
+//! The comparison of two netlists whose diagrams stand in one store: a verdict for each line of the report.
+ghost use Rattle.std.specs.Prelude.{◌≡◌, ◌++◌, ◌<◌, length, map, All, OnOk, IfOk};
 ghost use Rattle.net_bench.specs.Circuit.{circuit};
 ghost use Rattle.net_order.specs.Order.{name_of, names_of};
 ghost use Rattle.dd_store.specs.Nodes.{den};
-ghost use Rattle.dd_store.specs.Functions.{IsLeastDifference};
 ghost use Rattle.dd_store.specs.View.{Has};
 ghost use Rattle.gate_plan.specs.Building.{reference_of};
-ghost use Rattle.check_report.specs.Lines.{is_lone, lines_text};
-ghost use Rattle.check_report.specs.Lines.Line.{lone};
-ghost use Rattle.check_report.specs.Report.{IsSizeShown, AreSizesShown, IsReport, lone_lines, lone_side, next_of, next_subject, output_subject, subjects};
-ghost use Rattle.check_report.specs.Comparing.{AreBuilt, AreSignals, AddsLine, HasLines, IsInside};
+ghost use Rattle.check_report.specs.Report.{IsSizeShown, AreSizesShown, IsVerdictOf, AreVerdicts, lone_side, next_of, next_subject, output_subject, subjects};
+ghost use Rattle.check_report.specs.Comparing.{AreBuilt, AreSignals, HaveVerdicts, IsInside, compared_of};
 
-use crate::lines::{Difference, Label, add_counts, add_different, add_equal, add_lone};
-use crate::outcome::{Outcome, Role, Side, Subject};
+use crate::outcome::{Role, Side, Subject};
+use crate::verdict::{Bits, Name, Verdict};
 use counter_walk::{least_difference, value};
 use dd_store::{Ref, Store};
 use gate_plan::Built;
 use net_bench::netlist::Signal;
 use net_bench::reader::Netlist;
-use net_order::names::Names;
 use net_order::pairing::Pairing;
 use std::alloc::{AllocError, Global};
 
@@ -33,14 +29,7 @@ pub struct Comparison<'a> {
     pub sizes: bool,
 }
 
-/// The text of a report, and what it counts.
-#[derive(Drop)]
-pub struct Report {
-    pub text: Vec<u8>,
-    pub outcome: Outcome,
-}
-
-/// What a line speaks of, and the two diagrams that it compares.
+/// What a verdict speaks of, and the two diagrams that it compares.
 #[derive(Clone, Copy, Drop)]
 struct Diagrams<'a> {
     role: Role,
@@ -82,51 +71,16 @@ fn sizes_of(
     }
 }
 
-/// Adds the line of two functions that differ at these bits.
-fn add_difference(
+/// The verdict of two functions.
+fn verdict_of(
     alloc: Global,
-    text: &mut Vec<u8>,
     store: &Store,
-    names: &Names,
-    of: Diagrams<'_>,
-    bits: &[bool],
-    sizes: bool,
-) -> Result<(), AllocError>
-    requires levels { store.now.levels ≡ length names.now }
-    requires first_known { Has store.now of.first }
-    requires second_known { Has store.now of.second }
-    requires least { IsLeastDifference store.now.levels (den store.now of.first) (den store.now of.second) bits.now }
-    ensures { OnOk result (AddsLine sizes store.now names.now of.entry.role of.entry.name.now of.entry.first of.entry.second text.old.items text.new.items false) }
-{
-    let first = value(store, of.first, bits);
-    let second = value(store, of.second, bits);
-    let shown = sizes_of(store, of.first, of.second, sizes)?;
-    let at = Difference {
-        bits,
-        first,
-        second,
-    };
-    let label = Label {
-        role: of.role,
-        name: of.name,
-    };
-    add_different(alloc, text, names, label, at, shown)?;
-    Ok(())
-}
-
-/// Adds the line of two functions, and says whether they are equal.
-fn add_line(
-    alloc: Global,
-    text: &mut Vec<u8>,
-    store: &Store,
-    names: &Names,
     of: Diagrams<'_>,
     sizes: bool,
-) -> Result<bool, AllocError>
-    requires levels { store.now.levels ≡ length names.now }
+) -> Result<Verdict, AllocError>
     requires first_known { Has store.now of.first }
     requires second_known { Has store.now of.second }
-    ensures { IfOk result (AddsLine sizes store.now names.now of.entry.role of.entry.name.now of.entry.first of.entry.second text.old.items text.new.items) }
+    ensures { IfOk result (λ v. IsVerdictOf store.now.levels sizes (compared_of store.now of.entry.role of.entry.name.now of.entry.first of.entry.second) v) }
 {
     let Diagrams {
         role,
@@ -134,21 +88,24 @@ fn add_line(
         first,
         second,
     } = of;
+    let name = Name::copied(alloc, name)?;
     match least_difference(alloc, store, first, second)? {
         None => {
             let size = size_of(store, first, sizes)?;
-            add_equal(alloc, text, Label { role, name }, size)?;
-            Ok(true)
+            Ok(Verdict::Equal { role, name, size })
         }
         Some(bits) => {
-            let of = Diagrams {
+            let sizes = sizes_of(store, first, second, sizes)?;
+            let first = value(store, first, bits.as_slice());
+            let second = value(store, second, bits.as_slice());
+            Ok(Verdict::Differs {
                 role,
                 name,
+                at: Bits::of(bits),
                 first,
                 second,
-            };
-            add_difference(alloc, text, store, names, of, bits.as_slice(), sizes)?;
-            Ok(false)
+                sizes,
+            })
         }
     }
 }
@@ -227,104 +184,106 @@ fn diagrams_of<'a>(of: &Comparison<'a>, subject: Subject) -> Diagrams<'a>
     }
 }
 
-/// Adds the lines of all that is compared, and counts the equal and the different ones.
-fn add_compared(
-    alloc: Global,
-    text: &mut Vec<u8>,
-    of: &Comparison<'_>,
-) -> Result<(u64, u64), AllocError>
+/// The verdicts of all that is compared.
+fn verdicts_of_pairs(alloc: Global, of: &Comparison<'_>) -> Result<Vec<Verdict>, AllocError>
     requires { AreBuilt (circuit of.now.first.now) (circuit of.now.second.now) of.now.pairing.now of.now.store.now of.now.built.now }
-    ensures { IfOk result (λ counts. HasLines of.now.sizes (circuit of.now.first.now) (circuit of.now.second.now) of.now.pairing.now (subjects (circuit of.now.first.now) (circuit of.now.second.now) of.now.pairing.now) text.old.items text.new.items counts.0 counts.1) }
+    ensures { IfOk result (λ v. HaveVerdicts of.now.sizes (circuit of.now.first.now) (circuit of.now.second.now) of.now.pairing.now (subjects (circuit of.now.first.now) (circuit of.now.second.now) of.now.pairing.now) v.items) }
 {
-    let mut equal = 0;
-    let mut different = 0;
-    let names = of.pairing.names();
+    let mut verdicts = Vec::new(alloc);
     let all = subjects_of(alloc, of)?;
     let subjects = all.as_slice();
     for i in 0..subjects.len() {
         let diagrams = diagrams_of(of, subjects[i]);
-        if add_line(alloc, text, of.store, names, diagrams, of.sizes)? {
-            equal += 1;
-        } else {
-            different += 1;
-        }
+        let verdict = verdict_of(alloc, of.store, diagrams, of.sizes)?;
+        verdicts.push(verdict)?;
     }
-    Ok((equal, different))
+    Ok(verdicts)
 }
 
-/// Adds the lines of signals of one netlist that have no partner.
-fn add_lone_lines(
-    text: &mut Vec<u8>,
+/// Puts the verdicts of signals of one netlist that have no partner at the end.
+fn add_lone(
+    alloc: Global,
+    verdicts: &mut Vec<Verdict>,
     side: Side,
     role: Role,
     net: &Netlist,
     signals: &[Signal],
 ) -> Result<(), AllocError>
     requires { All (λ s. s < length net.now.names) signals.now }
-    ensures { (variables : List (List ℕ)) → OnOk result (text.new.items ≡ text.old.items ++ lines_text variables (map (lone side role) (names_of (circuit net.now) signals.now))) }
+    ensures { OnOk result (verdicts.new.items ≡ verdicts.old.items ++ map (Verdict.Lone side role) (names_of (circuit net.now) signals.now)) }
 {
     for signal in signals {
-        let name = net.name(*signal);
-        add_lone(text, side, Label { role, name })?;
+        let name = Name::copied(alloc, net.name(*signal))?;
+        verdicts.push(Verdict::Lone { side, role, name })?;
     }
     Ok(())
 }
 
-/// Adds the lines of the outputs of one netlist that have no partner, then of its registers, and counts them.
-fn add_lone_side(
-    text: &mut Vec<u8>,
-    side: Side,
-    net: &Netlist,
-    outputs: &[Signal],
-    registers: &[Signal],
-) -> Result<u64, AllocError>
-    requires outputs_known { All (λ s. s < length net.now.names) outputs.now }
-    requires registers_known { All (λ s. s < length net.now.names) registers.now }
-    ensures lines { (variables : List (List ℕ)) → OnOk result (text.new.items ≡ text.old.items ++ lines_text variables (lone_side side (circuit net.now) outputs.now registers.now)) }
-    ensures count { IfOk result (λ n. n ≡ length outputs.now + length registers.now) }
-{
-    add_lone_lines(text, side, Role::Output, net, outputs)?;
-    add_lone_lines(text, side, Role::NextState, net, registers)?;
-    Ok(outputs.len() as u64 + registers.len() as u64)
-}
-
-/// Adds the lines of all that has no partner, and counts them.
-fn add_all_lone(text: &mut Vec<u8>, of: &Comparison<'_>) -> Result<u64, AllocError>
+/// Puts the verdicts of the first netlist's outputs that have no partner at the end, then of its registers.
+fn add_first_lone(
+    alloc: Global,
+    verdicts: &mut Vec<Verdict>,
+    of: &Comparison<'_>,
+) -> Result<(), AllocError>
     requires { AreSignals (circuit of.now.first.now) (circuit of.now.second.now) of.now.pairing.now }
-    ensures lines { (variables : List (List ℕ)) → OnOk result (text.new.items ≡ text.old.items ++ lines_text variables (lone_lines (circuit of.now.first.now) (circuit of.now.second.now) of.now.pairing.now)) }
-    ensures count { IfOk result (λ n. n ≡ count_by is_lone (lone_lines (circuit of.now.first.now) (circuit of.now.second.now) of.now.pairing.now)) }
+    ensures { OnOk result (verdicts.new.items ≡ verdicts.old.items ++ lone_side Side.First (circuit of.now.first.now) of.now.pairing.now.outputs.only_first of.now.pairing.now.registers.only_first) }
 {
-    let pairing = of.pairing;
-    let first = add_lone_side(
-        text,
+    let outputs = of.pairing.only_first();
+    let registers = of.pairing.only_first_next();
+    add_lone(
+        alloc,
+        verdicts,
         Side::First,
+        Role::Output,
         of.first,
-        pairing.only_first(),
-        pairing.only_first_next(),
+        outputs,
     )?;
-    let second = add_lone_side(
-        text,
-        Side::Second,
-        of.second,
-        pairing.only_second(),
-        pairing.only_second_next(),
-    )?;
-    Ok(first + second)
+    add_lone(
+        alloc,
+        verdicts,
+        Side::First,
+        Role::NextState,
+        of.first,
+        registers,
+    )
 }
 
-/// The report of a comparison.
-pub fn report_of(alloc: Global, of: &Comparison<'_>) -> Result<Report, AllocError>
-    requires { AreBuilt (circuit of.now.first.now) (circuit of.now.second.now) of.now.pairing.now of.now.store.now of.now.built.now }
-    ensures { IfOk result (λ r. IsReport of.now.sizes (circuit of.now.first.now) (circuit of.now.second.now) of.now.pairing.now r.outcome r.text.items) }
+/// Puts the verdicts of the second netlist's outputs that have no partner at the end, then of its registers.
+fn add_second_lone(
+    alloc: Global,
+    verdicts: &mut Vec<Verdict>,
+    of: &Comparison<'_>,
+) -> Result<(), AllocError>
+    requires { AreSignals (circuit of.now.first.now) (circuit of.now.second.now) of.now.pairing.now }
+    ensures { OnOk result (verdicts.new.items ≡ verdicts.old.items ++ lone_side Side.Second (circuit of.now.second.now) of.now.pairing.now.outputs.only_second of.now.pairing.now.registers.only_second) }
 {
-    let mut text = Vec::new(alloc);
-    let (equal, different) = add_compared(alloc, &mut text, of)?;
-    let unmatched = add_all_lone(&mut text, of)?;
-    let outcome = Outcome {
-        equal,
-        different,
-        unmatched,
-    };
-    add_counts(alloc, &mut text, outcome)?;
-    Ok(Report { text, outcome })
+    let outputs = of.pairing.only_second();
+    let registers = of.pairing.only_second_next();
+    add_lone(
+        alloc,
+        verdicts,
+        Side::Second,
+        Role::Output,
+        of.second,
+        outputs,
+    )?;
+    add_lone(
+        alloc,
+        verdicts,
+        Side::Second,
+        Role::NextState,
+        of.second,
+        registers,
+    )
+}
+
+/// What a comparison finds, in the order of the report.
+pub fn verdicts_of(alloc: Global, of: &Comparison<'_>) -> Result<Vec<Verdict>, AllocError>
+    requires { AreBuilt (circuit of.now.first.now) (circuit of.now.second.now) of.now.pairing.now of.now.store.now of.now.built.now }
+    ensures { IfOk result (λ v. AreVerdicts of.now.sizes (circuit of.now.first.now) (circuit of.now.second.now) of.now.pairing.now (record { variables = of.now.pairing.now.names; verdicts = v.items })) }
+{
+    let mut verdicts = verdicts_of_pairs(alloc, of)?;
+    add_first_lone(alloc, &mut verdicts, of)?;
+    add_second_lone(alloc, &mut verdicts, of)?;
+    Ok(verdicts)
 }

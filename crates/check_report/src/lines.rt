@@ -1,17 +1,17 @@
 //! The lines of a report as bytes.
-ghost use Rattle.std.specs.Prelude.{◌≡◌, ◌++◌, ℕ, List, [], ◌∷◌, length, OnOk, codes};
+ghost use Rattle.std.specs.Prelude.{◌≡◌, ◌++◌, ℕ, List, [], ◌∷◌, OnOk, codes};
 ghost use Rattle.check_report.specs.Lines.{line_text, assignment_text, bit_text, side_text, sizes_text, subject_text, counts_text};
-ghost use Rattle.check_report.specs.Lines.Line.{equal, differs, lone};
 
 use crate::outcome::{Outcome, Role, Side};
+use crate::verdict::Verdict;
 use net_order::names::Names;
 use std::alloc::{AllocError, Global};
 
 /// What a line speaks of: as what, and by which name.
 #[derive(Clone, Copy, Drop)]
-pub struct Label<'a> {
-    pub role: Role,
-    pub name: &'a [u8],
+struct Label<'a> {
+    role: Role,
+    name: &'a [u8],
 }
 
 /// The word of a bit.
@@ -34,10 +34,10 @@ fn add_variable(text: &mut Vec<u8>, name: &[u8], bit: bool) -> Result<(), AllocE
 
 /// Adds each variable with its bit.
 fn add_assignment(text: &mut Vec<u8>, names: &Names, bits: &[bool]) -> Result<(), AllocError>
-    requires { length bits.now ≡ length names.now }
     ensures { OnOk result (text.new.items ≡ text.old.items ++ assignment_text names.now bits.now) }
 {
-    for i in 0..bits.len() {
+    let count = bits.len().min(names.len());
+    for i in 0..count {
         add_variable(text, names.at(i), bits[i])?;
     }
     Ok(())
@@ -56,13 +56,13 @@ fn add_label(text: &mut Vec<u8>, label: Label<'_>) -> Result<(), AllocError>
 }
 
 /// Adds the line of two equal functions.
-pub fn add_equal(
+fn add_equal(
     alloc: Global,
     text: &mut Vec<u8>,
     label: Label<'_>,
     size: Option<u64>,
 ) -> Result<(), AllocError>
-    ensures { OnOk result (text.new.items ≡ text.old.items ++ (line_text [] (equal label.entry.role label.entry.name.now size) ++ 10 ∷ [])) }
+    ensures { OnOk result (text.new.items ≡ text.old.items ++ (line_text [] (Verdict.Equal label.entry.role label.entry.name.now size) ++ 10 ∷ [])) }
 {
     text.extend_from_slice(b"EQUAL ")?;
     add_label(text, label)?;
@@ -98,14 +98,14 @@ fn add_sizes(alloc: Global, text: &mut Vec<u8>, sizes: Option<(u64, u64)>) -> Re
 
 /// Where two functions differ: an assignment by level, and the value of each there.
 #[derive(Clone, Copy, Drop)]
-pub struct Difference<'a> {
-    pub bits: &'a [bool],
-    pub first: bool,
-    pub second: bool,
+struct Difference<'a> {
+    bits: &'a [bool],
+    first: bool,
+    second: bool,
 }
 
 /// Adds the line of two different functions.
-pub fn add_different(
+fn add_different(
     alloc: Global,
     text: &mut Vec<u8>,
     names: &Names,
@@ -113,8 +113,7 @@ pub fn add_different(
     at: Difference<'_>,
     sizes: Option<(u64, u64)>,
 ) -> Result<(), AllocError>
-    requires { length at.bits.now ≡ length names.now }
-    ensures { OnOk result (text.new.items ≡ text.old.items ++ (line_text names.now (differs label.entry.role label.entry.name.now at.entry.bits.now at.entry.first at.entry.second sizes) ++ 10 ∷ [])) }
+    ensures { OnOk result (text.new.items ≡ text.old.items ++ (line_text names.now (Verdict.Differs label.entry.role label.entry.name.now at.entry.bits.now at.entry.first at.entry.second sizes) ++ 10 ∷ [])) }
 {
     text.extend_from_slice(b"DIFFER ")?;
     add_label(text, label)?;
@@ -137,8 +136,8 @@ fn side_word(side: Side) -> &'static [u8]
 }
 
 /// Adds the line of an output or a register that has no partner.
-pub fn add_lone(text: &mut Vec<u8>, side: Side, label: Label<'_>) -> Result<(), AllocError>
-    ensures { OnOk result (text.new.items ≡ text.old.items ++ (line_text [] (lone side label.entry.role label.entry.name.now) ++ 10 ∷ [])) }
+fn add_lone(text: &mut Vec<u8>, side: Side, label: Label<'_>) -> Result<(), AllocError>
+    ensures { OnOk result (text.new.items ≡ text.old.items ++ (line_text [] (Verdict.Lone side label.entry.role label.entry.name.now) ++ 10 ∷ [])) }
 {
     text.extend_from_slice(b"ONLY ")?;
     text.extend_from_slice(side_word(side))?;
@@ -146,6 +145,52 @@ pub fn add_lone(text: &mut Vec<u8>, side: Side, label: Label<'_>) -> Result<(), 
     add_label(text, label)?;
     text.extend_from_slice(b"\n")?;
     Ok(())
+}
+
+/// Adds the line of a verdict.
+pub fn add_line(
+    alloc: Global,
+    text: &mut Vec<u8>,
+    names: &Names,
+    verdict: &Verdict,
+) -> Result<(), AllocError>
+    ensures { OnOk result (text.new.items ≡ text.old.items ++ (line_text names.now verdict.now ++ 10 ∷ [])) }
+{
+    match verdict {
+        Verdict::Equal { role, name, size } => {
+            let label = Label {
+                role: *role,
+                name: name.as_slice(),
+            };
+            add_equal(alloc, text, label, *size)
+        }
+        Verdict::Differs {
+            role,
+            name,
+            at,
+            first,
+            second,
+            sizes,
+        } => {
+            let label = Label {
+                role: *role,
+                name: name.as_slice(),
+            };
+            let at = Difference {
+                bits: at.as_slice(),
+                first: *first,
+                second: *second,
+            };
+            add_different(alloc, text, names, label, at, *sizes)
+        }
+        Verdict::Lone { side, role, name } => {
+            let label = Label {
+                role: *role,
+                name: name.as_slice(),
+            };
+            add_lone(text, *side, label)
+        }
+    }
 }
 
 /// Adds the last line.

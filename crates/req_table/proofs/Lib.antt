@@ -10,3 +10,4 @@ pub mod Shorts
 pub mod Waved
 pub mod Sized
 pub mod AsksFor
+pub mod Memos

@@ -9,3 +9,4 @@ pub mod Keys
 pub mod Meanings
 pub mod Sizes
 pub mod Tables
+pub mod Memos

@@ -4,11 +4,13 @@
 ghost use Rattle.std.specs.Prelude.{◌≡◌, None};
 ghost use Rattle.req_table.specs.Operation.{IsRequest};
 
+mod memo;
 mod records;
 pub mod requests;
 mod table;
 
 use dd_store::Ref;
+pub use memo::Memo;
 pub use records::Records;
 use std::collections::LinkedList;
 use std::marker::Model;

@@ -1,6 +1,13 @@
-use Rattle.net_bench.specs.Circuit.{circuit}
-use Rattle.std.proofs.Common.{◌∙◌, ap, Err}
+use Rattle.std.proofs.Common.{refl, subst}
+use Rattle.check_report.specs.Lines.{counted}
+use Rattle.check_report.specs.Writing.{AppendsFront}
+use Rattle.check_report.proofs.Reporting.{reported}
 use Rattle.check_report.proofs.checking.check.Goals as goal
 
-pub returns-in-Err-read_bench-clause-fault : goal.returns-in-Err-read_bench-clause-fault
-returns-in-Err-read_bench-clause-fault g c = (circuit c.in-Ok.net, c.in-Ok.ensures.accepted, record { cause = c.in-Err-read_bench.ensures.refused; read = λ e. c.read_bench-2.ensures.read (c.in-Err-read_bench.is ∙ ap Err e) })
+pub returns-clause-unwritten : goal.returns-clause-unwritten
+returns-clause-unwritten g c = λ _. (
+  counted c.in_ok-verdicts.verdicts.verdicts,
+  c.in-Ok.text.items,
+  reported _ _ _ _ _ c.in_ok-verdicts.verdicts _ _ c.in_ok-verdicts.ensures.verdicts refl c.in-Ok.ensures,
+  subst (AppendsFront _ _ _ _) c.as_slice.ensures.value c.in-Err.ensures.err,
+)

@@ -7,8 +7,8 @@ use Rattle.check_report.proofs.Limiting.{none_before, exceeds}
 use Rattle.check_report.proofs.Subjects.{all_signals}
 use Rattle.check_report.proofs.checking.compare.Goals as goal
 
-pub report_of-requires : goal.report_of-requires
-report_of-requires g c = record {
+pub verdicts_of-requires : goal.verdicts_of-requires
+verdicts_of-requires g c = record {
   levels = c.in-Ok-build.ensures.keeps.levels ∙ ap (λ (S : Nodes). S.levels) c.in-Ok.ensures ∙ c.len-levels.ensures.value ∙ ap length c.names.ensures.value;
   first = c.in-Ok-build.ensures.first;
   second = c.in-Ok-build.ensures.second;
@@ -20,7 +20,7 @@ returns-in-Err-clause-full g c = λ e.
     let T : Nodes = c.build.new.store in
     let a = circuit c.args.first.now in
     let b = circuit c.args.second.now in
-    let p = c.args.pairing.now in
+    let p = c.args.pairing in
     let levels : T.levels ≡ c.len-levels.result = c.build.ensures.keeps.levels ∙ ap (λ (S : Nodes). S.levels) c.in-Ok.ensures in
     let limit : T.limit ≡ c.args.settings.now.limit = c.build.ensures.keeps.limit ∙ ap (λ (S : Nodes). S.limit) c.in-Ok.ensures in
     let none : count_of c.in-Ok.store ≡ 0 = ap count_of c.in-Ok.ensures ∙ none_before c.len-levels.result c.args.settings.now.limit T c.build.ensures.sound levels limit in

@@ -6,13 +6,10 @@ use Rattle.req_table.specs.declared.Op.{Op}
 use Rattle.req_table.specs.declared.Key.{Key}
 use Rattle.req_table.specs.declared.Child.{Child}
 use Rattle.req_table.specs.Keys.{level_of, child, child_of, IsDeeper, IsHalf}
+use Rattle.req_table.proofs.Memos.{cofactor_at}
 use Rattle.req_table.proofs.Waved.{bounded, first_of, second_of, child_deeper, child_half}
 use Rattle.req_table.proofs.requests.split.Goals as goal
 use Rattle.req_table.proofs.requests.split.Goals.{After-cofactors-second}
-
--- a cofactor at equal operands and levels
-cofactor_at : (S : Nodes) (b : Bool) {f g r : Ref} {u v : ℕ} → f ≡ g → u ≡ v → r ≡ cofactor_of S f u b → r ≡ cofactor_of S g v b
-cofactor_at S b {f} {g} {r} {u} {v} e l h = h ∙ ap (λ z. cofactor_of S z u b) e ∙ ap (λ w. cofactor_of S g w b) l
 
 -- the operation on the cofactors is the key's child
 of_cofactors : (S : Nodes) (k : Key) (b : Bool) {op : Op} {low high : Ref} {c : Child} → op ≡ k.op → low ≡ cofactor_of S k.f (level_of S k) b → high ≡ cofactor_of S k.g (level_of S k) b → c ≡ child S op low high → c ≡ child_of S k b
