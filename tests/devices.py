@@ -108,6 +108,11 @@ class Devices:
         yes.wait()
         seen = Run(child.returncode, child.stdout, child.stderr)
         self.check("yes on standard input", seen, refused("standard input: too long"))
+        for name, words in (("first", ["-", self.c17]), ("second", [self.c17, "-"])):
+            with open("/dev/zero", "rb") as zeros:
+                child = subprocess.run([self.program, *map(str, words)], stdin=zeros, capture_output=True)
+            seen = Run(child.returncode, child.stdout, child.stderr)
+            self.check(f"/dev/zero on standard input as {name}", seen, refused(f"{name}: longer than 67108864 bytes"))
 
     def limits(self):
         """Texts at their limits and one byte over them, of comments alone."""
@@ -161,6 +166,10 @@ class Devices:
         self.check("a folder as standard input", seen, refused("standard input: cannot be read"))
         seen = self.through_shell("<&-")
         self.check("closed standard input", seen, refused("standard input: cannot be read"))
+        seen = self.through_shell("<&-", "-", self.c17)
+        self.check("closed standard input as first", seen, refused("first: cannot be read"))
+        seen = self.through_shell("<&-", self.c17, "-")
+        self.check("closed standard input as second", seen, refused("second: cannot be read"))
 
     def no_permission(self):
         secret = self.file("secret", C17)
@@ -198,6 +207,15 @@ class Devices:
             child.stdin.write(bytes([byte]))
         out, err = child.communicate()
         self.check("standard input, byte by byte", Run(child.returncode, out, err), Run(0, C17_EQUAL, b""))
+        for words, report in ((["-", self.c17b], C17_DIFFERS), ([self.c17, "-"], C17_EQUAL)):
+            child = subprocess.Popen(
+                [self.program, *map(str, words)], stdin=subprocess.PIPE, stdout=subprocess.PIPE, stderr=subprocess.PIPE, bufsize=0
+            )
+            for byte in C17:
+                child.stdin.write(bytes([byte]))
+            out, err = child.communicate()
+            seen = Run(child.returncode, out, err)
+            self.check("one file on standard input, byte by byte", seen, Run(int(report == C17_DIFFERS), report, b""))
 
     def same_device(self):
         """Both texts from one device: the first takes all of it, and an empty text is left."""
@@ -207,6 +225,11 @@ class Devices:
     def odd_words(self):
         seen = self.bytes_run([b"\xff", b"x"])
         self.check("words that are no UTF-8", seen, refused("a word of the command line is no UTF-8"))
+        dash = self.file("-", C17)
+        self.check("a file that is called -", self.run(f"{self.place}/./-", self.c17), Run(0, C17_EQUAL, b""))
+        seen = self.run("./-", self.c17, cwd=self.place)
+        self.check("a file that is called -, by ./", seen, Run(0, C17_EQUAL, b""))
+        dash.unlink()
         odd = self.file("é ü\n", C17)
         self.check("an odd path", self.run(odd, self.c17), Run(0, C17_EQUAL, b""))
         seen = self.run("--help")

@@ -82,12 +82,15 @@ def rows(place):
     for workers in (1, 2, 4):
         yield Row(f"c17 by {workers}", ["--workers", workers, c17, c17b], (EACH, EACH_START, STARTS_FROM))
     yield Row("c17 on standard input", ["--workers", 2, "--sizes"], (), C17 + b"%%\n" + C17B)
+    yield Row("first on standard input", ["--workers", 2, "-", c17b], (), C17)
+    yield Row("second on standard input", ["--workers", 2, "--sizes", c17, "-"], (), C17B)
     yield Row("order file", ["--workers", 2, "--match", "position", "--order-file", order, c17, c17b])
     machines = [TOP / "examples" / f"{name}.bench" for name in ("s27", "s27_renamed")]
     yield Row("registers", ["--workers", 2, "--sizes", *machines])
     yield Row("refused netlist", [c17, written(place, "bad", C17 + b"x")])
     yield Row("refused words", ["--workers", "none"])
     yield Row("help", ["--help"])
+    yield Row("version", ["--version"])
     for workers in (1, 2, 4):
         yield Row(f"parity by {workers}", ["--workers", workers, chain, tree])
         yield Row(f"products by {workers}", ["--workers", workers, "--sizes", one, folded])

@@ -10,13 +10,13 @@ use Rattle.check_report.specs.Writing.{AppendsFront}
 use Rattle.net_order.specs.declared.order.Order.{Order}
 use Rattle.command_line.specs.declared.options.Options.{Options}
 use Rattle.command_line.specs.declared.options.Texts.{Texts}
-use Rattle.command_line.specs.declared.options.Texts.TheVariants.{Input, Files, One}
+use Rattle.command_line.specs.declared.options.Texts.TheVariants.{Input, Files, InputAndFile, FileAndInput, InputTwice, One}
 use Rattle.bddcheck.specs.declared.fault.Place.TheVariants.{First, Second, Order as OrderFile}
 use Rattle.bddcheck.specs.declared.fault.ToolFault.{ToolFault}
-use Rattle.bddcheck.specs.declared.fault.ToolFault.TheVariants.{OneFile, CannotOpen, InputUnread, InputTooLong, InputUndivided, BadOrder, Check, OutOfMemory}
+use Rattle.bddcheck.specs.declared.fault.ToolFault.TheVariants.{OneFile, InputTwice as DashTwice, CannotOpen, InputUnread, InputTooLong, InputUndivided, BadOrder, Check, OutOfMemory}
 use Rattle.bddcheck.specs.Splitting.{IsSplit}
 use Rattle.bddcheck.specs.Opening.{Try, Extends, opened, AreTried}
-use Rattle.bddcheck.specs.Running.{text_paths, order_paths, paths_of, IsShort, AreTexts, HasTexts, IsOrderOf, IsCompared, HasReported, HasReportedFront, AreFitting, HasFirstFailed, HasSecondFailed, IsWithin, IsBeyond, IsCompareFault, IsToolFault}
+use Rattle.bddcheck.specs.Running.{first_paths, second_paths, text_paths, order_paths, paths_of, IsShort, AreTexts, HasTexts, IsOrderOf, IsCompared, HasReported, HasReportedFront, AreFitting, HasFirstFailed, HasSecondFailed, IsWithin, IsBeyond, IsCompareFault, IsToolFault}
 use Rattle.bddcheck.proofs.Failing.{check_fault}
 
 -- ---- tries
@@ -58,6 +58,14 @@ pub files_texts : (told told' : List ℕ → Option (List ℕ)) → told' ≡ to
 files_texts told told' kept input o first second is one two e f =
     subst (λ t. AreTexts told input t one two) (sym is) (e, subst (λ t. IfSome (t second.now) (λ text. two ≡ Some text)) kept f)
 
+pub file_and_input : (told : List ℕ → Option (List ℕ)) (input : Option (List ℕ)) (o : Options) (first : Bor (List ℕ)) → o.texts ≡ FileAndInput first → (one : Option (List ℕ)) → IfSome (told first.now) (λ text. one ≡ Some text)
+    → AreTexts told input o.texts one input
+file_and_input told input o first is one e = subst (λ t. AreTexts told input t one input) (sym is) (e, refl)
+
+pub input_and_file : (told : List ℕ → Option (List ℕ)) (input : Option (List ℕ)) (o : Options) (second : Bor (List ℕ)) → o.texts ≡ InputAndFile second → (two : Option (List ℕ)) → IfSome (told second.now) (λ text. two ≡ Some text)
+    → AreTexts told input o.texts input two
+input_and_file told input o second is two e = subst (λ t. AreTexts told input t input two) (sym is) (refl, e)
+
 pub split_parts : (text slice : List ℕ) (r : Option (Bor (List ℕ) × Bor (List ℕ))) (one two : Bor (List ℕ)) → slice ≡ text → r ≡ Some (one, two) → IsSplit slice (option_map (λ parts. (parts.0.now, parts.1.now)) r)
     → IsSplit text (Some (one.now, two.now))
 split_parts text slice r one two e f s =
@@ -74,6 +82,9 @@ has_texts : (told : List ℕ → Option (List ℕ)) (input : Option (List ℕ)) 
 has_texts told input (Files first second) one two a = tt
 has_texts told None Input one two a = tt
 has_texts told (Some text) Input one two a = (a.0, a.1, a.2)
+has_texts told input (FileAndInput first) one two a = tt
+has_texts told input (InputAndFile second) one two a = tt
+has_texts told input InputTwice one two a = absurd a
 has_texts told input One one two a = absurd a
 
 -- ---- the whole of a run
@@ -97,9 +108,10 @@ module _ (told : List ℕ → Option (List ℕ)) (input : Option (List ℕ)) (o 
   pub whole_beyond : (told' : List ℕ → Option (List ℕ)) → told' ≡ told → (order : Order) × IsOrderOf told' o.order order × AreBeyond one two o.matching order o.limit → IsBeyond told input o
   whole_beyond told' e h = (one, two, h.0, texts, subst (λ t. IsOrderOf t o.order h.0) e h.1, h.2)
 
-  module _ (broken : List ℕ → Type 0) (first_failed second_failed : Type 0) (first : first_failed → HasFirstFailed broken o.texts) (second : second_failed → HasSecondFailed broken o.texts) where
-    whole_fault : (tries : List Try) (fault : ToolFault) → IsCompareFault told broken one two first_failed second_failed o tries fault → IsToolFault told broken input o (opened (text_paths o.texts) ++ tries) fault
+  module _ (broken : List ℕ → Type 0) (input_broken first_failed second_failed : Type 0) (first : first_failed → HasFirstFailed broken input_broken o.texts) (second : second_failed → HasSecondFailed broken input_broken o.texts) where
+    whole_fault : (tries : List Try) (fault : ToolFault) → IsCompareFault told broken one two first_failed second_failed o tries fault → IsToolFault told broken input_broken input o (opened (text_paths o.texts) ++ tries) fault
     whole_fault tries OneFile f = absurd f
+    whole_fault tries DashTwice f = absurd f
     whole_fault tries InputUnread f = absurd f
     whole_fault tries InputTooLong f = absurd f
     whole_fault tries InputUndivided f = absurd f
@@ -111,11 +123,11 @@ module _ (told : List ℕ → Option (List ℕ)) (input : Option (List ℕ)) (o 
     whole_fault tries (BadOrder fault) f =
         (f.0, f.1, has_texts told input o.texts one two texts, ap (λ l. opened (text_paths o.texts) ++ l) f.2 ∙ sym (opened_more (text_paths o.texts) (order_paths o.order)), f.3)
     whole_fault tries (Check fault) f =
-        (one, two, f.0, texts, f.1, ap (λ l. opened (text_paths o.texts) ++ l) f.2 ∙ sym (opened_more (text_paths o.texts) (order_paths o.order)), check_fault one two first_failed second_failed (HasFirstFailed broken o.texts) (HasSecondFailed broken o.texts) o.matching f.0 first second fault f.3)
+        (one, two, f.0, texts, f.1, ap (λ l. opened (text_paths o.texts) ++ l) f.2 ∙ sym (opened_more (text_paths o.texts) (order_paths o.order)), check_fault one two first_failed second_failed (HasFirstFailed broken input_broken o.texts) (HasSecondFailed broken input_broken o.texts) o.matching f.0 first second fault f.3)
 
     pub whole_faults : (told' : List ℕ → Option (List ℕ)) → told' ≡ told → (a b c : Option (List Try)) → Extends a b (opened (text_paths o.texts)) → (r : Result Done ToolFault)
         → IfErr r (λ fault. (tries : List Try) × Extends b c tries × IsCompareFault told' broken one two first_failed second_failed o tries fault)
-        → IfErr r (λ fault. (tries : List Try) × Extends a c tries × IsToolFault told broken input o tries fault)
+        → IfErr r (λ fault. (tries : List Try) × Extends a c tries × IsToolFault told broken input_broken input o tries fault)
     whole_faults told' e a b c before (Ok done) h = tt
     whole_faults told' e a b c before (Err fault) h = (
       opened (text_paths o.texts) ++ h.0,
@@ -135,13 +147,54 @@ module _ (o : Options) (first second : Bor (List ℕ)) (files : o.texts ≡ File
       subst (λ l. Extends a d l) (sym (opened_more (text_paths o.texts) (order_paths o.order))) (extends_more a c d (opened (text_paths o.texts)) (opened (order_paths o.order)) (both_opened a b c e f) h)
   all_opened a b c d (Err fault) e f h = tt
 
-  pub second_unopened : (told : List ℕ → Option (List ℕ)) (broken : List ℕ → Type 0) (input : Option (List ℕ)) (fault : ToolFault) (a b c : Option (List Try)) → (fault ≡ CannotOpen Second) ⊎ (fault ≡ OutOfMemory)
-      → Extends a b ((first.now, true) ∷ []) → Extends b c ((second.now, false) ∷ []) → (tries : List Try) × Extends a c tries × IsToolFault told broken input o tries fault
-  second_unopened told broken input fault a b c (inl is) e f =
-      ((first.now, true) ∷ (second.now, false) ∷ [], extends_more a b c ((first.now, true) ∷ []) ((second.now, false) ∷ []) e f, subst (λ x. IsToolFault told broken input o ((first.now, true) ∷ (second.now, false) ∷ []) x) (sym is) (first, second, files, refl))
-  second_unopened told broken input fault a b c (inr is) e f = (
+  pub second_unopened : (told : List ℕ → Option (List ℕ)) (broken : List ℕ → Type 0) (input_broken : Type 0) (input : Option (List ℕ)) (fault : ToolFault) (a b c : Option (List Try)) → (fault ≡ CannotOpen Second) ⊎ (fault ≡ OutOfMemory)
+      → Extends a b ((first.now, true) ∷ []) → Extends b c ((second.now, false) ∷ []) → (tries : List Try) × Extends a c tries × IsToolFault told broken input_broken input o tries fault
+  second_unopened told broken input_broken input fault a b c (inl is) e f = (
     (first.now, true) ∷ (second.now, false) ∷ [],
     extends_more a b c ((first.now, true) ∷ []) ((second.now, false) ∷ []) e f,
-    subst (λ x. IsToolFault told broken input o ((first.now, true) ∷ (second.now, false) ∷ []) x) (sym is)
+    subst (λ x. IsToolFault told broken input_broken input o ((first.now, true) ∷ (second.now, false) ∷ []) x) (sym is) (second.now, ap second_paths files, sym (ap (λ t. opened (first_paths t) ++ (second.now, false) ∷ []) files)),
+  )
+  second_unopened told broken input_broken input fault a b c (inr is) e f = (
+    (first.now, true) ∷ (second.now, false) ∷ [],
+    extends_more a b c ((first.now, true) ∷ []) ((second.now, false) ∷ []) e f,
+    subst (λ x. IsToolFault told broken input_broken input o ((first.now, true) ∷ (second.now, false) ∷ []) x) (sym is)
         (subst (λ t. AreTried (text_paths t ++ order_paths o.order) ((first.now, true) ∷ (second.now, false) ∷ [])) (sym files) (refl, (refl, refl))),
   )
+
+-- ---- a first file that is not opened
+
+pub first_unopened : (o : Options) (path : List ℕ) → first_paths o.texts ≡ path ∷ [] → (told : List ℕ → Option (List ℕ)) (broken : List ℕ → Type 0) (input_broken : Type 0) (input : Option (List ℕ)) (fault : ToolFault) (a b : Option (List Try))
+    → (fault ≡ CannotOpen First) ⊎ (fault ≡ OutOfMemory) → Extends a b ((path, false) ∷ []) → (tries : List Try) × Extends a b tries × IsToolFault told broken input_broken input o tries fault
+first_unopened o path named told broken input_broken input fault a b (inl is) e =
+    ((path, false) ∷ [], e, subst (λ x. IsToolFault told broken input_broken input o ((path, false) ∷ []) x) (sym is) (path, named, refl))
+first_unopened o path named told broken input_broken input fault a b (inr is) e = (
+  (path, false) ∷ [],
+  e,
+  subst (λ x. IsToolFault told broken input_broken input o ((path, false) ∷ []) x) (sym is)
+      (subst (λ ps. AreTried ((ps ++ second_paths o.texts) ++ order_paths o.order) ((path, false) ∷ [])) (sym named) (refl, refl)),
+)
+
+-- ---- one file beside the input
+
+module _ (o : Options) (path : List ℕ) (named : text_paths o.texts ≡ path ∷ []) where
+  pub one_opened : (a b : Option (List Try)) → Extends a b ((path, true) ∷ []) → Extends a b (opened (text_paths o.texts))
+  one_opened a b e = subst (λ ps. Extends a b (opened ps)) (sym named) e
+
+  pub all_opened_beside : (a b c : Option (List Try)) (r : Result Outcome ToolFault) → Extends a b ((path, true) ∷ []) → OnOk r (Extends b c (opened (order_paths o.order))) → OnOk r (Extends a c (opened (paths_of o)))
+  all_opened_beside a b c (Ok outcome) e h =
+      subst (λ l. Extends a c l) (sym (opened_more (text_paths o.texts) (order_paths o.order))) (extends_more a b c (opened (text_paths o.texts)) (opened (order_paths o.order)) (one_opened a b e) h)
+  all_opened_beside a b c (Err fault) e h = tt
+
+pub second_unopened_beside : (o : Options) (second : Bor (List ℕ)) → o.texts ≡ InputAndFile second → (told : List ℕ → Option (List ℕ)) (broken : List ℕ → Type 0) (input_broken : Type 0) (input : Option (List ℕ)) (fault : ToolFault) (a b : Option (List Try))
+    → (fault ≡ CannotOpen Second) ⊎ (fault ≡ OutOfMemory) → Extends a b ((second.now, false) ∷ []) → (tries : List Try) × Extends a b tries × IsToolFault told broken input_broken input o tries fault
+second_unopened_beside o second beside told broken input_broken input fault a b (inl is) e = (
+  (second.now, false) ∷ [],
+  e,
+  subst (λ x. IsToolFault told broken input_broken input o ((second.now, false) ∷ []) x) (sym is) (second.now, ap second_paths beside, sym (ap (λ t. opened (first_paths t) ++ (second.now, false) ∷ []) beside)),
+)
+second_unopened_beside o second beside told broken input_broken input fault a b (inr is) e = (
+  (second.now, false) ∷ [],
+  e,
+  subst (λ x. IsToolFault told broken input_broken input o ((second.now, false) ∷ []) x) (sym is)
+      (subst (λ t. AreTried (text_paths t ++ order_paths o.order) ((second.now, false) ∷ [])) (sym beside) (refl, refl)),
+)

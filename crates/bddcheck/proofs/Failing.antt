@@ -1,7 +1,6 @@
 -- Devices that have failed, from the parts of a run to the run.
 use Rattle.std.proofs.Common.{◌≡◌, ◌⊎◌, inl, inr, ℕ, Bool, false, List, Option, Some, None, sym, subst, IsTrue}
 use Rattle.std.specs.Prelude.{IfSome}
-use Rattle.std.specs.Borrow.{Bor}
 use Rattle.check_report.specs.declared.fault.CheckFault.{CheckFault}
 use Rattle.check_report.specs.declared.fault.CheckFault.TheVariants.{First, Second, Order as OrderRefused, Wave, Write, OutOfMemory}
 use Rattle.check_report.specs.Check.{IsCheckFault}
@@ -11,7 +10,6 @@ use Rattle.net_order.specs.declared.order.OrderFault.{OrderFault}
 use Rattle.net_order.specs.declared.order.OrderFault.TheVariants.{Read as OrderReadFailed, OutOfMemory as NoOrderMemory}
 use Rattle.net_order.specs.OrderText.{IsBadText}
 use Rattle.command_line.specs.declared.options.Texts.{Texts}
-use Rattle.command_line.specs.declared.options.Texts.TheVariants.{Files}
 use Rattle.bddcheck.specs.Opening.{HasFailedAt}
 use Rattle.bddcheck.specs.Running.{HasFirstFailed, HasSecondFailed, IsOrderRefused}
 
@@ -30,11 +28,11 @@ pub failed_at : {File : Type 0} (origin : File → Option (List ℕ)) (has_faile
     → IsTrue (has_failed after) → HasFailedAt origin has_failed path
 failed_at origin has_failed path before after named same failed = (after, subst (λ o. IfSome o (λ from. from ≡ path)) (sym same) named, failed)
 
-pub first_failed : (broken : List ℕ → Type 0) (texts : Texts) (first second : Bor (List ℕ)) → texts ≡ Files first second → broken first.now → HasFirstFailed broken texts
-first_failed broken texts first second is b = subst (λ t. HasFirstFailed broken t) (sym is) b
+pub first_failed : (broken : List ℕ → Type 0) (input_broken : Type 0) (texts known : Texts) → texts ≡ known → HasFirstFailed broken input_broken known → HasFirstFailed broken input_broken texts
+first_failed broken input_broken texts known is b = subst (λ t. HasFirstFailed broken input_broken t) (sym is) b
 
-pub second_failed : (broken : List ℕ → Type 0) (texts : Texts) (first second : Bor (List ℕ)) → texts ≡ Files first second → broken second.now → HasSecondFailed broken texts
-second_failed broken texts first second is b = subst (λ t. HasSecondFailed broken t) (sym is) b
+pub second_failed : (broken : List ℕ → Type 0) (input_broken : Type 0) (texts known : Texts) → texts ≡ known → HasSecondFailed broken input_broken known → HasSecondFailed broken input_broken texts
+second_failed broken input_broken texts known is b = subst (λ t. HasSecondFailed broken input_broken t) (sym is) b
 
 -- a text in memory never fails
 pub never : (A : Type 0) → IsTrue false → A

@@ -1,5 +1,5 @@
 -- How a run ends: what it has written, what it says, and its status.
-use Rattle.std.specs.Prelude.{◌≡◌, ◌≢◌, ◌≤◌, ◌⊎◌, ◌↔◌, ℕ, Bool, List, [], Option, IsTrue, string_bytes, codes}
+use Rattle.std.specs.Prelude.{◌≡◌, ◌≢◌, ◌≤◌, ◌⊎◌, ◌↔◌, ℕ, Bool, List, Option, IsTrue, string_bytes, codes}
 use Rattle.std.specs.Io.KnownBytes.{Appends, Keeps}
 use Rattle.check_report.specs.declared.outcome.Outcome.{Outcome}
 use Rattle.check_report.specs.declared.fault.CheckFault.TheVariants.{Wave, Write}
@@ -7,7 +7,6 @@ use Rattle.check_report.specs.Writing.{AppendsFront}
 use Rattle.command_line.specs.declared.options.Options.{Options}
 use Rattle.command_line.specs.declared.reading.Refused.{Refused}
 use Rattle.command_line.specs.declared.reading.Refused.TheVariants.{Help, Mistake, OutOfMemory as NoWordMemory}
-use Rattle.command_line.specs.declared.options.Texts.TheVariants.{Input}
 use Rattle.command_line.specs.Words.{AskFor, IsRefusal}
 use Rattle.expand_work.specs.declared.fault.WaveFault.TheVariants.{Full}
 use Rattle.bddcheck.specs.declared.done.Done.{Done}
@@ -18,7 +17,7 @@ use Rattle.bddcheck.specs.declared.process.NoWords.{NoWords}
 use Rattle.bddcheck.specs.declared.process.NoWords.TheVariants.{OutOfMemory as NoArguments, NoText}
 use Rattle.bddcheck.specs.Faults.{fault_line, fault_status}
 use Rattle.bddcheck.specs.Opening.{Try, Extends, opened}
-use Rattle.bddcheck.specs.Running.{paths_of, HasReported, HasReportedFront, IsWithin, IsBeyond, IsToolFault}
+use Rattle.bddcheck.specs.Running.{paths_of, HasReported, HasReportedFront, IsWithin, IsBeyond, IsToolFault, StandOnInput}
 
 -- what a device held and holds now, and whether it has failed by now, and whether a write has taken nothing of some bytes
 pub record Written : Type 0 where
@@ -75,7 +74,7 @@ pub record Reports (s : Scene) (o : Options) (done : Done) (status : ℕ) : Type
 pub record Refuses (broken : List ℕ → Type 0) (s : Scene) (o : Options) (fault : ToolFault) (status : ℕ) : Type 0 where
   pub tries : List Try
   pub tried : Extends s.tried s.tries tries
-  pub cause : IsToolFault s.told broken s.input o tries fault
+  pub cause : IsToolFault s.told broken (IsTrue s.input_failed) s.input o tries fault
   pub unread : fault ≡ InputUnread → IsTrue s.input_failed
   pub full : fault ≡ Check (Wave Full) → IsBeyond s.told s.input o
   pub line : IsSaid s.errors fault status
@@ -98,11 +97,11 @@ IsWordEnd output errors NoWordMemory status = Keeps output.held output.holds × 
 abbrev pub IsWordEnding : Scene → List (List ℕ) → ℕ → Type 0
 IsWordEnding s words status = (refused : Refused) × IsRefusal words refused × IsWordEnd s.output s.errors refused status
 
--- How a run of the program on some words ends. They ask for options, whose run ends as above, and the input stays unread unless the
--- texts stand on it; or they are refused, no file is asked for, and the input stays unread.
+-- How a run of the program on some words ends. They ask for options, whose run ends as above, and the input stays unread unless a
+-- text stands on it; or they are refused, no file is asked for, and the input stays unread.
 abbrev pub IsRun : (broken : List ℕ → Type 0) → Scene → (unopened unread : Type 0) → List (List ℕ) → ℕ → Type 0
 IsRun broken s unopened unread words status =
-    ((o : Options) × AskFor words o × IsEnding broken s o status × (o.texts ≢ Input → unread))
+    ((o : Options) × AskFor words o × IsEnding broken s o status × ((StandOnInput o.texts → ⊥) → unread))
     ⊎ (IsWordEnding s words status × unopened × unread)
 
 -- what is told where the process has no words for the program

@@ -11,7 +11,7 @@ use Rattle.check_report.specs.Texts.{check_fault_text}
 use Rattle.bddcheck.specs.declared.fault.Place.{Place}
 use Rattle.bddcheck.specs.declared.fault.Place.TheVariants.{First as FirstFile, Second as SecondFile, Order as OrderFile}
 use Rattle.bddcheck.specs.declared.fault.ToolFault.{ToolFault}
-use Rattle.bddcheck.specs.declared.fault.ToolFault.TheVariants.{OneFile, CannotOpen, InputUnread, InputTooLong, InputUndivided, BadOrder, Check, OutOfMemory}
+use Rattle.bddcheck.specs.declared.fault.ToolFault.TheVariants.{OneFile, InputTwice, CannotOpen, InputUnread, InputTooLong, InputUndivided, BadOrder, Check, OutOfMemory}
 
 -- what a file is
 abbrev pub place_text : Place → List ℕ
@@ -22,6 +22,7 @@ place_text OrderFile = codes "order"
 -- the text of a fault, without the program's name before it
 abbrev pub tool_fault_text : ToolFault → List ℕ
 tool_fault_text OneFile = codes "give two files or none"
+tool_fault_text InputTwice = codes "standard input: given twice"
 tool_fault_text (CannotOpen place) = place_text place ++ codes ": cannot be opened"
 tool_fault_text InputUnread = codes "standard input: cannot be read"
 tool_fault_text InputTooLong = codes "standard input: too long"
@@ -70,6 +71,7 @@ check_status NoCheckMemory = 3
 -- the program's status for a fault
 abbrev pub fault_status : ToolFault → ℕ
 fault_status OneFile = 2
+fault_status InputTwice = 2
 fault_status (CannotOpen place) = 2
 fault_status InputUnread = 2
 fault_status InputTooLong = 2

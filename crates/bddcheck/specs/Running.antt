@@ -1,5 +1,5 @@
 -- What a run compares, what it writes, and why it writes no report.
-use Rattle.std.specs.Prelude.{◌≡◌, ◌<◌, ◌≤◌, ◌⊎◌, ℕ, Bool, true, false, List, [], ◌∷◌, ◌++◌, length, Option, Some, None, IfSome, ⊤}
+use Rattle.std.specs.Prelude.{◌≡◌, ◌<◌, ◌≤◌, ◌⊎◌, ℕ, Bool, false, List, [], ◌∷◌, ◌++◌, length, Option, Some, None, IfSome, ⊤}
 use Rattle.std.specs.Borrow.{Bor}
 use Rattle.std.specs.Io.KnownBytes.{Appends}
 use Rattle.check_report.specs.Writing.{AppendsFront}
@@ -15,21 +15,46 @@ use Rattle.command_line.specs.declared.options.Options.{Options}
 use Rattle.command_line.specs.declared.options.OrderChoice.{OrderChoice}
 use Rattle.command_line.specs.declared.options.OrderChoice.TheVariants.{Declared, Depth, Interleave, File}
 use Rattle.command_line.specs.declared.options.Texts.{Texts}
-use Rattle.command_line.specs.declared.options.Texts.TheVariants.{Input, Files, One}
+use Rattle.command_line.specs.declared.options.Texts.TheVariants.{Input, Files, InputAndFile, FileAndInput, InputTwice, One}
 use Rattle.bddcheck.specs.declared.done.Done.{Done}
 use Rattle.bddcheck.specs.declared.done.Done.TheVariants.{Compared, OrderPrinted}
 use Rattle.bddcheck.specs.declared.fault.Place.{Place}
 use Rattle.bddcheck.specs.declared.fault.Place.TheVariants.{First, Second, Order as OrderFile}
 use Rattle.bddcheck.specs.declared.fault.ToolFault.{ToolFault}
-use Rattle.bddcheck.specs.declared.fault.ToolFault.TheVariants.{OneFile, CannotOpen, InputUnread, InputTooLong, InputUndivided, BadOrder, Check, OutOfMemory}
+use Rattle.bddcheck.specs.declared.fault.ToolFault.TheVariants.{OneFile, InputTwice as DashTwice, CannotOpen, InputUnread, InputTooLong, InputUndivided, BadOrder, Check, OutOfMemory}
 use Rattle.bddcheck.specs.Splitting.{IsSplit}
 use Rattle.bddcheck.specs.Opening.{Try, opened, AreTried}
 
+-- the file that is opened for the first text
+abbrev pub first_paths : Texts → List (List ℕ)
+first_paths (Files first second) = first.now ∷ []
+first_paths (FileAndInput first) = first.now ∷ []
+first_paths (InputAndFile second) = []
+first_paths Input = []
+first_paths InputTwice = []
+first_paths One = []
+
+-- the same of the second
+abbrev pub second_paths : Texts → List (List ℕ)
+second_paths (Files first second) = second.now ∷ []
+second_paths (InputAndFile second) = second.now ∷ []
+second_paths (FileAndInput first) = []
+second_paths Input = []
+second_paths InputTwice = []
+second_paths One = []
+
 -- the files that are opened for the texts, in this order
 abbrev pub text_paths : Texts → List (List ℕ)
-text_paths (Files first second) = first.now ∷ second.now ∷ []
-text_paths Input = []
-text_paths One = []
+text_paths texts = first_paths texts ++ second_paths texts
+
+-- a text stands on the input, or both
+abbrev pub StandOnInput : Texts → Type 0
+StandOnInput Input = ⊤
+StandOnInput (InputAndFile second) = ⊤
+StandOnInput (FileAndInput first) = ⊤
+StandOnInput (Files first second) = ⊥
+StandOnInput InputTwice = ⊥
+StandOnInput One = ⊥
 
 -- the file that is opened for the order
 abbrev pub order_paths : OrderChoice → List (List ℕ)
@@ -50,10 +75,13 @@ IsReadOf told read = IfSome told (λ text. read ≡ Some text)
 abbrev pub IsShort : List ℕ → Type 0
 IsShort text = length text ≤ 134221824
 
--- the two texts: of two files, or the parts of one input
+-- the two texts: of two files, of a file and the whole input, or the parts of the input
 abbrev pub AreTexts : (List ℕ → Option (List ℕ)) → Option (List ℕ) → Texts → Option (List ℕ) → Option (List ℕ) → Type 0
 AreTexts told input (Files first second) one two = IsReadOf (told first.now) one × IsReadOf (told second.now) two
 AreTexts told input Input one two = IfSome input (λ text. IsShort text × (parts : List ℕ × List ℕ) × IsSplit text (Some parts) × (one ≡ Some parts.0) × (two ≡ Some parts.1))
+AreTexts told input (InputAndFile second) one two = (one ≡ input) × IsReadOf (told second.now) two
+AreTexts told input (FileAndInput first) one two = IsReadOf (told first.now) one × (two ≡ input)
+AreTexts told input InputTwice one two = ⊥
 AreTexts told input One one two = ⊥
 
 -- the order that is asked for; a file of names has been read
@@ -111,6 +139,9 @@ IsBeyond told input o = AreNamed told input o (λ one two order. AreBeyond one t
 abbrev pub HasTexts : Option (List ℕ) → Texts → Type 0
 HasTexts input (Files first second) = ⊤
 HasTexts input Input = IfSome input (λ text. IsShort text × (parts : List ℕ × List ℕ) × IsSplit text (Some parts))
+HasTexts input (InputAndFile second) = ⊤
+HasTexts input (FileAndInput first) = ⊤
+HasTexts input InputTwice = ⊥
 HasTexts input One = ⊥
 
 -- Why the order file was refused: want of memory, a file that has failed, or what stands in it.
@@ -128,6 +159,7 @@ IsOrderFault told broken choice tries OutOfMemory = AreTried (order_paths choice
 IsOrderFault told broken choice tries (CannotOpen First) = ⊥
 IsOrderFault told broken choice tries (CannotOpen Second) = ⊥
 IsOrderFault told broken choice tries OneFile = ⊥
+IsOrderFault told broken choice tries DashTwice = ⊥
 IsOrderFault told broken choice tries InputUnread = ⊥
 IsOrderFault told broken choice tries InputTooLong = ⊥
 IsOrderFault told broken choice tries InputUndivided = ⊥
@@ -141,6 +173,7 @@ IsCompareFault told broken one two first_failed second_failed o tries (CannotOpe
 IsCompareFault told broken one two first_failed second_failed o tries (BadOrder fault) = IsOrderFault told broken o.order tries (BadOrder fault)
 IsCompareFault told broken one two first_failed second_failed o tries OutOfMemory = IsOrderFault told broken o.order tries OutOfMemory
 IsCompareFault told broken one two first_failed second_failed o tries OneFile = ⊥
+IsCompareFault told broken one two first_failed second_failed o tries DashTwice = ⊥
 IsCompareFault told broken one two first_failed second_failed o tries InputUnread = ⊥
 IsCompareFault told broken one two first_failed second_failed o tries InputTooLong = ⊥
 IsCompareFault told broken one two first_failed second_failed o tries InputUndivided = ⊥
@@ -154,38 +187,47 @@ IsInputFault input (Check fault) = ⊥
 IsInputFault input (CannotOpen place) = ⊥
 IsInputFault input (BadOrder fault) = ⊥
 IsInputFault input OneFile = ⊥
+IsInputFault input DashTwice = ⊥
 IsInputFault input InputUndivided = ⊥
 
 -- why a file was not opened, with all that was tried before
 abbrev pub IsUnopened : Option (List ℕ) → Options → List Try → Place → Type 0
-IsUnopened input o tries First = (first second : Bor (List ℕ)) × (o.texts ≡ Files first second) × (tries ≡ (first.now, false) ∷ [])
-IsUnopened input o tries Second = (first second : Bor (List ℕ)) × (o.texts ≡ Files first second) × (tries ≡ (first.now, true) ∷ (second.now, false) ∷ [])
+IsUnopened input o tries First = (path : List ℕ) × (first_paths o.texts ≡ path ∷ []) × (tries ≡ (path, false) ∷ [])
+IsUnopened input o tries Second = (path : List ℕ) × (second_paths o.texts ≡ path ∷ []) × (tries ≡ opened (first_paths o.texts) ++ (path, false) ∷ [])
 IsUnopened input o tries OrderFile =
     (path : Bor (List ℕ)) × (o.order ≡ File path) × HasTexts input o.texts × (tries ≡ opened (text_paths o.texts) ++ (path.now, false) ∷ [])
 
--- the device of the first text has failed: its file; a text of the input is read from memory, which cannot fail
-abbrev pub HasFirstFailed : (broken : List ℕ → Type 0) → Texts → Type 0
-HasFirstFailed broken (Files first second) = broken first.now
-HasFirstFailed broken Input = ⊥
-HasFirstFailed broken One = ⊥
+-- the device of the first text has failed: its file, or the input where it is the whole text; the parts of a divided input are read
+-- from memory, which cannot fail
+abbrev pub HasFirstFailed : (broken : List ℕ → Type 0) → (input_broken : Type 0) → Texts → Type 0
+HasFirstFailed broken input_broken (Files first second) = broken first.now
+HasFirstFailed broken input_broken (FileAndInput first) = broken first.now
+HasFirstFailed broken input_broken (InputAndFile second) = input_broken
+HasFirstFailed broken input_broken Input = ⊥
+HasFirstFailed broken input_broken InputTwice = ⊥
+HasFirstFailed broken input_broken One = ⊥
 
 -- the same of the second
-abbrev pub HasSecondFailed : (broken : List ℕ → Type 0) → Texts → Type 0
-HasSecondFailed broken (Files first second) = broken second.now
-HasSecondFailed broken Input = ⊥
-HasSecondFailed broken One = ⊥
+abbrev pub HasSecondFailed : (broken : List ℕ → Type 0) → (input_broken : Type 0) → Texts → Type 0
+HasSecondFailed broken input_broken (Files first second) = broken second.now
+HasSecondFailed broken input_broken (InputAndFile second) = broken second.now
+HasSecondFailed broken input_broken (FileAndInput first) = input_broken
+HasSecondFailed broken input_broken Input = ⊥
+HasSecondFailed broken input_broken InputTwice = ⊥
+HasSecondFailed broken input_broken One = ⊥
 
 -- Why there is no report, and which files were tried until then. What comes before in the order of the checks was accepted.
--- `broken` says of a path that a file that was opened there has failed.
-abbrev pub IsToolFault : (List ℕ → Option (List ℕ)) → (broken : List ℕ → Type 0) → Option (List ℕ) → Options → List Try → ToolFault → Type 0
-IsToolFault told broken input o tries OneFile = (o.texts ≡ One) × (tries ≡ [])
-IsToolFault told broken input o tries (CannotOpen place) = IsUnopened input o tries place
-IsToolFault told broken input o tries InputUnread = (o.texts ≡ Input) × (tries ≡ [])
-IsToolFault told broken input o tries InputTooLong = (o.texts ≡ Input) × (tries ≡ []) × IfSome input (λ text. 134221824 < length text)
-IsToolFault told broken input o tries InputUndivided = (o.texts ≡ Input) × (tries ≡ []) × IfSome input (λ text. IsShort text × IsSplit text None)
-IsToolFault told broken input o tries (BadOrder fault) =
+-- `broken` says of a path that a file that was opened there has failed, and `input_broken` that the input has.
+abbrev pub IsToolFault : (List ℕ → Option (List ℕ)) → (broken : List ℕ → Type 0) → (input_broken : Type 0) → Option (List ℕ) → Options → List Try → ToolFault → Type 0
+IsToolFault told broken input_broken input o tries OneFile = (o.texts ≡ One) × (tries ≡ [])
+IsToolFault told broken input_broken input o tries DashTwice = (o.texts ≡ InputTwice) × (tries ≡ [])
+IsToolFault told broken input_broken input o tries (CannotOpen place) = IsUnopened input o tries place
+IsToolFault told broken input_broken input o tries InputUnread = (o.texts ≡ Input) × (tries ≡ [])
+IsToolFault told broken input_broken input o tries InputTooLong = (o.texts ≡ Input) × (tries ≡ []) × IfSome input (λ text. 134221824 < length text)
+IsToolFault told broken input_broken input o tries InputUndivided = (o.texts ≡ Input) × (tries ≡ []) × IfSome input (λ text. IsShort text × IsSplit text None)
+IsToolFault told broken input_broken input o tries (BadOrder fault) =
     (path : Bor (List ℕ)) × (o.order ≡ File path) × HasTexts input o.texts × (tries ≡ opened (paths_of o)) × IsOrderRefused (told path.now) (broken path.now) fault
-IsToolFault told broken input o tries (Check fault) =
+IsToolFault told broken input_broken input o tries (Check fault) =
     (one two : Option (List ℕ)) × (order : Order) × AreTexts told input o.texts one two × IsOrderOf told o.order order
-    × (tries ≡ opened (paths_of o)) × IsCheckFault one two (HasFirstFailed broken o.texts) (HasSecondFailed broken o.texts) o.matching order fault
-IsToolFault told broken input o tries OutOfMemory = AreTried (paths_of o) tries
+    × (tries ≡ opened (paths_of o)) × IsCheckFault one two (HasFirstFailed broken input_broken o.texts) (HasSecondFailed broken input_broken o.texts) o.matching order fault
+IsToolFault told broken input_broken input o tries OutOfMemory = AreTried (paths_of o) tries

@@ -34,6 +34,8 @@ impl fmt::Display for Place {
 pub enum ToolFault {
     /// One file was named.
     OneFile,
+    /// Standard input was named as both files.
+    InputTwice,
     CannotOpen(Place),
     InputUnread,
     InputTooLong,
@@ -51,6 +53,7 @@ impl fmt::Display for ToolFault {
     fn fmt<W: fmt::Write>(&self, f: &mut fmt::Formatter<W>) -> fmt::Result {
         match self {
             ToolFault::OneFile => write!(f, "give two files or none"),
+            ToolFault::InputTwice => write!(f, "standard input: given twice"),
             ToolFault::CannotOpen(place) => write!(f, "{place}: cannot be opened"),
             ToolFault::InputUnread => write!(f, "standard input: cannot be read"),
             ToolFault::InputTooLong => write!(f, "standard input: too long"),

@@ -8,7 +8,7 @@ ghost use Rattle.check_report.specs.Writing.{AppendsFront};
 ghost use Rattle.expand_work.specs.declared.fault.WaveFault.TheVariants.{Full};
 ghost use Rattle.net_order.specs.declared.order.Order.{Order};
 ghost use Rattle.bddcheck.specs.Opening.{Extends, HasFailedAt, Try, opened};
-ghost use Rattle.bddcheck.specs.Running.{order_paths, paths_of, IsShort, IsOrderOf, IsOrderFault, IsCompared, IsCompareFault, IsInputFault, IsToolFault, HasReported, HasReportedFront, AreFitting, IsWithin, IsBeyond};
+ghost use Rattle.bddcheck.specs.Running.{order_paths, paths_of, IsShort, IsOrderOf, IsOrderFault, IsCompared, IsCompareFault, IsInputFault, IsToolFault, HasReported, HasReportedFront, AreFitting, IsWithin, IsBeyond, StandOnInput};
 
 use crate::done::Done;
 use crate::fault::{Place, ToolFault};
@@ -121,8 +121,8 @@ fn read_input<R: Source>(alloc: Global, input: &mut R) -> Result<Vec<u8>, ToolFa
     }
 }
 
-/// Compares what the options name: two files, or the two texts of the input. FIRST, SECOND and the order's file are opened in
-/// this order; of the input the order's file is opened behind the reading and the dividing.
+/// Compares what the options name: two files, a file and the input, or the two texts of the input. FIRST, SECOND and the order's file
+/// are opened in this order; where the input is divided, the order's file is opened behind that.
 pub fn run_options<H: Threads + Wait + Sync, F: Folder, R: Source, W: Sink>(
     rt: &H,
     alloc: Global,
@@ -139,7 +139,7 @@ pub fn run_options<H: Threads + Wait + Sync, F: Folder, R: Source, W: Sink>(
     ensures within { IfOk result (IsWithin (F.told folder.old) (R.remaining input.old) options.now) }
     ensures full { result ≡ Err (ToolFault.Check (Wave Full)) → IsBeyond (F.told folder.old) (R.remaining input.old) options.now }
     // A fault has its cause, what comes before it was accepted, and no file was tried beyond it.
-    ensures fault { IfErr result (λ fault. (tries : List Try) × Extends (F.tries folder.old) (F.tries folder.new) tries × IsToolFault (F.told folder.old) (HasFailedAt F.File.origin F.File.has_failed) (R.remaining input.old) options.now tries fault) }
+    ensures fault { IfErr result (λ fault. (tries : List Try) × Extends (F.tries folder.old) (F.tries folder.new) tries × IsToolFault (F.told folder.old) (HasFailedAt F.File.origin F.File.has_failed) (IsTrue (R.has_failed input.new)) (R.remaining input.old) options.now tries fault) }
     // Where the writing failed, a front part of the report was written, and the device has failed or taken nothing of the rest.
     ensures unwritten { result ≡ Err (ToolFault.Check Write) → HasReportedFront (F.told folder.old) (R.remaining input.old) options.now (W.contents out.old) (W.contents out.new) (W.has_failed out.new) (W.has_stopped out.new) }
     // At any other fault nothing was written.
@@ -147,15 +147,24 @@ pub fn run_options<H: Threads + Wait + Sync, F: Folder, R: Source, W: Sink>(
     // An input that is said to have failed has failed, and an output that took the report has not.
     ensures read { result ≡ Err ToolFault.InputUnread → IsTrue (R.has_failed input.new) }
     ensures written { OnOk result ((W.has_failed out.new ≡ W.has_failed out.old) × (W.has_stopped out.new ≡ W.has_stopped out.old)) }
-    // The input is read only where the texts stand on it.
-    ensures unasked { options.now.texts ≢ Texts.Input → input.new ≡ input.old }
+    // The input is read only where a text stands on it.
+    ensures unasked { (StandOnInput options.now.texts → ⊥) → input.new ≡ input.old }
 {
     match options.texts {
         Texts::One => Err(ToolFault::OneFile),
+        Texts::InputTwice => Err(ToolFault::InputTwice),
         Texts::Files(first, second) => {
             let mut first = open(folder, first, Place::First)?;
             let mut second = open(folder, second, Place::Second)?;
             compare(rt, alloc, options, folder, &mut first, &mut second, out)
+        }
+        Texts::InputAndFile(path) => {
+            let mut file = open(folder, path, Place::Second)?;
+            compare(rt, alloc, options, folder, input, &mut file, out)
+        }
+        Texts::FileAndInput(path) => {
+            let mut file = open(folder, path, Place::First)?;
+            compare(rt, alloc, options, folder, &mut file, input, out)
         }
         Texts::Input => {
             let text = read_input(alloc, input)?;

@@ -1,4 +1,5 @@
 //! Runs of the program over a folder and devices in memory.
+mod dashes;
 mod devices;
 mod fault_lines;
 mod meetings;

@@ -100,7 +100,7 @@ pub fn run_tool<H: Threads + Wait + Sync, F: Folder, R: Source, W: Sink, E: Sink
     errors: &mut E,
 ) -> u8
     // The words ask for options, and then the run ends with their report, or their order, and status 0 or 1, or with the line and the status of a
-    // fault that has its cause, and the input is read only where the texts stand on it; or they are refused for a cause, no file is
+    // fault that has its cause, and the input is read only where a text stands on it; or they are refused for a cause, no file is
     // opened, nothing is read, and help, a mistake or want of memory is told.
     ensures ending { let scene : Scene = record {
       told = F.told folder.old;

@@ -1,5 +1,5 @@
 -- What clap finds where there are no words.
-use Rattle.std.proofs.Common.{◌≡◌, ◌∙◌, refl, ap, subst, ℕ, Bool, true, false, List, [], Option, Some, None, rules}
+use Rattle.std.proofs.Common.{◌≡◌, ◌∙◌, refl, ap, subst, ℕ, [], Option, Some, None, rules}
 use Rattle.std.specs.Prelude.{codes}
 use Rattle.clap.specs.Words.{first_of, one_of, matches_of}
 use Rattle.clap.specs.declared.builder.value_parser.ValueParser.{ValueParser}
@@ -9,8 +9,6 @@ use Rattle.net_order.specs.declared.order.Match.TheVariants.{Name, Position}
 use Rattle.command_line.specs.declared.options.Options.{Options}
 use Rattle.command_line.specs.declared.options.OrderChoice.{OrderChoice}
 use Rattle.command_line.specs.declared.options.OrderChoice.TheVariants.{Declared, Depth, Interleave, File}
-use Rattle.command_line.specs.declared.options.Texts.{Texts}
-use Rattle.command_line.specs.declared.options.Texts.TheVariants.{Input, Files, One}
 use Rattle.command_line.specs.Words.{tool_app, AreTexts, AskFor, IsChoice, IsFlag, IsMatching, IsNumberIn}
 use Rattle.command_line.specs.Defaults.{AreDefaults}
 
@@ -61,11 +59,6 @@ as_declared Depth is = cc
 as_declared Interleave is = cc
 as_declared (File path) is = absurd is
 
-on_input : (texts : Texts) → AreTexts None None texts → texts ≡ Input
-on_input Input are = refl
-on_input One are = absurd are
-on_input (Files first second) are = absurd are
-
 four : (n : ℕ) → IsNumberIn 1 16 (Some (codes "4")) n → n ≡ 4
 four n is = is (search rules)
 
@@ -85,6 +78,6 @@ defaults o (rows, found, one, are) =
       limit = most o.limit (subst (λ w. IsNumberIn 1 4294967295 w o.limit) (ap (one_of (codes "limit")) e ∙ limit_found m d) are.limit);
       sizes = (subst (λ w. IsFlag w o.sizes) (ap (one_of (codes "sizes")) e ∙ sizes_found m d) are.sizes).1 refl;
       print_order = (subst (λ w. IsFlag w o.print_order) (ap (one_of (codes "print-order")) e ∙ print_order_found m d) are.print_order).1 refl;
-      texts = on_input o.texts (subst (λ w. AreTexts w None o.texts) (ap (first_of (codes "FIRST")) e ∙ first_found m d)
-          (subst (λ w. AreTexts (first_of (codes "FIRST") rows) w o.texts) (ap (first_of (codes "SECOND")) e ∙ second_found m d) are.texts));
+      texts = subst (λ w. AreTexts w None o.texts) (ap (first_of (codes "FIRST")) e ∙ first_found m d)
+          (subst (λ w. AreTexts (first_of (codes "FIRST") rows) w o.texts) (ap (first_of (codes "SECOND")) e ∙ second_found m d) are.texts);
     }

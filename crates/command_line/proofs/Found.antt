@@ -38,7 +38,7 @@ found a words m t none h =
 -- want of memory is told as such
 starved : (kind : ErrorKind) (r : Refused) → kind ≡ NoMemory → IsToldAs kind r → r ≡ OutOfMemory
 starved kind (Help text) e (inl f) = cc
-starved kind (Help text) e (inr f) = cc
+starved kind (Help text) e (inr f) = let is = f.0 in cc
 starved kind (Mistake text) e t = absurd (t.2 e)
 starved kind OutOfMemory e t = refl
 

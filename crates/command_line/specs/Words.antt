@@ -1,5 +1,5 @@
 -- What the words of the command line ask for, by clap's matches of the command's arguments.
-use Rattle.std.specs.Prelude.{◌≡◌, ◌≢◌, ◌⊎◌, ℕ, pos, Bool, true, false, List, [], ◌∷◌, map, codes, Option, Some, None, IfSome, ⊤, find, option_and_then}
+use Rattle.std.specs.Prelude.{◌≡◌, ◌≢◌, ◌⊎◌, ℕ, pos, Bool, true, false, List, [], ◌∷◌, map, codes, Option, Some, None, IfSome, ⊤, find, option_and_then, string_bytes}
 use Rattle.std.specs.Borrow.{Bor}
 use Rattle.std.specs.Str.{bytes_eq}
 use Rattle.std.specs.Str.Parse.{digits_value, without_leading_plus}
@@ -17,7 +17,7 @@ use Rattle.command_line.specs.declared.options.Options.{Options}
 use Rattle.command_line.specs.declared.options.OrderChoice.{OrderChoice}
 use Rattle.command_line.specs.declared.options.OrderChoice.TheVariants.{Declared, Depth, Interleave, File}
 use Rattle.command_line.specs.declared.options.Texts.{Texts}
-use Rattle.command_line.specs.declared.options.Texts.TheVariants.{Input, Files, One}
+use Rattle.command_line.specs.declared.options.Texts.TheVariants.{Input, Files, InputAndFile, FileAndInput, InputTwice, One}
 use Rattle.command_line.specs.declared.reading.Refused.{Refused}
 use Rattle.command_line.specs.declared.reading.Refused.TheVariants.{Help, Mistake, OutOfMemory}
 
@@ -53,9 +53,9 @@ sizes_rule = record (new_rule (codes "sizes")) { long = Some (codes "sizes"); ac
 abbrev pub print_order_rule : Rule
 print_order_rule = record (new_rule (codes "print-order")) { long = Some (codes "print-order"); action = Some SetTrue }
 
--- the command before it has arguments: its words begin behind the program's name
+-- the command before it has arguments: its words begin behind the program's name, and it tells its version
 abbrev pub bare_app : App
-bare_app = on_top (λ s. record s { no_binary_name = true }) (new_app (codes "bddcheck"))
+bare_app = on_top (λ s. record s { no_binary_name = true; has_version = true }) (new_app (codes "bddcheck"))
 
 -- a parser of exactly these words
 abbrev pub TakesOnly : List Text → Option ValueParser → Type 0
@@ -97,20 +97,29 @@ IsChoice None None Depth = ⊥
 IsChoice None None Interleave = ⊥
 IsChoice None None Declared = ⊤
 
--- two files where two are given, the input where none is
+-- the word for standard input in place of a file
+abbrev pub IsDash : List ℕ → Type 0
+IsDash word = bytes_eq word (codes "-") ≡ true
+
+-- the path of a file is the word, which is another
+abbrev pub IsPath : List ℕ → Bor (List ℕ) → Type 0
+IsPath word path = (path.now ≡ word) × (bytes_eq word (codes "-") ≡ false)
+
+-- the texts of two words: two files, or standard input in place of one of them; of both is refused
+abbrev pub AreTwoTexts : List ℕ → List ℕ → Texts → Type 0
+AreTwoTexts first second (Files a b) = IsPath first a × IsPath second b
+AreTwoTexts first second (InputAndFile b) = IsDash first × IsPath second b
+AreTwoTexts first second (FileAndInput a) = IsPath first a × IsDash second
+AreTwoTexts first second InputTwice = IsDash first × IsDash second
+AreTwoTexts first second Input = ⊥
+AreTwoTexts first second One = ⊥
+
+-- those of two words where two are given, both on the input where none is; one alone is refused
 abbrev pub AreTexts : Option (List ℕ) → Option (List ℕ) → Texts → Type 0
-AreTexts (Some first) (Some second) (Files a b) = (a.now ≡ first) × (b.now ≡ second)
-AreTexts (Some first) (Some second) Input = ⊥
-AreTexts (Some first) (Some second) One = ⊥
-AreTexts None None Input = ⊤
-AreTexts None None One = ⊥
-AreTexts None None (Files a b) = ⊥
-AreTexts (Some first) None One = ⊤
-AreTexts (Some first) None Input = ⊥
-AreTexts (Some first) None (Files a b) = ⊥
-AreTexts None (Some second) One = ⊤
-AreTexts None (Some second) Input = ⊥
-AreTexts None (Some second) (Files a b) = ⊥
+AreTexts (Some first) (Some second) texts = AreTwoTexts first second texts
+AreTexts None None texts = texts ≡ Input
+AreTexts (Some first) None texts = texts ≡ One
+AreTexts None (Some second) texts = texts ≡ One
 
 -- what a flag asks for, whose text is one of two
 abbrev pub IsFlag : Option (List ℕ) → Bool → Type 0
@@ -153,9 +162,15 @@ AreFound words rows =
 abbrev pub AskFor : List Text → Options → Type 0
 AskFor words o = (rows : List Row) × AreFound words rows × (GiveTwoOrders rows → ⊥) × AreOptions rows o
 
--- how a fault of this kind is told: help as such, any other as a mistake; or that there was no memory for its text
+-- the version's line is told, or that there was no memory for it
+abbrev pub TellsVersion : Refused → Type 0
+TellsVersion (Help text) = string_bytes text ≡ codes "bddcheck 1.0.0\n"
+TellsVersion (Mistake text) = ⊥
+TellsVersion OutOfMemory = ⊤
+
+-- how a fault of this kind is told: help and the version as such, any other as a mistake; or that there was no memory for its text
 abbrev pub IsToldAs : ErrorKind → Refused → Type 0
-IsToldAs kind (Help text) = (kind ≡ DisplayHelp) ⊎ (kind ≡ DisplayVersion)
+IsToldAs kind (Help text) = (kind ≡ DisplayHelp) ⊎ ((kind ≡ DisplayVersion) × TellsVersion (Help text))
 IsToldAs kind (Mistake text) = (kind ≢ DisplayHelp) × (kind ≢ DisplayVersion) × (kind ≢ NoMemory)
 IsToldAs kind OutOfMemory = ⊤
 

@@ -113,14 +113,16 @@ fn first<'a>(alloc: Global) -> Arg<'a>
     ensures rule { rule_of result ≡ new_rule (codes "FIRST") }
     ensures local { result.global ≡ false }
 {
-    Arg::new(alloc, "FIRST").help("The file of the first netlist")
+    Arg::new(alloc, "FIRST").help("The file of the first netlist; `-` for standard input")
 }
 
 fn second<'a>(alloc: Global) -> Arg<'a>
     ensures rule { rule_of result ≡ new_rule (codes "SECOND") }
     ensures local { result.global ≡ false }
 {
-    Arg::new(alloc, "SECOND").help("The file of the second netlist")
+    Arg::new(alloc, "SECOND").help(
+        "The file of the second netlist; `-` for standard input, which can be one of the two",
+    )
 }
 
 /// The command without arguments.
@@ -129,6 +131,7 @@ fn bare<'a>(alloc: Global) -> Command<'a>
 {
     Command::new(alloc, "bddcheck")
         .no_binary_name(true)
+        .version("1.0.0")
         .about(ABOUT)
         .after_help(MORE)
 }

@@ -16,10 +16,16 @@ pub enum OrderChoice<'a> {
 /// Where the netlists come from.
 #[derive(Clone, Copy, Drop, Debug, PartialEq, Eq)]
 pub enum Texts<'a> {
-    /// Both from standard input.
+    /// Both from standard input, with a line between them.
     Input,
     /// The paths of two files.
     Files(&'a str, &'a str),
+    /// The whole of standard input as the first, and the path of the second.
+    InputAndFile(&'a str),
+    /// The path of the first, and the whole of standard input as the second.
+    FileAndInput(&'a str),
+    /// Standard input as both, which is refused.
+    InputTwice,
     /// One path alone, which is refused.
     One,
 }

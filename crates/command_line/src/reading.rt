@@ -2,7 +2,7 @@
 ghost use Rattle.std.specs.Prelude.{◌≡◌, ◌≤◌, ◌↔◌, IfOk, IfErr, IsTrue, codes, map, option_map, string_bytes};
 ghost use Rattle.clap.specs.Values.{kind_of};
 ghost use Rattle.clap.specs.Words.{app_of, found_of, one_of, rows_of};
-ghost use Rattle.command_line.specs.Words.{IsTool, IsMatching, IsChoice, IsNumberIn, IsGiven, GiveTwoOrders, AreTexts, AreOptions, AreFound, AskFor, IsToldAs, IsRefusal};
+ghost use Rattle.command_line.specs.Words.{IsTool, IsMatching, IsChoice, IsNumberIn, IsGiven, GiveTwoOrders, AreTexts, AreOptions, AreFound, AskFor, TellsVersion, IsToldAs, IsRefusal};
 
 use crate::command::command;
 use crate::options::{Options, OrderChoice, Texts};
@@ -14,15 +14,27 @@ use std::alloc::Global;
 
 static TWO_ORDERS: &str = "the argument '--order <ORDER>' cannot be used with '--order-file <F>'";
 
-/// Why the words give no options. The texts are the parser's own, and ended by a line feed.
+static VERSION_LINE: &str = "bddcheck 1.0.0\n";
+
+/// Why the words give no options. The texts are ended by a line feed, and but for the version's they are the parser's own.
 #[derive(Drop)]
 pub enum Refused {
-    /// `--help` was asked for.
+    /// `--help` or `--version` was asked for, and this is what is told.
     Help(String),
     /// A mistake in the words.
     Mistake(String),
     /// A growth was refused.
     OutOfMemory,
+}
+
+/// What `--version` tells.
+fn version(alloc: Global) -> Refused
+    ensures { TellsVersion result }
+{
+    match String::from_str(alloc, VERSION_LINE) {
+        Ok(line) => Refused::Help(line),
+        Err(_) => Refused::OutOfMemory,
+    }
 }
 
 /// What an error of the parser says.
@@ -31,6 +43,9 @@ fn refusal(alloc: Global, error: &Error) -> Refused
 {
     if error.kind() == ErrorKind::OutOfMemory {
         return Refused::OutOfMemory;
+    }
+    if error.kind() == ErrorKind::DisplayVersion {
+        return version(alloc);
     }
     let Ok(text) = error.to_string(alloc) else {
         return Refused::OutOfMemory;
@@ -122,11 +137,14 @@ fn order_of<'a>(path: Option<&'a str>, word: Option<&str>) -> OrderChoice<'a>
     }
 }
 
-/// Two files where two are given, and the input where none is.
+/// Two files where two are given, `-` for the input in place of one, and the input for both where none is given.
 fn texts_of<'a>(first: Option<&'a str>, second: Option<&'a str>) -> Texts<'a>
     ensures { AreTexts (option_map (λ s. s.now) first.entry) (option_map (λ s. s.now) second.entry) result }
 {
     match (first, second) {
+        (Some("-"), Some("-")) => Texts::InputTwice,
+        (Some("-"), Some(second)) => Texts::InputAndFile(second),
+        (Some(first), Some("-")) => Texts::FileAndInput(first),
         (Some(first), Some(second)) => Texts::Files(first, second),
         (None, None) => Texts::Input,
         _ => Texts::One,

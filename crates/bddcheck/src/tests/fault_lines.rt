@@ -145,6 +145,7 @@ fn lines_of_faults(rt: HostRuntime) -> Result<(), Fail> {
         ),
         (ToolFault::OutOfMemory, "out of memory", 3),
         (ToolFault::OneFile, "give two files or none", 2),
+        (ToolFault::InputTwice, "standard input: given twice", 2),
         (ToolFault::InputUnread, "standard input: cannot be read", 2),
         (ToolFault::InputTooLong, "standard input: too long", 2),
         (ToolFault::InputUndivided, "standard input: no line %%", 2),
