@@ -9,3 +9,5 @@ pub mod Keys
 pub mod Meanings
 pub mod Sizes
 pub mod Tables
+pub mod Words
+pub mod WordLaws
