@@ -181,3 +181,37 @@ pub taken-open : (l : LanesView) (p : PortView) (r : Option Item) (A : Type 0) (
 taken-open l p None A B of h = tt
 taken-open l p (Some (End from level)) A B of h = tt
 taken-open l p (Some (Ask from level key)) A B of h = let t = h.1 in λ closed. ask-open (port_scope p) from level key p.taken t.0 t.1 t.2 t.3 (subst (λ k. IsClosed (scope_of k p.sizes) level p.taken) (sym (port-long l p of)) closed)
+
+-- the port's fields after it took from its own line: they are those of a port
+took_terms : (v w : View) (r : Option Item)
+    → MatchOption r ((w ≡ v) × Owns v []) (λ x. (w ≡ port v.terms v.low (own_sent v) (v.taken ++ x ∷ [])) × IsNext v x)
+    → (w.terms ≡ v.terms) × (w.low ≡ v.low)
+took_terms v w None e = (ap (λ (u : View). u.terms) e.0, ap (λ (u : View). u.low) e.0)
+took_terms v w (Some x) e = (ap (λ (u : View). u.terms) e.0, ap (λ (u : View). u.low) e.0)
+
+pub took-ok : (number : ℕ) (sizes : Sizes) (lines : List Line) (old new : Line) (q : SegId Global) (r : Option Item)
+    → PortOk number sizes lines → old ≡ get_or lines number old → IsLiveOn q new.hold → IsLine new
+    → MatchOption r ((line_view new ≡ line_view old) × Owns (line_view old) []) (λ x. (line_view new ≡ port (line_view old).terms (line_view old).low (own_sent (line_view old)) ((line_view old).taken ++ x ∷ [])) × IsNext (line_view old) x)
+    → PortOk number sizes (set lines number new)
+took-ok number sizes lines old new q r ok was live line e =
+    let here : LineOk (length lines) number sizes number old = subst (λ l. LineOk (length lines) number sizes number l) (sym was) (ok.each number old ok.within) in
+    let kept = took_terms (line_view old) (line_view new) r e in
+    let there : LineOk (length lines) number sizes number new = record {
+      terms = kept.0 ∙ here.terms;
+      low = kept.1 ∙ here.low;
+      line = line;
+      hand = hand_live q new.hold live;
+      other = λ h. absurd (h refl);
+    } in
+    record {
+      within = subst (λ n. number < n) (sym (length-set lines number new)) ok.within;
+      few = ok.few;
+      each = λ i d lt.
+          let lt' : i < length lines = subst (λ n. i < n) (length-set lines number new) lt in
+          subst (λ n. LineOk n number sizes i (get_or (set lines number new) i d)) (sym (length-set lines number new))
+          (elim (cases_eq i number) [
+            | inl same ↦ subst (λ k. LineOk (length lines) number sizes k (get_or (set lines number new) k d)) (sym same)
+                (subst (λ l. LineOk (length lines) number sizes number l) (sym (get_or-set_same lines number new d ok.within)) there)
+            | inr apart ↦ subst (λ l. LineOk (length lines) number sizes i l) (sym (get_or-set_other lines number i new d apart)) (ok.each i d lt')
+          ]);
+    }

@@ -8,7 +8,7 @@ use Rattle.std.proofs.lemmas.Map.Views.{Contains-from_lookup}
 use Rattle.indexmap.specs.IndexMap.{insert_entry}
 use Rattle.dd_store.specs.declared.reference.Ref.{Ref}
 use Rattle.req_table.specs.declared.Key.{Key}
-use Rattle.req_table.specs.contracts.KeyPartialEq.TheImpl.{eq-value}
+use Rattle.req_table.specs.contracts.OperationPartialEq.TheImpl.{eq-value}
 use Rattle.reduce_up.specs.Reducing.{Notes, HasAnswer}
 use Rattle.req_table.specs.Equal.{key_same}
 use Rattle.req_table.proofs.Keyed.{key_laws}

@@ -1,12 +1,12 @@
--- The derived `==` of operations and of keys tells them apart.
+-- The derived `==` of operations tells them apart, and so that of keys.
 use Rattle.std.proofs.Common.{◌≡◌, refl, sym, true, true≢false, arith}
 use Rattle.std.proofs.lemmas.Bool.Decides.{nat_tests}
 use Rattle.dd_store.specs.Equal.{ref_same}
 use Rattle.req_table.specs.declared.Op.{Op}
 use Rattle.req_table.specs.declared.Op.TheVariants.{And, Or, Xor, Nand, Nor, Xnor}
-use Rattle.req_table.specs.declared.Key.{Key}
+use Rattle.req_table.specs.declared.Operation.{Operation}
 use Rattle.req_table.specs.contracts.OpPartialEq.TheImpl.{eq-value as op_eq}
-use Rattle.req_table.specs.contracts.KeyPartialEq.TheImpl.{eq-value}
+use Rattle.req_table.specs.contracts.OperationPartialEq.TheImpl.{eq-value}
 
 pub op_same : (x y : Op) → op_eq.it x y ≡ true → x ≡ y
 op_same And And e = refl
@@ -17,7 +17,7 @@ op_same Nor Nor e = refl
 op_same Xnor Xnor e = refl
 op_same x y e = absurd (true≢false (sym e))
 
-pub key_same : (x y : Key) → eq-value.it x y ≡ true → x ≡ y
+pub key_same : (x y : Operation) → eq-value.it x y ≡ true → x ≡ y
 key_same x y e =
     let op = op_same x.op y.op (grind (arith, nat_tests)) in
     let f = ref_same x.f y.f (grind (arith, nat_tests)) in

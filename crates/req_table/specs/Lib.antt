@@ -10,3 +10,5 @@ pub mod Meanings
 pub mod Sizes
 pub mod Tables
 pub mod Memos
+pub mod Words
+pub mod WordLaws

@@ -1,13 +1,7 @@
 -- An operation on two references, and when it is a request.
 use Rattle.std.specs.Prelude.{◌≡◌, false, None}
-use Rattle.dd_store.specs.declared.reference.Ref.{Ref}
-use Rattle.req_table.specs.declared.Op.{Op}
+pub use Rattle.req_table.specs.declared.Operation.{Operation}
 use Rattle.req_table.specs.Short.{short_of, ref_lt}
-
-pub record Operation : Type 0 where
-  pub op : Op
-  pub f : Ref
-  pub g : Ref
 
 -- it has no short answer, and its operands are in order
 pub record IsRequest (k : Operation) : Type 0 where

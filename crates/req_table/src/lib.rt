@@ -3,6 +3,8 @@
 
 ghost use Rattle.std.specs.Prelude.{◌≡◌, None};
 ghost use Rattle.req_table.specs.Operation.{IsRequest};
+ghost use Rattle.req_table.specs.Short.{op_number};
+ghost use Rattle.req_table.specs.Words.{op_of};
 
 mod memo;
 mod records;
@@ -12,7 +14,10 @@ mod table;
 use dd_store::Ref;
 pub use memo::Memo;
 pub use records::Records;
+use slot_table::{Spread, mix};
 use std::collections::LinkedList;
+use std::fmt;
+use std::hash::{Hash, Hasher};
 use std::marker::Model;
 pub use table::Table;
 
@@ -27,26 +32,72 @@ pub enum Op {
     Xnor,
 }
 
-/// A request: an operation on two references that has no short answer, with its operands in order.
-#[derive(Clone, Copy, Debug, PartialEq, Eq, Hash)]
-pub struct Key {
-    op: Op,
-    f: Ref,
-    g: Ref,
+/// An operation on two operands.
+#[derive(Clone, Copy, Debug, PartialEq, Eq)]
+pub struct Operation {
+    pub op: Op,
+    pub f: Ref,
+    pub g: Ref,
 }
 
+/// A request: an operation on two references that has no short answer, with its operands in order, in sixteen bytes.
+#[derive(Clone, Copy)]
+pub struct Key {
+    /// The word of the first operand, with the number of the operation from bit 57 on.
+    first: u64,
+    second: Ref,
+}
+
+const _: () = prove!(size_of::<Key>() == 16);
+
+/// The lowest bit of an operation's number in a word.
+const OP_BIT: u64 = 1 << 57;
+
 impl Model for Key {
-    ghost use Rattle.req_table.specs.Operation.{Operation};
+    ghost use Rattle.req_table.specs.declared.Operation.{Operation};
 
     ghost Value = { Operation };
 
+    ghost use Rattle.std.specs.Prelude.{refl};
     ghost use Rattle.req_table.specs.Operation.{IsRequest};
+    ghost use Rattle.req_table.specs.Words.{first_word, operation_of, IsFirstWord};
+    ghost use Rattle.req_table.specs.WordLaws.{first_word-back};
 
-    ghost view = { λ k. record { op = k.op; f = k.f; g = k.g } };
+    ghost view = { λ k. operation_of k.first k.second };
 
-    ghost inverse = { λ k. record { op = k.op; f = k.f; g = k.g } };
+    ghost inverse = { λ k. record { first = first_word k.op k.f; second = k.g } };
 
-    ghost invariant = { λ k. IsRequest (record { op = k.op; f = k.f; g = k.g }) };
+    ghost inverse_ok = { λ k h i. record { first = first_word-back k.first h.0 i; second = k.second } };
+
+    ghost invariant = { λ k. IsFirstWord k.first × IsRequest (operation_of k.first k.second) };
+}
+
+/// The number of an operation.
+fn number(op: Op) -> u64
+    ensures { result ≡ op_number op }
+{
+    match op {
+        Op::And => 0,
+        Op::Or => 1,
+        Op::Xor => 2,
+        Op::Nand => 3,
+        Op::Nor => 4,
+        Op::Xnor => 5,
+    }
+}
+
+/// The operation of a number below 6.
+fn numbered(number: u64) -> Op
+    ensures { result ≡ op_of number }
+{
+    match number {
+        0 => Op::And,
+        1 => Op::Or,
+        2 => Op::Xor,
+        3 => Op::Nand,
+        4 => Op::Nor,
+        _ => Op::Xnor,
+    }
 }
 
 impl Key {
@@ -55,7 +106,10 @@ impl Key {
         requires { IsRequest (record { op = op; f = f; g = g }) }
         ensures { result ≡ record { op = op; f = f; g = g } }
     {
-        Key { op, f, g }
+        Key {
+            first: number(op) * OP_BIT + f.word(),
+            second: g,
+        }
     }
 
     /// The operation.
@@ -63,7 +117,7 @@ impl Key {
         ensures value { result ≡ self.op }
         ensures request { IsRequest self }
     {
-        self.op
+        numbered(self.first / OP_BIT)
     }
 
     /// The first operand.
@@ -71,7 +125,7 @@ impl Key {
         ensures value { result ≡ self.f }
         ensures request { IsRequest self }
     {
-        self.f
+        Ref::of_word(self.first % OP_BIT)
     }
 
     /// The second operand.
@@ -79,7 +133,75 @@ impl Key {
         ensures value { result ≡ self.g }
         ensures request { IsRequest self }
     {
-        self.g
+        self.second
+    }
+
+    /// What it asks for.
+    pub fn view(self) -> Operation
+        ensures { result ≡ self }
+    {
+        Operation {
+            op: self.op(),
+            f: self.f(),
+            g: self.second,
+        }
+    }
+}
+
+impl Spread for Key {
+    ghost use Rattle.slot_table.specs.Mixing.{mix_of};
+    ghost use Rattle.dd_store.specs.Words.{word_of};
+    ghost use Rattle.req_table.specs.Words.{first_word};
+    ghost use Rattle.req_table.specs.Equal.{key_same};
+
+    ghost spread_of = { λ k. mix_of (first_word k.op k.f) (word_of k.g) };
+
+    fn spread(&self) -> u64 {
+        mix(self.first, self.second.spread())
+    }
+
+    ghost same = { key_same };
+}
+
+impl fmt::Debug for Key {
+    fn fmt<W: fmt::Write>(&self, f: &mut fmt::Formatter<W>) -> fmt::Result {
+        self.view().fmt(f)
+    }
+}
+
+impl PartialEq for Key {
+    ghost use Rattle.req_table.specs.contracts.OperationPartialEq.TheImpl.{eq-value};
+    ghost use Rattle.req_table.specs.contracts.OperationPartialEq.TheImpl.Laws.{laws-law};
+
+    ghost eq = { eq-value.it };
+
+    ghost laws = { laws-law };
+
+    fn eq(&self, other: &Key) -> bool {
+        self.first == other.first && self.second == other.second
+    }
+}
+
+impl Eq for Key {
+    ghost use Rattle.req_table.specs.contracts.OperationEq.TheImpl.Laws.{laws-law};
+
+    ghost laws = { laws-law };
+}
+
+impl Hash for Key {
+    ghost use Rattle.std.specs.Prelude.{◌++◌};
+    ghost use Rattle.std.specs.Hash as fed;
+    ghost use Rattle.dd_store.specs.Words.{word_of};
+    ghost use Rattle.req_table.specs.Words.{first_word};
+    ghost use Rattle.req_table.specs.Equal.{key_same};
+    ghost use Rattle.std.proofs.Common.{ap};
+
+    ghost hash_input = { λ k. fed.u64 (first_word k.op k.f) ++ fed.u64 (word_of k.g) };
+
+    ghost respects_eq = { λ x y e. ap (λ k. fed.u64 (first_word k.op k.f) ++ fed.u64 (word_of k.g)) (key_same x y e) };
+
+    fn hash<H: Hasher>(&self, state: &mut H) {
+        (self.first, self.second).hash(state);
     }
 }
 

@@ -2,13 +2,12 @@
 ghost use Rattle.std.specs.Prelude.{◌≡◌, ◌<◌, Bool, List, None, IfSome, length, true, false};
 ghost use Rattle.dd_store.specs.Nodes.{Nodes, den};
 ghost use Rattle.dd_store.specs.View.{Has};
-ghost use Rattle.req_table.specs.Short.{short_of, short_with_false, short_with_true, op_number, op_value, owner_of};
+ghost use Rattle.req_table.specs.Short.{short_of, short_with_false, short_with_true, op_value, owner_of};
 ghost use Rattle.req_table.specs.Keys.{normal_of, level_of, child as child_at, record_of, meaning, child_value, Denotes, IsKey, IsChildIn, IsDeeper, IsHalf};
 ghost use Rattle.req_table.specs.Memos.{IsRight, IsValueOf, IsHalfOf, known_of, child_known as child_known_at, record_known_of};
 
-use crate::{Child, Key, Memo, Op, Record};
+use crate::{Child, Key, Memo, Op, Record, number};
 use dd_store::{Ref, Reference, Store, code};
-use slot_table::{Spread, mix};
 
 fn short_false(op: Op, g: Ref) -> Option<Ref>
     ensures { result ≡ short_with_false op g }
@@ -60,19 +59,6 @@ pub fn short(op: Op, f: Ref, g: Ref) -> Option<Ref>
     }
 }
 
-fn number(op: Op) -> u64
-    ensures { result ≡ op_number op }
-{
-    match op {
-        Op::And => 0,
-        Op::Or => 1,
-        Op::Xor => 2,
-        Op::Nand => 3,
-        Op::Nor => 4,
-        Op::Xnor => 5,
-    }
-}
-
 /// The worker that expands a request: the number of the operation, plus three times the code of the first operand, plus
 /// five times that of the second, modulo the number of workers.
 pub fn owner(key: Key, workers: u32) -> u32
@@ -80,24 +66,6 @@ pub fn owner(key: Key, workers: u32) -> u32
     ensures { result ≡ owner_of key.op key.f key.g workers }
 {
     ((number(key.op()) + 3 * code(key.f()) + 5 * code(key.g())) % workers as u64) as u32
-}
-
-impl Spread for Key {
-    ghost use Rattle.std.specs.Prelude.{◌*◌, ◌%◌, ◌^◌, bit_xor};
-    ghost use Rattle.slot_table.specs.Mixing.{mix_of};
-    ghost use Rattle.dd_store.specs.Words.{word_of};
-    ghost use Rattle.req_table.specs.Short.{op_number};
-    ghost use Rattle.req_table.specs.Equal.{key_same};
-
-    ghost spread_of = { λ k. mix_of (bit_xor (word_of k.f) (op_number k.op * 2 ^ 57 % 2 ^ 64)) (word_of k.g) };
-
-    /// The words of both operands, the first with the operation in its upper bits.
-    fn spread(&self) -> u64 {
-        let operation = number(self.op()) << 57;
-        mix(self.f().spread() ^ operation, self.g().spread())
-    }
-
-    ghost same = { key_same };
 }
 
 /// The request for an operation, with the operands in order: False, True, then nodes by level, shard and index.

@@ -192,7 +192,7 @@ impl Row {
         ensures { self.new ≡ [] }
     {
         self.pairs.clear();
-        self.pairs.reserve(count)?;
+        self.pairs.reserve_exact(count)?;
         Ok(())
     }
 }
@@ -244,7 +244,7 @@ impl Answers {
         ensures { self.new ≡ [] }
     {
         self.refs.clear();
-        self.refs.reserve(count)?;
+        self.refs.reserve_exact(count)?;
         Ok(())
     }
 }
