@@ -10,3 +10,4 @@ pub mod Rooted
 pub mod Waving
 pub mod Driven
 pub mod Splits
+pub mod Known

@@ -53,6 +53,28 @@ module _ (S : Nodes) (w : IsSound S) (workers : ℕ) (some : 0 < workers) (roots
           let f : IsFixedSomehow S.levels v (meaning S a.from) (meaning S e.key) = subst (λ z. IsFixedSomehow S.levels z (meaning S a.from) (meaning S e.key)) at a.fixed in
           inr (v, new.1, new.2, new.3, (a.from, a.is_root, (f.0, f.1, λ q x hq hx. new.4.2 (q ++ x) (simp length-append (omega arith)) ∙ f.2 q x hq hx)))
 
+-- the answer of an entry
+answer_for : (S T : Nodes) (es : List Entry) (answers : List Ref) → AnswersEach S es T answers → (e : Entry) → Contains es e → (r : Ref) × Contains answers r × IsDiagram T r (entry_value S e)
+answer_for S T [] answers z e c = absurd (nothing {X = Entry} e c)
+answer_for S T (d ∷ es) [] z e c = absurd z
+answer_for S T (d ∷ es) (r ∷ answers) z e c =
+    elim (in_cases {X = Entry} d e es c) [
+      | inl same ↦ (r, head_in r answers, subst (λ (q : Entry). IsDiagram T r (entry_value S q)) same z.0)
+      | inr i ↦ let a = answer_for S T es answers z.1 e i in (a.0, tail_in r a.0 answers a.1, a.2)
+    ]
+
+-- each node that is added for entries lies below one of their answers
+pub adds_below : (S : Nodes) (entries : List Entry) (T : Nodes) → IsSound T → AddsDescribed S T (IsWanted S entries) → (answers : List Ref) → AnswersEach S entries T answers → AddsBelow S T answers
+adds_below S entries T u adds answers z m h = by (adds.described m h)
+  where
+    by : Has S m ⊎ ((v : ℕ) × (lo : Ref) × (hi : Ref) × (part T m ≡ node v lo hi) × IsWanted S entries v (den T m)) → Has S m ⊎ ((r : Ref) × Contains answers r × Met (part T) r m)
+    by (inl old) = inl old
+    by (inr new) =
+        let v : ℕ = new.0 in
+        let a = answer_for S T entries answers z new.4.entry new.4.is_entry in
+        let f : IsFixedSomehow T.levels v (entry_value S new.4.entry) (den T m) = subst (λ n. IsFixedSomehow n v (entry_value S new.4.entry) (den T m)) (sym adds.keeps.levels) new.4.fixed in
+        inr (a.0, a.1, lies_below T u a.0 m v new.1 new.2 a.2.0 h new.3 (fixed_of T.levels v (den T a.0) (entry_value S new.4.entry) (den T m) (λ x hx. a.2.1 x hx) f))
+
 -- Of a wave over the store S: its entries, and the records of all requests that they ask for.
 module _ (S : Nodes) (w : IsSound S) (workers : ℕ) (some : 0 < workers) (entries : List Entry) (good : All (IsEntry S) entries) (rows : List (List Record)) (closed : IsClosureOf S workers (requests_of entries) rows) where
   keys : All (IsKey S) (requests_of entries)
@@ -113,27 +135,9 @@ module _ (S : Nodes) (w : IsSound S) (workers : ℕ) (some : 0 < workers) (entri
     wave_answers pairs d (e ∷ es) g [] z = z
     wave_answers pairs d (e ∷ es) g (r ∷ answers) z = (entry_answered pairs d e (g 0 e (omega arith)) r (short_of e.0 e.1 e.2) refl z.0, wave_answers pairs d es (λ k b lt. g (suc k) b (omega arith)) answers z.1)
 
-    -- the answer of an entry
-    answer_for : (es : List Entry) (answers : List Ref) → AnswersEach S es T answers → (e : Entry) → Contains es e → (r : Ref) × Contains answers r × IsDiagram T r (entry_value S e)
-    answer_for [] answers z e c = absurd (nothing {X = Entry} e c)
-    answer_for (d ∷ es) [] z e c = absurd z
-    answer_for (d ∷ es) (r ∷ answers) z e c =
-        elim (in_cases {X = Entry} d e es c) [
-          | inl same ↦ (r, head_in r answers, subst (λ (q : Entry). IsDiagram T r (entry_value S q)) same z.0)
-          | inr i ↦ let a = answer_for es answers z.1 e i in (a.0, tail_in r a.0 answers a.1, a.2)
-        ]
-
     -- each new node lies below an answer
     pub wave_below : (answers : List Ref) → AnswersEach S entries T answers → AddsBelow S T answers
-    wave_below answers z m h = by (wave_adds.described m h)
-      where
-        by : Has S m ⊎ ((v : ℕ) × (lo : Ref) × (hi : Ref) × (part T m ≡ node v lo hi) × IsWanted S entries v (den T m)) → Has S m ⊎ ((r : Ref) × Contains answers r × Met (part T) r m)
-        by (inl old) = inl old
-        by (inr new) =
-            let v : ℕ = new.0 in
-            let a = answer_for entries answers z new.4.entry new.4.is_entry in
-            let f : IsFixedSomehow T.levels v (entry_value S new.4.entry) (den T m) = subst (λ n. IsFixedSomehow n v (entry_value S new.4.entry) (den T m)) (sym adds.keeps.levels) new.4.fixed in
-            inr (a.0, a.1, lies_below T u a.0 m v new.1 new.2 a.2.0 h new.3 (fixed_of T.levels v (den T a.0) (entry_value S new.4.entry) (den T m) (λ x hx. a.2.1 x hx) f))
+    wave_below answers z = adds_below S entries T u wave_adds answers z
 
     -- a request is recorded
     has_record : HasRequest entries → (v : ℕ) × (r : Record) × Contains (row_at rows v) r

@@ -5,8 +5,10 @@ pub mod law;
 mod levels;
 mod parallel;
 mod results;
+mod seeking;
 mod waves;
 
 pub use levels::reduce;
 pub use results::Results;
+pub use seeking::Sought;
 pub use waves::{shared_wave, wave_one};

@@ -1,18 +1,21 @@
 //! Waves: the diagrams of a list of operations (Ochi, Yasuoka and Yajima 1993).
-ghost use Rattle.std.specs.Prelude.{◌≡◌, ◌≢◌, ℕ, ◌<◌, ◌≤◌, All, IfOk, IfErr, OnOk, None};
+ghost use Rattle.std.specs.Prelude.{◌≡◌, ◌≢◌, ℕ, ◌<◌, ◌≤◌, All, IfOk, IfErr, OnOk, OnErr, None};
 ghost use Rattle.std.specs.List.{AllZip};
 ghost use Rattle.dd_store.specs.Nodes.{IsSound};
 ghost use Rattle.req_table.specs.Short.{short_of};
 ghost use Rattle.req_table.specs.Keys.{normal_of, IsKey};
+ghost use Rattle.req_table.specs.Memos.{IsRight};
+ghost use Rattle.reduce_up.specs.Known.{unknown, IsKeptWave};
 ghost use Rattle.reduce_up.specs.Reducing.{HasAnswer, AddsDescribed};
 ghost use Rattle.reduce_up.specs.Waves.{IsEntry, AnswersEach, IsWanted, AddsBelow, IsWithinLimit, IsWaveFault, IsClosureOf, requests_of, IsTakenFrom};
 
 use crate::levels::reduce;
 use crate::results::Results;
+use crate::seeking::Sought;
 use dd_store::{Ref, Store, Watch};
 use expand_work::{Free, Gate, WaveFault, expand_all};
 use req_table::requests::{normal, short};
-use req_table::{Key, Op, Records};
+use req_table::{Key, Memo, Op, Records};
 use std::alloc::{AllocError, Global};
 use std::sync::Wait;
 use std::thread::Threads;
@@ -109,11 +112,8 @@ fn answer_closure<R: Threads + Sync, H: Watch>(
     }
 }
 
-/// The diagram of each operation on its two operands.
-///
-/// The requests of all operations together are expanded by the state machine of the workers on the caller's thread, which the
-/// choices drive, and reduced from the last level up.
-pub fn wave_one<R: Threads + Sync>(
+/// The diagram of each operation on its two operands, of which nothing is known.
+fn wave_alone<R: Threads + Sync>(
     rt: &R,
     alloc: Global,
     store: &mut Store,
@@ -142,6 +142,46 @@ pub fn wave_one<R: Threads + Sync>(
 }
 
 /// The diagram of each operation on its two operands.
+///
+/// What has a short answer or is held in the memo is answered at once. The requests of all other operations together are expanded
+/// by the state machine of the workers on the caller's thread, which the choices drive, and reduced from the last level up. The
+/// memo then keeps them with their answers.
+pub fn wave_one<R: Threads + Sync>(
+    rt: &R,
+    alloc: Global,
+    store: &mut Store,
+    memo: &mut Memo,
+    entries: &[(Op, Ref, Ref)],
+    workers: u32,
+    choices: &[u8],
+) -> Result<Vec<Ref>, WaveFault>
+    requires operands { All (IsEntry store.old) entries.now }
+    requires workers { (0 < workers) × (workers ≤ 16) }
+    requires right { IsRight store.old memo.old }
+    ensures sound { IsSound store.new }
+    ensures adds { AddsDescribed store.old store.new (IsWanted store.old entries.now) }
+    ensures answers { IfOk result (λ answers. AnswersEach store.old entries.now store.new answers.items) }
+    ensures no_others { IfOk result (λ answers. AddsBelow store.old store.new answers.items) }
+    ensures within { OnOk result (IsWithinLimit store.old (unknown memo.old entries.now) store.new) }
+    ensures fault { IfErr result (λ e. IsWaveFault store.old (unknown memo.old entries.now) store.new e) }
+    ensures served { IfErr result (λ e. e ≢ WaveFault.NoWorker) }
+    ensures kept { IfOk result (λ answers. IsKeptWave memo.old entries.now answers.items memo.new) }
+    ensures refused { OnErr result (memo.new ≡ memo.old) }
+    ensures right { IsRight store.new memo.new }
+{
+    let _ = store.levels();
+    let mut sought = Sought::new(alloc);
+    let Ok(_) = sought.seek(memo, entries) else {
+        return Err(WaveFault::OutOfMemory);
+    };
+    let found = wave_alone(rt, alloc, store, sought.requests(), workers, choices)?;
+    match sought.settle(alloc, memo, found.as_slice()) {
+        Ok(answers) => Ok(answers),
+        Err(_) => Err(WaveFault::OutOfMemory),
+    }
+}
+
+/// The diagram of each operation on its two operands, without a memo.
 ///
 /// The requests of all operations together are expanded by workers in threads, and reduced from the last level up (Ochi,
 /// Yasuoka and Yajima 1993). NoWorker is answered where a worker's thread could not be started;

@@ -1,5 +1,5 @@
 -- A wave as a whole: the store moves on where the workers were called in, and the roots' answers are those of the entries.
-use Rattle.std.proofs.Common.{◌≡◌, ℕ, suc, ◌<◌, ◌≤◌, ◌⊎◌, inl, inr, true, false, Bool, cond, List, [], ◌∷◌, ◌++◌, length, Option, Some, None, refl, sym, ◌∙◌, ap, subst, arith, Contains, All}
+use Rattle.std.proofs.Common.{◌≡◌, ℕ, suc, ◌<◌, ◌≤◌, inl, inr, true, false, Bool, cond, List, [], ◌∷◌, ◌++◌, length, Option, Some, None, refl, sym, ◌∙◌, ap, subst, arith, Contains, All}
 use Rattle.std.specs.Prelude.{nat_eq, unwrap_or}
 use Rattle.std.specs.Option.{option_map}
 use Rattle.std.specs.List.{AllZip}
@@ -10,10 +10,10 @@ use Rattle.dd_store.specs.declared.reference.Reference.TheVariants.{False, True,
 use Rattle.dd_store.specs.declared.reference.NodeId.{NodeId}
 use Rattle.dd_store.specs.Functions.{IsFixedSomehow, DependsOn}
 use Rattle.dd_store.specs.Graph.{Pair}
-use Rattle.dd_store.specs.Parts.{Part, Met}
+use Rattle.dd_store.specs.Parts.{Part}
 use Rattle.dd_store.specs.Parts.Part.{node}
 use Rattle.dd_store.specs.Nodes.{Nodes, node as node_at, IsSound, IsDiagram, den, count_of, cofactor_of, high_of, low_of, children}
-use Rattle.dd_store.specs.View.{part, part_of, Has, Keeps, top}
+use Rattle.dd_store.specs.View.{part_of, Has, Keeps, top}
 use Rattle.dd_store.proofs.View.{kept_den, kept_top, keeps-trans}
 use Rattle.expand_work.specs.declared.fault.WaveFault.{WaveFault}
 use Rattle.expand_work.specs.declared.fault.WaveFault.TheVariants as wave_faults
@@ -26,10 +26,10 @@ use Rattle.req_table.specs.Reached.{IsReached, root as root_of, child as child_f
 use Rattle.req_table.specs.Short.{short_of}
 use Rattle.req_table.proofs.Waved.{child_has_value, child_stands}
 use Rattle.reduce_up.specs.Reducing.{AddsDescribed, IsAnswer}
-use Rattle.reduce_up.specs.Waves.{Entry, entry_value, IsEntry, AnswersEach, IsWanted, AddsBelow, HasRequest, IsWithinLimit, IsWaveFault, requests_of}
-use Rattle.reduce_up.proofs.Below.{fixed_of, fixed_as, lies_below}
+use Rattle.reduce_up.specs.Waves.{Entry, entry_value, IsEntry, AnswersEach, IsWanted, HasRequest, IsWithinLimit, IsWaveFault, requests_of}
+use Rattle.reduce_up.proofs.Below.{fixed_of, fixed_as}
 use Rattle.reduce_up.proofs.Closed.{reached_key}
-use Rattle.reduce_up.proofs.Noting.{nothing, head_in, tail_in, in_cases}
+use Rattle.reduce_up.proofs.Noting.{nothing, in_cases}
 use Rattle.reduce_up.proofs.Reduction.{kept_meaning, diagram_kept}
 use Rattle.reduce_up.proofs.Rooted.{all_of, requests_good}
 use Rattle.wave_engine.specs.declared.lists.Placed.{Placed}
@@ -213,24 +213,3 @@ module _ (S : Nodes) (w : IsSound S) (entries : List Entry) (good : All (IsEntry
   within_both T ps z from U s a (inl le) = inl le
   within_both T ps z from U s (inl le) (inr n) = inl (subst (λ x. count_of x ≤ x.limit) (sym n.1) le)
   within_both T ps z from U s (inr m) (inr n) = inr (no_request T ps z (λ v q k h. n.0 v q k (omega arith) h), n.1 ∙ m.1)
-
-  -- each new node lies below an answer
-  answer_for : (s : Nodes) (es : List Entry) (answers : List Ref) → AnswersEach S es s answers → (e : Entry) → Contains es e → (r : Ref) × Contains answers r × IsDiagram s r (entry_value S e)
-  answer_for s [] answers z e c = absurd (nothing {X = Entry} e c)
-  answer_for s (d ∷ es) [] z e c = absurd z
-  answer_for s (d ∷ es) (r ∷ answers) z e c =
-      elim (in_cases {X = Entry} d e es c) [
-        | inl same ↦ (r, head_in r answers, subst (λ (q : Entry). IsDiagram s r (entry_value S q)) same z.0)
-        | inr i ↦ let a = answer_for s es answers z.1 e i in (a.0, tail_in r a.0 answers a.1, a.2)
-      ]
-
-  pub adds_below : (s : Nodes) → IsSound s → AddsDescribed S s (IsWanted S entries) → (answers : List Ref) → AnswersEach S entries s answers → AddsBelow S s answers
-  adds_below s u adds answers z m h = by (adds.described m h)
-    where
-      by : Has S m ⊎ ((v : ℕ) × (lo : Ref) × (hi : Ref) × (part s m ≡ node v lo hi) × IsWanted S entries v (den s m)) → Has S m ⊎ ((r : Ref) × Contains answers r × Met (part s) r m)
-      by (inl old) = inl old
-      by (inr new) =
-          let v : ℕ = new.0 in
-          let a = answer_for s entries answers z new.4.entry new.4.is_entry in
-          let f : IsFixedSomehow s.levels v (entry_value S new.4.entry) (den s m) = subst (λ n. IsFixedSomehow n v (entry_value S new.4.entry) (den s m)) (sym adds.keeps.levels) new.4.fixed in
-          inr (a.0, a.1, lies_below s u a.0 m v new.1 new.2 a.2.0 h new.3 (fixed_of s.levels v (den s a.0) (entry_value S new.4.entry) (den s m) (λ x hx. a.2.1 x hx) f))

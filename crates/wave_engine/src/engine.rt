@@ -1,184 +1,128 @@
 //! The engine of waves: what lasts from wave to wave.
-ghost use Rattle.std.specs.Prelude.{◌≡◌, ◌≤◌, ℕ, length, All, IfOk, IfErr, OnOk};
-ghost use Rattle.std.specs.List.{AllZip};
-ghost use Rattle.dd_store.specs.declared.reference.Ref.{Ref as RefValue};
-ghost use Rattle.dd_store.specs.Nodes.{IsSound};
+ghost use Rattle.std.specs.Prelude.{◌≡◌, [], All, IfOk, IfErr, OnOk, OnErr};
+ghost use Rattle.dd_store.specs.Nodes.{Nodes, IsSound};
+ghost use Rattle.req_table.specs.Memos.{IsRight};
+ghost use Rattle.reduce_up.specs.Known.{unknown, IsKeptWave};
 ghost use Rattle.reduce_up.specs.Reducing.{AddsDescribed};
 ghost use Rattle.reduce_up.specs.Waves.{IsEntry, AnswersEach, IsWanted, AddsBelow, IsWithinLimit, IsWaveFault};
-ghost use Rattle.wave_engine.specs.Down.{IsDown};
-ghost use Rattle.wave_engine.specs.Up.{ComesTo};
 
-use crate::down::{expand, place_roots};
-use crate::front::hand_over;
-use crate::lists::{Answers, Placed, Row};
-use crate::requests::Requests;
-use crate::team::{Team, Workers};
-use crate::up::{reduce, resolve};
+use crate::team::Workers;
+use crate::workspace::Workspace;
 use dd_store::{Ref, Store};
 use expand_work::{Gate, WaveFault};
-use req_table::Op;
+use reduce_up::Sought;
+use req_table::{Memo, Op};
 use std::alloc::{AllocError, Global};
+use std::marker::Model;
 use std::sync::Wait;
 use std::thread::Threads;
 
-/// What a wave's expansion leaves: the requests by level, the children of each by place, and what the entries come to. A level
-/// without requests may have old children.
+/// How many answers an engine holds.
+const CAPACITY: usize = 65_536;
+
+/// Does waves one after the other, each with a memo that is handed in.
 #[derive(Drop)]
-pub(crate) struct Down {
-    pub(crate) requests: Requests,
-    pub(crate) rows: Vec<Row>,
-    pub(crate) roots: Vec<Placed>,
+pub(crate) struct Runner<'a, R, G> {
+    workspace: Workspace<'a, R, G>,
+    sought: Sought,
 }
 
-/// Makes a row for each level.
-fn fit_rows(alloc: Global, rows: &mut Vec<Row>, levels: u16) -> Result<(), AllocError>
-    ensures { OnOk result (length rows.new.items ≡ levels) }
-{
-    if rows.len() == levels as usize {
-        return Ok(());
+impl<'a, R: Threads + Wait + Sync, G: Gate> Runner<'a, R, G> {
+    /// A runner that has done no wave. It takes no memory yet.
+    pub(crate) fn new(rt: &'a R, alloc: Global, workers: Workers, gate: &'a G) -> Self {
+        Runner {
+            workspace: Workspace::new(rt, alloc, workers, gate),
+            sought: Sought::new(alloc),
+        }
     }
-    let mut fresh = Vec::new(alloc);
-    for made in 0..levels {
-        fresh.push(Row::new(alloc))?;
+
+    /// The diagram of each operation on its two operands, by what the memo holds and a wave over the others.
+    pub(crate) fn wave(
+        &mut self,
+        store: &mut Store,
+        memo: &mut Memo,
+        entries: &[(Op, Ref, Ref)],
+    ) -> Result<Vec<Ref>, WaveFault>
+        requires operands { All (IsEntry store.old) entries.now }
+        requires right { IsRight store.old memo.old }
+        ensures sound { IsSound store.new }
+        ensures adds { AddsDescribed store.old store.new (IsWanted store.old entries.now) }
+        ensures answers { IfOk result (λ answers. AnswersEach store.old entries.now store.new answers.items) }
+        ensures no_others { IfOk result (λ answers. AddsBelow store.old store.new answers.items) }
+        ensures within { OnOk result (IsWithinLimit store.old (unknown memo.old entries.now) store.new) }
+        ensures fault { IfErr result (λ e. IsWaveFault store.old (unknown memo.old entries.now) store.new e) }
+        ensures kept { IfOk result (λ answers. IsKeptWave memo.old entries.now answers.items memo.new) }
+        ensures refused { OnErr result (memo.new ≡ memo.old) }
+        ensures right { IsRight store.new memo.new }
+    {
+        let _ = store.levels();
+        let alloc = self.workspace.alloc();
+        let Ok(_) = self.sought.seek(memo, entries) else {
+            return Err(WaveFault::OutOfMemory);
+        };
+        let found = self.workspace.wave(store, self.sought.requests())?;
+        match self.sought.settle(alloc, memo, found.as_slice()) {
+            Ok(answers) => Ok(answers),
+            Err(_) => Err(WaveFault::OutOfMemory),
+        }
     }
-    *rows = fresh;
-    Ok(())
 }
 
-/// Makes a list of answers for each level.
-fn fit_answers(alloc: Global, answers: &mut Vec<Answers>, levels: u16) -> Result<(), AllocError>
-    ensures { OnOk result (length answers.new.items ≡ levels) }
-{
-    if answers.len() == levels as usize {
-        return Ok(());
-    }
-    let mut fresh = Vec::new(alloc);
-    for made in 0..levels {
-        fresh.push(Answers::new(alloc))?;
-    }
-    *answers = fresh;
-    Ok(())
-}
-
-/// Places and expands what the entries ask for, down to the first level with more than so many requests.
-fn go_down(
-    alloc: Global,
-    store: &Store,
-    entries: &[(Op, Ref, Ref)],
-    down: &mut Down,
-    answers: &mut Vec<Answers>,
-    most: usize,
-) -> Result<u16, AllocError>
-    requires operands { All (IsEntry store.now) entries.now }
-    ensures { IfOk result (λ v. IsDown store.now entries.now v down.new.requests down.new.rows.items down.new.roots.items answers.new.items) }
-{
-    let levels = store.levels();
-    down.requests.restart(alloc, levels)?;
-    fit_rows(alloc, &mut down.rows, levels)?;
-    fit_answers(alloc, answers, levels)?;
-    down.roots.clear();
-    place_roots(store, entries, &mut down.requests, &mut down.roots)?;
-    expand(
-        store,
-        entries,
-        &mut down.requests,
-        &mut down.rows,
-        down.roots.as_slice(),
-        most,
-    )
-}
-
-/// The answers of the roots.
-fn root_answers(
-    alloc: Global,
-    roots: &[Placed],
-    answers: &[Answers],
-) -> Result<Vec<Ref>, AllocError>
-    requires { All (λ p. (r : RefValue) × ComesTo answers.now p r) roots.now }
-    ensures { IfOk result (λ refs. AllZip (ComesTo answers.now) roots.now refs.items) }
-{
-    let mut refs = Vec::new(alloc);
-    for root in roots {
-        refs.push(resolve(answers, *root))?;
-    }
-    Ok(refs)
-}
-
-/// Does waves one after the other. It keeps the memory that they take, and nothing else: no wave knows of an earlier one.
+/// Does waves one after the other over one store. It keeps the memory that they take, and holds answers of earlier waves.
 #[derive(Drop)]
 pub struct Engine<'a, R, G> {
-    team: Team<'a, R, G>,
-    down: Down,
-    answers: Vec<Answers>,
+    runner: Runner<'a, R, G>,
+    memo: Memo,
+}
+
+impl<'a, R, G> Model for Engine<'a, R, G> {
+    ghost use Rattle.req_table.specs.Memos.{Held};
+
+    ghost Value = { Held };
+
+    ghost view = { λ e. e.memo };
 }
 
 impl<'a, R: Threads + Wait + Sync, G: Gate> Engine<'a, R, G> {
-    /// An engine that has done no wave. It takes no memory yet.
-    pub fn new(rt: &'a R, alloc: Global, workers: Workers, gate: &'a G) -> Self {
-        Engine {
-            team: Team {
-                rt,
-                alloc,
-                workers,
-                gate,
-            },
-            down: Down {
-                requests: Requests::new(alloc),
-                rows: Vec::new(alloc),
-                roots: Vec::new(alloc),
-            },
-            answers: Vec::new(alloc),
-        }
+    /// An engine that has done no wave.
+    pub fn new(rt: &'a R, alloc: Global, workers: Workers, gate: &'a G) -> Result<Self, AllocError>
+        ensures empty { IfOk result (λ e. e.pairs ≡ []) }
+        ensures right { IfOk result (λ e. (S : Nodes) → IsRight S e) }
+    {
+        Ok(Engine {
+            runner: Runner::new(rt, alloc, workers, gate),
+            memo: Memo::new(alloc, CAPACITY)?,
+        })
     }
 
     /// Where the engine's memory is from.
     pub fn alloc(&self) -> Global {
-        self.team.alloc
+        self.runner.workspace.alloc()
     }
 
     /// The diagram of each operation on its two operands.
     ///
-    /// The requests of all operations together are expanded on the caller's thread, down to the first level that has more of them
-    /// than the gate lets the caller have; from there on they are the workers', in threads. They are reduced from the last level
-    /// up. NoWorker is answered where a worker's thread could not be started; entries that all have short answers start none.
+    /// What has a short answer, or was asked for in an earlier wave and is still held, is answered at once. The requests of all other
+    /// operations together are expanded on the caller's thread, down to the first level that has more of them than the gate lets the
+    /// caller have; from there on they are the workers', in threads. They are reduced from the last level up. NoWorker is answered
+    /// where a worker's thread could not be started; entries that are all answered at once start none.
     pub fn wave(
         &mut self,
         store: &mut Store,
         entries: &[(Op, Ref, Ref)],
     ) -> Result<Vec<Ref>, WaveFault>
         requires operands { All (IsEntry store.old) entries.now }
+        requires right { IsRight store.old self.old }
         ensures sound { IsSound store.new }
         ensures adds { AddsDescribed store.old store.new (IsWanted store.old entries.now) }
         ensures answers { IfOk result (λ answers. AnswersEach store.old entries.now store.new answers.items) }
         ensures no_others { IfOk result (λ answers. AddsBelow store.old store.new answers.items) }
-        ensures within { OnOk result (IsWithinLimit store.old entries.now store.new) }
-        ensures fault { IfErr result (λ e. IsWaveFault store.old entries.now store.new e) }
+        ensures within { OnOk result (IsWithinLimit store.old (unknown self.old entries.now) store.new) }
+        ensures fault { IfErr result (λ e. IsWaveFault store.old (unknown self.old entries.now) store.new e) }
+        ensures kept { IfOk result (λ answers. IsKeptWave self.old entries.now answers.items self.new) }
+        ensures refused { OnErr result (self.new ≡ self.old) }
+        ensures right { IsRight store.new self.new }
     {
-        let _ = store.levels();
-        let alloc = self.team.alloc;
-        let most = self.team.most_alone();
-        let Ok(from) = go_down(
-            alloc,
-            store,
-            entries,
-            &mut self.down,
-            &mut self.answers,
-            most,
-        ) else {
-            return Err(WaveFault::OutOfMemory);
-        };
-        hand_over(
-            &self.team,
-            store,
-            entries,
-            &self.down.requests,
-            &mut self.answers,
-            from,
-        )?;
-        reduce(store, entries, &self.down, &mut self.answers, from)?;
-        match root_answers(alloc, self.down.roots.as_slice(), self.answers.as_slice()) {
-            Ok(answers) => Ok(answers),
-            Err(_) => Err(WaveFault::OutOfMemory),
-        }
+        self.runner.wave(store, &mut self.memo, entries)
     }
 }

@@ -10,6 +10,7 @@ mod requests;
 mod team;
 mod up;
 mod waves;
+mod workspace;
 
 pub use engine::Engine;
 pub use team::Workers;

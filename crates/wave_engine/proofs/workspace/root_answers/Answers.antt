@@ -6,7 +6,7 @@ use Rattle.dd_store.specs.declared.reference.Ref.{Ref}
 use Rattle.reduce_up.proofs.Rooted.{item_at, item_next}
 use Rattle.wave_engine.specs.declared.lists.Placed.{Placed}
 use Rattle.wave_engine.specs.Up.{ComesTo}
-use Rattle.wave_engine.proofs.engine.root_answers.Goals as goal
+use Rattle.wave_engine.proofs.workspace.root_answers.Goals as goal
 
 pub resolve-requires : goal.resolve-requires
 resolve-requires c =

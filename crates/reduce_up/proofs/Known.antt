@@ -1,0 +1,168 @@
+-- A wave over the entries of which nothing is known, with what is known of the others, is a wave over all entries.
+use Rattle.std.proofs.Common.{◌≡◌, suc, inl, inr, List, [], ◌∷◌, ◌++◌, length, map, Option, Some, None, refl, sym, ◌∙◌, ap, subst, arith, Contains, All, IfSome}
+use Rattle.std.proofs.lemmas.List.Elements.{Contains-append_cases, All-contains}
+use Rattle.std.proofs.lemmas.Slice.Zip.{AllZip-long}
+use Rattle.dd_store.specs.declared.reference.Ref.{Ref}
+use Rattle.dd_store.specs.Nodes.{Nodes, IsSound, IsDiagram}
+use Rattle.dd_store.specs.View.{Keeps as KeepsNodes}
+use Rattle.req_table.specs.Short.{short_of}
+use Rattle.req_table.specs.Keys.{normal_of, IsKey}
+use Rattle.req_table.specs.Memos.{Held, IsRight, IsAnswerOf, IsValueOf}
+use Rattle.req_table.proofs.Memos.{known_value, not_known, right_kept, right_with}
+use Rattle.req_table.proofs.Waved.{is_key}
+use Rattle.reduce_up.specs.Reducing.{AddsDescribed}
+use Rattle.reduce_up.specs.Waves.{Entry, entry_value, IsEntry, AnswersEach, IsWanted, AddsBelow}
+use Rattle.reduce_up.specs.Known.{known_entry, unless_known, unknown, missing, woven, AreKept, found_of, IsKeptWave, Seeking, IsSought}
+use Rattle.reduce_up.proofs.Noting.{nothing, head_in, tail_in, in_cases}
+use Rattle.reduce_up.proofs.Reduction.{kept_meaning, diagram_kept}
+use Rattle.reduce_up.proofs.Rooted.{all_of, normal_means}
+use Rattle.reduce_up.proofs.Waving.{adds_below}
+
+-- ---- the entries of which nothing is known
+-- they are entries without a short answer
+pub unknown_is : (m : Held) (es : List Entry) (e : Entry) → Contains (unknown m es) e → Contains es e × (short_of e.0 e.1 e.2 ≡ None)
+unknown_is m [] e c = absurd (nothing {X = Entry} e c)
+unknown_is m (d ∷ es) e c =
+    elim (Contains-append_cases (unless_known (known_entry m d) d) (unknown m es) e c) [
+      | inl h ↦ own (known_entry m d) refl h
+      | inr h ↦ let i = unknown_is m es e h in (tail_in {X = Entry} d e es i.0, i.1)
+    ]
+  where
+    own : (o : Option Ref) → known_entry m d ≡ o → Contains (unless_known o d) e → Contains (d ∷ es) e × (short_of e.0 e.1 e.2 ≡ None)
+    own None h i =
+        elim (in_cases {X = Entry} d e [] i) [
+          | inl same ↦ (
+            subst (Contains (d ∷ es)) same (head_in {X = Entry} d es),
+            subst (λ (z : Entry). short_of z.0 z.1 z.2 ≡ None) same (not_known m (normal_of d.0 d.1 d.2) (short_of d.0 d.1 d.2) h),
+          )
+          | inr j ↦ absurd (nothing {X = Entry} e j)
+        ]
+    own (Some r) h i = absurd (nothing {X = Entry} e i)
+
+pub unknown_good : (S : Nodes) (m : Held) (es : List Entry) → All (IsEntry S) es → All (IsEntry S) (unknown m es)
+unknown_good S m es good = all_of (IsEntry S) (unknown m es) (λ e c. All-contains (IsEntry S) es e good (unknown_is m es e c).0)
+
+pub unknown_long : (m : Held) (es : List Entry) → All (λ e. short_of e.0 e.1 e.2 ≡ None) (unknown m es)
+unknown_long m es = all_of (λ e. short_of e.0 e.1 e.2 ≡ None) (unknown m es) (λ e c. (unknown_is m es e c).1)
+
+-- as many as are missing
+pub unknown_count : (m : Held) (es : List Entry) → missing (map (known_entry m) es) ≡ length (unknown m es)
+unknown_count m [] = refl
+unknown_count m (e ∷ es) = by (known_entry m e) (unknown_count m es)
+  where
+    by : (o : Option Ref) → missing (map (known_entry m) es) ≡ length (unknown m es) → missing (o ∷ map (known_entry m) es) ≡ length (unless_known o e ++ unknown m es)
+    by None k = omega arith
+    by (Some r) k = k
+
+-- what is wanted of them is wanted of all
+pub wanted_of_all : (S T : Nodes) (m : Held) (es : List Entry) → AddsDescribed S T (IsWanted S (unknown m es)) → AddsDescribed S T (IsWanted S es)
+wanted_of_all S T m es adds = record {
+  keeps = adds.keeps;
+  described = λ r h. elim (adds.described r h) [
+    | inl old ↦ inl old
+    | inr new ↦ inr (new.0, new.1, new.2, new.3, record { entry = new.4.entry; is_entry = (unknown_is m es new.4.entry new.4.is_entry).0; fixed = new.4.fixed; depends = new.4.depends })
+  ];
+}
+
+-- ---- their answers
+pub as_many : (S T : Nodes) (es : List Entry) (found : List Ref) → AnswersEach S es T found → length found ≡ length es
+as_many S T es found z = AllZip-long (λ (e : Entry) (r : Ref). IsDiagram T r (entry_value S e)) es found z
+
+module _ (S : Nodes) (w : IsSound S) (m : Held) (right : IsRight S m) (T : Nodes) (keeps : KeepsNodes S T) where
+  -- the answers of all entries
+  pub woven_answers : (es : List Entry) → All (IsEntry S) es → (found : List Ref) → AnswersEach S (unknown m es) T found → AnswersEach S es T (woven (map (known_entry m) es) found)
+  woven_answers [] good found z = tt
+  woven_answers (e ∷ es) good found z = by (known_entry m e) (known_value S m right e.0 e.1 e.2 (good 0 e (omega arith)).0 (good 0 e (omega arith)).1 (short_of e.0 e.1 e.2) refl)
+      (woven_answers es (λ k b lt. good (suc k) b (omega arith))) found z
+    where
+      by : (o : Option Ref) → IfSome o (IsValueOf S e.0 e.1 e.2) → ((found : List Ref) → AnswersEach S (unknown m es) T found → AnswersEach S es T (woven (map (known_entry m) es) found)) → (found : List Ref) → AnswersEach S (unless_known o e ++ unknown m es) T found → AnswersEach S (e ∷ es) T (woven (o ∷ map (known_entry m) es) found)
+      by (Some r) v rest found z = (diagram_kept S T w keeps (entry_value S e) r v, rest found z)
+      by None v rest [] z = absurd z
+      by None v rest (r ∷ found) z = (z.0, rest found z.1)
+
+  -- the memo after their requests were kept is right
+  pub right_after : (es : List Entry) → All (IsEntry S) es → All (λ e. short_of e.0 e.1 e.2 ≡ None) es → (found : List Ref) → AnswersEach S es T found
+      → (old new : Held) → IsRight T old → AreKept old es found new → IsRight T new
+  right_after [] good long found z old new was kept = subst (IsRight T) (sym kept) was
+  right_after (e ∷ es) good long [] z old new was kept = absurd z
+  right_after (e ∷ es) good long (r ∷ found) z old new was kept =
+      right_after es (λ k b lt. good (suc k) b (omega arith)) (λ k b lt. long (suc k) b (omega arith)) found z.1 kept.0 new
+      (right_with T old (normal_of e.0 e.1 e.2) r kept.0 was is kept.1) kept.2
+    where
+      key : IsKey S (normal_of e.0 e.1 e.2)
+      key = is_key S e.0 e.1 e.2 (good 0 e (omega arith)).0 (good 0 e (omega arith)).1 (long 0 e (omega arith))
+
+      is : IsAnswerOf T (normal_of e.0 e.1 e.2) r
+      is = record {
+        first = keeps.has (normal_of e.0 e.1 e.2).f key.first;
+        second = keeps.has (normal_of e.0 e.1 e.2).g key.second;
+        diagram = (z.0.0, λ x hx. z.0.1 x hx ∙ sym (normal_means S e x) ∙ sym (kept_meaning S T w keeps (normal_of e.0 e.1 e.2) key.first key.second x));
+      }
+
+  -- and so after a wave
+  pub right_wave : (es : List Entry) → All (IsEntry S) es → (found : List Ref) → AnswersEach S (unknown m es) T found → (new : Held) → AreKept m (unknown m es) found new → IsRight T new
+  right_wave es good found z new kept =
+      right_after (unknown m es) (unknown_good S m es good) (unknown_long m es) found z m new (right_kept S T w keeps m right) kept
+
+-- of the answers of all entries those that were found are the ones found
+found_back : (m : Held) (es : List Entry) (found : List Ref) → length found ≡ length (unknown m es) → found_of m es (woven (map (known_entry m) es) found) ≡ found
+found_back m [] [] e = refl
+found_back m [] (r ∷ found) e = absurd (omega arith)
+found_back m (d ∷ es) found e = by (known_entry m d) refl (found_back m es) found e
+  where
+    by : (o : Option Ref) → known_entry m d ≡ o → ((found : List Ref) → length found ≡ length (unknown m es) → found_of m es (woven (map (known_entry m) es) found) ≡ found) → (found : List Ref) → length found ≡ length (unless_known o d ++ unknown m es) → found_of m (d ∷ es) (woven (o ∷ map (known_entry m) es) found) ≡ found
+    by None h rest [] e = absurd (omega arith)
+    by None h rest (r ∷ found) e = rw h (ap (λ z. r ∷ z) (rest found (omega arith)))
+    by (Some k) h rest found e = rw h (rest found e)
+
+kept_wave : (m : Held) (es : List Entry) (found : List Ref) (new : Held) → length found ≡ length (unknown m es) → AreKept m (unknown m es) found new → IsKeptWave m es (woven (map (known_entry m) es) found) new
+kept_wave m es found new e kept = subst (λ z. AreKept m (unknown m es) z new) (sym (found_back m es found e)) kept
+
+-- ---- a wave over what was sought
+-- the store T and the memo `new` after a wave over all entries, with the answers
+pub record IsWaved (S : Nodes) (m : Held) (es : List Entry) (T : Nodes) (answers : List Ref) (new : Held) : Type 0 where
+  pub adds : AddsDescribed S T (IsWanted S es)
+  pub answered : AnswersEach S es T answers
+  pub below : AddsBelow S T answers
+  pub kept : IsKeptWave m es answers new
+  pub right : IsRight T new
+
+module _ (S : Nodes) (w : IsSound S) (m : Held) (right : IsRight S m) (es : List Entry) (good : All (IsEntry S) es) (s : Seeking) (sought : IsSought m es s) (asked : List Entry) (are : asked ≡ s.requests) where
+  only : asked ≡ unknown m es
+  only = are ∙ sought.requests
+
+  pub sought_good : All (IsEntry S) asked
+  sought_good = subst (All (IsEntry S)) (sym only) (unknown_good S m es good)
+
+  pub sought_long : All (λ e. short_of e.0 e.1 e.2 ≡ None) s.requests
+  sought_long = subst (All (λ (e : Entry). short_of e.0 e.1 e.2 ≡ None)) (sym sought.requests) (unknown_long m es)
+
+  pub sought_count : missing s.known ≡ length s.requests
+  sought_count = ap missing sought.known ∙ unknown_count m es ∙ ap (λ (l : List Entry). length l) (sym sought.requests)
+
+  module _ (T : Nodes) where
+    pub sought_adds : AddsDescribed S T (IsWanted S asked) → AddsDescribed S T (IsWanted S es)
+    sought_adds adds = wanted_of_all S T m es (subst (λ z. AddsDescribed S T (IsWanted S z)) only adds)
+
+    -- the memo is right for a store that has only grown
+    pub sought_right : AddsDescribed S T (IsWanted S asked) → IsRight T m
+    sought_right adds = right_kept S T w adds.keeps m right
+
+    module _ (found slice : List Ref) (same : slice ≡ found) (z : AnswersEach S asked T found) where
+      pub found_each : length slice ≡ length s.requests
+      found_each = ap (λ (l : List Ref). length l) same ∙ as_many S T asked found z ∙ ap (λ (l : List Entry). length l) are
+
+      pub waved : IsSound T → AddsDescribed S T (IsWanted S asked) → (answers : List Ref) → answers ≡ woven s.known slice → (new : Held) → AreKept m s.requests slice new → IsWaved S m es T answers new
+      waved u adds answers is new kept =
+          let found_is : AnswersEach S (unknown m es) T slice = subst (λ l. AnswersEach S (unknown m es) T l) (sym same) (subst (λ l. AnswersEach S l T found) only z) in
+          let woven_is : answers ≡ woven (map (known_entry m) es) slice = is ∙ ap (λ l. woven l slice) sought.known in
+          let each : AnswersEach S es T answers = subst (AnswersEach S es T) (sym woven_is) (woven_answers S w m right T adds.keeps es good slice found_is) in
+          let keeps : AreKept m (unknown m es) slice new = subst (λ l. AreKept m l slice new) sought.requests kept in
+          let all : AddsDescribed S T (IsWanted S es) = sought_adds adds in
+          record {
+            adds = all;
+            answered = each;
+            below = adds_below S es T u all answers each;
+            kept = subst (λ l. IsKeptWave m es l new) (sym woven_is) (kept_wave m es slice new (as_many S T (unknown m es) slice found_is) keeps);
+            right = right_wave S w m right T adds.keeps es good slice found_is new keeps;
+          }

@@ -1,0 +1,9 @@
+use Rattle.std.proofs.Common.{◌≡◌, ◌++◌, drop, map}
+use Rattle.reduce_up.specs.Known.{known_entry, unknown}
+use Rattle.reduce_up.proofs.seeking.Sought.seek.Given as goal
+
+abbrev pub invariant-loop-entry : goal.invariant-loop-entry
+invariant-loop-entry l = record {
+  known : l.self-inside.known.items ++ map (known_entry l.memo) (drop l.entry-index l.entries) ≡ map (known_entry l.memo) l.entries;
+  requests : l.self-inside.requests.items ++ unknown l.memo (drop l.entry-index l.entries) ≡ unknown l.memo l.entries;
+}

@@ -1,0 +1,109 @@
+//! What is known of a wave's entries before it begins: short answers, and what a memo holds of earlier waves.
+ghost use Rattle.std.specs.Prelude.{◌≡◌, ◌≤◌, All, IfOk, OnOk, OnErr, None, length};
+ghost use Rattle.req_table.specs.Short.{short_of};
+ghost use Rattle.reduce_up.specs.Known.{IsSought, AreKept, missing, woven};
+
+use dd_store::Ref;
+use req_table::requests::{known, normal};
+use req_table::{Memo, Op};
+use std::alloc::{AllocError, Global};
+use std::marker::Model;
+
+/// What is known of the entries of a wave, and which of them are its requests. It keeps its memory from wave to wave.
+#[derive(Drop)]
+pub struct Sought {
+    known: Vec<Option<Ref>>,
+    requests: Vec<(Op, Ref, Ref)>,
+}
+
+impl Model for Sought {
+    ghost use Rattle.reduce_up.specs.Known.{Seeking};
+
+    ghost Value = { Seeking };
+
+    ghost view = { λ s. record { known = s.known.items; requests = s.requests.items } };
+}
+
+impl Sought {
+    /// Nothing. It takes no memory yet.
+    pub fn new(alloc: Global) -> Sought {
+        Sought {
+            known: Vec::new(alloc),
+            requests: Vec::new(alloc),
+        }
+    }
+
+    /// Seeks the entries, each once.
+    pub fn seek(&mut self, memo: &Memo, entries: &[(Op, Ref, Ref)]) -> Result<(), AllocError>
+        ensures { OnOk result (IsSought memo.now entries.now self.new) }
+    {
+        self.known.clear();
+        self.requests.clear();
+        for entry in entries {
+            let (op, f, g) = *entry;
+            let answer = known(memo, op, f, g);
+            self.known.push(answer)?;
+            if answer.is_none() {
+                self.requests.push(*entry)?;
+            }
+        }
+        Ok(())
+    }
+
+    /// The entries of which nothing is known.
+    pub fn requests(&self) -> &[(Op, Ref, Ref)]
+        ensures { result.now ≡ self.now.requests }
+    {
+        self.requests.as_slice()
+    }
+
+    /// The answers of all entries, of which these were found.
+    fn answers(&self, alloc: Global, found: &[Ref]) -> Result<Vec<Ref>, AllocError>
+        requires { missing self.now.known ≤ length found.now }
+        ensures { IfOk result (λ answers. answers.items ≡ woven self.now.known found.now) }
+    {
+        let mut answers = Vec::new(alloc);
+        let mut next = 0;
+        for known in &self.known {
+            match *known {
+                Some(answer) => answers.push(answer)?,
+                None => {
+                    answers.push(found[next])?;
+                    next += 1;
+                }
+            }
+        }
+        Ok(answers)
+    }
+
+    /// Keeps the request of each entry of which nothing was known with what was found for it.
+    fn keep(&self, memo: &mut Memo, found: &[Ref])
+        requires requests { All (λ e. short_of e.0 e.1 e.2 ≡ None) self.now.requests }
+        requires each { length found.now ≡ length self.now.requests }
+        ensures { AreKept memo.old self.now.requests found.now memo.new }
+    {
+        for place in 0..self.requests.len() {
+            let (op, f, g) = self.requests[place];
+            memo.keep(normal(op, f, g), found[place]);
+        }
+    }
+
+    /// The answers of all entries, of which these were found. The memo keeps what was found, or nothing where memory is refused.
+    pub fn settle(
+        &self,
+        alloc: Global,
+        memo: &mut Memo,
+        found: &[Ref],
+    ) -> Result<Vec<Ref>, AllocError>
+        requires requests { All (λ e. short_of e.0 e.1 e.2 ≡ None) self.now.requests }
+        requires each { length found.now ≡ length self.now.requests }
+        requires known { missing self.now.known ≡ length self.now.requests }
+        ensures answers { IfOk result (λ answers. answers.items ≡ woven self.now.known found.now) }
+        ensures kept { OnOk result (AreKept memo.old self.now.requests found.now memo.new) }
+        ensures refused { OnErr result (memo.new ≡ memo.old) }
+    {
+        let answers = self.answers(alloc, found)?;
+        self.keep(memo, found);
+        Ok(answers)
+    }
+}

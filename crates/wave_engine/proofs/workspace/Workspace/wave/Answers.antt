@@ -1,0 +1,90 @@
+use Rattle.std.proofs.Common.{rules, List, All, sym, subst, arith}
+use Rattle.std.specs.List.{AllZip}
+use Rattle.dd_store.specs.declared.reference.Ref.{Ref}
+use Rattle.req_table.specs.declared.Key.{Key}
+use Rattle.reduce_up.specs.Reducing.{AddsDescribed}
+use Rattle.reduce_up.specs.Waves.{IsWanted, AnswersEach, IsWaveFault}
+use Rattle.reduce_up.proofs.Waving.{adds_below}
+use Rattle.wave_engine.specs.declared.lists.Placed.{Placed}
+use Rattle.wave_engine.specs.Down.{AreExpanded, IsDown}
+use Rattle.wave_engine.specs.Up.{ComesTo, AreReducedBelow, IsWithinBelow}
+use Rattle.wave_engine.proofs.Whole.{expanded_kept, adds_both, fault_back, roots_come, roots_answered, within_both}
+use Rattle.wave_engine.proofs.workspace.Workspace.wave.Goals as goal
+
+pub reduce-requires-clause-expanded : goal.reduce-requires-clause-expanded
+reduce-requires-clause-expanded g c =
+    let T : List (List Key) = c.go_down.new.down.requests in
+    let rows : List (List (Placed × Placed)) = c.go_down.new.down.rows.items in
+    let ps : List Placed = c.go_down.new.down.roots.items in
+    let D : IsDown c.args.store.now c.args.entries.now c.in-Ok.from T rows ps c.go_down.new.answers.items = c.in-Ok.ensures in
+    let E : AreExpanded c.hand_over.new.store c.args.entries.now ps c.in-Ok.from T rows = expanded_kept c.args.store.now c.levels.ensures.sound c.args.entries.now c.requires.operands c.hand_over.new.store c.hand_over.ensures.adds.keeps ps c.in-Ok.from T rows D.expanded in
+    E
+
+pub returns-in_err-reduce-clause-adds : goal.returns-in_err-reduce-clause-adds
+returns-in_err-reduce-clause-adds g c =
+    adds_both c.args.store.now c.levels.ensures.sound c.args.entries.now c.requires.operands c.hand_over.new.store c.hand_over.ensures.adds.keeps c.hand_over.ensures.sound c.reduce.new.store c.hand_over.ensures.adds c.reduce.ensures.adds
+
+pub returns-in-Ok-root_answers-clause-adds : goal.returns-in-Ok-root_answers-clause-adds
+returns-in-Ok-root_answers-clause-adds g c =
+    adds_both c.args.store.now c.levels.ensures.sound c.args.entries.now c.requires.operands c.hand_over.new.store c.hand_over.ensures.adds.keeps c.hand_over.ensures.sound c.reduce.new.store c.hand_over.ensures.adds c.reduce.ensures.adds
+
+pub returns-in-Err-clause-adds : goal.returns-in-Err-clause-adds
+returns-in-Err-clause-adds g c =
+    adds_both c.args.store.now c.levels.ensures.sound c.args.entries.now c.requires.operands c.hand_over.new.store c.hand_over.ensures.adds.keeps c.hand_over.ensures.sound c.reduce.new.store c.hand_over.ensures.adds c.reduce.ensures.adds
+
+pub returns-in_err-reduce-clause-fault : goal.returns-in_err-reduce-clause-fault
+returns-in_err-reduce-clause-fault g c =
+    let f : IsWaveFault c.args.store.now c.args.entries.now c.reduce.new.store c.in_err-reduce.field-0.0 =
+    fault_back c.args.store.now c.levels.ensures.sound c.args.entries.now c.requires.operands c.hand_over.new.store c.hand_over.ensures.adds.keeps c.reduce.new.store c.in_err-reduce.field-0.0 c.in_err-reduce.ensures.fault in
+    search (rules, f)
+
+pub root_answers-requires : goal.root_answers-requires
+root_answers-requires g c =
+    let T : List (List Key) = c.go_down.new.down.requests in
+    let rows : List (List (Placed × Placed)) = c.go_down.new.down.rows.items in
+    let ps : List Placed = c.go_down.new.down.roots.items in
+    let D : IsDown c.args.store.now c.args.entries.now c.in-Ok.from T rows ps c.go_down.new.answers.items = c.in-Ok.ensures in
+    let R : AreReducedBelow c.hand_over.new.store c.args.entries.now T 0 c.reduce.new.store c.reduce.new.answers.items = c.in_ok-reduce.ensures.reduced in
+    subst (λ (z : List Placed). All (λ p. (r : Ref) × ComesTo c.as_slice-2.result.now p r) z) (sym c.as_slice.ensures.value)
+    (subst (λ (z : List (List Ref)). All (λ p. (r : Ref) × ComesTo z p r) ps) (sym c.as_slice-2.ensures.value)
+    (roots_come c.args.store.now c.levels.ensures.sound c.args.entries.now c.requires.operands T c.reduce.new.answers.items (λ v q k h. R.counts v q k (omega arith) h) ps D.expanded.rooted))
+
+pub returns-in-Ok-root_answers-clause-answers : goal.returns-in-Ok-root_answers-clause-answers
+returns-in-Ok-root_answers-clause-answers g c =
+    let T : List (List Key) = c.go_down.new.down.requests in
+    let rows : List (List (Placed × Placed)) = c.go_down.new.down.rows.items in
+    let ps : List Placed = c.go_down.new.down.roots.items in
+    let D : IsDown c.args.store.now c.args.entries.now c.in-Ok.from T rows ps c.go_down.new.answers.items = c.in-Ok.ensures in
+    let R : AreReducedBelow c.hand_over.new.store c.args.entries.now T 0 c.reduce.new.store c.reduce.new.answers.items = c.in_ok-reduce.ensures.reduced in
+    let come : AllZip (ComesTo c.reduce.new.answers.items) ps c.in-Ok-root_answers.answers.items =
+    subst (λ (z : List Placed). AllZip (ComesTo c.reduce.new.answers.items) z c.in-Ok-root_answers.answers.items) c.as_slice.ensures.value
+    (subst (λ (z : List (List Ref)). AllZip (ComesTo z) c.as_slice.result.now c.in-Ok-root_answers.answers.items) c.as_slice-2.ensures.value c.in-Ok-root_answers.ensures) in
+    let adds : AddsDescribed c.args.store.now c.reduce.new.store (IsWanted c.args.store.now c.args.entries.now) = adds_both c.args.store.now c.levels.ensures.sound c.args.entries.now c.requires.operands c.hand_over.new.store c.hand_over.ensures.adds.keeps c.hand_over.ensures.sound c.reduce.new.store c.hand_over.ensures.adds c.reduce.ensures.adds in
+    let answers : AnswersEach c.args.store.now c.args.entries.now c.reduce.new.store c.in-Ok-root_answers.answers.items =
+    roots_answered c.args.store.now c.levels.ensures.sound c.args.entries.now c.requires.operands T c.reduce.new.answers.items c.reduce.new.store D.expanded.admitted adds.keeps (λ v q k r h g. R.answered v q k r (omega arith) h g) c.args.entries.now c.requires.operands ps D.expanded.rooted c.in-Ok-root_answers.answers.items come in
+    answers
+
+pub returns-in-Ok-root_answers-clause-no_others : goal.returns-in-Ok-root_answers-clause-no_others
+returns-in-Ok-root_answers-clause-no_others g c =
+    let T : List (List Key) = c.go_down.new.down.requests in
+    let rows : List (List (Placed × Placed)) = c.go_down.new.down.rows.items in
+    let ps : List Placed = c.go_down.new.down.roots.items in
+    let D : IsDown c.args.store.now c.args.entries.now c.in-Ok.from T rows ps c.go_down.new.answers.items = c.in-Ok.ensures in
+    let R : AreReducedBelow c.hand_over.new.store c.args.entries.now T 0 c.reduce.new.store c.reduce.new.answers.items = c.in_ok-reduce.ensures.reduced in
+    let come : AllZip (ComesTo c.reduce.new.answers.items) ps c.in-Ok-root_answers.answers.items =
+    subst (λ (z : List Placed). AllZip (ComesTo c.reduce.new.answers.items) z c.in-Ok-root_answers.answers.items) c.as_slice.ensures.value
+    (subst (λ (z : List (List Ref)). AllZip (ComesTo z) c.as_slice.result.now c.in-Ok-root_answers.answers.items) c.as_slice-2.ensures.value c.in-Ok-root_answers.ensures) in
+    let adds : AddsDescribed c.args.store.now c.reduce.new.store (IsWanted c.args.store.now c.args.entries.now) = adds_both c.args.store.now c.levels.ensures.sound c.args.entries.now c.requires.operands c.hand_over.new.store c.hand_over.ensures.adds.keeps c.hand_over.ensures.sound c.reduce.new.store c.hand_over.ensures.adds c.reduce.ensures.adds in
+    let answers : AnswersEach c.args.store.now c.args.entries.now c.reduce.new.store c.in-Ok-root_answers.answers.items =
+    roots_answered c.args.store.now c.levels.ensures.sound c.args.entries.now c.requires.operands T c.reduce.new.answers.items c.reduce.new.store D.expanded.admitted adds.keeps (λ v q k r h g. R.answered v q k r (omega arith) h g) c.args.entries.now c.requires.operands ps D.expanded.rooted c.in-Ok-root_answers.answers.items come in
+    adds_below c.args.store.now c.args.entries.now c.reduce.new.store c.reduce.ensures.sound adds c.in-Ok-root_answers.answers.items answers
+
+pub returns-in-Ok-root_answers-clause-within : goal.returns-in-Ok-root_answers-clause-within
+returns-in-Ok-root_answers-clause-within g c =
+    let T : List (List Key) = c.go_down.new.down.requests in
+    let rows : List (List (Placed × Placed)) = c.go_down.new.down.rows.items in
+    let ps : List Placed = c.go_down.new.down.roots.items in
+    let D : IsDown c.args.store.now c.args.entries.now c.in-Ok.from T rows ps c.go_down.new.answers.items = c.in-Ok.ensures in
+    let R : AreReducedBelow c.hand_over.new.store c.args.entries.now T 0 c.reduce.new.store c.reduce.new.answers.items = c.in_ok-reduce.ensures.reduced in
+    let first : IsWithinBelow c.args.store.now T c.in-Ok.from c.hand_over.new.store = c.in_ok-hand_over.ensures.within in
+    within_both c.args.store.now c.levels.ensures.sound c.args.entries.now c.requires.operands T ps D.expanded.rooted c.in-Ok.from c.hand_over.new.store c.reduce.new.store first R.within

@@ -1,0 +1,184 @@
+//! Waves without a memo, and the memory that lasts from wave to wave.
+ghost use Rattle.std.specs.Prelude.{◌≡◌, ◌≤◌, ℕ, length, All, IfOk, IfErr, OnOk};
+ghost use Rattle.std.specs.List.{AllZip};
+ghost use Rattle.dd_store.specs.declared.reference.Ref.{Ref as RefValue};
+ghost use Rattle.dd_store.specs.Nodes.{IsSound};
+ghost use Rattle.reduce_up.specs.Reducing.{AddsDescribed};
+ghost use Rattle.reduce_up.specs.Waves.{IsEntry, AnswersEach, IsWanted, AddsBelow, IsWithinLimit, IsWaveFault};
+ghost use Rattle.wave_engine.specs.Down.{IsDown};
+ghost use Rattle.wave_engine.specs.Up.{ComesTo};
+
+use crate::down::{expand, place_roots};
+use crate::front::hand_over;
+use crate::lists::{Answers, Placed, Row};
+use crate::requests::Requests;
+use crate::team::{Team, Workers};
+use crate::up::{reduce, resolve};
+use dd_store::{Ref, Store};
+use expand_work::{Gate, WaveFault};
+use req_table::Op;
+use std::alloc::{AllocError, Global};
+use std::sync::Wait;
+use std::thread::Threads;
+
+/// What a wave's expansion leaves: the requests by level, the children of each by place, and what the entries come to. A level
+/// without requests may have old children.
+#[derive(Drop)]
+pub(crate) struct Down {
+    pub(crate) requests: Requests,
+    pub(crate) rows: Vec<Row>,
+    pub(crate) roots: Vec<Placed>,
+}
+
+/// Makes a row for each level.
+fn fit_rows(alloc: Global, rows: &mut Vec<Row>, levels: u16) -> Result<(), AllocError>
+    ensures { OnOk result (length rows.new.items ≡ levels) }
+{
+    if rows.len() == levels as usize {
+        return Ok(());
+    }
+    let mut fresh = Vec::new(alloc);
+    for made in 0..levels {
+        fresh.push(Row::new(alloc))?;
+    }
+    *rows = fresh;
+    Ok(())
+}
+
+/// Makes a list of answers for each level.
+fn fit_answers(alloc: Global, answers: &mut Vec<Answers>, levels: u16) -> Result<(), AllocError>
+    ensures { OnOk result (length answers.new.items ≡ levels) }
+{
+    if answers.len() == levels as usize {
+        return Ok(());
+    }
+    let mut fresh = Vec::new(alloc);
+    for made in 0..levels {
+        fresh.push(Answers::new(alloc))?;
+    }
+    *answers = fresh;
+    Ok(())
+}
+
+/// Places and expands what the entries ask for, down to the first level with more than so many requests.
+fn go_down(
+    alloc: Global,
+    store: &Store,
+    entries: &[(Op, Ref, Ref)],
+    down: &mut Down,
+    answers: &mut Vec<Answers>,
+    most: usize,
+) -> Result<u16, AllocError>
+    requires operands { All (IsEntry store.now) entries.now }
+    ensures { IfOk result (λ v. IsDown store.now entries.now v down.new.requests down.new.rows.items down.new.roots.items answers.new.items) }
+{
+    let levels = store.levels();
+    down.requests.restart(alloc, levels)?;
+    fit_rows(alloc, &mut down.rows, levels)?;
+    fit_answers(alloc, answers, levels)?;
+    down.roots.clear();
+    place_roots(store, entries, &mut down.requests, &mut down.roots)?;
+    expand(
+        store,
+        entries,
+        &mut down.requests,
+        &mut down.rows,
+        down.roots.as_slice(),
+        most,
+    )
+}
+
+/// The answers of the roots.
+fn root_answers(
+    alloc: Global,
+    roots: &[Placed],
+    answers: &[Answers],
+) -> Result<Vec<Ref>, AllocError>
+    requires { All (λ p. (r : RefValue) × ComesTo answers.now p r) roots.now }
+    ensures { IfOk result (λ refs. AllZip (ComesTo answers.now) roots.now refs.items) }
+{
+    let mut refs = Vec::new(alloc);
+    for root in roots {
+        refs.push(resolve(answers, *root))?;
+    }
+    Ok(refs)
+}
+
+/// Does waves one after the other. It keeps the memory that they take, and nothing else: no wave knows of an earlier one.
+#[derive(Drop)]
+pub(crate) struct Workspace<'a, R, G> {
+    team: Team<'a, R, G>,
+    down: Down,
+    answers: Vec<Answers>,
+}
+
+impl<'a, R: Threads + Wait + Sync, G: Gate> Workspace<'a, R, G> {
+    /// A workspace that has done no wave. It takes no memory yet.
+    pub(crate) fn new(rt: &'a R, alloc: Global, workers: Workers, gate: &'a G) -> Self {
+        Workspace {
+            team: Team {
+                rt,
+                alloc,
+                workers,
+                gate,
+            },
+            down: Down {
+                requests: Requests::new(alloc),
+                rows: Vec::new(alloc),
+                roots: Vec::new(alloc),
+            },
+            answers: Vec::new(alloc),
+        }
+    }
+
+    /// Where its memory is from.
+    pub(crate) fn alloc(&self) -> Global {
+        self.team.alloc
+    }
+
+    /// The diagram of each operation on its two operands.
+    ///
+    /// The requests of all operations together are expanded on the caller's thread, down to the first level that has more of them
+    /// than the gate lets the caller have; from there on they are the workers', in threads. They are reduced from the last level
+    /// up. NoWorker is answered where a worker's thread could not be started; entries that all have short answers start none.
+    pub(crate) fn wave(
+        &mut self,
+        store: &mut Store,
+        entries: &[(Op, Ref, Ref)],
+    ) -> Result<Vec<Ref>, WaveFault>
+        requires operands { All (IsEntry store.old) entries.now }
+        ensures sound { IsSound store.new }
+        ensures adds { AddsDescribed store.old store.new (IsWanted store.old entries.now) }
+        ensures answers { IfOk result (λ answers. AnswersEach store.old entries.now store.new answers.items) }
+        ensures no_others { IfOk result (λ answers. AddsBelow store.old store.new answers.items) }
+        ensures within { OnOk result (IsWithinLimit store.old entries.now store.new) }
+        ensures fault { IfErr result (λ e. IsWaveFault store.old entries.now store.new e) }
+    {
+        let _ = store.levels();
+        let alloc = self.team.alloc;
+        let most = self.team.most_alone();
+        let Ok(from) = go_down(
+            alloc,
+            store,
+            entries,
+            &mut self.down,
+            &mut self.answers,
+            most,
+        ) else {
+            return Err(WaveFault::OutOfMemory);
+        };
+        hand_over(
+            &self.team,
+            store,
+            entries,
+            &self.down.requests,
+            &mut self.answers,
+            from,
+        )?;
+        reduce(store, entries, &self.down, &mut self.answers, from)?;
+        match root_answers(alloc, self.down.roots.as_slice(), self.answers.as_slice()) {
+            Ok(answers) => Ok(answers),
+            Err(_) => Err(WaveFault::OutOfMemory),
+        }
+    }
+}
