@@ -1,23 +1,24 @@
 -- A machine that takes allowed steps alone keeps a core sound.
-use Rattle.std.proofs.Common.{◌≡◌, ℕ, ◌<◌, get_or, IsTrue, Bool, true, false, List, All, AllPairs, Contains, map, Result, Ok, Err, IfOk, OnErr, MatchBool, refl, sym, ap, ◌∙◌, subst}
+use Rattle.std.proofs.Common.{◌≡◌, ℕ, ◌+◌, ◌<◌, get_or, IsTrue, Bool, true, false, List, All, AllPairs, Contains, map, Result, Ok, Err, IfOk, OnErr, MatchBool, refl, sym, ap, ◌∙◌, subst, arith}
 use Rattle.std.specs.declared.alloc.AllocError.{AllocError}
 use Rattle.dd_store.specs.Nodes.{Nodes, IsSound as IsSoundStore}
 use Rattle.req_table.specs.declared.Key.{Key}
 use Rattle.req_table.specs.declared.Record.{Record}
-use Rattle.req_table.specs.Lanes.{sent_by, IsFair}
-use Rattle.req_table.specs.Keys.{IsKey, wave_at, wave_of}
+use Rattle.req_table.specs.Lanes.{sent_by, ends, IsFair}
+use Rattle.req_table.specs.Keys.{IsKey, level_of, wave_at, wave_of}
 use Rattle.req_table.specs.Settled.{IsClosure, IsSplit, key_of, level_of_rows}
 use Rattle.req_table.specs.Reached.{IsReached}
 use Rattle.req_table.specs.Tables.{row_at}
-use Rattle.req_table.proofs.Lists.{all_of}
+use Rattle.req_table.proofs.Lists.{each, all_of}
 use Rattle.req_table.proofs.Fair.{taken_prefix, fair_front}
 use Rattle.req_table.proofs.Waved.{is_wave}
 use Rattle.wave_core.specs.declared.Event.{Event}
 use Rattle.wave_core.specs.Step.{IsStart, IsStep, IsAllowed, IsFinished, asks_here}
-use Rattle.wave_core.specs.View.{View, state_of, wave_of_view, list_of}
+use Rattle.wave_core.specs.View.{View, IsKept, IsOwnInOrder, by_place, state_of, wave_of_view, list_of, done_of}
 use Rattle.wave_core.specs.Cores.{CoreView, core_wave, core_state, IsSoundCore, IsSettledCore, IsNew, IsSameWave}
 use Rattle.req_table.specs.Wave.{IsWave}
-use Rattle.wave_core.specs.Sound.{IsSound}
+use Rattle.wave_core.specs.Sound.{IsSound, IsDue}
+use Rattle.wave_core.proofs.Counted.{kept_by, counts_one}
 use Rattle.wave_core.proofs.Runs.{step_sound, start_sound}
 use Rattle.wave_core.proofs.Expands.{taken_key}
 use Rattle.wave_core.proofs.Finished.{finished_settles, finished_closes}
@@ -71,6 +72,32 @@ taken_fair S v roots by h bb s sb =
 
 pub taken_held : (S : Nodes) (v : View) (roots : List Key) (by : ℕ) → IsSoundCore (core_at S v roots) → by < v.workers → All (IsKey S) (asks_here (state_of v) by)
 taken_held S v roots by h bb = all_of (IsKey S) (asks_here (state_of v) by) (λ x i. (taken_key (wave_of S v.workers) roots (state_of v) by ((state_of v).at by) x h.sound bb i).1)
+
+-- what a worker sent to itself it took or has waiting, and what is due from it to itself has a level of the machine
+pub own_in_order : (S : Nodes) (v : View) (roots : List Key) (by : ℕ) → IsSoundCore (core_at S v roots) → by < v.workers → IsOwnInOrder v by
+own_in_order S v roots by h bb = let c = state_of v in taken_prefix (wave_of S v.workers).scope (λ k. c.sent k by) (c.taken by) (c.waiting by) by (h.sound.lane by bb) bb
+
+pub own_below : (S : Nodes) (v : View) (roots : List Key) (by : ℕ) → IsSoundCore (core_at S v roots) → by < v.workers → All (λ x. level_of S x < v.levels) (by_place v.workers v.due by by)
+own_below S v roots by h bb =
+    let c = state_of v in
+    all_of (λ x. level_of S x < v.levels) (c.due by by)
+    (λ x i. subst (λ n. level_of S x < n) (sym h.levels) (h.laws.bounded x (each (IsDue (wave_of S v.workers) (ends (c.sent by by)) (c.at by)) (c.due by by) x (h.sound.dues by by bb bb) i).held))
+
+-- an event that was done counts as one, and one that was not leaves the count
+pub counts_turn : (S : Nodes) (v u : View) (e : Event) (b : Bool) → IsKept v → (u.workers ≡ v.workers) × (u.levels ≡ v.levels) → Does S v e b u → (IsTrue b → u.kept ≡ v.kept + kept_by e) → MatchBool b (done_of u ≡ done_of v + 1) (done_of u ≡ done_of v)
+counts_turn S v u e true h same d k = counts_one S v u e h same d (k refl)
+counts_turn S v u e false h same d k = ap done_of d.0
+
+pub counts_does : (S : Nodes) (v u : View) (e : Event) (r : Result Bool AllocError) → IsKept v → (u.workers ≡ v.workers) × (u.levels ≡ v.levels) → IfOk r (λ b. Does S v e b u) → IfOk r (λ b. IsTrue b → u.kept ≡ v.kept + kept_by e)
+    → IfOk r (λ b. MatchBool b (done_of u ≡ done_of v + 1) (done_of u ≡ done_of v))
+counts_does S v u e (Ok b) h same d k = counts_turn S v u e b h same d k
+counts_does S v u e (Err x) h same d k = d
+
+-- so it is of an event that keeps no request
+pub counts_same : (S : Nodes) (v u : View) (e : Event) (r : Result Bool AllocError) → IsKept v → (u.workers ≡ v.workers) × (u.levels ≡ v.levels) → IfOk r (λ b. Does S v e b u) → u.kept ≡ v.kept → kept_by e ≡ 0
+    → IfOk r (λ b. MatchBool b (done_of u ≡ done_of v + 1) (done_of u ≡ done_of v))
+counts_same S v u e (Ok b) h same d k z = counts_turn S v u e b h same d (λ t. omega (arith, k, z))
+counts_same S v u e (Err x) h same d k z = d
 
 pub settles_at : (x v : CoreView) → x ≡ v → IsSoundCore x → IsFinished (core_wave v) (core_state v) → IsSettledCore v
 settles_at x v e h = subst (λ (y : CoreView). IsFinished (core_wave y) (core_state y) → IsSettledCore y) e (λ done. finished_settles (core_wave x) h.laws x.roots (core_state x) h.sound done)

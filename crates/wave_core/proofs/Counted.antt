@@ -1,17 +1,18 @@
 -- How many events a core has done: none at the start, and one more with each step.
-use Rattle.std.proofs.Common.{◌≡◌, ℕ, zero, suc, ◌+◌, ◌*◌, ◌<◌, Bool, true, false, cond, eqb, ◌&&◌, List, [], ◌∷◌, ◌++◌, length, sum, get_or, refl, sym, ap, ◌∙◌, arith, length-append, eqb-true, eq-eqb}
+use Rattle.std.proofs.Common.{◌≡◌, ℕ, zero, suc, ◌+◌, ◌*◌, ◌<◌, ◌≤◌, Bool, true, false, cond, eqb, ◌&&◌, List, [], ◌∷◌, ◌++◌, length, sum, get_or, refl, sym, ap, ◌∙◌, arith, length-append, eqb-true, eq-eqb}
 use Rattle.std.specs.List.{sum_by}
 use Rattle.std.proofs.lemmas.List.Sums.{sum_by-cons}
 use Rattle.req_table.specs.declared.Key.{Key}
 use Rattle.req_table.specs.declared.Item.TheVariants.{End as EndOf}
 use Rattle.req_table.specs.Wave.{Wave}
 use Rattle.req_table.specs.Lanes.{ends}
+use Rattle.dd_store.specs.Nodes.{Nodes}
 use Rattle.wave_core.specs.declared.Event.{Event}
-use Rattle.wave_core.specs.declared.Event.TheVariants.{Send, End, Take, Expand, Advance}
+use Rattle.wave_core.specs.declared.Event.TheVariants.{Send, End, Take, Expand, Advance, Keep}
 use Rattle.wave_core.specs.Measure.{total, sum_below}
-use Rattle.wave_core.specs.Step.{State, Effect, Applies, IsStart, IsStep, IsRun, at_one, at_pair, only, ask_of, split_of}
-use Rattle.wave_core.specs.View.{View, IsShaped, state_of}
-use Rattle.wave_core.specs.Counting.{sum_over, done_of}
+use Rattle.wave_core.specs.Step.{State, Effect, Applies, IsStart, IsStep, at_one, at_pair, only, ask_of, split_of}
+use Rattle.wave_core.specs.View.{View, IsShaped, IsKept, state_of, wave_of_view, done_of}
+use Rattle.wave_core.specs.Counting.{sum_over, noted}
 use Rattle.wave_core.proofs.Sums.{sum_same, sum_add, sum_none, sum_one, sum_at_one, sum_at_pair}
 
 -- ---- lists by place
@@ -45,7 +46,7 @@ pub sum_of_numbers : (n : ℕ) (xs : List ℕ) → length xs ≡ n → sum xs �
 sum_of_numbers n xs long = sum_numbers xs ∙ ap (λ l. sum_below l (λ k. get_or xs k 0)) long
 
 -- what the lists of a machine count
-pub counted : (v : View) → IsShaped v → sum_by length v.sent + sum_by length v.taken + (sum_by length v.rows + sum v.at) ≡ done_of v.workers v.levels (state_of v)
+pub counted : (v : View) → IsShaped v → sum_by length v.sent + sum_by length v.taken + (sum_by length v.rows + sum v.at) ≡ noted v.workers v.levels (state_of v)
 counted v h =
     let a = sum_grid v.workers v.workers v.sent h.sent in
     let b = sum_line v.workers v.taken h.taken in
@@ -85,7 +86,7 @@ added n m f =
     sum_over n n (λ s k. length (f.put s k)) + sum_below n (λ k. length (f.got k))
     + sum_over n m (λ k v. length (f.recorded k v)) + sum_below n f.risen
 
-applied : (w : Wave) (c d : State) (f : Effect) → Applies w c d f → done_of w.workers w.levels d ≡ done_of w.workers w.levels c + added w.workers w.levels f
+applied : (w : Wave) (c d : State) (f : Effect) → Applies w c d f → noted w.workers w.levels d ≡ noted w.workers w.levels c + added w.workers w.levels f
 applied w c d f h =
     let a = over_grown w.workers w.workers c.sent d.sent f.put h.sent in
     let b = grown w.workers c.taken d.taken f.got h.taken in
@@ -118,7 +119,7 @@ one_risen n by bb = sum_one n by 1 (λ k. bit (eqb k by)) bb (ap bit (eq-eqb by 
     (λ k q. elim (eqb k by) as (λ b. eqb k by ≡ b → bit b ≡ 0) [ true ↦ λ t. absurd (q (eqb-true k by t)) | false ↦ λ t. refl ] refl)
 
 -- ---- the start, and each step
-pub starts_at_none : (w : Wave) (roots : List Key) (c : State) → IsStart w roots c → done_of w.workers w.levels c ≡ 0
+pub starts_at_none : (w : Wave) (roots : List Key) (c : State) → IsStart w roots c → noted w.workers w.levels c ≡ 0
 starts_at_none w roots c h =
     let a = over_none w.workers w.workers (λ s k. length (c.sent s k)) (λ s k sb kb. ap length (h.sent s k sb kb)) in
     let b = sum_none w.workers (λ k. length (c.taken k)) (λ k kb. ap length (h.taken k kb)) in
@@ -126,7 +127,16 @@ starts_at_none w roots c h =
     let t = sum_none w.workers c.at h.at in
     omega (arith, a, b, r, t)
 
-pub counts_step : (w : Wave) (c d : State) (e : Event) → IsStep w c e d → done_of w.workers w.levels d ≡ done_of w.workers w.levels c + 1
+-- what the event adds to the requests that were kept
+abbrev pub kept_by : Event → ℕ
+kept_by (Send by to) = 0
+kept_by (End by to) = 0
+kept_by (Take by) = 0
+kept_by (Expand by) = 0
+kept_by (Advance by) = 0
+kept_by (Keep by) = 1
+
+pub counts_step : (w : Wave) (c d : State) (e : Event) → IsStep w c e d → noted w.workers w.levels d ≡ noted w.workers w.levels c + 1 + kept_by e
 counts_step w c d (Send by to) (bb, tb, x, rest, here, h) =
     let a = applied w c d _ h in
     let s = one_at_pair w.workers by to (ask_of w by x) bb tb in
@@ -159,7 +169,25 @@ counts_step w c d (Advance by) (work, done, paid, h) =
     let p = over_none w.workers w.workers (λ s k. 0) (λ s k sb kb. refl) in
     let r = over_none w.workers w.levels (λ k v. 0) (λ k v kb vb. refl) in
     omega (arith, a, s, g, p, r)
+counts_step w c d (Keep by) (bb, x, rest, here, all, h) =
+    let a = applied w c d _ h in
+    let s = one_at_pair w.workers by by (ask_of w by x) bb bb in
+    let g = one_at_one w.workers by (ask_of w by x) bb in
+    let z = sum_none w.workers (λ k. 0) (λ k kb. refl) in
+    let r = over_none w.workers w.levels (λ k v. 0) (λ k v kb vb. refl) in
+    omega (arith, a, s, g, z, r)
 
-pub counts_run : (w : Wave) (c d : State) (es : List Event) → IsRun w c es d → done_of w.workers w.levels d ≡ done_of w.workers w.levels c + length es
-counts_run w c d [] r = let e = ap (λ x. done_of w.workers w.levels x) r in omega (arith, e)
-counts_run w c d (e ∷ es) r = let a = counts_step w c r.0 e r.1 in let b = counts_run w r.0 d es r.2 in omega (arith, a, b)
+-- a machine has sent at least what was kept, so one event more is counted
+pub counts_one : (S : Nodes) (v u : View) (e : Event) → IsKept v → (u.workers ≡ v.workers) × (u.levels ≡ v.levels) → IsStep (wave_of_view S v) (state_of v) e (state_of u) → u.kept ≡ v.kept + kept_by e → done_of u ≡ done_of v + 1
+counts_one S v u e h same s kept =
+    let a = counts_step (wave_of_view S v) (state_of v) (state_of u) e s in
+    let n : noted u.workers u.levels (state_of u) ≡ noted v.workers v.levels (state_of u) = (λ i. noted (same.0 i) (same.1 i) (state_of u)) in
+    let few = h.kept in
+    omega (arith, a, n, few, kept)
+
+-- lists that grow are as many as before, and one more where one of them grew
+pub more_of : {X : Type 0} (n m a : ℕ) (f g p : ℕ → ℕ → List X) → ((s k : ℕ) → s < n → k < m → g s k ≡ f s k ++ p s k) → a ≤ sum_over n m (λ s k. length (f s k)) → a ≤ sum_over n m (λ s k. length (g s k))
+more_of n m a f g p h l = let e = over_grown n m f g p h in omega (arith, e, l)
+
+pub one_more_of : {X : Type 0} (n a by to : ℕ) (x : X) (f g : ℕ → ℕ → List X) → by < n → to < n → ((s k : ℕ) → s < n → k < n → g s k ≡ f s k ++ at_pair by to x s k) → a ≤ sum_over n n (λ s k. length (f s k)) → a + 1 ≤ sum_over n n (λ s k. length (g s k))
+one_more_of n a by to x f g bb tb h l = let e = over_grown n n f g (at_pair by to x) h in let o = one_at_pair n by to x bb tb in omega (arith, e, o, l)

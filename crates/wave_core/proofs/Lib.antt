@@ -17,6 +17,7 @@ pub mod Machines
 pub mod Owes
 pub mod Advances
 pub mod Taking
+pub mod Keeping
 pub mod Starts
 pub mod Cores
 pub mod Drives

@@ -13,6 +13,7 @@ use Rattle.wave_core.specs.declared.Event.TheVariants.{Send, End}
 use Rattle.wave_core.specs.View.{View, IsKept, by_place, list_of, number_of, state_of, wave_of_view}
 use Rattle.wave_core.specs.Step.{IsStep, only, at_pair}
 use Rattle.wave_core.proofs.Places.{at_pair_is, ends_only_ask}
+use Rattle.wave_core.proofs.Counted.{more_of}
 use Rattle.wave_core.proofs.Grid.{place, pair_set, pair_grows, pair_shrinks, one_grows, got, read_back, set_same, set_twice}
 
 abbrev pub view_in : Inside → View
@@ -28,6 +29,7 @@ view_in m = record {
   tables = m.tables.items;
   rows = m.rows.items;
   at = m.at.items;
+  kept = m.kept;
 }
 
 -- a list changes its elements alone
@@ -106,6 +108,8 @@ module _ (S : Nodes) (v : View) (h : IsKept v) (by to : ℕ) (bb : by < v.worker
         let p : ends (by_place v.workers v.sent s k ++ at_pair by to i s k) ≡ ends (by_place v.workers v.sent s k) = omega (arith, e, z) in
         o ∙ sym (ap ends (pair_grows v.workers v.sent by to s-old s-new i tb (in_sent v h by to bb tb) so sn s k kb) ∙ p));
     counted = h.counted;
+    kept = more_of v.workers v.workers v.kept (by_place v.workers v.sent) (by_place v.workers (set v.sent (by * v.workers + to) s-new)) (at_pair by to (Ask by (level_of S x) x))
+        (λ s k sb kb. pair_grows v.workers v.sent by to s-old s-new (Ask by (level_of S x) x) tb (in_sent v h by to bb tb) so sn s k kb) h.kept;
     tables = h.tables;
   }
 
@@ -160,5 +164,7 @@ module _ (S : Nodes) (v : View) (h : IsKept v) (by to : ℕ) (bb : by < v.worker
         ] refl)
         ∙ ap ends (sym (pair_grows v.workers v.sent by to s-old s-new (EndOf by e) tb (in_sent v h by to bb tb) so sn s k kb));
     counted = h.counted;
+    kept = more_of v.workers v.workers v.kept (by_place v.workers v.sent) (by_place v.workers (set v.sent (by * v.workers + to) s-new)) (at_pair by to (EndOf by e))
+        (λ s k sb kb. pair_grows v.workers v.sent by to s-old s-new (EndOf by e) tb (in_sent v h by to bb tb) so sn s k kb) h.kept;
     tables = h.tables;
   }

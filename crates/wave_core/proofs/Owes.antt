@@ -175,6 +175,7 @@ noted v h by l r more old new bb lb front is e =
       };
       ended = h.ended;
       counted = h.counted;
+      kept = h.kept;
       tables = λ k m kb mb. subst (IsTable (asks_at m (list_of v.taken k)) (by_place v.levels v.tables k m)) (sym (pair_grows v.levels v.rows by l old new r lb room is e k m mb))
           (table_more (eqb k by && eqb m l) (asks_at m (list_of v.taken k)) (by_place v.levels v.tables k m) (by_place v.levels v.rows k m) r more (h.tables k m kb mb)
           (λ t. let (p, q) = at_pair_is k by m l t in

@@ -66,7 +66,7 @@ dealt_next w i to roots x due old new some size dealt l x-is to-is is e =
 -- the lists of the start are kept together
 pub starts_kept : (w n : ℕ) (sent : List (List Item)) (ended : List ℕ) (due : List (List Key)) (waiting taken : List (List Item)) (counted : List ℕ) (tables : List (List Key)) (rows : List (List Record)) (at' : List ℕ) → w ≤ 16 → n ≤ 4096
     → sent ≡ replicate (w * w) [] → ended ≡ replicate (w * w) 0 → length due ≡ w * w → waiting ≡ replicate w [] → taken ≡ replicate w [] → counted ≡ replicate (w * w) 0 → tables ≡ replicate (w * n) [] → rows ≡ replicate (w * n) [] → at' ≡ replicate w 0
-    → IsKept (record { workers = w; levels = n; sent = sent; ended = ended; due = due; waiting = waiting; taken = taken; counted = counted; tables = tables; rows = rows; at = at' })
+    → IsKept (record { workers = w; levels = n; sent = sent; ended = ended; due = due; waiting = waiting; taken = taken; counted = counted; tables = tables; rows = rows; at = at'; kept = 0 })
 starts_kept w n sent ended due waiting taken counted tables rows at' few small s e d q t c ts r a = record {
   shape = record {
     few_workers = few;
@@ -83,6 +83,7 @@ starts_kept w n sent ended due waiting taken counted tables rows at' few small s
   };
   ended = λ i k ib kb. ap (λ l. get_or l (i * w + k) 0) e ∙ at_replicate (w * w) (i * w + k) 0 ∙ sym (ap ends (ap (λ l. get_or l (i * w + k) []) s ∙ at_replicate (w * w) (i * w + k) []));
   counted = λ k i kb ib. ap (λ l. get_or l (k * w + i) 0) c ∙ at_replicate (w * w) (k * w + i) 0 ∙ sym (ap (λ l. ends (sent_by i l)) (ap (λ l. get_or l k []) t ∙ at_replicate w k []));
+  kept = omega arith;
   tables = λ k l kb lb.
       let none : get_or taken k [] ≡ [] = ap (λ m. get_or m k []) t ∙ at_replicate w k [] in
       let table : get_or tables (k * n + l) [] ≡ [] = ap (λ m. get_or m (k * n + l) []) ts ∙ at_replicate (w * n) (k * n + l) [] in

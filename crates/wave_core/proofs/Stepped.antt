@@ -1,6 +1,7 @@
 -- What a core says of one event, and of several in turn.
-use Rattle.std.proofs.Common.{◌≡◌, ℕ, ◌+◌, ◌<◌, List, [], ◌∷◌, ◌++◌, length, take, drop, get_or, Bool, MatchBool, All, AllPairs, map, refl, sym, ap, ◌∙◌, subst}
-use Rattle.std.proofs.lemmas.List.{drop_more, take-append-drop}
+use Rattle.std.proofs.Common.{◌≡◌, ℕ, ◌+◌, ◌<◌, List, [], ◌∷◌, ◌++◌, length, take, drop, get_or, Bool, MatchBool, All, AllPairs, map, refl, sym, ap, ◌∙◌, subst, arith}
+use Rattle.std.proofs.lemmas.List.{drop_more, length-take-le, take-append-drop}
+use Rattle.req_table.specs.declared.Key.{Key}
 use Rattle.req_table.specs.declared.Item.{Item}
 use Rattle.req_table.specs.declared.Record.{Record}
 use Rattle.req_table.specs.Wave.{Wave}
@@ -11,18 +12,17 @@ use Rattle.req_table.proofs.Keyed.{key_decides}
 use Rattle.req_table.specs.contracts.KeyPartialEq.TheImpl.{eq-value}
 use Rattle.wave_core.specs.declared.Event.{Event}
 use Rattle.wave_core.specs.declared.CoreFault.{CoreFault}
-use Rattle.wave_core.specs.declared.Event.TheVariants.{Send, End, Take, Expand, Advance}
+use Rattle.wave_core.specs.declared.Event.TheVariants.{Send, End, Take, Expand, Advance, Keep}
 use Rattle.wave_core.specs.Step.{State, IsStep, IsRun, IsAllowed}
 use Rattle.wave_core.specs.Drive.{IsTurn}
 use Rattle.wave_core.specs.View.{wave_of_view, list_of}
 use Rattle.wave_core.specs.Cores.{CoreView, core_wave, core_state, IsSoundCore, IsSameWave, events_done, HasStep, IsRefusal, IsStopped, Reaches, TakesOpen}
-use Rattle.wave_core.specs.Counting.{done_of}
-use Rattle.wave_core.proofs.Counted.{counts_step, counts_run}
 use Rattle.wave_core.proofs.Cores.{wave_is}
 use Rattle.wave_core.proofs.Drives.{same_wave}
 use Rattle.wave_core.proofs.Progress.{allowed_of_step, step_of_allowed}
 use Rattle.wave_core.proofs.Runs.{sound_prefix, once_in_row, recorded_place}
 use Rattle.wave_core.proofs.Takes.{open_front}
+use Rattle.wave_core.proofs.Keeps.{keep_open}
 
 -- an event is allowed exactly where some state follows by it
 pub none_follows : (v : CoreView) (e : Event) → ¬ IsAllowed (core_wave v) (core_state v) e → ¬ HasStep v e
@@ -38,6 +38,10 @@ takes_open v d (End by to) h s = tt
 takes_open v d (Take by) h s = λ t l x rest front. open_front (core_wave v) v.roots (core_state v) by t l x rest h.sound s.0 front
 takes_open v d (Expand by) h s = tt
 takes_open v d (Advance by) h s = tt
+takes_open v d (Keep by) h s = λ x rest front.
+    (let same : s.1 ∷ s.2 ≡ x ∷ rest = sym s.3 ∙ front in
+    let first : s.1 ≡ x = cc in
+    subst (λ (y : Key). ¬ IsClosed (core_wave v).scope ((core_wave v).level y) ((core_state v).taken by)) first (keep_open (core_wave v) v.roots (core_state v) d by h.sound s))
 
 -- a run and one event more
 pub run_more : (w : Wave) (c b d : State) (es : List Event) (e : Event) → IsRun w c es b → IsStep w b e d → IsRun w c (es ++ e ∷ []) d
@@ -57,22 +61,15 @@ reaches_then v x y same r q = (r.0 ++ q.0, joined (core_wave v) (core_state v) (
     joined w c b d [] fs r q = subst (λ z. IsRun w z fs d) (sym r) q
     joined w c b d (e ∷ es) fs r q = (r.0, r.1, joined w r.0 b d es fs r.2 q)
 
--- a step counts as one event, and a run as its events
-pub core_counts : (v y : CoreView) (e : Event) → IsSameWave v y → IsStep (core_wave v) (core_state v) e (core_state y) → events_done y ≡ events_done v + 1
-core_counts v y e same s = (λ i. done_of (same.workers i) (same.store i).levels (core_state y)) ∙ counts_step (core_wave v) (core_state v) (core_state y) e s
-
-pub core_counts_run : (v y : CoreView) (es : List Event) → IsSameWave v y → IsRun (core_wave v) (core_state v) es (core_state y) → events_done y ≡ events_done v + length es
-core_counts_run v y es same r = (λ i. done_of (same.workers i) (same.store i).levels (core_state y)) ∙ counts_run (core_wave v) (core_state v) (core_state y) es r
-
 -- the events before a place were done, and the one at it was refused
-pub stopped_at : (old x y : CoreView) (events : List Event) (i : ℕ) (fault : CoreFault) → i < length events → IsSameWave old x → IsRun (core_wave old) (core_state old) (take i events) (core_state x) → y ≡ x → IsRefusal x (get_or events i (Send 0 0)) fault → IsStopped old events y fault
-stopped_at old x y events i fault l same r e h = subst (λ (z : CoreView). IsStopped old events z fault) (sym e) (record {
+pub stopped_at : (old x y : CoreView) (events : List Event) (i : ℕ) (fault : CoreFault) → i < length events → IsSameWave old x → IsRun (core_wave old) (core_state old) (take i events) (core_state x) → events_done x ≡ events_done old + i → y ≡ x → IsRefusal x (get_or events i (Send 0 0)) fault → IsStopped old events y fault
+stopped_at old x y events i fault l same r n e h = subst (λ (z : CoreView). IsStopped old events z fault) (sym e) (record {
   before = take i events;
   event = get_or events i (Send 0 0);
   after = drop (i + 1) events;
   split = sym (take-append-drop i events) ∙ ap (λ xs. take i events ++ xs) (drop_more events i (Send 0 0) l);
   run = r;
-  counts = core_counts_run old x (take i events) same r;
+  counts = let long = length-take-le i events (omega (arith, l)) in omega (arith, n, long);
   refused = h;
 })
 

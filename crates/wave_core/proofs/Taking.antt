@@ -123,6 +123,7 @@ module _ (v : View) (h : IsKept v) (by : ℕ) (bb : by < v.workers) (i : Item) (
     };
     ended = h.ended;
     counted = λ k s kb sb. ch k s kb sb ∙ ap (λ l. ends (sent_by s l)) (sym (one_grows v.taken by t-old t-new i in_taken to tn k));
+    kept = h.kept;
     tables = λ k l kb lb. subst (λ xs. IsTable (asks_at l xs) (by_place v.levels tables k l) (by_place v.levels v.rows k l)) (sym (one_grows v.taken by t-old t-new i in_taken to tn k)) (th k l kb lb);
   }
 

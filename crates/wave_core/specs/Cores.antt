@@ -9,13 +9,12 @@ use Rattle.req_table.specs.Wave.{Wave, IsWave}
 use Rattle.req_table.specs.Keys.{wave_of}
 use Rattle.req_table.specs.Settled.{IsSettled}
 use Rattle.wave_core.specs.declared.Event.{Event}
-use Rattle.wave_core.specs.declared.Event.TheVariants.{Take}
+use Rattle.wave_core.specs.declared.Event.TheVariants.{Take, Keep}
 use Rattle.wave_core.specs.declared.CoreFault.{CoreFault}
 use Rattle.wave_core.specs.declared.CoreFault.TheVariants.{NotAllowed, OutOfMemory}
 use Rattle.wave_core.specs.Step.{State, IsStart, IsStep, IsRun}
 use Rattle.wave_core.specs.Sound.{IsSound}
-use Rattle.wave_core.specs.View.{View, state_of}
-use Rattle.wave_core.specs.Counting.{done_of}
+use Rattle.wave_core.specs.View.{View, state_of, done_of}
 
 pub record CoreView : Type 0 where
   pub store : Nodes
@@ -52,7 +51,7 @@ IsSettledCore v = IsSettled (core_wave v) v.roots (core_state v).sent (core_stat
 
 -- The number of events done.
 abbrev pub events_done : CoreView → ℕ
-events_done v = done_of v.machine.workers v.store.levels (core_state v)
+events_done v = done_of v.machine
 
 -- some state follows by the event
 abbrev pub HasStep : CoreView → Event → Type 0
@@ -64,9 +63,10 @@ abbrev pub IsRefusal : CoreView → Event → CoreFault → Type 0
 IsRefusal v e (NotAllowed place) = (place ≡ events_done v) × ¬ HasStep v e
 IsRefusal v e OutOfMemory = HasStep v e
 
--- an Ask that the event takes is of a level that is not closed
+-- an Ask that the event takes, or keeps, is of a level that is not closed
 abbrev pub TakesOpen : CoreView → Event → Type 0
 TakesOpen v (Take by) = (s l : ℕ) (x : Key) (rest : List Item) → (core_state v).waiting by ≡ Ask s l x ∷ rest → ¬ IsClosed (core_wave v).scope l ((core_state v).taken by)
+TakesOpen v (Keep by) = (x : Key) (rest : List Key) → (core_state v).due by by ≡ x ∷ rest → ¬ IsClosed (core_wave v).scope ((core_wave v).level x) ((core_state v).taken by)
 TakesOpen v e = Unit {0}
 
 -- some events lead from one core to another

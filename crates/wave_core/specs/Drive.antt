@@ -2,7 +2,7 @@
 use Rattle.std.specs.Prelude.{◌≡◌, ℕ, zero, suc, ◌%◌, List, [], ◌∷◌, ◌++◌, ◌⊎◌}
 use Rattle.req_table.specs.Wave.{Wave}
 use Rattle.wave_core.specs.declared.Event.{Event}
-use Rattle.wave_core.specs.declared.Event.TheVariants.{Send, End, Take, Expand, Advance}
+use Rattle.wave_core.specs.declared.Event.TheVariants.{Send, End, Take, Expand, Advance, Keep}
 use Rattle.wave_core.specs.Step.{State, IsStep, IsAllowed, IsFinished}
 
 abbrev pub sends : ℕ → ℕ → List Event
@@ -15,7 +15,7 @@ ends_of by (suc n) = ends_of by n ++ End by n ∷ []
 
 -- the events of one worker among n, and of the first m workers
 abbrev pub events_of : ℕ → ℕ → List Event
-events_of n by = sends by n ++ ends_of by n ++ Take by ∷ Expand by ∷ Advance by ∷ []
+events_of n by = sends by n ++ ends_of by n ++ Take by ∷ Expand by ∷ Advance by ∷ Keep by ∷ []
 
 abbrev pub events_below : ℕ → ℕ → List Event
 events_below n zero = []

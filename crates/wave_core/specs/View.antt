@@ -1,6 +1,6 @@
 -- What contracts see of a machine: lists by place. The pair of s and k has the place s * workers + k; the level v of
 -- the worker k has the place k * levels + v.
-use Rattle.std.specs.Prelude.{◌≡◌, ℕ, ◌+◌, ◌*◌, ◌<◌, ◌≤◌, List, [], ◌∷◌, ◌++◌, length, map, filter, ◌==◌, slice_index_or, slice_set}
+use Rattle.std.specs.Prelude.{◌≡◌, ℕ, ◌+◌, ◌-◌, ◌*◌, ◌<◌, ◌≤◌, List, [], ◌∷◌, ◌++◌, length, map, filter, ◌==◌, slice_index_or, slice_set}
 use Rattle.dd_store.specs.Nodes.{Nodes}
 use Rattle.req_table.specs.declared.Key.{Key}
 use Rattle.req_table.specs.declared.Record.{Record}
@@ -13,9 +13,10 @@ use Rattle.req_table.specs.Lanes.{sent_by, ends, asks_at}
 use Rattle.req_table.specs.Settled.{IsDistinctOf, key_of, dealt_from}
 use Rattle.req_table.specs.Keys.{wave_at, owner}
 use Rattle.wave_core.specs.Step.{State}
+use Rattle.wave_core.specs.Counting.{sum_over, noted}
 
 -- `ended` counts the Ends that s sent to k; `counted`, at the pair of k and s, those of s that k took; `tables` has
--- the distinct keys that k took at each level.
+-- the distinct keys that k took at each level; `kept` counts the requests that a worker kept.
 pub record View : Type 0 where
   pub workers : ℕ
   pub levels : ℕ
@@ -28,6 +29,7 @@ pub record View : Type 0 where
   pub tables : List (List Key)
   pub rows : List (List Record)
   pub at : List ℕ
+  pub kept : ℕ
 
 abbrev pub by_place : {X : Type 0} → ℕ → List (List X) → ℕ → ℕ → List X
 by_place w xss s k = slice_index_or xss (s * w + k) []
@@ -74,7 +76,17 @@ pub record IsKept (v : View) : Type 0 where
   pub shape : IsShaped v
   pub ended : (s k : ℕ) → s < v.workers → k < v.workers → number_of v.workers v.ended s k ≡ ends (by_place v.workers v.sent s k)
   pub counted : (k s : ℕ) → k < v.workers → s < v.workers → number_of v.workers v.counted k s ≡ ends (sent_by s (list_of v.taken k))
+  pub kept : v.kept ≤ sum_over v.workers v.workers (λ s k. length (by_place v.workers v.sent s k))
   pub tables : (k l : ℕ) → k < v.workers → l < v.levels → IsTable (asks_at l (list_of v.taken k)) (by_place v.levels v.tables k l) (by_place v.levels v.rows k l)
+
+-- How many events were done: each sent an item, took one, made a record or passed a level, and one that kept a request both
+-- sent it and took it.
+abbrev pub done_of : View → ℕ
+done_of v = noted v.workers v.levels (state_of v) - v.kept
+
+-- of itself, `by` took and has waiting what it sent, in order
+abbrev pub IsOwnInOrder : View → ℕ → Type 0
+IsOwnInOrder v by = by_place v.workers v.sent by by ≡ sent_by by (list_of v.taken by) ++ sent_by by (list_of v.waiting by)
 
 -- the due lists after the child of a record of `by` was added to them; after both children
 abbrev pub owe_of : ℕ → ℕ → Child → List (List Key) → List (List Key)

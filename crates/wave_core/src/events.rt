@@ -31,6 +31,7 @@ fn add_events(events: &mut Vec<Event>, workers: u32, by: u32) -> Result<(), Allo
     events.push(Event::Take { by })?;
     events.push(Event::Expand { by })?;
     events.push(Event::Advance { by })?;
+    events.push(Event::Keep { by })?;
     Ok(())
 }
 

@@ -10,7 +10,8 @@ mod waves;
 pub use waves::Core;
 
 /// A step of one worker: it sends the first request that is due to a worker, ends its next level on a worker's lane, takes
-/// the first item of its own lane, expands the next request of its level, or goes on to the next level.
+/// the first item of its own lane, expands the next request of its level, goes on to the next level, or keeps the first request
+/// that is due to itself: sends and takes it at once, past its lane, where it has taken all that it sent to itself.
 #[derive(Clone, Copy, Debug)]
 pub enum Event {
     Send { by: u32, to: u32 },
@@ -18,6 +19,7 @@ pub enum Event {
     Take { by: u32 },
     Expand { by: u32 },
     Advance { by: u32 },
+    Keep { by: u32 },
 }
 
 /// Why an event was not done: it is not allowed in this state, after so many events of this core, or memory was refused.

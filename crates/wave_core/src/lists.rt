@@ -1,6 +1,7 @@
 //! Lists that grow at the end; two of them also shrink at the front.
 ghost use Rattle.std.specs.Prelude.{◌≡◌, ℕ, List, [], ◌∷◌, ◌++◌, length, replicate, sum, ◌≤◌, ◌*◌, ◌^◌, MatchOption, MatchBool, IfOk, OnOk, OnErr};
 ghost use Rattle.std.specs.List.{sum_by};
+ghost use Rattle.req_table.specs.Lanes.{sent_by, is_from};
 ghost use Rattle.req_table.specs.declared.Item.{Item as ItemValue};
 ghost use Rattle.req_table.specs.declared.Key.{Key as KeyValue};
 ghost use Rattle.req_table.specs.declared.Record.{Record as RecordValue};
@@ -212,6 +213,15 @@ impl Keys {
     }
 }
 
+/// Whether an item is of this sender.
+fn is_from(item: &Item, sender: u32) -> bool
+    ensures { result ≡ is_from sender item.now }
+{
+    match item {
+        Item::Ask { from, .. } | Item::End { from, .. } => *from == sender,
+    }
+}
+
 /// Items that wait on one lane, in order.
 #[derive(Drop)]
 pub struct Lane {
@@ -255,6 +265,18 @@ impl Lane {
         self.items.front().copied()
     }
 
+    /// Whether one is of this sender.
+    pub fn has_from(&self, sender: u32) -> bool
+        ensures { MatchBool result (¬ (sent_by sender self.now ≡ [])) (sent_by sender self.now ≡ []) }
+    {
+        for place in 0..self.items.len() {
+            if is_from(&self.items[place], sender) {
+                return true;
+            }
+        }
+        false
+    }
+
     /// Takes the one at the front away.
     pub fn pop(&mut self)
         ensures { (xs : List ItemValue) (x : ItemValue) → self.old ≡ x ∷ xs → self.new ≡ xs }
@@ -269,6 +291,22 @@ impl Lane {
     {
         self.items.push_back(*item)?;
         Ok(())
+    }
+}
+
+/// Puts an item at the end of both lists. After want of memory both are as before.
+pub fn put_both(first: &mut Items, second: &mut Items, item: &Item) -> Result<(), AllocError>
+    ensures first { OnOk result (first.new ≡ first.old ++ item.now ∷ []) }
+    ensures second { OnOk result (second.new ≡ second.old ++ item.now ∷ []) }
+    ensures err { OnErr result ((first.new ≡ first.old) × (second.new ≡ second.old)) }
+{
+    first.put(item)?;
+    match second.put(item) {
+        Ok(()) => Ok(()),
+        Err(fault) => {
+            first.undo();
+            Err(fault)
+        }
     }
 }
 

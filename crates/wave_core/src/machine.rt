@@ -1,16 +1,17 @@
 //! The lists of all workers, and the events on them.
-ghost use Rattle.std.specs.Prelude.{◌≡◌, ℕ, ◌+◌, ◌*◌, ◌<◌, ◌≤◌, List, [], ◌∷◌, ◌++◌, length, slice_index_or, slice_set, map, All, Contains, MatchOption, IfSome, IfOk, OnOk, OnErr, MatchBool};
+ghost use Rattle.std.specs.Prelude.{◌≡◌, ℕ, ◌+◌, ◌*◌, ◌<◌, ◌≤◌, List, [], ◌∷◌, ◌++◌, length, slice_index_or, slice_set, map, All, Contains, MatchOption, IfSome, IfOk, OnOk, OnErr, MatchBool, IsTrue};
 ghost use Rattle.req_table.specs.Lanes.{sent_by, IsFair, IsClosed, asks_at};
-ghost use Rattle.req_table.specs.Keys.{IsKey, wave_at};
+ghost use Rattle.req_table.specs.Keys.{IsKey, wave_at, level_of};
 ghost use Rattle.req_table.specs.declared.Key.{Key as KeyValue};
-ghost use Rattle.wave_core.specs.View.{View, IsKept, state_of, wave_of_view, number_of, owe_of, owe_all, list_of, by_place};
+ghost use Rattle.wave_core.specs.View.{View, IsKept, state_of, wave_of_view, number_of, owe_of, owe_all, list_of, by_place, done_of, IsOwnInOrder};
 ghost use Rattle.req_table.specs.Settled.{key_of, level_of_rows};
 ghost use Rattle.req_table.specs.Tables.{row_at};
-ghost use Rattle.wave_core.specs.Counting.{done_of};
 ghost use Rattle.wave_core.specs.Step.{IsStart, IsStep, IsAllowed, IsAtWork, asks_here, row_here};
-ghost use Rattle.wave_core.specs.declared.Event.TheVariants.{Send, End, Take, Expand, Advance};
+ghost use Rattle.wave_core.specs.declared.Event.TheVariants.{Send, End, Take, Expand, Advance, Keep};
 
-use crate::lists::{Items, Keys, Lane, Row, append, count_items, count_levels, count_records};
+use crate::lists::{
+    Items, Keys, Lane, Row, append, count_items, count_levels, count_records, put_both,
+};
 use crate::start::{deal, tables};
 use dd_store::Store;
 use req_table::requests::{level_of, owner, split};
@@ -18,7 +19,8 @@ use req_table::{Child, Item, Key, Record, Records, Table};
 use std::alloc::{AllocError, Global};
 use std::marker::Model;
 
-/// What each worker has sent, taken and recorded, what is due from it and waits for it, and its level. A list of pairs of
+/// What each worker has sent, taken and recorded, what is due from it and waits for it, its level, and how many requests were
+/// kept. A list of pairs of
 /// workers has the pair (s, k) at the place s * workers + k; a list by worker and level has (k, v) at k * levels + v.
 #[derive(Drop)]
 pub struct Machine {
@@ -33,6 +35,7 @@ pub struct Machine {
     tables: Vec<Table>,
     rows: Vec<Row>,
     at: Vec<u16>,
+    kept: u128,
 }
 
 impl Model for Machine {
@@ -52,6 +55,7 @@ impl Model for Machine {
       tables = m.tables.items;
       rows = m.rows.items;
       at = m.at.items;
+      kept = m.kept;
     } };
 
     ghost invariant = { λ m. IsKept (record {
@@ -66,6 +70,7 @@ impl Model for Machine {
       tables = m.tables.items;
       rows = m.rows.items;
       at = m.at.items;
+      kept = m.kept;
     }) };
 }
 
@@ -97,12 +102,14 @@ impl Machine {
             tables: tables(alloc, places)?,
             rows: Row::many(alloc, places)?,
             at: vec![in alloc; 0; wide]?,
+            kept: 0,
         })
     }
 
     /// Sends the first item that is due from `by` to `to`.
     pub fn send(&mut self, store: &Store, by: u32, to: u32) -> Result<bool, AllocError>
         ensures same { (self.new.workers ≡ self.old.workers) × (self.new.levels ≡ self.old.levels) }
+        ensures kept { self.new.kept ≡ self.old.kept }
         ensures ok { IfOk result (λ b. MatchBool b (IsStep (wave_of_view store.now self.old) (state_of self.old) (Send by to) (state_of self.new)) ((self.new ≡ self.old) × ¬ IsAllowed (wave_of_view store.now self.old) (state_of self.old) (Send by to))) }
         ensures err { OnErr result (self.new ≡ self.old) }
     {
@@ -135,6 +142,7 @@ impl Machine {
     /// Sends the next End from `by` to `to`.
     pub fn end(&mut self, store: &Store, by: u32, to: u32) -> Result<bool, AllocError>
         ensures same { (self.new.workers ≡ self.old.workers) × (self.new.levels ≡ self.old.levels) }
+        ensures kept { self.new.kept ≡ self.old.kept }
         ensures ok { IfOk result (λ b. MatchBool b (IsStep (wave_of_view store.now self.old) (state_of self.old) (End by to) (state_of self.new)) ((self.new ≡ self.old) × ¬ IsAllowed (wave_of_view store.now self.old) (state_of self.old) (End by to))) }
         ensures err { OnErr result (self.new ≡ self.old) }
     {
@@ -290,6 +298,7 @@ impl Machine {
         requires fair { by < self.old.workers → (s : ℕ) → s < self.old.workers → IsFair (wave_of_view store.now self.old).scope (sent_by s (list_of self.old.taken by)) }
         requires held { by < self.old.workers → All (IsKey store.now) (asks_here (state_of self.old) by) }
         ensures same { (self.new.workers ≡ self.old.workers) × (self.new.levels ≡ self.old.levels) }
+        ensures kept { self.new.kept ≡ self.old.kept }
         ensures ok { IfOk result (λ b. MatchBool b (IsStep (wave_of_view store.now self.old) (state_of self.old) (Expand by) (state_of self.new)) ((self.new ≡ self.old) × ¬ IsAllowed (wave_of_view store.now self.old) (state_of self.old) (Expand by))) }
         ensures err { OnErr result (self.new ≡ self.old) }
     {
@@ -328,6 +337,7 @@ impl Machine {
     pub fn advance(&mut self, store: &Store, by: u32) -> bool
         requires fair { by < self.old.workers → (s : ℕ) → s < self.old.workers → IsFair (wave_of_view store.now self.old).scope (sent_by s (list_of self.old.taken by)) }
         ensures same { (self.new.workers ≡ self.old.workers) × (self.new.levels ≡ self.old.levels) }
+        ensures kept { self.new.kept ≡ self.old.kept }
         ensures done { MatchBool result (IsStep (wave_of_view store.now self.old) (state_of self.old) (Advance by) (state_of self.new)) ((self.new ≡ self.old) × ¬ IsAllowed (wave_of_view store.now self.old) (state_of self.old) (Advance by)) }
     {
         let Some(level) = self.closed_level(store, by) else {
@@ -346,6 +356,7 @@ impl Machine {
     /// Takes the first item that waits on the lane of `by`.
     pub fn take(&mut self, store: &Store, by: u32) -> Result<bool, AllocError>
         ensures same { (self.new.workers ≡ self.old.workers) × (self.new.levels ≡ self.old.levels) }
+        ensures kept { self.new.kept ≡ self.old.kept }
         ensures ok { IfOk result (λ b. MatchBool b (IsStep (wave_of_view store.now self.old) (state_of self.old) (Take by) (state_of self.new)) ((self.new ≡ self.old) × ¬ IsAllowed (wave_of_view store.now self.old) (state_of self.old) (Take by))) }
         ensures err { OnErr result (self.new ≡ self.old) }
     {
@@ -393,6 +404,46 @@ impl Machine {
         }
     }
 
+    /// Sends the first request that is due from `by` to itself, and takes it at once.
+    pub fn keep(&mut self, store: &Store, by: u32) -> Result<bool, AllocError>
+        requires own { by < self.old.workers → IsOwnInOrder self.old by }
+        requires below { by < self.old.workers → All (λ x. level_of store.now x < self.old.levels) (by_place self.old.workers self.old.due by by) }
+        ensures same { (self.new.workers ≡ self.old.workers) × (self.new.levels ≡ self.old.levels) }
+        ensures kept { IfOk result (λ b. IsTrue b → self.new.kept ≡ self.old.kept + 1) }
+        ensures ok { IfOk result (λ b. MatchBool b (IsStep (wave_of_view store.now self.old) (state_of self.old) (Keep by) (state_of self.new)) ((self.new ≡ self.old) × ¬ IsAllowed (wave_of_view store.now self.old) (state_of self.old) (Keep by))) }
+        ensures err { OnErr result (self.new ≡ self.old) }
+    {
+        if !self.can_keep(store, by) {
+            return Ok(false);
+        }
+        let lane = by as usize;
+        let own = (by * self.workers + by) as usize;
+        let Some(key) = self.due[own].first() else {
+            return Ok(false);
+        };
+        let level = level_of(store, key);
+        let place = lane * self.levels as usize + level as usize;
+        let item = Item::Ask {
+            from: by,
+            level,
+            key,
+        };
+        let _ = count_items(&self.sent);
+        put_both(&mut self.sent[own], &mut self.taken[lane], &item)?;
+        match self.tables[place].admit(key) {
+            Ok(_) => {
+                self.due[own].pop();
+                self.kept += 1;
+                Ok(true)
+            }
+            Err(fault) => {
+                self.sent[own].undo();
+                self.taken[lane].undo();
+                Err(fault)
+            }
+        }
+    }
+
     /// Whether each worker is past the last level.
     pub fn is_finished(&self) -> bool
         ensures { MatchBool result ((k : ℕ) → k < self.now.workers → slice_index_or self.now.at k 0 ≡ self.now.levels) ((k : ℕ) × (k < self.now.workers) × ¬ (slice_index_or self.now.at k 0 ≡ self.now.levels)) }
@@ -407,7 +458,8 @@ impl Machine {
 
     /// How many workers there are.
     pub fn workers(&self) -> u32
-        ensures { result ≡ self.now.workers }
+        ensures count { result ≡ self.now.workers }
+        ensures kept { IsKept self.now }
     {
         self.workers
     }
@@ -466,6 +518,18 @@ impl Machine {
         }
     }
 
+    /// Whether a request is due from `by` to itself, and `by` has taken all that it sent to itself.
+    pub fn can_keep(&self, store: &Store, by: u32) -> bool
+        requires { by < self.now.workers → IsOwnInOrder self.now by }
+        ensures { MatchBool result (IsAllowed (wave_of_view store.now self.now) (state_of self.now) (Keep by)) (¬ IsAllowed (wave_of_view store.now self.now) (state_of self.now) (Keep by)) }
+    {
+        if by >= self.workers {
+            return false;
+        }
+        let own = (by * self.workers + by) as usize;
+        !self.due[own].is_empty() && !self.waiting[by as usize].has_from(by)
+    }
+
     /// The records of a level, worker by worker.
     fn level_records(&self, alloc: Global, level: u16) -> Result<Vec<Record>, AllocError>
         requires { level < self.now.levels }
@@ -491,12 +555,14 @@ impl Machine {
         Ok(Records::of(rows))
     }
 
-    /// How many events were done: each sent an item, took one, made a record or passed a level.
+    /// How many events were done: each sent an item, took one, made a record or passed a level, and one that kept a request both
+    /// sent it and took it.
     pub fn events_done(&self) -> u128
-        ensures { result ≡ done_of self.now.workers self.now.levels (state_of self.now) }
+        ensures { result ≡ done_of self.now }
     {
         let lanes = count_items(&self.sent) + count_items(&self.taken);
-        lanes + count_records(&self.rows) + count_levels(&self.at)
+        let noted = lanes + count_records(&self.rows) + count_levels(&self.at);
+        noted - self.kept
     }
 
     /// Whether `by` has taken an End of the level from every worker.

@@ -66,14 +66,17 @@ impl<'a> Core<'a> {
     fn turn(&mut self, event: Event) -> Result<bool, AllocError>
         ensures same { IsSameWave self.old self.new }
         ensures ok { IfOk result (λ b. MatchBool b (IsStep (core_wave self.old) (core_state self.old) event (core_state self.new)) ((self.new ≡ self.old) × ¬ IsAllowed (core_wave self.old) (core_state self.old) event)) }
+        ensures counts { IfOk result (λ b. MatchBool b (events_done self.new ≡ events_done self.old + 1) (events_done self.new ≡ events_done self.old)) }
         ensures err { OnErr result (self.new ≡ self.old) }
     {
+        let _ = self.machine.workers();
         match event {
             Event::Send { by, to } => self.machine.send(self.store, by, to),
             Event::End { by, to } => self.machine.end(self.store, by, to),
             Event::Take { by } => self.machine.take(self.store, by),
             Event::Expand { by } => self.machine.expand(self.store, by),
             Event::Advance { by } => Ok(self.machine.advance(self.store, by)),
+            Event::Keep { by } => self.machine.keep(self.store, by),
         }
     }
 
@@ -137,6 +140,7 @@ impl<'a> Core<'a> {
             Event::Take { by } => self.machine.can_take(self.store, by),
             Event::Expand { by } => self.machine.can_expand(self.store, by),
             Event::Advance { by } => self.machine.can_advance(self.store, by),
+            Event::Keep { by } => self.machine.can_keep(self.store, by),
         }
     }
 

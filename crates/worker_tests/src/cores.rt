@@ -46,6 +46,17 @@ fn is_end(item: &Item, sender: u32, at: u16) -> bool {
     matches!(*item, Item::End { from, level } if from == sender && level == at)
 }
 
+/// Drives a core of the walk to its end: it has one record at the first level and one at the last.
+fn finishes(rt: &impl Abort, mut core: Core) -> Result<(), Fail> {
+    assert!(rt; core.drive(&[]).is_ok());
+    let records = core.into_records()?;
+    assert!(rt; records.levels() == 4);
+    for (level, wanted) in [(0, 1), (1, 0), (2, 0), (3, 1)] {
+        assert_eq!(rt; records.level(level).len(), wanted);
+    }
+    Ok(())
+}
+
 // A worker expands a request only behind the Ends of all, and goes on when all is expanded.
 #[test]
 fn core_walk(rt: HostRuntime) -> Result<(), Fail> {
@@ -85,12 +96,7 @@ fn core_walk(rt: HostRuntime) -> Result<(), Fail> {
     assert!(rt; core.drive(&[]).is_ok());
     assert!(rt; core.finished());
     assert!(rt; core.taken(0).len() == 9 && core.taken(1).len() == 9);
-    let records = core.into_records()?;
-    assert!(rt; records.levels() == 4);
-    for (level, wanted) in [(0, 1), (1, 0), (2, 0), (3, 1)] {
-        assert_eq!(rt; records.level(level).len(), wanted);
-    }
-    Ok(())
+    finishes(&rt, core)
 }
 
 // What a fresh core refuses, and that it does its events as before.
@@ -118,6 +124,70 @@ fn core_refusals(rt: HostRuntime) -> Result<(), Fail> {
     ];
     assert!(rt; core.run(&stopped) == Err(CoreFault::NotAllowed { place: 3 }));
     assert!(rt; core.sent(0, 0).len() == 1 && core.taken(0).is_empty());
+    Ok(())
+}
+
+// A worker keeps a request that is due from it to itself: it is sent and taken at once, which is one event.
+#[test]
+fn core_keep(rt: HostRuntime) -> Result<(), Fail> {
+    let store = store_of(&rt, rt.alloc(), 4);
+    let roots = roots_of(&rt, &store);
+    let first = roots[0];
+    let mut core = Core::new(rt.alloc(), &store, 2, &roots)?;
+    does(&rt, &mut core, &[Event::Keep { by: 0 }]);
+    refuses(&rt, &mut core, Event::Send { by: 0, to: 0 }, 1);
+    refuses(&rt, &mut core, Event::Keep { by: 0 }, 1);
+    refuses(&rt, &mut core, Event::Take { by: 0 }, 1);
+    refuses(&rt, &mut core, Event::Keep { by: 2 }, 1);
+    let (sent, taken) = (core.sent(0, 0), core.taken(0));
+    assert!(rt; sent.len() == 1 && is_ask(&sent[0], 0, 0, first));
+    assert!(rt; taken.len() == 1 && is_ask(&taken[0], 0, 0, first));
+    finishes(&rt, core)
+}
+
+// A worker keeps no request while it has not taken all that it sent to itself, be it a request or an End.
+#[test]
+fn core_keeps_in_order(rt: HostRuntime) -> Result<(), Fail> {
+    let store = store_of(&rt, rt.alloc(), 4);
+    let walk = roots_of(&rt, &store);
+    let roots = [walk[0], walk[1], walk[0], walk[1]];
+    let mut core = Core::new(rt.alloc(), &store, 2, &roots)?;
+    does(&rt, &mut core, &[Event::Send { by: 0, to: 0 }]);
+    refuses(&rt, &mut core, Event::Keep { by: 0 }, 1);
+    let taken = [Event::End { by: 1, to: 0 }, Event::Take { by: 0 }];
+    does(&rt, &mut core, &taken);
+    does(&rt, &mut core, &[Event::Keep { by: 0 }]);
+    assert!(rt; core.sent(0, 0).len() == 2 && core.taken(0).len() == 2);
+    refuses(&rt, &mut core, Event::Keep { by: 0 }, 4);
+    does(
+        &rt,
+        &mut core,
+        &[Event::Keep { by: 1 }, Event::Keep { by: 1 }],
+    );
+    refuses(&rt, &mut core, Event::Keep { by: 1 }, 6);
+    finishes(&rt, core)
+}
+
+// At the start of the walk six events are allowed, of which the third and the sixth keep a request; then five. Two sent and taken
+// requests, sixteen Ends that are sent and taken, two records and eight levels that are passed are 46 events; one less for each
+// request that is kept.
+#[test]
+fn core_keeps_by_choice(rt: HostRuntime) -> Result<(), Fail> {
+    let store = store_of(&rt, rt.alloc(), 4);
+    let roots = roots_of(&rt, &store);
+    for (choices, events) in [
+        ([].as_slice(), 46),
+        ([0].as_slice(), 46),
+        ([2].as_slice(), 45),
+        ([8].as_slice(), 45),
+        ([5].as_slice(), 45),
+        ([2, 9].as_slice(), 44),
+        ([2, 8].as_slice(), 45),
+    ] {
+        let mut core = Core::new(rt.alloc(), &store, 2, &roots)?;
+        assert!(rt; core.drive(choices).is_ok());
+        refuses(&rt, &mut core, Event::Take { by: 0 }, events);
+    }
     Ok(())
 }
 

@@ -1,10 +1,17 @@
-use Rattle.std.proofs.Common.{◌≡◌, ◌+◌, length, sum, ap, subst, ◌∙◌, arith}
+use Rattle.std.proofs.Common.{◌≡◌, ◌+◌, ◌-◌, length, sum, ap, subst, ◌∙◌, arith}
 use Rattle.std.specs.List.{sum_by}
-use Rattle.wave_core.specs.View.{View, state_of}
-use Rattle.wave_core.specs.Counting.{done_of}
+use Rattle.wave_core.specs.View.{View, done_of}
 use Rattle.wave_core.proofs.Machines.{view_in}
-use Rattle.wave_core.proofs.Counted.{counted}
+use Rattle.wave_core.proofs.Counted.{counted, sum_grid}
 use Rattle.wave_core.proofs.machine.Machine.events_done.Goals as goal
+
+pub overflow_sub-result : goal.overflow_sub-result
+overflow_sub-result c =
+    let v = view_in c.self.inside in
+    let all = sum_grid v.workers v.workers v.sent c.self.invariant.shape.sent in
+    let kept = c.self.invariant.kept in
+    let sent : c.count_items.result ≡ sum_by length v.sent = c.count_items.ensures.value ∙ ap (λ xs. sum_by length xs) c.deref.ensures.value in
+    omega (arith, all, kept, sent)
 
 pub returns : goal.returns
 returns c =
@@ -14,4 +21,4 @@ returns c =
     let taken : c.count_items-2.result ≡ sum_by length v.taken = c.count_items-2.ensures.value ∙ ap (λ xs. sum_by length xs) c.deref-2.ensures.value in
     let rows : c.count_records.result ≡ sum_by length v.rows = c.count_records.ensures.value ∙ ap (λ xs. sum_by length xs) c.deref-3.ensures.value in
     let at : c.count_levels.result ≡ sum v.at = c.count_levels.ensures.value ∙ ap (λ xs. sum xs) c.deref-4.ensures.value in
-    subst (λ (u : View). c.count_items.result + c.count_items-2.result + c.count_records.result + c.count_levels.result ≡ done_of u.workers u.levels (state_of u)) c.self.view_is (omega (arith, whole, sent, taken, rows, at))
+    subst (λ (u : View). c.count_items.result + c.count_items-2.result + c.count_records.result + c.count_levels.result - c.self.inside.kept ≡ done_of u) c.self.view_is (omega (arith, whole, sent, taken, rows, at))

@@ -1,9 +1,9 @@
 use Rattle.std.proofs.Common.{MatchBool, sym, subst}
 use Rattle.wave_core.specs.declared.Event.{Event}
-use Rattle.wave_core.specs.declared.Event.TheVariants.{Send, End, Take, Expand, Advance}
+use Rattle.wave_core.specs.declared.Event.TheVariants.{Send, End, Take, Expand, Advance, Keep}
 use Rattle.wave_core.specs.Step.{IsAllowed}
 use Rattle.wave_core.specs.Cores.{core_wave, core_state}
-use Rattle.wave_core.proofs.Cores.{core_at, allows_at, taken_fair}
+use Rattle.wave_core.proofs.Cores.{core_at, allows_at, taken_fair, own_in_order}
 use Rattle.wave_core.proofs.waves.Core.allows.Goals as goal
 
 pub returns-in-Send : goal.returns-in-Send
@@ -36,3 +36,11 @@ can_expand-requires c = record { fair = taken_fair c.self.inside.store.now c.sel
 
 pub can_advance-requires : goal.can_advance-requires
 can_advance-requires c = record { fair = taken_fair c.self.inside.store.now c.self.inside.machine c.self.inside.roots.now c.in-Advance.by c.self.invariant }
+
+pub returns-in-Keep : goal.returns-in-Keep
+returns-in-Keep c =
+    subst (λ (e : Event). MatchBool c.can_keep.result (IsAllowed (core_wave c.args.self.now) (core_state c.args.self.now) e) (¬ IsAllowed (core_wave c.args.self.now) (core_state c.args.self.now) e)) (sym c.in-Keep.is)
+    (allows_at (core_at c.self.inside.store.now c.self.inside.machine c.self.inside.roots.now) c.args.self.now c.self.view_is c.self.invariant.levels (Keep c.in-Keep.by) c.can_keep.result c.can_keep.ensures)
+
+pub can_keep-requires : goal.can_keep-requires
+can_keep-requires c = own_in_order c.self.inside.store.now c.self.inside.machine c.self.inside.roots.now c.in-Keep.by c.self.invariant

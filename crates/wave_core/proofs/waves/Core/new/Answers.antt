@@ -1,7 +1,7 @@
-use Rattle.std.proofs.Common.{◌∙◌}
+use Rattle.std.proofs.Common.{◌≡◌, arith}
 use Rattle.req_table.specs.Keys.{wave_at}
 use Rattle.wave_core.specs.View.{state_of}
-use Rattle.wave_core.specs.Counting.{done_of}
+use Rattle.wave_core.specs.Counting.{noted}
 use Rattle.wave_core.proofs.Cores.{start_keeps}
 use Rattle.wave_core.proofs.Counted.{starts_at_none}
 use Rattle.wave_core.proofs.waves.Core.new.Goals as goal
@@ -13,4 +13,6 @@ pub returns-clause-counts : goal.returns-clause-counts
 returns-clause-counts c =
     let m = c.in_ok-machine.machine in
     let s = c.args.store.now in
-    (λ i. done_of (c.in_ok-machine.ensures.0 i) s.levels (state_of m)) ∙ starts_at_none (wave_at s s.levels c.args.workers) c.args.roots.now (state_of m) c.in_ok-machine.ensures.2
+    let none = starts_at_none (wave_at s s.levels c.args.workers) c.args.roots.now (state_of m) c.in_ok-machine.ensures.2 in
+    let same : noted m.workers m.levels (state_of m) ≡ noted c.args.workers s.levels (state_of m) = (λ i. noted (c.in_ok-machine.ensures.0 i) (c.in_ok-machine.ensures.1 i) (state_of m)) in
+    omega (arith, none, same)

@@ -1,8 +1,8 @@
-use Rattle.std.proofs.Common.{◌≡◌, subst}
+use Rattle.std.proofs.Common.{◌≡◌, ◌+◌, subst}
 use Rattle.wave_core.specs.Step.{IsStep, IsAllowed}
-use Rattle.wave_core.specs.Cores.{CoreView, core_wave, core_state, IsSoundCore}
+use Rattle.wave_core.specs.Cores.{CoreView, core_wave, core_state, events_done, IsSoundCore}
 use Rattle.wave_core.proofs.Drives.{of_true}
-use Rattle.wave_core.proofs.Stepped.{none_follows, one_follows, takes_open, core_counts}
+use Rattle.wave_core.proofs.Stepped.{none_follows, one_follows, takes_open}
 use Rattle.wave_core.proofs.waves.Core.step.Goals as goal
 
 pub returns-then-not-allows-clause-refused : goal.returns-then-not-allows-clause-refused
@@ -21,5 +21,4 @@ returns-in-Err-clause-refused c = one_follows c.args.self.now c.args.event c.if-
 pub returns-in-Ok-true-clause-counts : goal.returns-in-Ok-true-clause-counts
 returns-in-Ok-true-clause-counts c =
     let v = c.args.self.now in
-    let step = of_true c.in-Ok-true.field-0 (IsStep (core_wave v) (core_state v) c.args.event (core_state c.turn.new.self)) ((c.turn.new.self ≡ v) × ¬ IsAllowed (core_wave v) (core_state v) c.args.event) c.in-Ok-true.field-0-test c.in-Ok-true.ensures.ok in
-    core_counts v c.turn.new.self c.args.event c.turn.ensures.same step
+    of_true c.in-Ok-true.field-0 (events_done c.turn.new.self ≡ events_done v + 1) (events_done c.turn.new.self ≡ events_done v) c.in-Ok-true.field-0-test c.in-Ok-true.ensures.counts

@@ -1,10 +1,10 @@
-use Rattle.std.proofs.Common.{◌≡◌, IfOk, MatchBool, sym, subst}
+use Rattle.std.proofs.Common.{◌≡◌, ◌+◌, IfOk, MatchBool, refl, sym, subst, arith}
 use Rattle.wave_core.specs.declared.Event.{Event}
-use Rattle.wave_core.specs.declared.Event.TheVariants.{Send, End, Take, Expand, Advance}
+use Rattle.wave_core.specs.declared.Event.TheVariants.{Send, End, Take, Expand, Advance, Keep}
 use Rattle.wave_core.specs.Step.{IsStep, IsAllowed}
-use Rattle.wave_core.specs.View.{state_of}
+use Rattle.wave_core.specs.View.{state_of, done_of}
 use Rattle.wave_core.specs.Cores.{CoreView, core_wave, core_state}
-use Rattle.wave_core.proofs.Cores.{core_at, event_keeps, does_keeps, lifts, lifts_does, taken_fair, taken_held, same_after}
+use Rattle.wave_core.proofs.Cores.{core_at, event_keeps, does_keeps, lifts, lifts_does, taken_fair, taken_held, own_in_order, own_below, counts_does, counts_same, counts_turn, same_after}
 use Rattle.wave_core.proofs.waves.Core.turn.Goals as goal
 
 pub invariant_of-self : goal.invariant_of-self
@@ -75,3 +75,51 @@ returns-in-Advance-clause-ok c =
 
 pub returns-in-Advance-clause-same : goal.returns-in-Advance-clause-same
 returns-in-Advance-clause-same c = same_after (core_at c.self.inside.store.now c.self.inside.machine c.self.inside.roots.now) c.args.self.now c.advance.new.self c.self.view_is c.advance.ensures.same.0
+
+pub invariant_of-self-in-Keep : goal.invariant_of-self-in-Keep
+invariant_of-self-in-Keep c = event_keeps c.self.inside.store.now c.self.inside.machine c.keep.new.self c.self.inside.roots.now (Keep c.in-Keep.by) c.keep.result c.keep.ensures.same c.keep.ensures.ok c.keep.ensures.err c.self.invariant
+
+pub returns-in-Keep-clause-ok : goal.returns-in-Keep-clause-ok
+returns-in-Keep-clause-ok c =
+    subst (λ (e : Event). IfOk c.keep.result (λ b. MatchBool b (IsStep (core_wave c.args.self.now) (core_state c.args.self.now) e (state_of c.keep.new.self)) ((core_at c.self.inside.store.now c.keep.new.self c.self.inside.roots.now ≡ c.args.self.now) × ¬ IsAllowed (core_wave c.args.self.now) (core_state c.args.self.now) e))) (sym c.in-Keep.is)
+    (subst (λ (y : CoreView). IfOk c.keep.result (λ b. MatchBool b (IsStep (core_wave y) (core_state y) (Keep c.in-Keep.by) (state_of c.keep.new.self)) ((core_at c.self.inside.store.now c.keep.new.self c.self.inside.roots.now ≡ y) × ¬ IsAllowed (core_wave y) (core_state y) (Keep c.in-Keep.by)))) c.self.view_is
+    (lifts c.self.inside.store.now c.self.inside.machine c.keep.new.self c.self.inside.roots.now (Keep c.in-Keep.by) c.keep.result c.self.invariant.levels c.keep.ensures.ok))
+
+pub returns-in-Keep-clause-same : goal.returns-in-Keep-clause-same
+returns-in-Keep-clause-same c = same_after (core_at c.self.inside.store.now c.self.inside.machine c.self.inside.roots.now) c.args.self.now c.keep.new.self c.self.view_is c.keep.ensures.same.0
+
+pub keep-requires-clause-own : goal.keep-requires-clause-own
+keep-requires-clause-own c = own_in_order c.self.inside.store.now c.self.inside.machine c.self.inside.roots.now c.in-Keep.by c.self.invariant
+
+pub keep-requires-clause-below : goal.keep-requires-clause-below
+keep-requires-clause-below c = own_below c.self.inside.store.now c.self.inside.machine c.self.inside.roots.now c.in-Keep.by c.self.invariant
+
+pub returns-in-Send-clause-counts : goal.returns-in-Send-clause-counts
+returns-in-Send-clause-counts c =
+    subst (λ (y : CoreView). IfOk c.send.result (λ b. MatchBool b (done_of c.send.new.self ≡ done_of y.machine + 1) (done_of c.send.new.self ≡ done_of y.machine))) c.self.view_is
+    (counts_same c.self.inside.store.now c.self.inside.machine c.send.new.self (Send c.in-Send.by c.in-Send.to) c.send.result c.workers.ensures.kept c.send.ensures.same c.send.ensures.ok c.send.ensures.kept refl)
+
+pub returns-in-End-clause-counts : goal.returns-in-End-clause-counts
+returns-in-End-clause-counts c =
+    subst (λ (y : CoreView). IfOk c.end.result (λ b. MatchBool b (done_of c.end.new.self ≡ done_of y.machine + 1) (done_of c.end.new.self ≡ done_of y.machine))) c.self.view_is
+    (counts_same c.self.inside.store.now c.self.inside.machine c.end.new.self (End c.in-End.by c.in-End.to) c.end.result c.workers.ensures.kept c.end.ensures.same c.end.ensures.ok c.end.ensures.kept refl)
+
+pub returns-in-Take-clause-counts : goal.returns-in-Take-clause-counts
+returns-in-Take-clause-counts c =
+    subst (λ (y : CoreView). IfOk c.take.result (λ b. MatchBool b (done_of c.take.new.self ≡ done_of y.machine + 1) (done_of c.take.new.self ≡ done_of y.machine))) c.self.view_is
+    (counts_same c.self.inside.store.now c.self.inside.machine c.take.new.self (Take c.in-Take.by) c.take.result c.workers.ensures.kept c.take.ensures.same c.take.ensures.ok c.take.ensures.kept refl)
+
+pub returns-in-Expand-clause-counts : goal.returns-in-Expand-clause-counts
+returns-in-Expand-clause-counts c =
+    subst (λ (y : CoreView). IfOk c.expand.result (λ b. MatchBool b (done_of c.expand.new.self ≡ done_of y.machine + 1) (done_of c.expand.new.self ≡ done_of y.machine))) c.self.view_is
+    (counts_same c.self.inside.store.now c.self.inside.machine c.expand.new.self (Expand c.in-Expand.by) c.expand.result c.workers.ensures.kept c.expand.ensures.same c.expand.ensures.ok c.expand.ensures.kept refl)
+
+pub returns-in-Advance-clause-counts : goal.returns-in-Advance-clause-counts
+returns-in-Advance-clause-counts c =
+    subst (λ (y : CoreView). MatchBool c.advance.result (done_of c.advance.new.self ≡ done_of y.machine + 1) (done_of c.advance.new.self ≡ done_of y.machine)) c.self.view_is
+    (counts_turn c.self.inside.store.now c.self.inside.machine c.advance.new.self (Advance c.in-Advance.by) c.advance.result c.workers.ensures.kept c.advance.ensures.same c.advance.ensures.done (λ t. (let k = c.advance.ensures.kept in omega (arith, k))))
+
+pub returns-in-Keep-clause-counts : goal.returns-in-Keep-clause-counts
+returns-in-Keep-clause-counts c =
+    subst (λ (y : CoreView). IfOk c.keep.result (λ b. MatchBool b (done_of c.keep.new.self ≡ done_of y.machine + 1) (done_of c.keep.new.self ≡ done_of y.machine))) c.self.view_is
+    (counts_does c.self.inside.store.now c.self.inside.machine c.keep.new.self (Keep c.in-Keep.by) c.keep.result c.workers.ensures.kept c.keep.ensures.same c.keep.ensures.ok c.keep.ensures.kept)
