@@ -30,6 +30,16 @@ fn limit_of_three(rt: HostRuntime) -> Result<(), Fail> {
     assert_eq!(rt; store.find(0, Ref::FALSE, b), Some(r));
     assert!(rt; store.make(0, b, Ref::TRUE) == Err(StoreFault::Full));
     assert_eq!(rt; store.find(0, b, Ref::TRUE), None);
+    Ok(())
+}
+
+#[test]
+fn slots_of_shards(rt: HostRuntime) -> Result<(), Fail> {
+    let mut store = Store::new(rt.alloc(), 2, 3)?;
+    assert_eq!(rt; store.slots(1, 3), 0);
+    ok(&rt, store.variable(0));
+    let b = ok(&rt, store.variable(1));
+    ok(&rt, store.make(0, Ref::FALSE, b));
     for (level, shard, slots) in [(0, 2, 8), (0, 3, 8), (1, 3, 8), (0, 0, 0)] {
         assert!(rt; level < store.levels());
         assert_eq!(rt; store.slots(level, shard), slots);

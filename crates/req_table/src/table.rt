@@ -1,6 +1,6 @@
 //! The keys that were admitted, in order, each once.
 ghost use Rattle.std.specs.Prelude.{◌≡◌, ◌<◌, ◌↔◌, [], List, length, slice_get, slice_index_or, Contains, AllPairs, Some, Ok, IfOk, OnErr, IsTrue};
-ghost use Rattle.req_table.specs.Operation.{Operation};
+ghost use Rattle.req_table.specs.declared.Operation.{Operation};
 ghost use Rattle.req_table.specs.Tables.{Offers};
 
 use crate::Key;
@@ -16,7 +16,7 @@ pub struct Table {
 
 impl Model for Table {
     ghost use Rattle.std.specs.Prelude.{List};
-    ghost use Rattle.req_table.specs.Operation.{Operation};
+    ghost use Rattle.req_table.specs.declared.Operation.{Operation};
 
     ghost Value = { List Operation };
 

@@ -1,9 +1,9 @@
 -- Levels are marked where they have requests.
-use Rattle.std.proofs.Common.{◌≡◌, ℕ, ◌<◌, inl, inr, List, length, set, Some, slice_get, sym, ap, subst, arith}
+use Rattle.std.proofs.Common.{◌≡◌, ◌≢◌, ◌∙◌, ℕ, ◌<◌, inl, inr, List, length, set, Some, slice_get, sym, ap, subst, arith}
 use Rattle.std.proofs.lemmas.List.{length-set}
 use Rattle.std.proofs.lemmas.Option.{slice_get_within}
 use Rattle.req_table.specs.declared.Key.{Key}
-use Rattle.wave_engine.specs.Marks.{IsMarked}
+use Rattle.wave_engine.specs.Marks.{IsMarked, mark_of}
 use Rattle.wave_engine.specs.Places.{row, Enters, AreMarked}
 use Rattle.wave_engine.proofs.Placing.{same_level, stands_some, row_own, row_other}
 
@@ -19,5 +19,21 @@ marked_more ms T l k p new m lt some e = record {
   marked = λ w q x h. elim (same_level w l) [
     | inl d ↦ let s = stands_some (row T l) 0 some in subst (IsMarked ms) (sym d) (m.marked l 0 s.0 s.1)
     | inr d ↦ m.marked w q x (subst (λ (z : List Key). slice_get z q ≡ Some x) (row_other T l new w d) h)
+  ];
+}
+
+-- a request enters a level that is marked anew
+pub marked_first : (ms ns : List ℕ) (T : List (List Key)) (l : ℕ) (k : Key) (p : ℕ) (new : List Key) → AreMarked ms T → l < length T → Enters (row T l) k p new → length ns ≡ length ms → IsMarked ns l
+    → ((w : ℕ) → w ≢ l → mark_of ns w ≡ mark_of ms w) → AreMarked ns (set T l new)
+marked_first ms ns T l k p new m lt e same own others = record {
+  room = let z : length (set T l new) ≡ length T = length-set T l new in omega (arith, z, m.room, same);
+  few = let z : length (set T l new) ≡ length T = length-set T l new in omega (arith, z, m.few);
+  held = λ w h. elim (same_level w l) [
+    | inl d ↦ subst (λ z. 0 < length (row (set T l new) z)) (sym d) (let here : length (row (set T l new) l) ≡ length new = ap length (row_own T l new lt) in let within : p < length new = slice_get_within new p k e.0 in omega (arith, here, within))
+    | inr d ↦ subst (λ (z : List Key). 0 < length z) (sym (row_other T l new w d)) (m.held w (sym (others w d) ∙ h))
+  ];
+  marked = λ w q x h. elim (same_level w l) [
+    | inl d ↦ subst (IsMarked ns) (sym d) own
+    | inr d ↦ others w d ∙ m.marked w q x (subst (λ (z : List Key). slice_get z q ≡ Some x) (row_other T l new w d) h)
   ];
 }

@@ -78,13 +78,16 @@ impl Gate for Narrow {
 }
 
 /// The choices are none, few, and more than a small wave has events.
-const WAYS: [Way; 8] = [
+const WAYS: [Way; 11] = [
     Way::Alone(&[]),
     Way::Alone(&[0, 1, 2]),
     Way::Alone(&[255; 200]),
     Way::Threads,
     Way::Upto(0),
     Way::Upto(1),
+    Way::Upto(2),
+    Way::Upto(3),
+    Way::Upto(4),
     Way::Upto(5),
     Way::Upto(usize::MAX),
 ];

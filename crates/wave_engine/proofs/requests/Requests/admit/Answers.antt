@@ -3,8 +3,19 @@ use Rattle.req_table.specs.declared.Key.{Key}
 use Rattle.req_table.specs.declared.Child.TheVariants as child
 use Rattle.wave_engine.specs.Places.{row, Enters, Admits}
 use Rattle.wave_engine.proofs.Placing.{ask_admits, row_read}
-use Rattle.wave_engine.proofs.Marked.{marked_more}
+use Rattle.wave_engine.proofs.Marked.{marked_first, marked_more}
 use Rattle.wave_engine.proofs.requests.Requests.admit.Goals as goal
+
+pub invariant_of-self-then-count-eq0 : goal.invariant_of-self-then-count-eq0
+invariant_of-self-then-count-eq0 c =
+    let T : List (List Key) = c.self.inside.tables.items in
+    let l : ℕ = c.args.level in
+    let new : List Key = c.admit.new.self in
+    let same : length T ≡ length c.args.self.now = ap length c.self.view_is in
+    let fits : l < length T = omega (arith, same, c.requires) in
+    let read : c.index_mut.result.now ≡ row T l = row_read T l c.index_mut.result.now fits c.index_mut.ensures.value in
+    let enters : Enters (row T l) c.args.key c.in_ok-place.place new = subst (λ (z : List Key). Enters z c.args.key c.in_ok-place.place new) read c.in_ok-place.ensures.enters in
+    marked_first c.self.inside.marks c.mark.new.self T l c.args.key c.in_ok-place.place new c.self.invariant fits enters c.mark.ensures.room c.mark.ensures.own c.mark.ensures.others
 
 pub invariant_of-self-else-count-eq0 : goal.invariant_of-self-else-count-eq0
 invariant_of-self-else-count-eq0 c =
