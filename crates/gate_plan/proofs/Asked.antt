@@ -13,12 +13,15 @@ use Rattle.net_bench.specs.Labels.{bit_of}
 use Rattle.net_bench.proofs.Built.{has_labelling}
 use Rattle.req_table.specs.declared.Op.{Op}
 use Rattle.req_table.specs.Short.{short_of}
+use Rattle.req_table.specs.Memos.{Held, IsRight}
+use Rattle.reduce_up.specs.Known.{unknown, IsKeptWave}
 use Rattle.reduce_up.specs.Waves.{HasRequest, IsWithinLimit}
+use Rattle.reduce_up.proofs.Known.{request_unknown, kept_none}
 use Rattle.gate_plan.specs.declared.steps.Step.{Step}
 use Rattle.gate_plan.specs.Plans.{operand_at, folds_of, step_of, step_at, rank_of, plan_steps, plan_folds}
 use Rattle.gate_plan.specs.Building.{Placed, input_level, reference_of, first_operand, entry_of, Denotes, value_after, AreFolded}
 use Rattle.gate_plan.specs.Needing.{IsStillWithin}
-use Rattle.gate_plan.specs.Asking.{first_taken, second_taken, IsAsked, Asks, EitherAsksAt, EitherAsksIn, IsWithinOrUnasked}
+use Rattle.gate_plan.specs.Asking.{first_taken, second_taken, IsAsked, Asks, EitherAsksAt, EitherAsksIn, IsWithinOrUnasked, IsHeldWithin}
 use Rattle.gate_plan.proofs.Lists.{same_number}
 use Rattle.gate_plan.proofs.Ranks.{above_none, operand_lower, some_operand, operand_below, rank_top}
 use Rattle.gate_plan.proofs.Picking.{has_pick, folds_within, has_step_of, step_one, step_many, folds_one, folds_many, among_operands}
@@ -109,9 +112,13 @@ module _ (net : Net) (h : IsNet net) (level : ℕ → ℕ) where
 -- what a wave of the steps of two netlists leaves
 pub wave_unasked : (one two : Placed) → IsNet one.net → IsNet two.net → (S T : Nodes) → IsSound S → (first second : List Ref) (r j : ℕ) (ours theirs : List Step) (entries : List (Op × Ref × Ref)) →
     AreFolded one.net (input_level one) S first r j → AreFolded two.net (input_level two) S second r j → ours ≡ plan_steps one.net one.net.gates r j → theirs ≡ plan_steps two.net two.net.gates r j →
-    entries ≡ map (entry_of first) ours ++ map (entry_of second) theirs → IsWithinLimit S entries T → IsWithinOrUnasked (EitherAsksAt one two T r j) S T
-wave_unasked one two h k S T sound first second r j ours theirs entries w z a b e (inl le) = inl le
-wave_unasked one two h k S T sound first second r j ours theirs entries w z a b e (inr (none, same)) = inr (λ asked. none (by (subst (λ U. EitherAsksAt one two U r j) same asked)), same)
+    entries ≡ map (entry_of first) ours ++ map (entry_of second) theirs → (m : Held) → IsHeldWithin S m → IsWithinLimit S (unknown m entries) T → IsWithinOrUnasked (EitherAsksAt one two T r j) S T
+wave_unasked one two h k S T sound first second r j ours theirs entries w z a b e m held (inl le) = inl le
+wave_unasked one two h k S T sound first second r j ours theirs entries w z a b e m held (inr (none, same)) =
+    elim held.within [
+      | inl empty ↦ inr (λ asked. none (request_unknown m entries empty (by (subst (λ U. EitherAsksAt one two U r j) same asked))), same)
+      | inr le ↦ inl (subst (λ U. count_of U ≤ U.limit) (sym same) le)
+    ]
   where
     front : HasRequest (map (entry_of first) ours) → HasRequest entries
     front (x, there, long) = (x, subst (λ xs. Contains xs x) (sym e) (Contains-append_left (map (entry_of first) ours) (map (entry_of second) theirs) x there), long)
@@ -122,6 +129,17 @@ wave_unasked one two h k S T sound first second r j ours theirs entries w z a b 
     by : EitherAsksAt one two S r j → HasRequest entries
     by (inl (g, among, rank, asked)) = front (subst (λ ss. HasRequest (map (entry_of first) ss)) (sym a) (asked_step one.net h (input_level one) S first r j sound w g among rank asked))
     by (inr (g, among, rank, asked)) = back (subst (λ ss. HasRequest (map (entry_of second) ss)) (sym b) (asked_step two.net k (input_level two) S second r j sound z g among rank asked))
+
+-- what is held after a wave is so still
+pub wave_held : (S T : Nodes) (m : Held) (entries : List (Op × Ref × Ref)) (answers : List Ref) (new : Held) → IsHeldWithin S m → IsWithinLimit S (unknown m entries) T → IsKeptWave m entries answers new → IsRight T new → IsHeldWithin T new
+wave_held S T m entries answers new held (inl le) kept right = record { right = right; within = inr le }
+wave_held S T m entries answers new held (inr (none, same)) kept right = record {
+  right = right;
+  within = elim held.within [
+    | inl empty ↦ inl (ap (λ h. h.pairs) (kept_none m entries answers new none kept) ∙ empty)
+    | inr le ↦ inr (subst (λ U. count_of U ≤ U.limit) (sym same) le)
+  ];
+}
 
 -- ---- one step after the other
 

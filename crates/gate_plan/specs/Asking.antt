@@ -1,5 +1,5 @@
 -- Whether the steps of gates ask for anything: a step does where it has no short answer.
-use Rattle.std.specs.Prelude.{◌≡◌, ℕ, ◌+◌, ◌<◌, ◌≤◌, ◌==◌, ◌⊎◌, Bool, cond, List, None, Contains}
+use Rattle.std.specs.Prelude.{◌≡◌, ℕ, ◌+◌, ◌<◌, ◌≤◌, ◌==◌, ◌⊎◌, Bool, cond, List, [], None, Contains}
 use Rattle.dd_store.specs.declared.reference.Ref.{Ref}
 use Rattle.dd_store.specs.Nodes.{Nodes, count_of}
 use Rattle.dd_store.specs.View.{Has}
@@ -7,6 +7,7 @@ use Rattle.net_bench.specs.declared.netlist.GateLine.{GateLine}
 use Rattle.net_bench.specs.Circuit.{Circuit, circuit}
 use Rattle.net_bench.specs.Labels.{bit_of}
 use Rattle.net_order.specs.Order.{Paired}
+use Rattle.req_table.specs.Memos.{Held, IsRight}
 use Rattle.req_table.specs.Short.{short_of}
 use Rattle.gate_plan.specs.Building.{Placed, input_level, first_level, second_level, Denotes, value_after}
 use Rattle.gate_plan.specs.Plans.{rank_of, folds_of, step_at, operand_at}
@@ -53,3 +54,8 @@ EitherAsksIn one two S r = (j : ℕ) × EitherAsksAt one two S r j
 -- the store `new` is within its limit, or nothing was asked for and it is as it was
 abbrev pub IsWithinOrUnasked : Type 0 → Nodes → Nodes → Type 0
 IsWithinOrUnasked asked old new = (count_of new ≤ new.limit) ⊎ ((asked → ⊥) × (new ≡ old))
+
+-- what is held is right for the store; and where something is held, the store is within its limit
+pub record IsHeldWithin (S : Nodes) (m : Held) : Type 0 where
+  pub right : IsRight S m
+  pub within : (m.pairs ≡ []) ⊎ (count_of S ≤ S.limit)

@@ -6,7 +6,7 @@ ghost use Rattle.net_bench.specs.Circuit.{circuit, variables_of};
 ghost use Rattle.reduce_up.specs.Reducing.{AddsDescribed};
 ghost use Rattle.gate_plan.specs.Need.{IsCounted};
 ghost use Rattle.gate_plan.specs.Needing.{IsNeeded, IsNeededValue, HasNeed, IsBuildFault, IsPlacedValue};
-ghost use Rattle.gate_plan.specs.Asking.{EitherAsks, EitherAsksAt, EitherAsksIn, IsWithinOrUnasked};
+ghost use Rattle.gate_plan.specs.Asking.{EitherAsks, EitherAsksAt, EitherAsksIn, IsWithinOrUnasked, IsHeldWithin};
 ghost use Rattle.gate_plan.specs.Plans.{IsPlan, plan_steps, plan_copies, plan_folds};
 ghost use Rattle.gate_plan.specs.Building.{IsPaired, first_level, second_level, input_level, AreDiagrams, AreInputs, AreRight, AreFolded, IsStepBelow, entry_of};
 
@@ -159,10 +159,12 @@ fn build_fold<R: Threads + Wait + Sync, G: Gate>(
     requires rank { 1 ≤ rank }
     requires first_plan { IsPlan sides.now.first.net sides.now.first.plan }
     requires second_plan { IsPlan sides.now.second.net sides.now.second.plan }
+    requires held { IsHeldWithin store.old engine.old }
     requires first_folded { AreFolded sides.now.first.net (input_level sides.now.first) store.old built.old.first rank fold }
     requires second_folded { AreFolded sides.now.second.net (input_level sides.now.second) store.old built.old.second rank fold }
     ensures sound { IsSound store.new }
     ensures adds { AddsDescribed store.old store.new (IsCounted store.old.levels (IsPlacedValue store.old.levels sides.now.first sides.now.second)) }
+    ensures held { OnOk result (IsHeldWithin store.new engine.new) }
     ensures first_next { OnOk result (AreFolded sides.now.first.net (input_level sides.now.first) store.new built.new.first rank (fold + 1)) }
     ensures second_next { OnOk result (AreFolded sides.now.second.net (input_level sides.now.second) store.new built.new.second rank (fold + 1)) }
     ensures within { OnOk result (IsWithinOrUnasked (EitherAsksAt sides.now.first sides.now.second store.new rank fold) store.old store.new) }
@@ -193,10 +195,12 @@ fn build_rank<R: Threads + Wait + Sync, G: Gate>(
     requires rank { 1 ≤ rank }
     requires first_plan { IsPlan sides.now.first.net sides.now.first.plan }
     requires second_plan { IsPlan sides.now.second.net sides.now.second.plan }
+    requires held { IsHeldWithin store.old engine.old }
     requires first_right { AreRight sides.now.first.net (input_level sides.now.first) store.old built.old.first rank }
     requires second_right { AreRight sides.now.second.net (input_level sides.now.second) store.old built.old.second rank }
     ensures sound { IsSound store.new }
     ensures adds { AddsDescribed store.old store.new (IsCounted store.old.levels (IsPlacedValue store.old.levels sides.now.first sides.now.second)) }
+    ensures held { OnOk result (IsHeldWithin store.new engine.new) }
     ensures first_next { OnOk result (AreRight sides.now.first.net (input_level sides.now.first) store.new built.new.first (rank + 1)) }
     ensures second_next { OnOk result (AreRight sides.now.second.net (input_level sides.now.second) store.new built.new.second (rank + 1)) }
     ensures within { OnOk result (IsWithinOrUnasked (EitherAsksIn sides.now.first sides.now.second store.new rank) store.old store.new) }
@@ -232,8 +236,9 @@ fn start(alloc: Global, sides: &Sides<'_>, variables: &[Ref]) -> Result<Built, A
 }
 
 /// Builds the diagrams of all signals of two netlists, over the variables of their pairing: all variables in level order,
-/// then per rank the copies and one wave for each fold number, of both netlists together. A wave's requests are expanded by
-/// as many threads as there are workers; NoWorker is answered where one could not be started.
+/// then per rank the copies and one wave for each fold number, of both netlists together. What an earlier wave of the build was
+/// asked for is answered at once while it is held. A wave's requests are expanded by as many threads as there are workers; NoWorker
+/// is answered where one could not be started.
 pub fn build<R: Threads + Wait + Sync, G: Gate>(
     rt: &R,
     alloc: Global,
@@ -286,7 +291,9 @@ pub fn build<R: Threads + Wait + Sync, G: Gate>(
     let Ok(mut built) = start(alloc, &sides, variables.as_slice()) else {
         return Err(WaveFault::OutOfMemory);
     };
-    let mut engine = Engine::new(rt, alloc, Workers::new(workers), gate);
+    let Ok(mut engine) = Engine::new(rt, alloc, Workers::new(workers), gate) else {
+        return Err(WaveFault::OutOfMemory);
+    };
     for below in 0..sides.first.ranks().max(sides.second.ranks()) {
         build_rank(&mut engine, store, &sides, &mut built, below + 1)?;
     }

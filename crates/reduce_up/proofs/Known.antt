@@ -1,17 +1,21 @@
 -- A wave over the entries of which nothing is known, with what is known of the others, is a wave over all entries.
 use Rattle.std.proofs.Common.{◌≡◌, suc, inl, inr, List, [], ◌∷◌, ◌++◌, length, map, Option, Some, None, refl, sym, ◌∙◌, ap, subst, arith, Contains, All, IfSome}
-use Rattle.std.proofs.lemmas.List.Elements.{Contains-append_cases, All-contains}
+use Rattle.std.proofs.lemmas.List.Elements.{Contains-append_cases, Contains-append_left, Contains-append_right, All-contains}
 use Rattle.std.proofs.lemmas.Slice.Zip.{AllZip-long}
 use Rattle.dd_store.specs.declared.reference.Ref.{Ref}
 use Rattle.dd_store.specs.Nodes.{Nodes, IsSound, IsDiagram}
 use Rattle.dd_store.specs.View.{Keeps as KeepsNodes}
 use Rattle.req_table.specs.Short.{short_of}
 use Rattle.req_table.specs.Keys.{normal_of, IsKey}
-use Rattle.req_table.specs.Memos.{Held, IsRight, IsAnswerOf, IsValueOf}
+use Rattle.req_table.specs.Memos.{Held, IsRight, IsAnswerOf, IsValueOf, or_held}
 use Rattle.req_table.proofs.Memos.{known_value, not_known, right_kept, right_with}
 use Rattle.req_table.proofs.Waved.{is_key}
+use Rattle.req_table.specs.contracts.KeyPartialEq.TheImpl.{eq-value}
+use Rattle.std.specs.Map.{lookup}
+use Rattle.expand_work.specs.declared.fault.WaveFault.{WaveFault}
+use Rattle.expand_work.specs.declared.fault.WaveFault.TheVariants.{OutOfMemory, NoWorker, Full}
 use Rattle.reduce_up.specs.Reducing.{AddsDescribed}
-use Rattle.reduce_up.specs.Waves.{Entry, entry_value, IsEntry, AnswersEach, IsWanted, AddsBelow}
+use Rattle.reduce_up.specs.Waves.{Entry, entry_value, IsEntry, AnswersEach, IsWanted, AddsBelow, HasRequest, IsWaveFault}
 use Rattle.reduce_up.specs.Known.{known_entry, unless_known, unknown, missing, woven, AreKept, found_of, IsKeptWave, Seeking, IsSought}
 use Rattle.reduce_up.proofs.Noting.{nothing, head_in, tail_in, in_cases}
 use Rattle.reduce_up.proofs.Reduction.{kept_meaning, diagram_kept}
@@ -166,3 +170,47 @@ module _ (S : Nodes) (w : IsSound S) (m : Held) (right : IsRight S m) (es : List
             kept = subst (λ l. IsKeptWave m es l new) (sym woven_is) (kept_wave m es slice new (as_many S T (unknown m es) slice found_is) keeps);
             right = right_wave S w m right T adds.keeps es good slice found_is new keeps;
           }
+
+-- ---- where nothing is held, or nothing is unknown
+-- an entry of which nothing is known is one of them
+unknown_in : (m : Held) (es : List Entry) (e : Entry) → Contains es e → known_entry m e ≡ None → Contains (unknown m es) e
+unknown_in m [] e c h = absurd (nothing {X = Entry} e c)
+unknown_in m (d ∷ es) e c h =
+    elim (in_cases {X = Entry} d e es c) [
+      | inl same ↦
+          let own : Contains (unless_known (known_entry m e) e) e = subst (λ o. Contains (unless_known o e) e) (sym h) (head_in {X = Entry} e []) in
+          Contains-append_left (unless_known (known_entry m d) d) (unknown m es) e (subst (λ (z : Entry). Contains (unless_known (known_entry m z) z) e) (sym same) own)
+      | inr i ↦ Contains-append_right (unless_known (known_entry m d) d) (unknown m es) e (unknown_in m es e i h)
+    ]
+
+-- where nothing is held, each entry without a short answer is a request
+pub request_unknown : (m : Held) (es : List Entry) → m.pairs ≡ [] → HasRequest es → HasRequest (unknown m es)
+request_unknown m es empty (e, c, long) = (e, unknown_in m es e c (ap (or_held m (normal_of e.0 e.1 e.2)) long ∙ ap (λ pairs. lookup (eq-value.it (normal_of e.0 e.1 e.2)) pairs) empty), long)
+
+-- a wave without requests leaves the memo as it was
+pub kept_none : (m : Held) (es : List Entry) (answers : List Ref) (new : Held) → (HasRequest (unknown m es) → ⊥) → IsKeptWave m es answers new → new ≡ m
+kept_none m es answers new none kept = by (unknown m es) (unknown_is m es) none kept
+  where
+    by : (rs : List Entry) → ((e : Entry) → Contains rs e → Contains es e × (short_of e.0 e.1 e.2 ≡ None)) → (HasRequest rs → ⊥) → AreKept m rs (found_of m es answers) new → new ≡ m
+    by [] is never h = h
+    by (e ∷ rs) is never h = absurd (never (e, head_in {X = Entry} e rs, (is e (head_in {X = Entry} e rs)).1))
+
+-- why a wave was refused, of all entries
+pub fault_of_all : (S T : Nodes) (m : Held) (es : List Entry) (e : WaveFault) → IsWaveFault S (unknown m es) T e → IsWaveFault S es T e
+fault_of_all S T m es OutOfMemory f = tt
+fault_of_all S T m es NoWorker f = tt
+fault_of_all S T m es Full (asked, why) = (
+  (asked.0, (unknown_is m es asked.0 asked.1).0, asked.2),
+  elim why [
+    | inl over ↦ inl over
+    | inr full ↦ inr (
+      full.0,
+      (
+        full.1.0,
+        full.1.1,
+        record { entry = full.1.2.entry; is_entry = (unknown_is m es full.1.2.entry full.1.2.is_entry).0; fixed = full.1.2.fixed; depends = full.1.2.depends },
+        full.1.3,
+      ),
+    )
+  ],
+)

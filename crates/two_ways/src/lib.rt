@@ -8,6 +8,7 @@ ghost use Rattle.std.specs.Prelude.{◌≡◌, Bool, List, IfOk};
 ghost use Rattle.dd_store.specs.declared.reference.Ref.{Ref as RefValue};
 ghost use Rattle.dd_store.specs.Nodes.{IsSound, den, IsDiagram};
 ghost use Rattle.dd_store.specs.View.{Has};
+ghost use Rattle.req_table.specs.Memos.{IsRight};
 ghost use Rattle.reduce_up.specs.Waves.{IsEntry, entry_value};
 
 use dd_store::{Ref, Store};
@@ -26,9 +27,11 @@ fn both<R: Threads + Wait + Sync>(
     one: (Op, Ref, Ref),
     two: (Op, Ref, Ref),
 ) -> Result<(Ref, Ref), WaveFault>
+    requires right { IsRight store.old engine.old }
     requires one { IsEntry store.old one }
     requires two { IsEntry store.old two }
     ensures sound { IsSound store.new }
+    ensures right { IsRight store.new engine.new }
     ensures kept { (r : RefValue) → Has store.old r → Has store.new r × ((x : List Bool) → den store.new r x ≡ den store.old r x) }
     ensures levels { store.new.levels ≡ store.old.levels }
     ensures first { IfOk result (λ r. IsDiagram store.new r.0 (entry_value store.old one)) }
@@ -51,7 +54,7 @@ pub fn two_ways<R: Threads + Wait + Sync>(
     requires g { Has store.old g }
     ensures same { IfOk result (λ r. r.0 ≡ r.1) }
 {
-    let mut engine = Engine::new(rt, alloc, Workers::new(1), &Free);
+    let mut engine = Engine::new(rt, alloc, Workers::new(1), &Free)?;
     let (not_f, not_g) = both(&mut engine, store, (Op::Nand, f, f), (Op::Nand, g, g))?;
     let ways = both(&mut engine, store, (Op::Or, f, g), (Op::Nand, not_f, not_g))?;
     let _ = store.levels();

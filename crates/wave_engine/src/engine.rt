@@ -95,6 +95,16 @@ impl<'a, R: Threads + Wait + Sync, G: Gate> Engine<'a, R, G> {
         })
     }
 
+    /// Holds no answers any more, as waves over another store need it.
+    pub fn forget(&mut self) -> Result<(), AllocError>
+        ensures empty { OnOk result (self.new.pairs ≡ []) }
+        ensures right { OnOk result ((S : Nodes) → IsRight S self.new) }
+        ensures refused { OnErr result (self.new ≡ self.old) }
+    {
+        self.memo = Memo::new(self.alloc(), CAPACITY)?;
+        Ok(())
+    }
+
     /// Where the engine's memory is from.
     pub fn alloc(&self) -> Global {
         self.runner.workspace.alloc()

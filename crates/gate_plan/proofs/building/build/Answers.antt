@@ -37,6 +37,10 @@ pub returns-in_default-start-clause-adds : goal.returns-in_default-start-clause-
 returns-in_default-start-clause-adds g c =
     variables_needed (circuit c.args.first.now) (circuit c.args.second.now) c.args.pairing.now c.args.store.now.levels c.requires.levels c.args.store.now c.make_variables.new.store c.make_variables.ensures.adds
 
+pub returns-in_default-new-2-clause-adds : goal.returns-in_default-new-2-clause-adds
+returns-in_default-new-2-clause-adds g c =
+    variables_needed (circuit c.args.first.now) (circuit c.args.second.now) c.args.pairing.now c.args.store.now.levels c.requires.levels c.args.store.now c.make_variables.new.store c.make_variables.ensures.adds
+
 pub start-requires-clause-first : goal.start-requires-clause-first
 start-requires-clause-first g c =
     let count : length c.as_slice.result.now ≡ length c.args.pairing.now.names = ap length c.as_slice.ensures.value ∙ c.in_ok-variables.ensures.made.each ∙ c.make_variables.ensures.adds.keeps.levels ∙ c.requires.levels in
@@ -56,6 +60,7 @@ loop-below-init g c =
     record {
       sound = c.make_variables.ensures.sound;
       adds = adds_more c.args.store.now c.make_variables.new.store c.args.store.now.levels (IsVariable c.args.store.now.levels) (IsPlacedValue c.args.store.now.levels one two) (λ f v. inl v) c.make_variables.ensures.adds;
+      held = record { right = c.in-Ok-new-2.ensures.right c.make_variables.new.store; within = inl c.in-Ok-new-2.ensures.empty };
       within = none_unasked c.args.store.now c.make_variables.new.store (λ k. EitherAsksIn one two c.make_variables.new.store (k + 1)) c.make_variables.ensures.within;
       variables = c.in_ok-variables.ensures.made;
       first = inputs_right c.args.first.now c.in-Ok.ensures.sound (first_level c.args.pairing.now) c.make_variables.new.store c.as_slice.result.now c.in-Ok-start.built.first made c.in-Ok-start.ensures.first
@@ -90,6 +95,7 @@ loop-below-preserved g c =
     record {
       sound = c.build_rank.ensures.sound;
       adds = adds_next c.args.store.now c.loop-below.store c.build_rank.new.store (λ n. IsPlacedValue n one two) c.loop-below.invariant.sound c.loop-below.invariant.adds c.build_rank.ensures.adds;
+      held = c.in_ok-build_rank.ensures.held;
       within = next_unasked c.args.store.now c.loop-below.store c.build_rank.new.store (λ S k. EitherAsksIn one two S (k + 1)) c.loop-below.below c.loop-below.invariant.within c.in_ok-build_rank.ensures.within;
       variables = variables_kept c.loop-below.store c.build_rank.new.store c.in_ok-variables.variables.items c.loop-below.invariant.sound c.build_rank.ensures.adds.keeps c.loop-below.invariant.variables;
       first = c.in_ok-build_rank.ensures.first_next;

@@ -2,7 +2,8 @@ use Rattle.std.proofs.Common.{arith, ◌∙◌, ◌≡◌, ◌+◌, length, take
 use Rattle.std.proofs.lemmas.Result.{err_from_is_err_and}
 use Rattle.gate_plan.specs.Building.{input_level}
 use Rattle.gate_plan.specs.Needing.{IsPlacedValue}
-use Rattle.gate_plan.proofs.Asked.{wave_unasked}
+use Rattle.gate_plan.proofs.Asked.{wave_unasked, wave_held}
+use Rattle.reduce_up.proofs.Known.{fault_of_all}
 use Rattle.gate_plan.proofs.Counted.{wave_adds, wave_fault}
 use Rattle.gate_plan.proofs.Running.{steps_fit, fold_next, all_entries, all_asked, answers_long, first_answers, second_answers}
 use Rattle.gate_plan.proofs.building.build_fold.Goals as goal
@@ -17,15 +18,10 @@ fold_entries-requires-clause-second g c =
     steps_fit c.args.sides.now.second.net c.requires.second_plan.sound (input_level c.args.sides.now.second) c.args.store.now c.args.built.now.second c.args.built.now.second c.args.rank c.args.fold c.steps-theirs.result.now
     c.requires.second_folded refl c.steps-theirs.ensures
 
-pub wave-requires : goal.wave-requires
-wave-requires g c = (
-  c.type_bounds.sync-R,
-  (
-    c.type_bounds.sync-G,
+pub wave-requires-clause-operands : goal.wave-requires-clause-operands
+wave-requires-clause-operands g c κs within =
     all_entries c.args.store.now c.args.built.now.first c.args.built.now.second c.steps-ours.result.now c.steps-theirs.result.now c.as_slice.result.now
-        c.requires.first_folded.right.known c.requires.second_folded.right.known (c.as_slice.ensures.value ∙ c.in-Ok.ensures),
-  ),
-)
+    c.requires.first_folded.right.known c.requires.second_folded.right.known (c.as_slice.ensures.value ∙ c.in-Ok.ensures)
 
 pub split_at-requires : goal.split_at-requires
 split_at-requires g c =
@@ -80,7 +76,7 @@ returns-in_err-answers-clause-fault g c =
     wave_fault c.args.store.now c.wave.new.store c.as_slice.result.now (IsPlacedValue c.args.store.now.levels c.args.sides.now.first c.args.sides.now.second)
     (all_asked c.args.sides.now.first c.args.sides.now.second c.requires.first_plan.sound c.requires.second_plan.sound c.args.store.now c.args.built.now.first c.args.built.now.second c.args.rank c.args.fold c.steps-ours.result.now c.steps-theirs.result.now c.as_slice.result.now
     c.requires.first_folded c.requires.second_folded c.steps-ours.ensures c.steps-theirs.ensures (c.as_slice.ensures.value ∙ c.in-Ok.ensures))
-    c.wave.ensures.adds.keeps _ c.in_err-answers.ensures.fault
+    c.wave.ensures.adds.keeps _ (fault_of_all c.args.store.now c.wave.new.store c.args.engine.now c.as_slice.result.now _ c.in_err-answers.ensures.fault)
     )
 
 pub returns-clause-adds : goal.returns-clause-adds
@@ -93,4 +89,11 @@ returns-clause-adds g c =
 pub returns-clause-within : goal.returns-clause-within
 returns-clause-within g c =
     wave_unasked c.args.sides.now.first c.args.sides.now.second c.requires.first_plan.sound c.requires.second_plan.sound c.args.store.now c.wave.new.store c.levels.ensures.sound c.args.built.now.first c.args.built.now.second c.args.rank c.args.fold c.steps-ours.result.now c.steps-theirs.result.now c.as_slice.result.now
-    c.requires.first_folded c.requires.second_folded c.steps-ours.ensures c.steps-theirs.ensures (c.as_slice.ensures.value ∙ c.in-Ok.ensures) c.in_ok-answers.ensures.within
+    c.requires.first_folded c.requires.second_folded c.steps-ours.ensures c.steps-theirs.ensures (c.as_slice.ensures.value ∙ c.in-Ok.ensures) c.args.engine.now c.requires.held c.in_ok-answers.ensures.within
+
+pub wave-requires-clause-right : goal.wave-requires-clause-right
+wave-requires-clause-right g c κs within = c.requires.held.right
+
+pub returns-clause-held : goal.returns-clause-held
+returns-clause-held g c =
+    wave_held c.args.store.now c.wave.new.store c.args.engine.now c.as_slice.result.now c.in_ok-answers.answers.items c.wave.new.self c.requires.held c.in_ok-answers.ensures.within c.in_ok-answers.ensures.kept c.wave.ensures.right

@@ -23,6 +23,7 @@ pub loop-fold-init : goal.loop-fold-init
 loop-fold-init g c = record {
   sound = c.levels.ensures.sound;
   adds = adds_same c.args.store.now c.args.store.now (IsCounted c.args.store.now.levels (IsPlacedValue c.args.store.now.levels c.args.sides.now.first c.args.sides.now.second)) refl;
+  held = c.requires.held;
   within = none_unasked c.args.store.now c.args.store.now (λ j. EitherAsksAt c.args.sides.now.first c.args.sides.now.second c.args.store.now c.args.rank j) (inr refl);
   first = copies_next c.args.sides.now.first.net c.requires.first_plan.sound (input_level c.args.sides.now.first) c.args.store.now c.args.built.now.first c.built.inside.first.items c.copy_all.new.references.items c.args.rank c.copies.result.now
       c.requires.first_right (ap (λ z. z.first) c.built.view_is) c.copies.ensures c.copy_all.ensures;
@@ -49,6 +50,7 @@ pub loop-fold-preserved : goal.loop-fold-preserved
 loop-fold-preserved g c = record {
   sound = c.build_fold.ensures.sound;
   adds = adds_next c.args.store.now c.loop-fold.store c.build_fold.new.store (λ n. IsPlacedValue n c.args.sides.now.first c.args.sides.now.second) c.loop-fold.invariant.sound c.loop-fold.invariant.adds c.build_fold.ensures.adds;
+  held = c.in_ok-build_fold.ensures.held;
   within = next_unasked c.args.store.now c.loop-fold.store c.build_fold.new.store (λ S j. EitherAsksAt c.args.sides.now.first c.args.sides.now.second S c.args.rank j) c.loop-fold.fold c.loop-fold.invariant.within c.in_ok-build_fold.ensures.within;
   first = c.in_ok-build_fold.ensures.first_next;
   second = c.in_ok-build_fold.ensures.second_next;
