@@ -1,11 +1,14 @@
 #!/usr/bin/env python3
 """Times the reader on chains of NOT gates of doubling sizes, up to 1,000,000 signals.
 
-usage: bench/reader.py PROGRAM [--limit SECONDS] [--repeats N]
+usage: bench/reader.py PROGRAM [--abc ABC] [--limit SECONDS] [--repeats N]
 
 Each chain is given to bddcheck as the first netlist, with a second one that is refused at its first line. So the
 first is read whole, and no gate is built. A reader that is linear in the text, or nearly so, takes about twice the
 time for twice the signals, whether each gate stands behind its operand or before it. It prints a table in Markdown.
+
+With --abc, as `--abc berkeley-abc`, the last column has the seconds of ABC's command read_bench on the same text. ABC walks
+below its outputs by recursion, so it runs with a stack without limit.
 """
 import pathlib
 import shutil
@@ -23,6 +26,11 @@ def measured(path, bad, settings):
     if run.seconds is not None and run.status != 2:
         sys.exit(f"not refused at the second netlist: {run.output}")
     return run
+
+
+def measured_abc(path, settings):
+    words = ["sh", "-c", 'ulimit -s unlimited && exec "$0" -c "read_bench $1"', settings.abc, str(path)]
+    return least(words, settings.limit, settings.repeats)
 
 
 def row(order, count, run, path, before):
@@ -45,13 +53,18 @@ def measure_order(order, folder, bad, settings):
         chains.write_chain(folder, order, count, lines if order == "forward" else lines[::-1])
         path = folder / f"{order}_{count}.bench"
         run = measured(path, bad, settings)
-        rows.append(row(order, count, run, path, before))
+        cells = row(order, count, run, path, before)
+        if settings.abc:
+            cells.append(shown(measured_abc(path, settings).seconds, 3))
+        rows.append(cells)
         before = run.seconds
     return rows
 
 
 def main():
-    settings = words_parser().parse_args()
+    parser = words_parser()
+    parser.add_argument("--abc")
+    settings = parser.parse_args()
     folder = pathlib.Path(tempfile.mkdtemp())
     try:
         bad = folder / "bad.bench"
@@ -59,7 +72,7 @@ def main():
         rows = [r for order in ("forward", "backward") for r in measure_order(order, folder, bad, settings)]
     finally:
         shutil.rmtree(folder)
-    head = ["signals", "text MB", "s", "grew", "s / MB of text", "memory MB"]
+    head = ["signals", "text MB", "s", "grew", "s / MB of text", "memory MB"] + ["s of ABC"] * bool(settings.abc)
     print(f"Least of {settings.repeats} runs.\n")
     print(table(head, rows))
 

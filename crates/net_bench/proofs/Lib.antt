@@ -4,8 +4,6 @@ pub mod PiecesOf
 pub mod Judging
 pub mod Reading
 pub mod Chains
-pub mod Slices
-pub mod Probing
 pub mod Names
 pub mod Places
 pub mod NameMap

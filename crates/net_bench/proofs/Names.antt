@@ -10,9 +10,10 @@ use Rattle.std.proofs.lemmas.List.Folds.{list_any_at}
 use Rattle.net_bench.proofs.Places.{passes_none}
 use Rattle.net_bench.specs.declared.name_table.Span.{Span}
 use Rattle.net_bench.specs.Circuit.{find, is_name_in}
-use Rattle.net_bench.specs.NameTable.{name_in, names_in, IsInside, IsEachOnce, IsTable, Probes, IsFree, home_of}
-use Rattle.net_bench.proofs.Slices.{slice_get_cases-push}
-use Rattle.net_bench.proofs.Probing.{Probes-push}
+use Rattle.slot_table.specs.Probes.{Probes, IsFree, home_of}
+use Rattle.net_bench.specs.NameTable.{name_in, names_in, IsInside, IsEachOnce, IsTable, spread_of}
+use Rattle.slot_table.proofs.Places.{slice_get_cases-push}
+use Rattle.slot_table.proofs.Probing.{Probes-push}
 
 -- ---- bytes at the end change no name
 
@@ -137,24 +138,24 @@ same_some m n e = cc
 -- ---- a table with one more name
 
 pub IsTable-push : (bytes more name : List ℕ) (spans grown : List Span) (s : Span) (ts : List ℕ) (j x : ℕ) →
-    All (IsInside bytes) spans → IsEachOnce (names_in bytes spans) → Probes (length ts) (names_in bytes spans) ts → 2 * (length spans + 1) ≤ length ts →
-    ((i : ℕ) → slice_get (names_in bytes spans) i ≡ Some name → ⊥) → IsFree (length ts) (home_of (length ts) name) ts j →
+    All (IsInside bytes) spans → IsEachOnce (names_in bytes spans) → Probes spread_of (length ts) (names_in bytes spans) ts → 2 * (length spans + 1) ≤ length ts →
+    ((i : ℕ) → slice_get (names_in bytes spans) i ≡ Some name → ⊥) → IsFree (length ts) (home_of spread_of (length ts) name) ts j →
     more ≡ bytes ++ name → grown ≡ spans ++ s ∷ [] → s.start ≡ length bytes → s.len ≡ length name → x ≡ length spans + 1 → IsTable more grown (set ts j x)
 IsTable-push bytes more name spans grown s ts j x inside once probes room absent free is_more is_grown at long held =
     let names : List (List ℕ) = names_in bytes spans in
     let count : length (names_in bytes spans) ≡ length spans = names_count bytes spans in
     let e : names_in more grown ≡ names_in bytes spans ++ name ∷ [] =
     ap (λ b. names_in b grown) is_more ∙ ap (names_in (bytes ++ name)) is_grown ∙ more_names bytes name spans s inside at long in
-    let v : Probes (length ts) (names_in bytes spans ++ name ∷ []) (set ts j (suc (length (names_in bytes spans)))) = Probes-push (length ts) (names_in bytes spans) ts name j probes free in
+    let v : Probes spread_of (length ts) (names_in bytes spans ++ name ∷ []) (set ts j (suc (length (names_in bytes spans)))) = Probes-push spread_of (length ts) (names_in bytes spans) ts name j probes free in
     let is : suc (length (names_in bytes spans)) ≡ x = omega arith in
     let size : length ts ≡ length (set ts j x) = sym (length-set ts j x) in
-    let p : Probes (length ts) (names_in bytes spans ++ name ∷ []) (set ts j x) = subst (λ (z : ℕ). Probes (length ts) (names_in bytes spans ++ name ∷ []) (set ts j z)) is v in
-    let q : Probes (length (set ts j x)) (names_in bytes spans ++ name ∷ []) (set ts j x) = subst (λ (z : ℕ). Probes z (names_in bytes spans ++ name ∷ []) (set ts j x)) size p in
+    let p : Probes spread_of (length ts) (names_in bytes spans ++ name ∷ []) (set ts j x) = subst (λ (z : ℕ). Probes spread_of (length ts) (names_in bytes spans ++ name ∷ []) (set ts j z)) is v in
+    let q : Probes spread_of (length (set ts j x)) (names_in bytes spans ++ name ∷ []) (set ts j x) = subst (λ (z : ℕ). Probes spread_of z (names_in bytes spans ++ name ∷ []) (set ts j x)) size p in
     let all : All (IsInside (bytes ++ name)) (spans ++ s ∷ []) = all_inside bytes name spans s inside at long in
     let len : length grown ≡ length spans + 1 = ap (λ (z : List Span). length z) is_grown ∙ length_push spans s in
     record {
       inside = subst (λ (z : List Span). All (IsInside more) z) (sym is_grown) (subst (λ (z : List ℕ). All (IsInside z) (spans ++ s ∷ [])) (sym is_more) all);
       once = subst IsEachOnce (sym e) (once_more (names_in bytes spans) name once absent);
-      probes = subst (λ (z : List (List ℕ)). Probes (length (set ts j x)) z (set ts j x)) (sym e) q;
+      probes = subst (λ (z : List (List ℕ)). Probes spread_of (length (set ts j x)) z (set ts j x)) (sym e) q;
       half = omega arith;
     }

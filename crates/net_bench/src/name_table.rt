@@ -1,8 +1,10 @@
 //! Names by number. Each name's bytes are held once, one name behind the other; a name is found by open addressing.
 ghost use Rattle.std.specs.Prelude.{◌≡◌, ℕ, ◌+◌, ◌*◌, ◌<◌, ◌≤◌, ◌==◌, ◌^◌, List, [], ◌∷◌, ◌++◌, All, bytes_eq, fold, map, length, slice_get, slice_index_or, if◌then◌else◌, IfOk, OnOk, OnErr, Some, None};
 ghost use Rattle.net_bench.specs.Circuit.{with_name, find, number_of, is_name_in};
-ghost use Rattle.net_bench.specs.NameTable.{HasFree, IsEachOnce, IsFree, IsInside, IsSought, IsTable, Probes, hash_of, home_of, name_in, names_in};
+ghost use Rattle.slot_table.specs.Probes.{Probes, home_of};
+ghost use Rattle.net_bench.specs.NameTable.{IsEachOnce, IsInside, IsSought, IsTable, hash_of, name_in, names_in, spread_of};
 
+use slot_table::{free_slot, next_slot};
 use std::alloc::{AllocError, Global};
 use std::marker::Model;
 
@@ -62,22 +64,21 @@ fn hash(name: &[u8]) -> u64
     hash
 }
 
+/// The same from both halves of the hash.
+fn spread(name: &[u8]) -> u64
+    ensures { result ≡ spread_of name.now }
+{
+    let hash = hash(name);
+    hash ^ (hash >> 32)
+}
+
 /// The slot, of `count`, in which the search for a name begins.
 fn home(name: &[u8], count: usize) -> usize
     requires { 0 < count }
-    ensures value { result ≡ home_of count name.now }
+    ensures value { result ≡ home_of spread_of count name.now }
     ensures within { result < count }
 {
-    let hash = hash(name);
-    (hash ^ (hash >> 32)) as usize & (count - 1)
-}
-
-/// The slot after this one: the first comes after the last.
-fn next_slot(slot: usize, count: usize) -> usize
-    requires { slot < count }
-    ensures { result ≡ (if slot + 1 == count then 0 else slot + 1) }
-{
-    if slot + 1 == count { 0 } else { slot + 1 }
+    spread(name) as usize & (count - 1)
 }
 
 /// The name in a span.
@@ -91,22 +92,6 @@ fn name_in<'a>(bytes: &'a [u8], span: Span) -> &'a [u8]
     name
 }
 
-/// The first empty slot from `home`.
-fn free_slot(slots: &[u32], home: usize) -> usize
-    requires home { home < length slots.now }
-    requires free { HasFree (length slots.now) slots.now }
-    ensures { IsFree (length slots.now) home slots.now result }
-{
-    let mut slot = home;
-    for _distance in 0..slots.len() {
-        if slots[slot] == 0 {
-            return slot;
-        }
-        slot = next_slot(slot, slots.len());
-    }
-    unreachable!()
-}
-
 /// Slots that find each of the names.
 fn slots_of(
     alloc: Global,
@@ -117,7 +102,7 @@ fn slots_of(
     requires inside { All (IsInside bytes.now) spans.now }
     requires count { length spans.now < count }
     requires numbers { length spans.now < 2 ^ 32 }
-    ensures { IfOk result (λ ts. Probes count (names_in bytes.now spans.now) ts.items) }
+    ensures { IfOk result (λ ts. Probes spread_of count (names_in bytes.now spans.now) ts.items) }
 {
     let mut slots = Vec::with_capacity(alloc, count)?;
     slots.resize(count, 0u32)?;
@@ -133,10 +118,10 @@ fn slots_of(
 /// the slots are as before.
 fn grow_slots(bytes: &[u8], spans: &[Span], slots: &mut Vec<u32>) -> Result<(), AllocError>
     requires inside { All (IsInside bytes.now) spans.now }
-    requires probes { Probes (length slots.old.items) (names_in bytes.now spans.now) slots.old.items }
+    requires probes { Probes spread_of (length slots.old.items) (names_in bytes.now spans.now) slots.old.items }
     requires half { 2 * length spans.now ≤ length slots.old.items }
     requires numbers { length spans.now < 2 ^ 32 }
-    ensures probes { Probes (length slots.new.items) (names_in bytes.now spans.now) slots.new.items }
+    ensures probes { Probes spread_of (length slots.new.items) (names_in bytes.now spans.now) slots.new.items }
     ensures half { 2 * length spans.now ≤ length slots.new.items }
     ensures room { OnOk result (2 * (length spans.now + 1) ≤ length slots.new.items) }
 {
@@ -160,7 +145,7 @@ fn is_same(left: &[u8], right: &[u8]) -> bool
 /// Where the search for a name ends.
 fn seek(bytes: &[u8], spans: &[Span], slots: &[u32], name: &[u8]) -> Sought
     requires inside { All (IsInside bytes.now) spans.now }
-    requires probes { Probes (length slots.now) (names_in bytes.now spans.now) slots.now }
+    requires probes { Probes spread_of (length slots.now) (names_in bytes.now spans.now) slots.now }
     requires room { length spans.now < length slots.now }
     ensures { IsSought (names_in bytes.now spans.now) slots.now name.now result }
 {

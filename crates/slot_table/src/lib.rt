@@ -110,16 +110,16 @@ fn home<T: Spread>(item: T, count: usize) -> usize
     item.spread() as usize & (count - 1)
 }
 
-/// The slot after this one: the first comes after the last.
-fn next_slot(slot: usize, count: usize) -> usize
+/// The slot after this one, of `count`: the first comes after the last.
+pub fn next_slot(slot: usize, count: usize) -> usize
     requires { slot < count }
     ensures { result ≡ (if slot + 1 == count then 0 else slot + 1) }
 {
     if slot + 1 == count { 0 } else { slot + 1 }
 }
 
-/// The first empty slot from `home`.
-fn free_slot(slots: &[u32], home: usize) -> usize
+/// The first empty slot from `home`, for a table whose items have no type of their own.
+pub fn free_slot(slots: &[u32], home: usize) -> usize
     requires home { home < length slots.now }
     requires free { HasFree (length slots.now) slots.now }
     ensures { IsFree (length slots.now) home slots.now result }

@@ -75,3 +75,11 @@ fn mixed_words(rt: HostRuntime) -> Result<(), Fail> {
     }
     Ok(())
 }
+
+#[test]
+fn slots_alone(rt: HostRuntime) -> Result<(), Fail> {
+    assert_eq!(rt; next_slot(1, 3), 2);
+    assert_eq!(rt; next_slot(2, 3), 0);
+    assert_eq!(rt; free_slot(&[7, 0, 9], 2), 1);
+    Ok(())
+}

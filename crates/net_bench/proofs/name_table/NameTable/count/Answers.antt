@@ -1,9 +1,10 @@
 use Rattle.std.proofs.Common.{◌≡◌, ◌∙◌, ◌++◌, ◌∷◌, [], ◌+◌, ◌-◌, ◌*◌, ◌≤◌, List, ℕ, sym, ap, subst, slice_get, length, Some, is_ok, if◌then◌else◌, true, arith}
 use Rattle.net_bench.specs.declared.name_table.Span.{Span}
 use Rattle.net_bench.specs.Circuit.{with_name}
-use Rattle.net_bench.specs.NameTable.{names_in, Probes, IsFree, home_of}
+use Rattle.slot_table.specs.Probes.{Probes, IsFree, home_of}
+use Rattle.net_bench.specs.NameTable.{names_in, spread_of}
 use Rattle.net_bench.proofs.NameMap.{counted_there, counted_new, new_number}
-use Rattle.net_bench.proofs.Slices.{push_ok}
+use Rattle.slot_table.proofs.Places.{push_ok}
 use Rattle.net_bench.proofs.Names.{found_place, found_nowhere, more_names, names_count, IsTable-push}
 use Rattle.net_bench.proofs.name_table.NameTable.count.Goals as goal
 
@@ -16,13 +17,13 @@ invariant_of-self-in-Slot c =
     let ok : is_ok c.push.result ≡ true = push_ok c.push.result _ _ c.push.ensures.full c.in_ok-reserve-in-Slot.ensures.ok in
     let grown : c.push.new.self.items ≡ ss ++ s ∷ [] =
     c.push.ensures.items ∙ ap (λ t. if t then (c.reserve.new.self.items ++ s ∷ []) else c.reserve.new.self.items) ok ∙ ap (λ xs. xs ++ s ∷ []) c.in_ok-reserve-in-Slot.ensures.items in
-    let p1 = subst (λ (z : List ℕ). Probes (length ts) (names_in z c.as_slice-2.result.now) ts) c.as_slice.ensures.value c.in_ok-grow_slots.ensures.probes in
-    let probes : Probes (length ts) (names_in b ss) ts = subst (λ (z : List Span). Probes (length ts) (names_in b z) ts) c.as_slice-2.ensures.value p1 in
+    let p1 = subst (λ (z : List ℕ). Probes spread_of (length ts) (names_in z c.as_slice-2.result.now) ts) c.as_slice.ensures.value c.in_ok-grow_slots.ensures.probes in
+    let probes : Probes spread_of (length ts) (names_in b ss) ts = subst (λ (z : List Span). Probes spread_of (length ts) (names_in b z) ts) c.as_slice-2.ensures.value p1 in
     let room : 2 * (length ss + 1) ≤ length ts = subst (λ (z : List Span). 2 * (length z + 1) ≤ length ts) c.as_slice-2.ensures.value c.in_ok-grow_slots.ensures.room in
     let f1 = subst (λ (z : List ℕ). (i : ℕ) → slice_get (names_in z c.as_slice-4.result.now) i ≡ Some c.args.name.now → ⊥) c.as_slice-3.ensures.value c.in-Slot.ensures.0 in
     let absent = subst (λ (z : List Span). (i : ℕ) → slice_get (names_in b z) i ≡ Some c.args.name.now → ⊥) c.as_slice-4.ensures.value f1 in
-    let free : IsFree (length ts) (home_of (length ts) c.args.name.now) ts c.in-Slot.slot =
-    subst (λ (z : List ℕ). IsFree (length z) (home_of (length z) c.args.name.now) z c.in-Slot.slot) c.as_slice-5.ensures.value c.in-Slot.ensures.1 in
+    let free : IsFree (length ts) (home_of spread_of (length ts) c.args.name.now) ts c.in-Slot.slot =
+    subst (λ (z : List ℕ). IsFree (length z) (home_of spread_of (length z) c.args.name.now) z c.in-Slot.slot) c.as_slice-5.ensures.value c.in-Slot.ensures.1 in
     IsTable-push b c.extend_from_slice.new.self.items c.args.name.now ss c.push.new.self.items s ts c.in-Slot.slot c.in_ok-held.held
     c.self.invariant.inside c.self.invariant.once probes room absent free c.in_ok-extend_from_slice-in-Slot.ensures.items grown
     (omega (arith, c.in_ok-start.ensures)) (omega (arith, c.in_ok-len.ensures)) (omega (arith, c.in_ok-held.ensures))
