@@ -12,6 +12,7 @@ import random
 import string
 import sys
 import time
+from dataclasses import replace
 
 import kit
 from judging import ORDERS, Case, answer
@@ -243,12 +244,13 @@ def make_case(kind, rng):
     plain = rng.random() < 0.4
     texts = [laid_out(rng, first, plain), laid_out(rng, second, plain)]
     case = Case(*texts, match=match, workers=rng.choice([1, 2, 3, 4, 16]))
-    case.order = rng.choice(list(ORDERS)) if kind in ("position", "damaged", "input", "limit") else kind
-    if kind == "list" or (kind in ("position", "limit") and rng.random() < 0.3):
+    case.order = rng.choice(list(ORDERS)) if kind in ("position", "damaged", "input", "limit", "print") else kind
+    if kind == "list" or (kind in ("position", "limit", "print") and rng.random() < 0.3):
         case.order = listed(rng, first, second, match)
     if kind in ("sizes", "given"):
         case.order = rng.choice(list(ORDERS))
     case.sizes = kind == "sizes" or rng.random() < 0.3
+    case.print_order = kind == "print"
     if kind == "damaged":
         damage(rng, case)
     if kind == "input":
@@ -278,7 +280,7 @@ def damage(rng, case):
             setattr(case, place, text)
 
 
-KINDS = [*ORDERS, "list", "position", "sizes", "limit", "input", "damaged"]
+KINDS = [*ORDERS, "list", "position", "sizes", "limit", "print", "input", "damaged"]
 if FEATURES["given"]:
     KINDS.append("given")
 
@@ -297,6 +299,8 @@ def words_of(program, case, place):
         words += ["--order", case.order]
     if case.sizes:
         words.append("--sizes")
+    if case.print_order:
+        words.append("--print-order")
     if case.limit is not None:
         words += ["--limit", str(case.limit)]
     if case.given is not None:
@@ -317,6 +321,14 @@ def limits_of(case):
     return [need, need - 1] if need > 1 else [max(need, 1)]
 
 
+def taken_again(program, case, order, place):
+    """What the case gives where it is compared, and what it gives with the order file that was printed."""
+    plain = replace(case, print_order=False)
+    listed_again = replace(plain, order=order)
+    given = b"" if case.divider is None else case.first + case.divider + case.second
+    return run(words_of(program, plain, place), given), run(words_of(program, listed_again, place), given)
+
+
 def try_case(program, seed, kind, index, place):
     """None where the answers agree, and else what is told."""
     case = make_case(kind, random.Random(f"{seed}:{kind}:{index}"))
@@ -326,6 +338,8 @@ def try_case(program, seed, kind, index, place):
         words = words_of(program, case, place)
         given = b"" if case.divider is None else case.first + case.divider + case.second
         seen = run(words, given)
+        if case.print_order and seen == wanted and seen.status == 0:
+            wanted, seen = taken_again(program, case, seen.out, place)
         if seen != wanted:
             files = {"first.bench": case.first, "second.bench": case.second, "input": given}
             if isinstance(case.order, bytes):

@@ -25,6 +25,8 @@ class Case:
     limit: int | None = None
     workers: int = 4
     given: bytes | None = None
+    # The order is printed, and nothing compared.
+    print_order: bool = False
     # Both texts on standard input, with this line between them.
     divider: bytes | None = None
 
@@ -310,8 +312,8 @@ def parts_of(case):
     return parts
 
 
-def judged(case):
-    """What the case must give; a refusal where it must be refused."""
+def paired_of(case):
+    """The paired netlists of the case, and its order: a word or names; a refusal where it must be refused."""
     first, second = parts_of(case)
     order = case.order
     if isinstance(order, bytes):
@@ -325,7 +327,13 @@ def judged(case):
         given = read_text("given", case.given)
         if len(given.outputs) != 1:
             raise Refusal("given: not exactly one output")
-    result = judge(Paired(*nets, case.match, given), order, case.sizes)
+    return Paired(*nets, case.match, given), order
+
+
+def judged(case):
+    """What the case must give; a refusal where it must be refused."""
+    paired, order = paired_of(case)
+    result = judge(paired, order, case.sizes)
     if case.limit is not None and result.nodes > case.limit:
         raise Refusal("build: more nodes than the limit", 3)
     return result
@@ -334,6 +342,9 @@ def judged(case):
 def answer(case):
     """The run that the program must make of the case."""
     try:
+        if case.print_order:
+            names = levels(*paired_of(case))
+            return Run(0, "".join(name + "\n" for name in names).encode(), b"")
         result = judged(case)
     except Refusal as refusal:
         return Run(refusal.status, b"", f"bddcheck: {refusal}\n".encode())

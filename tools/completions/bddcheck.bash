@@ -10,7 +10,7 @@ _bddcheck() {
     --order-file) mapfile -t COMPREPLY < <(compgen -f -- "$word") ;;
     *)
         case $word in
-        -*) mapfile -t COMPREPLY < <(compgen -W '--match --order --order-file --workers --limit --sizes --help --version' -- "$word") ;;
+        -*) mapfile -t COMPREPLY < <(compgen -W '--match --order --order-file --workers --limit --sizes --print-order --help --version' -- "$word") ;;
         *) mapfile -t COMPREPLY < <(compgen -f -- "$word") ;;
         esac
         ;;

@@ -5,5 +5,6 @@ complete -c bddcheck -l order-file -r -F -d 'Order the variables as a file lists
 complete -c bddcheck -l workers -x -a '1 2 4 8 16' -d 'Threads, 1 to 16'
 complete -c bddcheck -l limit -x -d 'The most nodes of the diagrams'
 complete -c bddcheck -l sizes -d 'Print the nodes of each compared diagram'
+complete -c bddcheck -l print-order -d 'Print the variables in their order, and compare nothing'
 complete -c bddcheck -s h -l help -d 'Print a summary'
 complete -c bddcheck -s V -l version -d 'Print the version'

@@ -4,8 +4,8 @@ use Rattle.std.specs.Prelude.{IfSome, option_map}
 use Rattle.std.specs.Borrow.{Bor}
 use Rattle.std.specs.Io.KnownBytes.{Appends, Keeps}
 use Rattle.std.proofs.lemmas.List.{append_assoc}
-use Rattle.check_report.specs.declared.outcome.Outcome.{Outcome}
-use Rattle.check_report.specs.Limits.{AreWithin, AreBeyond}
+use Rattle.bddcheck.specs.declared.done.Done.{Done}
+use Rattle.check_report.specs.Limits.{AreBeyond}
 use Rattle.check_report.specs.Writing.{AppendsFront}
 use Rattle.net_order.specs.declared.order.Order.{Order}
 use Rattle.command_line.specs.declared.options.Options.{Options}
@@ -16,7 +16,7 @@ use Rattle.bddcheck.specs.declared.fault.ToolFault.{ToolFault}
 use Rattle.bddcheck.specs.declared.fault.ToolFault.TheVariants.{OneFile, InputTwice as DashTwice, CannotOpen, InputUnread, InputTooLong, InputUndivided, BadOrder, Check, OutOfMemory}
 use Rattle.bddcheck.specs.Splitting.{IsSplit}
 use Rattle.bddcheck.specs.Opening.{Try, Extends, opened, AreTried}
-use Rattle.bddcheck.specs.Running.{first_paths, second_paths, text_paths, order_paths, paths_of, IsShort, AreTexts, HasTexts, IsOrderOf, IsCompared, HasReported, HasReportedFront, HasFirstFailed, HasSecondFailed, IsWithin, IsBeyond, IsCompareFault, IsToolFault}
+use Rattle.bddcheck.specs.Running.{first_paths, second_paths, text_paths, order_paths, paths_of, IsShort, AreTexts, HasTexts, IsOrderOf, IsCompared, HasReported, HasReportedFront, AreFitting, HasFirstFailed, HasSecondFailed, IsWithin, IsBeyond, IsCompareFault, IsToolFault}
 use Rattle.bddcheck.proofs.Failing.{check_fault}
 
 -- ---- tries
@@ -90,19 +90,19 @@ has_texts told input One one two a = absurd a
 -- ---- the whole of a run
 
 module _ (told : List ℕ → Option (List ℕ)) (input : Option (List ℕ)) (o : Options) (one two : Option (List ℕ)) (texts : AreTexts told input o.texts one two) where
-  pub whole_report : (told' : List ℕ → Option (List ℕ)) → told' ≡ told → (before now : Option (List ℕ)) (r : Result Outcome ToolFault) → IfOk r (λ outcome. (bytes : List ℕ) × IsCompared told' one two o outcome bytes × Appends before now bytes) → IfOk r (HasReported told input o before now)
-  whole_report told' e before now (Ok outcome) h =
-      (h.0, record { one = one; two = two; texts = texts; compared = subst (λ t. IsCompared t one two o outcome h.0) e h.1 }, h.2)
+  pub whole_report : (told' : List ℕ → Option (List ℕ)) → told' ≡ told → (before now : Option (List ℕ)) (r : Result Done ToolFault) → IfOk r (λ done. (bytes : List ℕ) × IsCompared told' one two o done bytes × Appends before now bytes) → IfOk r (HasReported told input o before now)
+  whole_report told' e before now (Ok done) h =
+      (h.0, record { one = one; two = two; texts = texts; compared = subst (λ t. IsCompared t one two o done h.0) e h.1 }, h.2)
   whole_report told' e before now (Err fault) h = tt
 
   pub whole_front : (told' : List ℕ → Option (List ℕ)) → told' ≡ told → (before now : Option (List ℕ)) (has_failed has_stopped : Bool)
-      → (outcome : Outcome) × (bytes : List ℕ) × IsCompared told' one two o outcome bytes × AppendsFront before now has_failed has_stopped bytes
+      → (done : Done) × (bytes : List ℕ) × IsCompared told' one two o done bytes × AppendsFront before now has_failed has_stopped bytes
       → HasReportedFront told input o before now has_failed has_stopped
   whole_front told' e before now has_failed has_stopped h =
       (h.0, h.1, record { one = one; two = two; texts = texts; compared = subst (λ t. IsCompared t one two o h.0 h.1) e h.2 }, h.3)
 
-  pub whole_within : (told' : List ℕ → Option (List ℕ)) → told' ≡ told → (r : Result Outcome ToolFault) → OnOk r ((order : Order) × IsOrderOf told' o.order order × AreWithin one two o.matching order o.limit) → OnOk r (IsWithin told input o)
-  whole_within told' e (Ok outcome) h = (one, two, h.0, texts, subst (λ t. IsOrderOf t o.order h.0) e h.1, h.2)
+  pub whole_within : (told' : List ℕ → Option (List ℕ)) → told' ≡ told → (r : Result Done ToolFault) → IfOk r (λ done. (order : Order) × IsOrderOf told' o.order order × AreFitting done one two o order) → IfOk r (IsWithin told input o)
+  whole_within told' e (Ok done) h = (one, two, h.0, texts, subst (λ t. IsOrderOf t o.order h.0) e h.1, h.2)
   whole_within told' e (Err fault) h = tt
 
   pub whole_beyond : (told' : List ℕ → Option (List ℕ)) → told' ≡ told → (order : Order) × IsOrderOf told' o.order order × AreBeyond one two o.matching order o.limit → IsBeyond told input o
@@ -125,10 +125,10 @@ module _ (told : List ℕ → Option (List ℕ)) (input : Option (List ℕ)) (o 
     whole_fault tries (Check fault) f =
         (one, two, f.0, texts, f.1, ap (λ l. opened (text_paths o.texts) ++ l) f.2 ∙ sym (opened_more (text_paths o.texts) (order_paths o.order)), check_fault one two first_failed second_failed (HasFirstFailed broken input_broken o.texts) (HasSecondFailed broken input_broken o.texts) o.matching f.0 first second fault f.3)
 
-    pub whole_faults : (told' : List ℕ → Option (List ℕ)) → told' ≡ told → (a b c : Option (List Try)) → Extends a b (opened (text_paths o.texts)) → (r : Result Outcome ToolFault)
+    pub whole_faults : (told' : List ℕ → Option (List ℕ)) → told' ≡ told → (a b c : Option (List Try)) → Extends a b (opened (text_paths o.texts)) → (r : Result Done ToolFault)
         → IfErr r (λ fault. (tries : List Try) × Extends b c tries × IsCompareFault told' broken one two first_failed second_failed o tries fault)
         → IfErr r (λ fault. (tries : List Try) × Extends a c tries × IsToolFault told broken input_broken input o tries fault)
-    whole_faults told' e a b c before (Ok outcome) h = tt
+    whole_faults told' e a b c before (Ok done) h = tt
     whole_faults told' e a b c before (Err fault) h = (
       opened (text_paths o.texts) ++ h.0,
       extends_more a b c (opened (text_paths o.texts)) h.0 before h.1,
@@ -141,9 +141,9 @@ module _ (o : Options) (first second : Bor (List ℕ)) (files : o.texts ≡ File
   pub both_opened : (a b c : Option (List Try)) → Extends a b ((first.now, true) ∷ []) → Extends b c ((second.now, true) ∷ []) → Extends a c (opened (text_paths o.texts))
   both_opened a b c e f = subst (λ t. Extends a c (opened (text_paths t))) (sym files) (extends_more a b c ((first.now, true) ∷ []) ((second.now, true) ∷ []) e f)
 
-  pub all_opened : (a b c d : Option (List Try)) (r : Result Outcome ToolFault) → Extends a b ((first.now, true) ∷ []) → Extends b c ((second.now, true) ∷ []) → OnOk r (Extends c d (opened (order_paths o.order)))
+  pub all_opened : (a b c d : Option (List Try)) (r : Result Done ToolFault) → Extends a b ((first.now, true) ∷ []) → Extends b c ((second.now, true) ∷ []) → OnOk r (Extends c d (opened (order_paths o.order)))
       → OnOk r (Extends a d (opened (paths_of o)))
-  all_opened a b c d (Ok outcome) e f h =
+  all_opened a b c d (Ok done) e f h =
       subst (λ l. Extends a d l) (sym (opened_more (text_paths o.texts) (order_paths o.order))) (extends_more a c d (opened (text_paths o.texts)) (opened (order_paths o.order)) (both_opened a b c e f) h)
   all_opened a b c d (Err fault) e f h = tt
 
@@ -180,8 +180,8 @@ module _ (o : Options) (path : List ℕ) (named : text_paths o.texts ≡ path �
   pub one_opened : (a b : Option (List Try)) → Extends a b ((path, true) ∷ []) → Extends a b (opened (text_paths o.texts))
   one_opened a b e = subst (λ ps. Extends a b (opened ps)) (sym named) e
 
-  pub all_opened_beside : (a b c : Option (List Try)) (r : Result Outcome ToolFault) → Extends a b ((path, true) ∷ []) → OnOk r (Extends b c (opened (order_paths o.order))) → OnOk r (Extends a c (opened (paths_of o)))
-  all_opened_beside a b c (Ok outcome) e h =
+  pub all_opened_beside : (a b c : Option (List Try)) (r : Result Done ToolFault) → Extends a b ((path, true) ∷ []) → OnOk r (Extends b c (opened (order_paths o.order))) → OnOk r (Extends a c (opened (paths_of o)))
+  all_opened_beside a b c (Ok done) e h =
       subst (λ l. Extends a c l) (sym (opened_more (text_paths o.texts) (order_paths o.order))) (extends_more a b c (opened (text_paths o.texts)) (opened (order_paths o.order)) (one_opened a b e) h)
   all_opened_beside a b c (Err fault) e h = tt
 

@@ -9,6 +9,8 @@ use Rattle.command_line.specs.declared.reading.Refused.{Refused}
 use Rattle.command_line.specs.declared.reading.Refused.TheVariants.{Help, Mistake, OutOfMemory as NoWordMemory}
 use Rattle.command_line.specs.Words.{AskFor, IsRefusal}
 use Rattle.expand_work.specs.declared.fault.WaveFault.TheVariants.{Full}
+use Rattle.bddcheck.specs.declared.done.Done.{Done}
+use Rattle.bddcheck.specs.declared.done.Done.TheVariants.{Compared, OrderPrinted}
 use Rattle.bddcheck.specs.declared.fault.ToolFault.{ToolFault}
 use Rattle.bddcheck.specs.declared.fault.ToolFault.TheVariants.{Check, InputUnread, OutOfMemory}
 use Rattle.bddcheck.specs.declared.process.NoWords.{NoWords}
@@ -44,6 +46,11 @@ pub record IsReportStatus (outcome : Outcome) (status : ℕ) : Type 0 where
   pub bound : status ≤ 1
   pub zero : (status ≡ 0) ↔ ((outcome.different ≡ 0) × (outcome.unmatched ≡ 0))
 
+-- the status of what a run has done: 0 for an order that was printed
+abbrev pub IsDoneStatus : Done → (status : ℕ) → Type 0
+IsDoneStatus (Compared outcome) status = IsReportStatus outcome status
+IsDoneStatus OrderPrinted status = status ≡ 0
+
 -- what a run is given and leaves: the files that are told, the tries before and now, the bytes of the input and whether it has failed
 -- now, and what was written to the output and to the error device
 pub record Scene : Type 0 where
@@ -55,13 +62,13 @@ pub record Scene : Type 0 where
   pub output : Written
   pub errors : Written
 
--- The report of what the options name was written, all files were opened, and nothing was said.
-pub record Reports (s : Scene) (o : Options) (outcome : Outcome) (status : ℕ) : Type 0 where
-  pub report : HasReported s.told s.input o s.output.held s.output.holds outcome
-  pub within : IsWithin s.told s.input o
+-- What the options ask for of what they name was written, all files were opened, and nothing was said.
+pub record Reports (s : Scene) (o : Options) (done : Done) (status : ℕ) : Type 0 where
+  pub report : HasReported s.told s.input o s.output.held s.output.holds done
+  pub within : IsWithin s.told s.input o done
   pub opened_all : Extends s.tried s.tries (opened (paths_of o))
   pub silent : Keeps s.errors.held s.errors.holds
-  pub code : IsReportStatus outcome status
+  pub code : IsDoneStatus done status
 
 -- There is a fault: its line was said, and nothing was written but for a front part of the report where the writing failed.
 pub record Refuses (broken : List ℕ → Type 0) (s : Scene) (o : Options) (fault : ToolFault) (status : ℕ) : Type 0 where
@@ -76,7 +83,7 @@ pub record Refuses (broken : List ℕ → Type 0) (s : Scene) (o : Options) (fau
 
 -- How a run of some options ends. `broken` says of a path that a file that was opened there has failed.
 abbrev pub IsEnding : (broken : List ℕ → Type 0) → Scene → Options → ℕ → Type 0
-IsEnding broken s o status = ((outcome : Outcome) × Reports s o outcome status) ⊎ ((fault : ToolFault) × Refuses broken s o fault status)
+IsEnding broken s o status = ((done : Done) × Reports s o done status) ⊎ ((fault : ToolFault) × Refuses broken s o fault status)
 
 -- what is told of words that ask for no options: help on the output, a mistake, or want of memory
 abbrev pub IsWordEnd : (output errors : Written) → Refused → ℕ → Type 0

@@ -8,7 +8,7 @@ use Rattle.net_order.specs.declared.order.Order.TheVariants.{Declared as declare
 use Rattle.net_order.specs.declared.order.OrderFault.{OrderFault}
 use Rattle.net_order.specs.declared.order.OrderFault.TheVariants.{Read as OrderReadFailed, OutOfMemory as NoOrderMemory}
 use Rattle.net_order.specs.OrderText.{IsOrderText, IsBadText}
-use Rattle.check_report.specs.declared.outcome.Outcome.{Outcome}
+use Rattle.check_report.specs.Listing.{IsOrderPrinted}
 use Rattle.check_report.specs.Check.{IsChecked, IsCheckFault}
 use Rattle.check_report.specs.Limits.{AreWithin, AreBeyond}
 use Rattle.command_line.specs.declared.options.Options.{Options}
@@ -16,6 +16,8 @@ use Rattle.command_line.specs.declared.options.OrderChoice.{OrderChoice}
 use Rattle.command_line.specs.declared.options.OrderChoice.TheVariants.{Declared, Depth, Interleave, File}
 use Rattle.command_line.specs.declared.options.Texts.{Texts}
 use Rattle.command_line.specs.declared.options.Texts.TheVariants.{Input, Files, InputAndFile, FileAndInput, InputTwice, One}
+use Rattle.bddcheck.specs.declared.done.Done.{Done}
+use Rattle.bddcheck.specs.declared.done.Done.TheVariants.{Compared, OrderPrinted}
 use Rattle.bddcheck.specs.declared.fault.Place.{Place}
 use Rattle.bddcheck.specs.declared.fault.Place.TheVariants.{First, Second, Order as OrderFile}
 use Rattle.bddcheck.specs.declared.fault.ToolFault.{ToolFault}
@@ -89,37 +91,47 @@ IsOrderOf told Depth order = order ≡ depth
 IsOrderOf told Interleave order = order ≡ interleave
 IsOrderOf told (File path) order = (names : List (List ℕ)) × (order ≡ Listed names) × IfSome (told path.now) (λ text. IsOrderText text names)
 
--- the bytes are the report of these two texts under the options, and these are its counts
-pub record IsCompared (told : List ℕ → Option (List ℕ)) (one two : Option (List ℕ)) (o : Options) (outcome : Outcome) (bytes : List ℕ) : Type 0 where
+-- the bytes are what the options ask for of these two texts in this order: the report, with its counts, or the order itself
+abbrev pub IsMade : (one two : Option (List ℕ)) → Options → Order → Done → (bytes : List ℕ) → Type 0
+IsMade one two o order (Compared outcome) bytes = (o.print_order ≡ false) × IsChecked one two o.matching order o.sizes outcome bytes
+IsMade one two o order OrderPrinted bytes = (o.print_order ≡ true) × IsOrderPrinted one two o.matching order bytes
+
+-- the bytes are what the options ask for of these two texts
+pub record IsCompared (told : List ℕ → Option (List ℕ)) (one two : Option (List ℕ)) (o : Options) (done : Done) (bytes : List ℕ) : Type 0 where
   pub order : Order
   pub ordered : IsOrderOf told o.order order
-  pub checked : IsChecked one two o.matching order o.sizes outcome bytes
+  pub made : IsMade one two o order done bytes
 
--- The bytes are the report of the texts that the options name, and these are its counts.
-pub record IsReported (told : List ℕ → Option (List ℕ)) (input : Option (List ℕ)) (o : Options) (outcome : Outcome) (bytes : List ℕ) : Type 0 where
+-- The bytes are what the options ask for of the texts that they name.
+pub record IsReported (told : List ℕ → Option (List ℕ)) (input : Option (List ℕ)) (o : Options) (done : Done) (bytes : List ℕ) : Type 0 where
   pub one : Option (List ℕ)
   pub two : Option (List ℕ)
   pub texts : AreTexts told input o.texts one two
-  pub compared : IsCompared told one two o outcome bytes
+  pub compared : IsCompared told one two o done bytes
 
--- a device has taken the report, and nothing else
-abbrev pub HasReported : (List ℕ → Option (List ℕ)) → Option (List ℕ) → Options → Option (List ℕ) → Option (List ℕ) → Outcome → Type 0
-HasReported told input o before now outcome = (bytes : List ℕ) × IsReported told input o outcome bytes × Appends before now bytes
+-- a device has taken what is asked for, and nothing else
+abbrev pub HasReported : (List ℕ → Option (List ℕ)) → Option (List ℕ) → Options → Option (List ℕ) → Option (List ℕ) → Done → Type 0
+HasReported told input o before now done = (bytes : List ℕ) × IsReported told input o done bytes × Appends before now bytes
 
--- a device has taken a front part of the report, and has failed or taken nothing of the rest
+-- a device has taken a front part of it, and has failed or taken nothing of the rest
 abbrev pub HasReportedFront : (List ℕ → Option (List ℕ)) → Option (List ℕ) → Options → (before now : Option (List ℕ)) → (has_failed has_stopped : Bool) → Type 0
 HasReportedFront told input o before now has_failed has_stopped =
-    (outcome : Outcome) × (bytes : List ℕ) × IsReported told input o outcome bytes × AppendsFront before now has_failed has_stopped bytes
+    (done : Done) × (bytes : List ℕ) × IsReported told input o done bytes × AppendsFront before now has_failed has_stopped bytes
+
+-- the nodes that two texts need in this order are within the limit of the options; where the order alone is printed, there are none
+abbrev pub AreFitting : Done → (one two : Option (List ℕ)) → Options → Order → Type 0
+AreFitting (Compared outcome) one two o order = AreWithin one two o.matching order o.limit
+AreFitting OrderPrinted one two o order = ⊤
 
 -- this holds of the texts and the order that the options name
 abbrev pub AreNamed : (List ℕ → Option (List ℕ)) → Option (List ℕ) → Options → (Option (List ℕ) → Option (List ℕ) → Order → Type 0) → Type 0
 AreNamed told input o P = (one two : Option (List ℕ)) × (order : Order) × AreTexts told input o.texts one two × IsOrderOf told o.order order × P one two order
 
--- the nodes that the two texts need are within the limit of the options
-abbrev pub IsWithin : (List ℕ → Option (List ℕ)) → Option (List ℕ) → Options → Type 0
-IsWithin told input o = AreNamed told input o (λ one two order. AreWithin one two o.matching order o.limit)
+-- the nodes that the two texts need are within the limit of the options, where these are compared
+abbrev pub IsWithin : (List ℕ → Option (List ℕ)) → Option (List ℕ) → Options → Done → Type 0
+IsWithin told input o done = AreNamed told input o (λ one two order. AreFitting done one two o order)
 
--- they are not
+-- they are not within it
 abbrev pub IsBeyond : (List ℕ → Option (List ℕ)) → Option (List ℕ) → Options → Type 0
 IsBeyond told input o = AreNamed told input o (λ one two order. AreBeyond one two o.matching order o.limit)
 

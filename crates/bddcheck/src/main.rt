@@ -1,6 +1,7 @@
 //! The program: two netlists in, a report and a status out.
 #![tactic(auto)]
 
+mod done;
 mod fault;
 mod folder;
 mod process;

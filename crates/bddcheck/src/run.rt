@@ -2,18 +2,19 @@
 ghost use Rattle.std.specs.Prelude.{◌≡◌, ◌≢◌, ◌⊎◌, ℕ, ◌∷◌, [], List, IfOk, IfErr, OnOk, OnErr, IfSome, IsTrue, Some, Err, is_ok};
 ghost use Rattle.std.specs.Io.KnownBytes.{Appends};
 ghost use Rattle.check_report.specs.declared.fault.CheckFault.TheVariants.{Wave, Write};
-ghost use Rattle.check_report.specs.declared.outcome.Outcome.{Outcome};
-ghost use Rattle.check_report.specs.Limits.{AreWithin, AreBeyond};
+ghost use Rattle.bddcheck.specs.declared.done.Done.{Done};
+ghost use Rattle.check_report.specs.Limits.{AreBeyond};
 ghost use Rattle.check_report.specs.Writing.{AppendsFront};
 ghost use Rattle.expand_work.specs.declared.fault.WaveFault.TheVariants.{Full};
 ghost use Rattle.net_order.specs.declared.order.Order.{Order};
 ghost use Rattle.bddcheck.specs.Opening.{Extends, HasFailedAt, Try, opened};
-ghost use Rattle.bddcheck.specs.Running.{order_paths, paths_of, IsShort, IsOrderOf, IsOrderFault, IsCompared, IsCompareFault, IsInputFault, IsToolFault, HasReported, HasReportedFront, IsWithin, IsBeyond, StandOnInput};
+ghost use Rattle.bddcheck.specs.Running.{order_paths, paths_of, IsShort, IsOrderOf, IsOrderFault, IsCompared, IsCompareFault, IsInputFault, IsToolFault, HasReported, HasReportedFront, AreFitting, IsWithin, IsBeyond, StandOnInput};
 
+use crate::done::Done;
 use crate::fault::{Place, ToolFault};
 use crate::folder::{Folder, OpenFault};
 use crate::split::split_input;
-use check_report::{Outcome, Settings, check};
+use check_report::{Settings, check, print_order};
 use command_line::{Options, OrderChoice, Texts};
 use expand_work::Free;
 use net_bench::device::{InMemory, Sink, Source, TextFault, read_text};
@@ -65,7 +66,7 @@ fn order_of<F: Folder>(
     }
 }
 
-/// Compares two texts. The order is read before them.
+/// Compares two texts, or prints the order of their variables. A file of the order is read before them.
 fn compare<H: Threads + Wait + Sync, F: Folder, R1: Source, R2: Source, W: Sink>(
     rt: &H,
     alloc: Global,
@@ -74,14 +75,14 @@ fn compare<H: Threads + Wait + Sync, F: Folder, R1: Source, R2: Source, W: Sink>
     first: &mut R1,
     second: &mut R2,
     out: &mut W,
-) -> Result<Outcome, ToolFault>
-    ensures report { IfOk result (λ outcome. (bytes : List ℕ) × IsCompared (F.told folder.old) (R1.remaining first.old) (R2.remaining second.old) options.now outcome bytes × Appends (W.contents out.old) (W.contents out.new) bytes) }
+) -> Result<Done, ToolFault>
+    ensures report { IfOk result (λ done. (bytes : List ℕ) × IsCompared (F.told folder.old) (R1.remaining first.old) (R2.remaining second.old) options.now done bytes × Appends (W.contents out.old) (W.contents out.new) bytes) }
     ensures opened { OnOk result (Extends (F.tries folder.old) (F.tries folder.new) (opened (order_paths options.now.order))) }
-    ensures within { OnOk result ((order : Order) × IsOrderOf (F.told folder.old) options.now.order order × AreWithin (R1.remaining first.old) (R2.remaining second.old) options.now.matching order options.now.limit) }
+    ensures within { IfOk result (λ done. (order : Order) × IsOrderOf (F.told folder.old) options.now.order order × AreFitting done (R1.remaining first.old) (R2.remaining second.old) options.now order) }
     ensures fault { IfErr result (λ fault. (tries : List Try) × Extends (F.tries folder.old) (F.tries folder.new) tries ×
         IsCompareFault (F.told folder.old) (HasFailedAt F.File.origin F.File.has_failed) (R1.remaining first.old) (R2.remaining second.old) (IsTrue (R1.has_failed first.new)) (IsTrue (R2.has_failed second.new)) options.now tries fault) }
     ensures full { result ≡ Err (ToolFault.Check (Wave Full)) → (order : Order) × IsOrderOf (F.told folder.old) options.now.order order × AreBeyond (R1.remaining first.old) (R2.remaining second.old) options.now.matching order options.now.limit }
-    ensures unwritten { result ≡ Err (ToolFault.Check Write) → (outcome : Outcome) × (bytes : List ℕ) × IsCompared (F.told folder.old) (R1.remaining first.old) (R2.remaining second.old) options.now outcome bytes × AppendsFront (W.contents out.old) (W.contents out.new) (W.has_failed out.new) (W.has_stopped out.new) bytes }
+    ensures unwritten { result ≡ Err (ToolFault.Check Write) → (done : Done) × (bytes : List ℕ) × IsCompared (F.told folder.old) (R1.remaining first.old) (R2.remaining second.old) options.now done bytes × AppendsFront (W.contents out.old) (W.contents out.new) (W.has_failed out.new) (W.has_stopped out.new) bytes }
     ensures untouched { OnErr result (result ≢ Err (ToolFault.Check Write) → out.new ≡ out.old) }
     ensures written { OnOk result ((W.has_failed out.new ≡ W.has_failed out.old) × (W.has_stopped out.new ≡ W.has_stopped out.old)) }
     ensures origins { (R1.origin first.new ≡ R1.origin first.old) × (R2.origin second.new ≡ R2.origin second.old) }
@@ -93,8 +94,14 @@ fn compare<H: Threads + Wait + Sync, F: Folder, R1: Source, R2: Source, W: Sink>
         limit: options.limit,
         sizes: options.sizes,
     };
+    if options.print_order {
+        return match print_order(alloc, first, second, &settings, out) {
+            Ok(()) => Ok(Done::OrderPrinted),
+            Err(fault) => Err(ToolFault::Check(fault)),
+        };
+    }
     match check(rt, alloc, first, second, &settings, &Free, out) {
-        Ok(outcome) => Ok(outcome),
+        Ok(outcome) => Ok(Done::Compared(outcome)),
         Err(fault) => Err(ToolFault::Check(fault)),
     }
 }
@@ -123,13 +130,13 @@ pub fn run_options<H: Threads + Wait + Sync, F: Folder, R: Source, W: Sink>(
     folder: &mut F,
     input: &mut R,
     out: &mut W,
-) -> Result<Outcome, ToolFault>
-    // What was written is the report of the two texts in the order that is asked for, and nothing else.
+) -> Result<Done, ToolFault>
+    // What was written is the report of the two texts in the order that is asked for, or this order, and nothing else.
     ensures report { IfOk result (HasReported (F.told folder.old) (R.remaining input.old) options.now (W.contents out.old) (W.contents out.new)) }
     // Then each file that the options name was opened, in the stated order, and no other.
     ensures opened { OnOk result (Extends (F.tries folder.old) (F.tries folder.new) (opened (paths_of options.now))) }
     // The nodes that the texts need are within the limit where there is a report, and Full comes only where they are not.
-    ensures within { OnOk result (IsWithin (F.told folder.old) (R.remaining input.old) options.now) }
+    ensures within { IfOk result (IsWithin (F.told folder.old) (R.remaining input.old) options.now) }
     ensures full { result ≡ Err (ToolFault.Check (Wave Full)) → IsBeyond (F.told folder.old) (R.remaining input.old) options.now }
     // A fault has its cause, what comes before it was accepted, and no file was tried beyond it.
     ensures fault { IfErr result (λ fault. (tries : List Try) × Extends (F.tries folder.old) (F.tries folder.new) tries × IsToolFault (F.told folder.old) (HasFailedAt F.File.origin F.File.has_failed) (IsTrue (R.has_failed input.new)) (R.remaining input.old) options.now tries fault) }

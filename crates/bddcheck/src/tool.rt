@@ -1,8 +1,9 @@
 //! A run of the program: its words, its folder and its devices to a status.
 ghost use Rattle.std.specs.Prelude.{◌≡◌, ◌≤◌, map, string_bytes};
-ghost use Rattle.bddcheck.specs.Ending.{Written, Says, IsSaid, IsReportStatus, Scene, IsRun, IsWordEnd};
+ghost use Rattle.bddcheck.specs.Ending.{Written, Says, IsSaid, IsReportStatus, IsDoneStatus, Scene, IsRun, IsWordEnd};
 ghost use Rattle.bddcheck.specs.Opening.{HasFailedAt};
 
+use crate::done::Done;
 use crate::fault::{ToolFault, line_of, status_of_fault};
 use crate::folder::Folder;
 use crate::run::run_options;
@@ -66,12 +67,24 @@ fn refuse_words<W: Sink, E: Sink>(
 
 /// The status of a comparison: 0 where all outputs and next states are paired and equal.
 fn status_of(outcome: Outcome) -> u8
-    ensures { IsReportStatus outcome result }
+    ensures status { IsReportStatus outcome result }
+    ensures bound { result ≤ 1 }
 {
     if outcome.different == 0 && outcome.unmatched == 0 {
         0
     } else {
         1
+    }
+}
+
+/// The status of what a run has done.
+fn status_of_done(done: Done) -> u8
+    ensures status { IsDoneStatus done result }
+    ensures bound { result ≤ 1 }
+{
+    match done {
+        Done::Compared(outcome) => status_of(outcome),
+        Done::OrderPrinted => 0,
     }
 }
 
@@ -86,7 +99,7 @@ pub fn run_tool<H: Threads + Wait + Sync, F: Folder, R: Source, W: Sink, E: Sink
     out: &mut W,
     errors: &mut E,
 ) -> u8
-    // The words ask for options, and then the run ends with their report and status 0 or 1, or with the line and the status of a
+    // The words ask for options, and then the run ends with their report, or their order, and status 0 or 1, or with the line and the status of a
     // fault that has its cause, and the input is read only where a text stands on it; or they are refused for a cause, no file is
     // opened, nothing is read, and help, a mistake or want of memory is told.
     ensures ending { let scene : Scene = record {
@@ -108,7 +121,7 @@ pub fn run_tool<H: Threads + Wait + Sync, F: Folder, R: Source, W: Sink, E: Sink
         Err(refused) => return refuse_words(alloc, &refused, out, errors),
     };
     match run_options(rt, alloc, &options, folder, input, out) {
-        Ok(outcome) => status_of(outcome),
+        Ok(done) => status_of_done(done),
         Err(fault) => refuse(alloc, fault, errors),
     }
 }

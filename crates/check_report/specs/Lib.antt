@@ -5,3 +5,4 @@ pub mod Comparing
 pub mod Check
 pub mod Limits
 pub mod Texts
+pub mod Listing

@@ -6,6 +6,7 @@ mod compare;
 mod fault;
 pub mod laws;
 mod lines;
+mod listing;
 mod outcome;
 mod report;
 mod settings;
@@ -15,6 +16,7 @@ mod write;
 
 pub use checking::{check, judge};
 pub use fault::CheckFault;
+pub use listing::print_order;
 pub use outcome::{Outcome, Role, Side};
 pub use report::report_of;
 pub use settings::Settings;

@@ -37,6 +37,10 @@ module _ (matching order : Option ValueParser) where
   unfolding clap_on_literals
   sizes_found = refl
 
+  print_order_found : one_of (codes "print-order") (matches_of (tool_app matching order) []) ≡ Some (codes "false")
+  unfolding clap_on_literals
+  print_order_found = refl
+
   first_found : first_of (codes "FIRST") (matches_of (tool_app matching order) []) ≡ None
   unfolding clap_on_literals
   first_found = refl
@@ -73,6 +77,7 @@ defaults o (rows, found, one, are) =
       workers = four o.workers (subst (λ w. IsNumberIn 1 16 w o.workers) (ap (one_of (codes "workers")) e ∙ workers_found m d) are.workers);
       limit = most o.limit (subst (λ w. IsNumberIn 1 4294967295 w o.limit) (ap (one_of (codes "limit")) e ∙ limit_found m d) are.limit);
       sizes = (subst (λ w. IsFlag w o.sizes) (ap (one_of (codes "sizes")) e ∙ sizes_found m d) are.sizes).1 refl;
+      print_order = (subst (λ w. IsFlag w o.print_order) (ap (one_of (codes "print-order")) e ∙ print_order_found m d) are.print_order).1 refl;
       texts = subst (λ w. AreTexts w None o.texts) (ap (first_of (codes "FIRST")) e ∙ first_found m d)
           (subst (λ w. AreTexts (first_of (codes "FIRST") rows) w o.texts) (ap (first_of (codes "SECOND")) e ∙ second_found m d) are.texts);
     }

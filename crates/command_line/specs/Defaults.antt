@@ -5,11 +5,12 @@ use Rattle.command_line.specs.declared.options.Options.{Options}
 use Rattle.command_line.specs.declared.options.OrderChoice.TheVariants.{Declared}
 use Rattle.command_line.specs.declared.options.Texts.TheVariants.{Input}
 
--- by name, in declared order, by 4 workers, at most 67,108,864 nodes, without sizes, both texts on the input
+-- by name, in declared order, by 4 workers, at most 67,108,864 nodes, without sizes, compared, both texts on the input
 pub record AreDefaults (o : Options) : Type 0 where
   pub matching : o.matching ≡ Name
   pub order : o.order ≡ Declared
   pub workers : o.workers ≡ 4
   pub limit : o.limit ≡ 67108864
   pub sizes : o.sizes ≡ false
+  pub print_order : o.print_order ≡ false
   pub texts : o.texts ≡ Input

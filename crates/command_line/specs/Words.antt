@@ -50,6 +50,9 @@ limit_rule = value_rule (codes "limit") (codes "67108864" ∷ []) (Some (Unsigne
 abbrev pub sizes_rule : Rule
 sizes_rule = record (new_rule (codes "sizes")) { long = Some (codes "sizes"); action = Some SetTrue }
 
+abbrev pub print_order_rule : Rule
+print_order_rule = record (new_rule (codes "print-order")) { long = Some (codes "print-order"); action = Some SetTrue }
+
 -- the command before it has arguments: its words begin behind the program's name, and it tells its version
 abbrev pub bare_app : App
 bare_app = on_top (λ s. record s { no_binary_name = true; has_version = true }) (new_app (codes "bddcheck"))
@@ -67,7 +70,7 @@ TakesOrders = TakesOnly (codes "declared" ∷ codes "depth" ∷ codes "interleav
 -- The command with its arguments. The parsers of two lists of words are named apart.
 abbrev pub tool_app : (matching order : Option ValueParser) → App
 tool_app matching order =
-    with_rule (with_rule (with_rule (with_rule (with_rule (with_rule (with_rule (with_rule bare_app (match_rule matching)) (order_rule order)) order_file_rule) workers_rule) limit_rule) sizes_rule) (new_rule (codes "FIRST"))) (new_rule (codes "SECOND"))
+    with_rule (with_rule (with_rule (with_rule (with_rule (with_rule (with_rule (with_rule (with_rule bare_app (match_rule matching)) (order_rule order)) order_file_rule) workers_rule) limit_rule) sizes_rule) print_order_rule) (new_rule (codes "FIRST"))) (new_rule (codes "SECOND"))
 
 -- the command has these arguments
 abbrev pub IsTool : App → Type 0
@@ -118,9 +121,9 @@ AreTexts None None texts = texts ≡ Input
 AreTexts (Some first) None texts = texts ≡ One
 AreTexts None (Some second) texts = texts ≡ One
 
--- sizes are asked for by a flag, whose text is one of two
+-- what a flag asks for, whose text is one of two
 abbrev pub IsFlag : Option (List ℕ) → Bool → Type 0
-IsFlag word sizes = (word ≡ Some (codes "true") → sizes ≡ true) × (word ≡ Some (codes "false") → sizes ≡ false)
+IsFlag word asked = (word ≡ Some (codes "true") → asked ≡ true) × (word ≡ Some (codes "false") → asked ≡ false)
 
 -- the number is that of the text, where this is a number of the range
 abbrev pub IsNumberIn : ℕ → ℕ → Option Text → ℕ → Type 0
@@ -142,6 +145,7 @@ pub record AreOptions (rows : List Row) (o : Options) : Type 0 where
   pub limit : IsNumberIn 1 4294967295 (one_of (codes "limit") rows) o.limit
   pub texts : AreTexts (first_of (codes "FIRST") rows) (first_of (codes "SECOND") rows) o.texts
   pub sizes : IsFlag (one_of (codes "sizes") rows) o.sizes
+  pub print_order : IsFlag (one_of (codes "print-order") rows) o.print_order
 
 -- the kinds of the first fault that clap finds in the words; none where it takes them
 abbrev pub AreFaults : List Text → Kinds → Type 0

@@ -1,7 +1,7 @@
 //! The command of the program, as clap knows it.
 ghost use Rattle.std.specs.Prelude.{◌≡◌, false, codes, IfOk};
 ghost use Rattle.clap.specs.Words.{app_of, new_rule, rule_of};
-ghost use Rattle.command_line.specs.Words.{TakesMatches, TakesOrders, match_rule, order_rule, order_file_rule, workers_rule, limit_rule, sizes_rule, bare_app, IsTool};
+ghost use Rattle.command_line.specs.Words.{TakesMatches, TakesOrders, match_rule, order_rule, order_file_rule, workers_rule, limit_rule, sizes_rule, print_order_rule, bare_app, IsTool};
 
 use clap::{Arg, ArgAction, Command, value_parser};
 use std::alloc::{AllocError, Global};
@@ -97,6 +97,18 @@ fn sizes<'a>(alloc: Global) -> Arg<'a>
         .help("Print the number of nodes of each compared diagram")
 }
 
+fn print_order<'a>(alloc: Global) -> Arg<'a>
+    ensures rule { rule_of result ≡ print_order_rule }
+    ensures local { result.global ≡ false }
+{
+    Arg::new(alloc, "print-order")
+        .long("print-order")
+        .action(ArgAction::SetTrue)
+        .help(
+            "Print the names of the variables in their order, as --order-file reads them, and compare nothing",
+        )
+}
+
 fn first<'a>(alloc: Global) -> Arg<'a>
     ensures rule { rule_of result ≡ new_rule (codes "FIRST") }
     ensures local { result.global ≡ false }
@@ -136,6 +148,7 @@ pub fn command<'a>(alloc: Global) -> Result<Command<'a>, AllocError>
     let command = command
         .arg(limit(alloc))?
         .arg(sizes(alloc))?
+        .arg(print_order(alloc))?
         .arg(first(alloc))?
         .arg(second(alloc))?;
     Ok(command)

@@ -38,6 +38,8 @@ pub struct Options<'a> {
     pub workers: u32,
     pub limit: u64,
     pub sizes: bool,
+    /// Whether the order of the variables is printed, and nothing compared.
+    pub print_order: bool,
     pub texts: Texts<'a>,
     ghost some_workers: { 1 ≤ workers },
     ghost few_workers: { workers ≤ 16 },

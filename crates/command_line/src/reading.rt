@@ -182,6 +182,7 @@ fn options_of<'a>(matches: &ArgMatches<'a>) -> Options<'a>
         workers: workers_of(matches),
         limit: limit_of(matches),
         sizes: matches.get_flag("sizes"),
+        print_order: matches.get_flag("print-order"),
         texts: texts_of(matches.get_str("FIRST"), matches.get_str("SECOND")),
     }
 }

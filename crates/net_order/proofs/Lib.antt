@@ -16,3 +16,4 @@ pub mod Orders
 pub mod InputLevels
 pub mod Matching
 pub mod NameTexts
+pub mod Written

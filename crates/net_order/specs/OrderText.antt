@@ -19,6 +19,11 @@ listed_name End = None
 abbrev pub AreNames : Tokens → List (List ℕ) → Type 0
 AreNames tokens names = map (λ t. listed_name t.1) tokens ≡ map (λ n. Some n) names
 
+-- The order file that is written of these names: each on a line of its own.
+abbrev pub order_text : List (List ℕ) → List ℕ
+order_text [] = []
+order_text (n ∷ ns) = n ++ (10 ∷ order_text ns)
+
 -- The text is an order file of these names.
 abbrev pub IsOrderText : List ℕ → List (List ℕ) → Type 0
 IsOrderText text names = (length text ≤ max_text) × (tokens : Tokens) × (line : ℕ) × HasTokens text (tokens ++ (line, End) ∷ []) × AreNames tokens names

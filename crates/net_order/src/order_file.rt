@@ -3,7 +3,7 @@ ghost use Rattle.std.specs.Prelude.{◌≡◌, ◌+◌, ◌≤◌, ◌⊎◌, �
 ghost use Rattle.net_bench.specs.Devices.{TakesAtMost};
 ghost use Rattle.net_bench.specs.Fault.{max_text};
 ghost use Rattle.net_bench.specs.Scan.{seen};
-ghost use Rattle.net_order.specs.OrderText.{IsBadText, IsOrderText, IsReadFault, listed_name};
+ghost use Rattle.net_order.specs.OrderText.{IsBadText, IsOrderText, IsReadFault, listed_name, order_text};
 
 use crate::names::Names;
 use crate::order::OrderFault;
@@ -84,4 +84,24 @@ pub fn read_order<R: Source>(alloc: Global, device: &mut R) -> Result<Names, Ord
         Err(TextFault::TooLong) => Err(OrderFault::TooLong),
         Err(TextFault::OutOfMemory) => Err(OrderFault::OutOfMemory),
     }
+}
+
+/// Puts a name at the end, on a line of its own.
+fn push_line(text: &mut Vec<u8>, name: &[u8]) -> Result<(), AllocError>
+    ensures { OnOk result (text.new.items ≡ text.old.items ++ (name.now ++ 10 ∷ [])) }
+{
+    text.extend_from_slice(name)?;
+    text.extend_from_slice(b"\n")?;
+    Ok(())
+}
+
+/// The order file of these names, each on a line of its own.
+pub fn order_text(alloc: Global, names: &Names) -> Result<Vec<u8>, AllocError>
+    ensures { IfOk result (λ text. text.items ≡ order_text names.now) }
+{
+    let mut text = Vec::new(alloc);
+    for place in 0..names.len() {
+        push_line(&mut text, names.at(place))?;
+    }
+    Ok(text)
 }

@@ -1,6 +1,6 @@
 use Rattle.std.proofs.Common.{◌≡◌, ◌≢◌, ◌∙◌, ap, sym, subst, inl, inr, Result, Ok, Err, OnErr}
 use Rattle.std.specs.Io.KnownBytes.{Keeps}
-use Rattle.check_report.specs.declared.outcome.Outcome.{Outcome}
+use Rattle.bddcheck.specs.declared.done.Done.{Done}
 use Rattle.check_report.specs.declared.fault.CheckFault.TheVariants.{Write}
 use Rattle.bddcheck.specs.declared.fault.ToolFault.{ToolFault}
 use Rattle.bddcheck.specs.declared.fault.ToolFault.TheVariants.{Check, OutOfMemory}
@@ -8,8 +8,8 @@ use Rattle.bddcheck.proofs.Composing.{keeps_own}
 use Rattle.bddcheck.proofs.tool.run_tool.Goals as goal
 
 -- the fault of an answer that has one
-abbrev fault_in : Result Outcome ToolFault → ToolFault
-fault_in (Ok outcome) = OutOfMemory
+abbrev fault_in : Result Done ToolFault → ToolFault
+fault_in (Ok done) = OutOfMemory
 fault_in (Err fault) = fault
 
 pub returns-in-Ok-run_options-clause-ending : goal.returns-in-Ok-run_options-clause-ending
@@ -18,13 +18,13 @@ returns-in-Ok-run_options-clause-ending g c =
       c.in-Ok.options,
       c.in-Ok.ensures.options,
       inl (
-        c.in-Ok-run_options.outcome,
+        c.in-Ok-run_options.done,
         record {
           report = c.in-Ok-run_options.ensures.report;
           within = c.in-Ok-run_options.ensures.within;
           opened_all = c.in-Ok-run_options.ensures.opened;
           silent = keeps_own (g.E.Sink.contents c.args.errors.now);
-          code = c.status_of.ensures;
+          code = c.status_of_done.ensures.status;
         },
       ),
       c.run_options.ensures.unasked,

@@ -21,4 +21,5 @@ returns c =
       texts = subst (λ w. AreTexts w (first_of (codes "SECOND") (rows_of f)) c.texts_of.result) (first_is ∙ first_value-rows f (codes "FIRST"))
           (subst (λ w. AreTexts (option_map (λ (s : Bor (List ℕ)). s.now) c.get_str-4.result) w c.texts_of.result) (second_is ∙ first_value-rows f (codes "SECOND")) c.texts_of.ensures);
       sizes = (λ e. c.get_flag.ensures.value (one_text-rows f (codes "sizes") ∙ e), λ e. c.get_flag.ensures.other (one_text-rows f (codes "sizes") ∙ e));
+      print_order = (λ e. c.get_flag-2.ensures.value (one_text-rows f (codes "print-order") ∙ e), λ e. c.get_flag-2.ensures.other (one_text-rows f (codes "print-order") ∙ e));
     }

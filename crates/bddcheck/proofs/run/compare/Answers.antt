@@ -1,0 +1,10 @@
+use Rattle.std.proofs.Common.{◌≡◌, ap, Err}
+use Rattle.check_report.specs.declared.fault.CheckFault.TheVariants.{Write}
+use Rattle.bddcheck.specs.declared.done.Done.TheVariants.{Compared}
+use Rattle.bddcheck.proofs.run.compare.Goals as goal
+
+pub returns-clause-unwritten : goal.returns-clause-unwritten
+returns-clause-unwritten g c = λ e.
+    let same : c.in-Err-check.fault ≡ Write = cc in
+    let w = c.in-Err-check.ensures.unwritten (ap Err same) in
+    (Compared w.0, w.1, record { order = _; ordered = c.in_ok-order_of.ensures.order; made = (c.if-options.false, w.2) }, w.3)

@@ -1,0 +1,16 @@
+-- The order of the variables as it is printed.
+use Rattle.std.specs.Prelude.{◌≡◌, ℕ, List, Option}
+use Rattle.net_bench.specs.Circuit.{Circuit}
+use Rattle.net_order.specs.declared.order.Match.{Match}
+use Rattle.net_order.specs.declared.order.Order.{Order}
+use Rattle.net_order.specs.Order.{Paired}
+use Rattle.net_order.specs.OrderText.{order_text}
+use Rattle.check_report.specs.Check.{ArePaired}
+
+-- The bytes are the order file of the variables of what the devices gave, from level 0 on.
+pub record IsOrderPrinted (one two : Option (List ℕ)) (how : Match) (order : Order) (bytes : List ℕ) : Type 0 where
+  pub a : Circuit
+  pub b : Circuit
+  pub p : Paired
+  pub paired : ArePaired one two how order a b p
+  pub text : bytes ≡ order_text p.names
