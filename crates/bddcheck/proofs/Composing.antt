@@ -180,8 +180,8 @@ module _ (o : Options) (path : List ℕ) (named : text_paths o.texts ≡ path �
   pub one_opened : (a b : Option (List Try)) → Extends a b ((path, true) ∷ []) → Extends a b (opened (text_paths o.texts))
   one_opened a b e = subst (λ ps. Extends a b (opened ps)) (sym named) e
 
-  pub all_opened_beside : (a b c : Option (List Try)) (r : Result Outcome ToolFault) → Extends a b ((path, true) ∷ []) → OnOk r (Extends b c (opened (order_paths o.order))) → OnOk r (Extends a c (opened (paths_of o)))
-  all_opened_beside a b c (Ok outcome) e h =
+  pub all_opened_beside : (a b c : Option (List Try)) (r : Result Done ToolFault) → Extends a b ((path, true) ∷ []) → OnOk r (Extends b c (opened (order_paths o.order))) → OnOk r (Extends a c (opened (paths_of o)))
+  all_opened_beside a b c (Ok done) e h =
       subst (λ l. Extends a c l) (sym (opened_more (text_paths o.texts) (order_paths o.order))) (extends_more a b c (opened (text_paths o.texts)) (opened (order_paths o.order)) (one_opened a b e) h)
   all_opened_beside a b c (Err fault) e h = tt
 

@@ -15,7 +15,7 @@ use Rattle.net_order.specs.Order.{Paired, IsPairing}
 use Rattle.check_report.specs.declared.outcome.Outcome.{Outcome}
 use Rattle.check_report.specs.declared.verdict.Verdict.{Verdict}
 use Rattle.check_report.specs.declared.verdict.Verdict.TheVariants.{Equal, Differs}
-use Rattle.check_report.specs.Lines.{Found, report_text, counted}
+use Rattle.check_report.specs.Lines.{Found, counted}
 use Rattle.check_report.specs.Report.{Compared, IsSizeShown, AreSizesShown, IsVerdictOf, AreFunctions, AreVerdicts, lone_verdicts, subjects, IsReport}
 use Rattle.check_report.specs.Report.IsVerdictOf.{where_equal, where_different}
 use Rattle.check_report.specs.declared.outcome.Subject.{Subject}
@@ -162,7 +162,8 @@ one_found one two sound sound' how order p q h k sizes found more r t =
 
 -- two reports of two netlists in one order have the same counts and the same bytes
 pub one_report : (one two : Net) → IsNet one → IsNet two → (how : Match) (order : Order) (p q : Paired) → IsPairing how (circuit one) (circuit two) order p → IsPairing how (circuit one) (circuit two) order q
-    → (sizes : Bool) (o more : Outcome) (bytes text : List ℕ) → IsReport sizes (circuit one) (circuit two) p o bytes → IsReport sizes (circuit one) (circuit two) q more text → (o ≡ more) × (bytes ≡ text)
-one_report one two sound sound' how order p q h k sizes o more bytes text r t =
+    → (form : Found → List ℕ) (sizes : Bool) (o more : Outcome) (bytes text : List ℕ) → IsReport form sizes (circuit one) (circuit two) p o bytes → IsReport form sizes (circuit one) (circuit two) q more text
+    → (o ≡ more) × (bytes ≡ text)
+one_report one two sound sound' how order p q h k form sizes o more bytes text r t =
     let found : r.found ≡ t.found = one_found one two sound sound' how order p q h k sizes r.found t.found r.verdicts t.verdicts in
-    (r.counts ∙ ap (λ (f : Found). counted f.verdicts) found ∙ sym t.counts, r.text ∙ ap report_text found ∙ sym t.text)
+    (r.counts ∙ ap (λ (f : Found). counted f.verdicts) found ∙ sym t.counts, r.text ∙ ap form found ∙ sym t.text)

@@ -9,3 +9,4 @@ pub mod Pigeons
 pub mod Numbering
 pub mod Excluding
 pub mod Determined
+pub mod Tokens

@@ -30,6 +30,6 @@ assignment_over (v ∷ vs) (b ∷ bs) zero le = absurd (omega (arith, le))
 assignment_over (v ∷ vs) (b ∷ bs) (suc i) le = assignment_over vs bs i (omega (arith, le))
 
 -- what was added goes from the rest to the text
-pub moved : (whole text more part rest all : List ℕ) → text ++ all ≡ whole → all ≡ part ++ rest → more ≡ text ++ part → more ++ rest ≡ whole
+pub moved : {A : Type 0} (whole text more part rest all : List A) → text ++ all ≡ whole → all ≡ part ++ rest → more ≡ text ++ part → more ++ rest ≡ whole
 moved whole text more part rest all done split added =
     ap (λ z. z ++ rest) added ∙ append_assoc text part rest ∙ ap (λ z. text ++ z) (sym split) ∙ done

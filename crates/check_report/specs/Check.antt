@@ -11,6 +11,7 @@ use Rattle.net_order.specs.Order.{Paired, IsPairing, IsRefused}
 use Rattle.check_report.specs.declared.outcome.Outcome.{Outcome}
 use Rattle.check_report.specs.declared.fault.CheckFault.{CheckFault}
 use Rattle.check_report.specs.declared.fault.CheckFault.TheVariants.{First, Second, Order as OrderRefused, Wave, Write, OutOfMemory}
+use Rattle.check_report.specs.Json.{form_text}
 use Rattle.check_report.specs.Lines.{Found}
 use Rattle.check_report.specs.Report.{AreVerdicts, IsReport}
 
@@ -32,13 +33,13 @@ pub record IsJudged (one two : Option (List ℕ)) (how : Match) (order : Order) 
   pub paired : ArePaired one two how order a b p
   pub verdicts : AreVerdicts sizes a b p found
 
--- The bytes are the report of what the devices gave, and these are its counts.
-pub record IsChecked (one two : Option (List ℕ)) (how : Match) (order : Order) (sizes : Bool) (o : Outcome) (bytes : List ℕ) : Type 0 where
+-- The bytes are the report of what the devices gave, as JSON or by lines, and these are its counts.
+pub record IsChecked (json : Bool) (one two : Option (List ℕ)) (how : Match) (order : Order) (sizes : Bool) (o : Outcome) (bytes : List ℕ) : Type 0 where
   pub a : Circuit
   pub b : Circuit
   pub p : Paired
   pub paired : ArePaired one two how order a b p
-  pub report : IsReport sizes a b p o bytes
+  pub report : IsReport (form_text json how order) sizes a b p o bytes
 
 -- Why a text was not accepted: want of memory, a device that has failed, or the text's first fault.
 pub record IsUnread (told : Option (List ℕ)) (has_failed : Type 0) (fault : BenchFault) : Type 0 where

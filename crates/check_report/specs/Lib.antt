@@ -6,3 +6,4 @@ pub mod Check
 pub mod Limits
 pub mod Texts
 pub mod Listing
+pub mod Json

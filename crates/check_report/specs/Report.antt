@@ -14,7 +14,7 @@ use Rattle.check_report.specs.declared.outcome.Side.TheVariants.{First, Second}
 use Rattle.check_report.specs.declared.outcome.Subject.{Subject}
 use Rattle.check_report.specs.declared.verdict.Verdict.{Verdict}
 use Rattle.check_report.specs.declared.verdict.Verdict.TheVariants.{Equal, Differs, Lone}
-use Rattle.check_report.specs.Lines.{Found, report_text, counted}
+use Rattle.check_report.specs.Lines.{Found, counted}
 
 -- The signal that a register takes next: its operand.
 abbrev pub next_of : Circuit → ℕ → ℕ
@@ -89,9 +89,9 @@ pub record AreVerdicts (sizes : Bool) (a b : Circuit) (p : Paired) (found : Foun
   pub called_equal : AllZip (λ c v. CallsEqual v ↔ Agree (length p.names) c.first c.second) compared of_pairs
   pub all : found.verdicts ≡ of_pairs ++ lone_verdicts a b p
 
--- The report of two netlists that are paired: the lines of their verdicts, then the counts.
-pub record IsReport (sizes : Bool) (a b : Circuit) (p : Paired) (o : Outcome) (bytes : List ℕ) : Type 0 where
+-- The report of two netlists that are paired, in some form: the text of what a comparison finds, and its counts.
+pub record IsReport (form : Found → List ℕ) (sizes : Bool) (a b : Circuit) (p : Paired) (o : Outcome) (bytes : List ℕ) : Type 0 where
   pub found : Found
   pub verdicts : AreVerdicts sizes a b p found
   pub counts : o ≡ counted found.verdicts
-  pub text : bytes ≡ report_text found
+  pub text : bytes ≡ form found

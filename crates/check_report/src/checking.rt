@@ -12,7 +12,7 @@ ghost use Rattle.check_report.specs.Writing.{AppendsFront};
 use crate::compare::{Comparison, verdicts_of};
 use crate::fault::CheckFault;
 use crate::outcome::Outcome;
-use crate::report::report_of;
+use crate::report::text_of;
 use crate::settings::Settings;
 use crate::verdicts::Verdicts;
 use crate::write::write_whole;
@@ -123,14 +123,14 @@ pub fn check<H: Threads + Wait + Sync, R1: Source, R2: Source, G: Gate, W: Sink>
 ) -> Result<Outcome, CheckFault>
     // What was written is the report of what was read, and nothing else. In it two outputs, or the next states of two
     // registers, are called equal exactly where their functions are equal.
-    ensures report { IfOk result (λ o. (bytes : List ℕ) × IsChecked (R1.remaining first.old) (R2.remaining second.old) settings.now.matching settings.now.order settings.now.sizes o bytes × Appends (W.contents out.old) (W.contents out.new) bytes) }
+    ensures report { IfOk result (λ o. (bytes : List ℕ) × IsChecked settings.now.json (R1.remaining first.old) (R2.remaining second.old) settings.now.matching settings.now.order settings.now.sizes o bytes × Appends (W.contents out.old) (W.contents out.new) bytes) }
     // The nodes that the two netlists need are within the limit where there is a report, and Full comes only where they are not.
     ensures within { OnOk result (AreWithin (R1.remaining first.old) (R2.remaining second.old) settings.now.matching settings.now.order settings.now.limit) }
     ensures full { result ≡ Err (CheckFault.Wave WaveFault.Full) → AreBeyond (R1.remaining first.old) (R2.remaining second.old) settings.now.matching settings.now.order settings.now.limit }
     // A fault has its cause, and what comes before it was accepted.
     ensures fault { IfErr result (IsCheckFault (R1.remaining first.old) (R2.remaining second.old) (IsTrue (R1.has_failed first.new)) (IsTrue (R2.has_failed second.new)) settings.now.matching settings.now.order) }
     // Where the writing failed, a front part of the report was written, and the device has failed or taken nothing of the rest.
-    ensures unwritten { result ≡ Err CheckFault.Write → (o : Outcome) × (bytes : List ℕ) × IsChecked (R1.remaining first.old) (R2.remaining second.old) settings.now.matching settings.now.order settings.now.sizes o bytes × AppendsFront (W.contents out.old) (W.contents out.new) (W.has_failed out.new) (W.has_stopped out.new) bytes }
+    ensures unwritten { result ≡ Err CheckFault.Write → (o : Outcome) × (bytes : List ℕ) × IsChecked settings.now.json (R1.remaining first.old) (R2.remaining second.old) settings.now.matching settings.now.order settings.now.sizes o bytes × AppendsFront (W.contents out.old) (W.contents out.new) (W.has_failed out.new) (W.has_stopped out.new) bytes }
     // At any other fault nothing was written.
     ensures untouched { OnErr result (result ≢ Err CheckFault.Write → out.new ≡ out.old) }
     // A writer that took the report has not failed, and took some bytes at each write.
@@ -138,7 +138,7 @@ pub fn check<H: Threads + Wait + Sync, R1: Source, R2: Source, G: Gate, W: Sink>
     ensures origins { (R1.origin first.new ≡ R1.origin first.old) × (R2.origin second.new ≡ R2.origin second.old) }
 {
     let verdicts = judge(rt, alloc, first, second, settings, gate)?;
-    let Ok(text) = report_of(alloc, &verdicts) else {
+    let Ok(text) = text_of(alloc, settings, &verdicts) else {
         return Err(CheckFault::OutOfMemory);
     };
     match write_whole(out, text.as_slice()) {

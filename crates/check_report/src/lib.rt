@@ -1,6 +1,7 @@
 //! Two netlists to the report of their comparison.
 #![tactic(auto)]
 
+mod as_json;
 mod checking;
 mod compare;
 mod fault;
@@ -14,6 +15,7 @@ mod verdict;
 mod verdicts;
 mod write;
 
+pub use as_json::json_of;
 pub use checking::{check, judge};
 pub use fault::CheckFault;
 pub use listing::print_order;

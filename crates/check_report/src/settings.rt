@@ -14,6 +14,8 @@ pub struct Settings {
     pub limit: u64,
     /// Whether the report says the sizes of the diagrams.
     pub sizes: bool,
+    /// Whether the report is one JSON object, and not lines.
+    pub json: bool,
     ghost some_workers: { 1 ≤ workers },
     ghost few_workers: { workers ≤ 16 },
     ghost some_nodes: { 1 ≤ limit },

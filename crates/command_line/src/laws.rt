@@ -6,7 +6,6 @@ ghost use Rattle.command_line.specs.declared.reading.Refused.{Refused};
 ghost use Rattle.command_line.specs.Words.{AskFor, IsRefusal, TellsVersion};
 
 /// No words at all ask for the defaults, and for nothing else.
-#[tactic(auto, using(crate::proofs::Defaulting::defaults))]
 pub fn no_words()
     ensures { (o : Options) → AskFor [] o → AreDefaults o }
 {}

@@ -8,6 +8,6 @@ pub returns-clause-unwritten : goal.returns-clause-unwritten
 returns-clause-unwritten g c = λ _. (
   counted c.in_ok-verdicts.verdicts.verdicts,
   c.in-Ok.text.items,
-  reported _ _ _ _ _ c.in_ok-verdicts.verdicts _ _ c.in_ok-verdicts.ensures.verdicts refl c.in-Ok.ensures,
+  reported _ _ _ _ _ _ c.in_ok-verdicts.verdicts _ _ c.in_ok-verdicts.ensures.verdicts refl c.in-Ok.ensures,
   subst (AppendsFront _ _ _ _) c.as_slice.ensures.value c.in-Err.ensures.err,
 )
