@@ -1,13 +1,15 @@
 -- A wave over the entries of which nothing is known, with what is known of the others, is a wave over all entries.
-use Rattle.std.proofs.Common.{◌≡◌, suc, inl, inr, List, [], ◌∷◌, ◌++◌, length, map, Option, Some, None, refl, sym, ◌∙◌, ap, subst, arith, Contains, All, IfSome}
+use Rattle.std.proofs.Common.{◌≡◌, suc, ℕ, ◌+◌, ◌<◌, drop, slice_index_or, inl, inr, List, [], ◌∷◌, ◌++◌, length, map, Option, Some, None, refl, sym, ◌∙◌, ap, subst, arith, Contains, All, IfSome}
+use Rattle.std.proofs.lemmas.List.{drop_more}
 use Rattle.std.proofs.lemmas.List.Elements.{Contains-append_cases, Contains-append_left, Contains-append_right, All-contains}
 use Rattle.std.proofs.lemmas.Slice.Zip.{AllZip-long}
 use Rattle.dd_store.specs.declared.reference.Ref.{Ref}
 use Rattle.dd_store.specs.Nodes.{Nodes, IsSound, IsDiagram}
 use Rattle.dd_store.specs.View.{Keeps as KeepsNodes}
 use Rattle.req_table.specs.Short.{short_of}
+use Rattle.req_table.specs.declared.Key.{Key}
 use Rattle.req_table.specs.Keys.{normal_of, IsKey}
-use Rattle.req_table.specs.Memos.{Held, IsRight, IsAnswerOf, IsValueOf, or_held}
+use Rattle.req_table.specs.Memos.{Held, Keeps, IsRight, IsAnswerOf, IsValueOf, or_held}
 use Rattle.req_table.proofs.Memos.{known_value, not_known, right_kept, right_with}
 use Rattle.req_table.proofs.Waved.{is_key}
 use Rattle.req_table.specs.contracts.KeyPartialEq.TheImpl.{eq-value}
@@ -214,3 +216,15 @@ fault_of_all S T m es Full (asked, why) = (
     )
   ],
 )
+
+-- after one more entry was kept, what is left of the entries is kept from there on
+pub kept_more : (old m new : Held) (es : List Entry) (rs : List Ref) (i : ℕ) (e : Entry) (r : Ref) (k : Key) → i < length es → length rs ≡ length es
+    → e ≡ slice_index_or es i e → r ≡ slice_index_or rs i r → k ≡ normal_of e.0 e.1 e.2 → Keeps old k r m → AreKept m (drop (i + 1) es) (drop (i + 1) rs) new → AreKept old (drop i es) (drop i rs) new
+kept_more old m new es rs i e r k lt len at_e at_r is kept more =
+    subst (λ z. AreKept old z (drop i rs) new) (sym (drop_more es i e lt))
+    (subst (λ z. AreKept old (slice_index_or es i e ∷ drop (i + 1) es) z new) (sym (drop_more rs i r (subst (λ n. i < n) (sym len) lt))) (
+      m,
+      subst (λ (z : Entry). Keeps old (normal_of z.0 z.1 z.2) (slice_index_or rs i r) m) at_e
+          (subst (λ z. Keeps old (normal_of e.0 e.1 e.2) z m) at_r (subst (λ z. Keeps old z r m) is kept)),
+      more,
+    ))
