@@ -9,7 +9,6 @@ ghost use Rattle.slot_table.specs.Pairs.{pairs-same};
 ghost use Rattle.std.proofs.lemmas.Bool.{eqb-true};
 ghost use Rattle.slot_table.specs.Lists.{IsIn, IsOnce};
 ghost use Rattle.slot_table.specs.Placing.{IsPlaced};
-ghost use Rattle.std.specs.Vec.{vec_len, vec_capacity};
 
 use std::alloc::{AllocError, Global};
 use std::marker::Model;
@@ -203,17 +202,6 @@ fn slot_for<T: Spread>(
     Ok(free_slot(slots.as_slice(), home(item, more)))
 }
 
-/// Makes room for one more item: for half as many again, and four, where there is none.
-fn make_room<T: Spread>(items: &mut Vec<T>) -> Result<(), AllocError>
-    ensures items { items.new.items ≡ items.old.items }
-    ensures room { OnOk result (vec_len items.new < vec_capacity items.new) }
-{
-    if items.len() < items.capacity() {
-        return Ok(());
-    }
-    items.reserve_exact(items.len() / 2 + 4)
-}
-
 /// Adds an item at the end, whose search ended at `slot`. After an error all is as before.
 fn add_at<T: Spread>(
     items: &mut Vec<T>,
@@ -233,7 +221,7 @@ fn add_at<T: Spread>(
     ensures added { OnOk result (items.new.items ≡ items.old.items ++ item ∷ []) }
     ensures refused { OnErr result (items.new.items ≡ items.old.items) }
 {
-    make_room(items)?;
+    items.reserve(1)?;
     let slot = slot_for(items.as_slice(), slots, item, slot)?;
     slots[slot] = items.len() as u32 + 1;
     items.push_reserved(item);
