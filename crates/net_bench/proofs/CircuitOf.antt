@@ -373,12 +373,12 @@ all_map P f [] a k d low = absurd (omega arith)
 all_map P f (x ∷ xs) a zero d low = a 0 x (omega arith)
 all_map P f (x ∷ xs) a (suc k) d low = all_map P f xs (λ i e lt. a (suc i) e (omega arith)) k d (omega arith)
 
-in_front : (xs ys : List ℕ) (s : ℕ) → Contains xs s → Contains (xs ++ ys) s
+pub in_front : (xs ys : List ℕ) (s : ℕ) → Contains xs s → Contains (xs ++ ys) s
 in_front [] ys s (k, low, at) = absurd (omega arith)
 in_front (x ∷ xs) ys s (zero, low, at) = (0, omega arith, at)
 in_front (x ∷ xs) ys s (suc k, low, at) = let m : Contains (xs ++ ys) s = in_front xs ys s (k, omega arith, at) in (suc m.0, omega (arith, m.1), m.2)
 
-in_back : (xs ys : List ℕ) (s : ℕ) → Contains ys s → Contains (xs ++ ys) s
+pub in_back : (xs ys : List ℕ) (s : ℕ) → Contains ys s → Contains (xs ++ ys) s
 in_back [] ys s m = m
 in_back (x ∷ xs) ys s m = let more : Contains (xs ++ ys) s = in_back xs ys s m in (suc more.0, omega (arith, more.1), more.2)
 

@@ -136,6 +136,17 @@ HasRole n s input = Contains n.inputs s
 HasRole n s (gate p) = (g : GateLine) × (slice_get n.gates p ≡ Some g) × (g.out ≡ s)
 HasRole n s (register p) = (g : GateLine) × (slice_get n.registers p ≡ Some g) × (g.out ≡ s)
 
+-- the first gate with this signal
+abbrev pub gate_of : List GateLine → ℕ → Option GateLine
+gate_of gates s = Rattle.std.specs.Prelude.find (λ g. Rattle.std.specs.Prelude.nat_eq g.out s) gates
+
+-- the gate that a role tells
+abbrev pub gate_by : List GateLine → Role → Option GateLine
+gate_by gates undefined = None
+gate_by gates input = None
+gate_by gates (gate p) = slice_get gates p
+gate_by gates (register p) = None
+
 -- what holds of each netlist that was read
 pub record IsNet (n : Net) : Type 0 where
   pub names : (i j : ℕ) → i < j → j < length n.names → slice_index_or n.names i [] ≢ slice_index_or n.names j []

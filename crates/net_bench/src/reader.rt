@@ -1,6 +1,6 @@
 //! The netlist of a text.
 ghost use Rattle.std.specs.Prelude.{◌≡◌, ◌+◌, ◌<◌, ◌⊎◌, length, IfOk, IfErr, IfSome, IsTrue, slice_index, slice_get, Some, Err};
-ghost use Rattle.net_bench.specs.Circuit.{circuit, circuit_of, find, variables_of, HasRole, IsNet, AreRanks};
+ghost use Rattle.net_bench.specs.Circuit.{circuit, circuit_of, find, variables_of, HasRole, gate_by, gate_of, IsNet, AreRanks};
 ghost use Rattle.net_bench.specs.Fault.{IsRefused, MakesNetlist, max_text};
 ghost use Rattle.net_bench.specs.Devices.{TakesAtMost};
 ghost use Rattle.net_bench.specs.Judge.{statements_in};
@@ -14,7 +14,7 @@ use crate::judge::judge_text;
 use crate::name_table::NameTable;
 use crate::netlist::{BenchFault, GateLine, Role, Signal};
 use crate::ranks::ranks_of;
-use crate::symbols::{Symbol, SymbolTable, first_undefined};
+use crate::symbols::{Symbol, SymbolTable, first_undefined, symbol_of};
 use std::alloc::Global;
 use std::marker::Model;
 
@@ -140,9 +140,11 @@ impl Netlist {
     pub fn role(&self, signal: Signal) -> Role
         requires { signal < length self.now.names }
         ensures value { HasRole self.now signal result }
+        // The gate at its place is the signal's only one, and where the role is no gate, the signal has none.
+        ensures gate { gate_of self.now.gates signal ≡ gate_by self.now.gates result }
         ensures sound { IsNet self.now }
     {
-        self.symbols[signal.number() as usize].role
+        symbol_of(self.symbols.as_slice(), signal).role
     }
 
     /// 0 for a variable, 1 more than the greatest of its operands for a gate.

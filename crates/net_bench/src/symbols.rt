@@ -89,7 +89,7 @@ fn is_known(symbols: &[Symbol], signal: Signal) -> bool
 }
 
 /// The symbol of a signal.
-fn symbol_of(symbols: &[Symbol], signal: Signal) -> Symbol
+pub fn symbol_of(symbols: &[Symbol], signal: Signal) -> Symbol
     requires { signal < length symbols.now }
     ensures { slice_get symbols.now signal ≡ Some result }
 {
