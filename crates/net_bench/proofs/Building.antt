@@ -1,22 +1,26 @@
 -- A netlist put together from its parts.
-use Rattle.std.proofs.Common.{◌≡◌, inl, inr, ℕ, ◌<◌, List, [], ◌∷◌, Bool, true, false, refl, sym, ap, ◌∙◌, subst, length}
-use Rattle.std.specs.Prelude.{cond, ◌||◌, bytes_eq, flat_map, slice_get, Option, Some, None}
-use Rattle.std.proofs.lemmas.Option.{slice_get-get_or}
+use Rattle.net_bench.proofs.CircuitOf.{name_defined, contains_map, number_back}
+use Rattle.net_bench.proofs.Numbers.{contained_in, in_distinct, number_low, number_at}
+use Rattle.std.proofs.lemmas.List.{get_or_default}
+use Rattle.std.proofs.Common.{◌≡◌, inl, inr, ℕ, ◌<◌, List, [], ◌∷◌, Bool, true, false, refl, sym, ap, ◌∙◌, subst, length, map, get_or}
+use Rattle.std.specs.Prelude.{cond, ◌||◌, bytes_eq, flat_map, slice_get, Option, Some, None, Contains}
+use Rattle.std.proofs.lemmas.Option.{slice_get-get_or, slice_get_within}
 use Rattle.net_bench.specs.declared.symbols.Symbol.{Symbol}
-use Rattle.net_bench.specs.declared.symbols.Role.{Role}
+use Rattle.net_bench.specs.declared.netlist.Role.{Role}
+use Rattle.net_bench.specs.declared.netlist.Role.TheVariants.{Undefined as undefined, Input as input, Gate as gate, Register as register}
 use Rattle.net_bench.specs.declared.symbols.Use.{Use}
 use Rattle.std.proofs.lemmas.List.Folds.{list_any-append}
 use Rattle.net_bench.specs.declared.symbols.SymbolTable.{SymbolTable}
 use Rattle.net_bench.specs.Machine.{Between}
-use Rattle.net_bench.specs.Symbols.{AreFound, AreParts, IsSymbol, IsTold, is_defined_role, is_driven_role, is_input_role, known_symbol, undefined_use}
+use Rattle.net_bench.specs.Symbols.{AreFound, AreParts, IsSymbol, IsTold, is_defined_role, is_driven_role, is_input_role, known_symbol, undefined_use, AreRoles, IsPlacedAt}
 use Rattle.net_bench.specs.declared.netlist.BenchFault.TheVariants.{Undefined}
 use Rattle.net_bench.specs.Text.{Word}
-use Rattle.net_bench.specs.Statement.{Statement, input_name, gate_name, defined, uses}
-use Rattle.net_bench.specs.Circuit.{Net, names_of, find, is_name_in}
+use Rattle.net_bench.specs.Statement.{Statement, input_name, gate_name, defined, uses, counted}
+use Rattle.net_bench.specs.Circuit.{Net, names_of, find, is_name_in, HasRole, distinct, number_of}
 use Rattle.net_bench.specs.Fault.{is_defined}
 use Rattle.net_bench.specs.Judge.{undefined_line}
-use Rattle.net_bench.specs.Sound.{AreDefined, IsLate, net_of}
-use Rattle.net_bench.proofs.Found.{found_low}
+use Rattle.net_bench.specs.Sound.{AreDefined, IsLate, net_of, IsSound}
+use Rattle.net_bench.proofs.Found.{found_low, found_of, number_found, is_there}
 use Rattle.net_bench.proofs.Tables.{undefined_split, undefined_none}
 
 or_swap : (i g j h : Bool) → ((i || g) || (j || h)) ≡ ((i || j) || (g || h))
@@ -86,3 +90,55 @@ same_net ss table ranks h =
     let g = p.gates in
     let r = p.registers in
     cc
+
+-- ---- roles
+
+at_name : (xs : List (List ℕ)) (i : ℕ) → i < length (distinct xs) → find (distinct xs) (get_or (distinct xs) i []) ≡ Some i
+at_name xs i low =
+    let n : List ℕ = get_or (distinct xs) i [] in
+    let there : is_name_in (distinct xs) (get_or (distinct xs) i []) ≡ true =
+    contained_in (distinct xs) (get_or (distinct xs) i []) (i, low, get_or_default (distinct xs) i _ [] low) in
+    let (j, f) = found_of (distinct xs) (get_or (distinct xs) i []) there in
+    f ∙ ap (λ k. Some k) (sym (number_found (distinct xs) (get_or (distinct xs) i []) j f) ∙ number_back xs i low)
+
+input_there : (names xs : List (List ℕ)) (n : List ℕ) → is_name_in xs n ≡ true → Contains (map (number_of names) (distinct xs)) (number_of names n)
+input_there names xs n e =
+    let there : is_name_in (distinct xs) n ≡ true = in_distinct xs n ∙ e in
+    contains_map (number_of names) (distinct xs) (number_of (distinct xs) n) n (number_low (distinct xs) n there) (number_at (distinct xs) n n there)
+
+module _ (ss : List Statement) (table : SymbolTable) (h : IsOf ss table) (sound : IsSound ss) (all : AreDefined ss) (ranks : List ℕ) where
+  abbrev whole : Net
+  whole = record { names = table.names; inputs = table.inputs.items; outputs = table.outputs.items; gates = table.gates.items; registers = table.registers.items; ranks = ranks }
+
+  found_name : (i : ℕ) → i < length table.names → find table.names (get_or table.names i []) ≡ Some i
+  found_name i low = subst (λ ns. i < length ns → find ns (get_or ns i []) ≡ Some i) (sym h.names) (at_name (flat_map counted ss) i) low
+
+  role_at : (i : ℕ) (s : Symbol) → slice_get table.symbols.items i ≡ Some s → i < length table.names → (r : Role) → s.role ≡ r → HasRole whole i r
+  role_at i s at low undefined is =
+      let n : List ℕ = get_or table.names i [] in
+      let y : IsSymbol ss (get_or table.names i []) s = h.symbols (get_or table.names i []) i s (found_name i low) at in
+      let none : false ≡ is_name_in (flat_map defined ss) (get_or table.names i []) =
+      sym (ap is_defined_role is) ∙
+      or_both s.role (is_name_in (flat_map input_name ss) (get_or table.names i [])) (is_name_in (flat_map gate_name ss) (get_or table.names i [])) y.input y.driven ∙ sym (either_in ss (get_or table.names i [])) in
+      let some : is_name_in (flat_map defined ss) (get_or table.names i []) ≡ true =
+      name_defined ss sound all (get_or table.names i []) (ap (λ ns. is_name_in ns (get_or table.names i [])) (sym h.names) ∙ is_there table.names (get_or table.names i []) i (found_name i low)) in
+      absurd (false_true (none ∙ some))
+    where
+      false_true : false ≡ true → ⊥
+      false_true e = cc
+  role_at i s at low input is =
+      let n : List ℕ = get_or table.names i [] in
+      let y : IsSymbol ss (get_or table.names i []) s = h.symbols (get_or table.names i []) i s (found_name i low) at in
+      let there : is_name_in (flat_map input_name ss) (get_or table.names i []) ≡ true = sym y.input ∙ ap is_input_role is in
+      let p : AreParts table.names ss table = h.parts table.names (λ m j e. e) in
+      subst (λ is. Contains is i) (sym p.inputs)
+      (subst (Contains (map (number_of table.names) (distinct (flat_map input_name ss)))) (number_found table.names (get_or table.names i []) i (found_name i low))
+      (input_there table.names (flat_map input_name ss) (get_or table.names i []) there))
+  role_at i s at low (gate p) is = subst (IsPlacedAt table.gates.items table.registers.items i) is (h.places sound.kinds i s at)
+  role_at i s at low (register p) is = subst (IsPlacedAt table.gates.items table.registers.items i) is (h.places sound.kinds i s at)
+
+  pub roles : AreRoles whole table.symbols.items
+  roles = record {
+    each = h.each;
+    right = λ i s at. role_at i s at (subst (λ k. i < k) h.each (slice_get_within table.symbols.items i s at)) s.role refl;
+  }

@@ -248,7 +248,7 @@ counted_defined names (Gate out word first others) n own all e =
       | inr f ↦ all_texts names (first ∷ others) n all f
     ]
 
-contains_map : {X Y : Type 0} (f : X → Y) (xs : List X) (k : ℕ) (x : X) → k < length xs → get_or xs k x ≡ x → Contains (map f xs) (f x)
+pub contains_map : {X Y : Type 0} (f : X → Y) (xs : List X) (k : ℕ) (x : X) → k < length xs → get_or xs k x ≡ x → Contains (map f xs) (f x)
 contains_map f [] k x low at = absurd (omega arith)
 contains_map f (y ∷ ys) zero x low at = (0, omega arith, ap f at)
 contains_map f (y ∷ ys) (suc k) x low at = let more : Contains (map f ys) (f x) = contains_map f ys k x (omega arith) at in (suc more.0, omega arith, more.2)
@@ -284,7 +284,7 @@ gate_of names (Gate out word first others) n h e =
       | inr f ↦ cc
     ]
 
-number_back : (xs : List (List ℕ)) (s : ℕ) → s < length (distinct xs) → number_of (distinct xs) (get_or (distinct xs) s []) ≡ s
+pub number_back : (xs : List (List ℕ)) (s : ℕ) → s < length (distinct xs) → number_of (distinct xs) (get_or (distinct xs) s []) ≡ s
 number_back xs s low =
     let n : List ℕ = get_or (distinct xs) s [] in
     let there : is_name_in (distinct xs) (get_or (distinct xs) s []) ≡ true = contained_in (distinct xs) (get_or (distinct xs) s []) (s, low, get_or_default (distinct xs) s _ [] low) in
@@ -373,12 +373,12 @@ all_map P f [] a k d low = absurd (omega arith)
 all_map P f (x ∷ xs) a zero d low = a 0 x (omega arith)
 all_map P f (x ∷ xs) a (suc k) d low = all_map P f xs (λ i e lt. a (suc i) e (omega arith)) k d (omega arith)
 
-in_front : (xs ys : List ℕ) (s : ℕ) → Contains xs s → Contains (xs ++ ys) s
+pub in_front : (xs ys : List ℕ) (s : ℕ) → Contains xs s → Contains (xs ++ ys) s
 in_front [] ys s (k, low, at) = absurd (omega arith)
 in_front (x ∷ xs) ys s (zero, low, at) = (0, omega arith, at)
 in_front (x ∷ xs) ys s (suc k, low, at) = let m : Contains (xs ++ ys) s = in_front xs ys s (k, omega arith, at) in (suc m.0, omega (arith, m.1), m.2)
 
-in_back : (xs ys : List ℕ) (s : ℕ) → Contains ys s → Contains (xs ++ ys) s
+pub in_back : (xs ys : List ℕ) (s : ℕ) → Contains ys s → Contains (xs ++ ys) s
 in_back [] ys s m = m
 in_back (x ∷ xs) ys s m = let more : Contains (xs ++ ys) s = in_back xs ys s m in (suc more.0, omega (arith, more.1), more.2)
 
@@ -614,7 +614,7 @@ module _ (ss : List Statement) (sound : IsSound ss) where
   Signal' s = Contains variables s ⊎ ((g : GateLine) × Contains gates g × (g.out ≡ s))
 
   module _ (all : IsTrue (list_all (is_defined ss) (flat_map uses ss))) where
-    name_defined : (n : List ℕ) → is_name_in names n ≡ true → is_name_in (flat_map defined ss) n ≡ true
+    pub name_defined : (n : List ℕ) → is_name_in names n ≡ true → is_name_in (flat_map defined ss) n ≡ true
     name_defined n h =
         let t : Holder counted ss n = holder counted ss n (sym (in_distinct (flat_map counted ss) n) ∙ h) in
         counted_defined (flat_map defined ss) t.0 n (λ m e. in_one defined ss t.0 m t.1 e) (all_of_flat (is_defined ss) uses ss t.0 all t.1) t.2

@@ -143,6 +143,7 @@ begins table names symbols inputs outputs gates registers uses begun operands = 
   each = ap length symbols ∙ sym (ap length names);
   symbols = λ n i s e there. absurd (none_there i s (subst (λ ss. slice_get ss i ≡ Some s) symbols there));
   uses = subst (λ us. AreFound table.names us []) (sym uses) tt;
+  places = λ kinds i s there. absurd (none_there i s (subst (λ ss. slice_get ss i ≡ Some s) symbols there));
   parts = λ later l. record { inputs = inputs; outputs = outputs; gates = gates; registers = registers };
   few = subst (λ (ns : List (List ℕ)). length ns ≤ max_signals) (sym names) (omega arith);
   low = subst (λ n. n ≤ max_operands) (sym operands) (omega arith);

@@ -1,6 +1,6 @@
 -- What the table says of signals, a statement further.
 use Rattle.std.proofs.Common.{◌≡◌, ◌⊎◌, inl, inr, ℕ, zero, suc, ◌<◌, ◌≤◌, List, [], ◌∷◌, ◌++◌, Bool, true, false, refl, sym, ap, ◌∙◌, subst, map, length, arith, append-nil}
-use Rattle.std.specs.Prelude.{cond, ◌||◌, if◌then◌else◌, bytes_eq, flat_map, filter, filter_map, fold, replicate, slice_get, slice_set, Option, Some, None, option_to_list}
+use Rattle.std.specs.Prelude.{cond, ◌||◌, if◌then◌else◌, bytes_eq, flat_map, filter, filter_map, fold, replicate, slice_get, slice_set, Option, Some, None, option_to_list, option_map, is_some, not, All}
 use Rattle.std.proofs.lemmas.List.{map-append}
 use Rattle.std.proofs.lemmas.List.Folds.{list_any-append}
 use Rattle.std.proofs.lemmas.List.Sums.{fold-append}
@@ -9,11 +9,16 @@ use Rattle.net_bench.specs.declared.netlist.Kind.{Kind}
 use Rattle.net_bench.specs.declared.netlist.GateLine.{GateLine}
 use Rattle.net_bench.specs.declared.symbols.Use.{Use}
 use Rattle.net_bench.specs.declared.symbols.Symbol.{Symbol}
-use Rattle.net_bench.specs.declared.symbols.Role.TheVariants.{Gate as gate, Register as register}
+use Rattle.net_bench.specs.declared.netlist.Role.{Role}
+use Rattle.net_bench.specs.declared.netlist.Role.TheVariants.{Undefined as undefined, Input as input, Gate as gate, Register as register}
 use Rattle.net_bench.specs.Statement.{Statement, Input, Output, Gate, counted, uses, input_name, output_name, gate_name, kind_of}
-use Rattle.net_bench.specs.Circuit.{is_name_in, with_name, distinct, find, number_of, gate_line, is_register_kind}
+use Rattle.net_bench.specs.Circuit.{is_gate, is_register, is_name_in, with_name, distinct, find, number_of, gate_line, is_register_kind}
 use Rattle.net_bench.specs.Fault.{redefines}
-use Rattle.net_bench.specs.Symbols.{AreFound, AreSymbols, IsSymbol, blank, counted_words, subject, symbol_after, inputs_with, outputs_with, line_with, uses_with, is_input_role, is_driven_role, driven_role}
+use Rattle.net_bench.specs.Symbols.{AreFound, AreSymbols, IsSymbol, blank, counted_words, subject, symbol_after, inputs_with, outputs_with, line_with, uses_with, is_input_role, is_driven_role, driven_role, IsPlacedAt, ArePlaced}
+use Rattle.net_bench.specs.Sound.{has_kind}
+use Rattle.slot_table.proofs.Places.{slice_get-push, slice_get-append}
+use Rattle.std.proofs.lemmas.Bool.{cases_lt}
+use Rattle.std.proofs.lemmas.List.Elements.{All-nil, All-cons, All-head, All-tail}
 use Rattle.net_bench.proofs.Numbers.{in_distinct, in_fold, or_left, or_right, or_cases, same_name, name_itself}
 use Rattle.net_bench.proofs.Counting.{one_more}
 use Rattle.net_bench.proofs.Found.{found_low, found_of, one_name, one_number, later_fold, new_behind, line_is}
@@ -151,31 +156,31 @@ second_false : (a b : Bool) → (a || b) ≡ false → b ≡ false
 second_false true b e = cc
 second_false false b e = e
 
-is_driven : (o : Option Kind) → true ≡ is_driven_role (driven_role o)
-is_driven None = refl
-is_driven (Some kind) = elim (is_register_kind kind) as (λ b. true ≡ is_driven_role (if b then register else gate)) [ true ↦ refl | false ↦ refl ]
+is_driven : (o : Option Kind) (p q : ℕ) → true ≡ is_driven_role (driven_role o p q)
+is_driven None p q = refl
+is_driven (Some kind) p q = elim (is_register_kind kind) as (λ b. true ≡ is_driven_role (if b then register q else gate p)) [ true ↦ refl | false ↦ refl ]
 
-no_input : (o : Option Kind) → false ≡ is_input_role (driven_role o)
-no_input None = refl
-no_input (Some kind) = elim (is_register_kind kind) as (λ b. false ≡ is_input_role (if b then register else gate)) [ true ↦ refl | false ↦ refl ]
+no_input : (o : Option Kind) (p q : ℕ) → false ≡ is_input_role (driven_role o p q)
+no_input None p q = refl
+no_input (Some kind) p q = elim (is_register_kind kind) as (λ b. false ≡ is_input_role (if b then register q else gate p)) [ true ↦ refl | false ↦ refl ]
 
-own_symbol : (done : List Statement) (x : Statement) (s : Symbol) → redefines done x ≡ false → IsSymbol done (subject x).text s →
-    IsSymbol (done ++ x ∷ []) (subject x).text (symbol_after x s)
-own_symbol done (Input word name) s once h = record {
+own_symbol : (done : List Statement) (x : Statement) (s : Symbol) (p q : ℕ) → redefines done x ≡ false → IsSymbol done (subject x).text s →
+    IsSymbol (done ++ x ∷ []) (subject x).text (symbol_after x s p q)
+own_symbol done (Input word name) s p q once h = record {
   input = comes input_name done (Input word name) name.text (own name.text);
   driven = stays gate_name done (Input word name) name.text false refl
       (sym (first_false (is_name_in (flat_map gate_name done) name.text) false (first_false (is_name_in (flat_map gate_name done) name.text || false) false once)));
   output = stays output_name done (Input word name) name.text s.is_output refl h.output;
 }
-own_symbol done (Output word name) s once h = record {
+own_symbol done (Output word name) s p q once h = record {
   input = stays input_name done (Output word name) name.text (is_input_role s.role) refl h.input;
   driven = stays gate_name done (Output word name) name.text (is_driven_role s.role) refl h.driven;
   output = comes output_name done (Output word name) name.text (own name.text);
 }
-own_symbol done (Gate out word first others) s once h = record {
-  input = sym (no_input (kind_of word.text)) ∙ stays input_name done (Gate out word first others) out.text false refl
+own_symbol done (Gate out word first others) s p q once h = record {
+  input = sym (no_input (kind_of word.text) p q) ∙ stays input_name done (Gate out word first others) out.text false refl
       (sym (first_false (is_name_in (flat_map input_name done) out.text) false (second_false (is_name_in (flat_map gate_name done) out.text || false) (is_name_in (flat_map input_name done) out.text || false) once)));
-  driven = sym (is_driven (kind_of word.text)) ∙ comes gate_name done (Gate out word first others) out.text (own out.text);
+  driven = sym (is_driven (kind_of word.text) p q) ∙ comes gate_name done (Gate out word first others) out.text (own out.text);
   output = stays output_name done (Gate out word first others) out.text s.is_output refl h.output;
 }
 
@@ -201,20 +206,20 @@ differ zero (suc k) = inr (λ e. cc)
 differ (suc i) zero = inr (λ e. cc)
 differ (suc i) (suc k) = elim (differ i k) [ inl e ↦ inl (ap suc e) | inr h ↦ inr (λ e. h (omega (arith, e))) ]
 
-pub symbols_after : (done : List Statement) (names : List (List ℕ)) (symbols : List Symbol) (x : Statement) (k : ℕ) (s : Symbol) → length symbols ≡ length names →
+pub symbols_after : (done : List Statement) (names : List (List ℕ)) (symbols : List Symbol) (x : Statement) (k : ℕ) (s : Symbol) (p q : ℕ) → length symbols ≡ length names →
     AreSymbols done names symbols → find names (subject x).text ≡ Some k → slice_get symbols k ≡ Some s → redefines done x ≡ false →
-    AreSymbols (done ++ x ∷ []) names (slice_set symbols k (symbol_after x s))
-symbols_after done names symbols x k s each were here at once n i t e there =
+    AreSymbols (done ++ x ∷ []) names (slice_set symbols k (symbol_after x s p q))
+symbols_after done names symbols x k s p q each were here at once n i t e there =
     elim (differ i k) [
       | inl same ↦
-          let is : t ≡ symbol_after x s = slice_get-set_same symbols k (symbol_after x s) t (subst (λ l. k < l) (sym each) (found_low names (subject x).text k here))
-          (subst (λ j. slice_get (slice_set symbols k (symbol_after x s)) j ≡ Some t) same there) in
+          let is : t ≡ symbol_after x s p q = slice_get-set_same symbols k (symbol_after x s p q) t (subst (λ l. k < l) (sym each) (found_low names (subject x).text k here))
+          (subst (λ j. slice_get (slice_set symbols k (symbol_after x s p q)) j ≡ Some t) same there) in
           let name : (subject x).text ≡ n = one_name names (subject x).text n k here (subst (λ j. find names n ≡ Some j) same e) in
           subst (λ m. IsSymbol (done ++ x ∷ []) m t) name
-          (subst (IsSymbol (done ++ x ∷ []) (subject x).text) (sym is) (own_symbol done x s once (were (subject x).text k s here at)))
+          (subst (IsSymbol (done ++ x ∷ []) (subject x).text) (sym is) (own_symbol done x s p q once (were (subject x).text k s here at)))
       | inr other ↦
           other_symbol done x n t (not_equal names (subject x).text n i k (bytes_eq (subject x).text n) here e other refl)
-          (were n i t e (slice_get-set_other symbols k i (symbol_after x s) t other there))
+          (were n i t e (slice_get-set_other symbols k i (symbol_after x s p q) t other there))
     ]
 
 -- ---- the parts of the netlist
@@ -268,3 +273,74 @@ uses_found names (Input word name) u us h = tt
 uses_found names (Output word name) u [] h = (h.0, h.1, tt)
 uses_found names (Output word name) u (v ∷ us) h = absurd h.2
 uses_found names (Gate out word first others) u us h = h.2
+
+-- ---- the places of gates and registers
+
+place_stays : (gates registers more lines : List GateLine) (i : ℕ) (r : Role) → IsPlacedAt gates registers i r → IsPlacedAt (gates ++ more) (registers ++ lines) i r
+place_stays gates registers more lines i undefined h = tt
+place_stays gates registers more lines i input h = tt
+place_stays gates registers more lines i (gate p) (g, at, out) = (g, slice_get-append gates more p g at, out)
+place_stays gates registers more lines i (register p) (g, at, out) = (g, slice_get-append registers lines p g at, out)
+
+-- the symbols of more names
+pub places_more : (gates registers : List GateLine) (symbols more : List Symbol) (k : ℕ) → more ≡ symbols ++ replicate k blank → ArePlaced gates registers symbols → ArePlaced gates registers more
+places_more gates registers symbols more k e h i s at =
+    let there : slice_get (symbols ++ replicate k blank) i ≡ Some s = subst (λ ss. slice_get ss i ≡ Some s) e at in
+    elim (cases_lt i (length symbols)) [
+      | inl low ↦ h i s (slice_front symbols (replicate k blank) i s low there)
+      | inr high ↦ subst (λ (y : Symbol). IsPlacedAt gates registers i y.role) (sym (slice_back symbols k blank i s high there)) tt
+    ]
+
+-- the role of a gate or register is that of the line that comes
+driven_place : (gates registers : List GateLine) (g : GateLine) (i : ℕ) → g.out ≡ i →
+    IsPlacedAt (gates ++ filter is_gate (g ∷ [])) (registers ++ filter is_register (g ∷ [])) i (if is_register_kind g.kind then register (length registers) else gate (length gates))
+driven_place gates registers g i out =
+    elim (is_register_kind g.kind) as (λ b. IsPlacedAt (gates ++ cond (not b) (g ∷ []) []) (registers ++ cond b (g ∷ []) []) i (if b then register (length registers) else gate (length gates))) [
+      | true ↦ (g, slice_get-push registers g, out)
+      | false ↦ (g, slice_get-push gates g, out)
+    ]
+
+some_kind : (k : Option Kind) → is_some k ≡ true → (kind : Kind) × (k ≡ Some kind)
+some_kind None e = cc
+some_kind (Some kind) e = (kind, refl)
+
+abbrev line_by : ℕ → ℕ → List ℕ → Option Kind → Option GateLine
+line_by out line operands o = option_map (λ kind. (let g : GateLine = record { out = out; kind = kind; operands = operands; line = line } in g)) o
+
+own_place : (gates registers : List GateLine) (x : Statement) (u : Use) (us : List Use) (s : Symbol) → has_kind x ≡ true → IsPlacedAt gates registers u.signal s.role →
+    IsPlacedAt (gates ++ filter is_gate (option_to_list (line_with x u us))) (registers ++ filter is_register (option_to_list (line_with x u us))) u.signal
+    (symbol_after x s (length gates) (length registers)).role
+own_place gates registers (Input word name) u us s good h = tt
+own_place gates registers (Output word name) u us s good h = place_stays gates registers [] [] u.signal s.role h
+own_place gates registers (Gate out word first others) u us s good h =
+    let (kind, e) = some_kind (kind_of word.text) good in
+    subst (λ o. IsPlacedAt (gates ++ filter is_gate (option_to_list (line_by u.signal out.line (map (λ v. v.signal) us) o)))
+    (registers ++ filter is_register (option_to_list (line_by u.signal out.line (map (λ v. v.signal) us) o))) u.signal (driven_role o (length gates) (length registers))) (sym e)
+    (driven_place gates registers (record { out = u.signal; kind = kind; operands = map (λ v. v.signal) us; line = out.line }) u.signal refl)
+
+pub places_after : (gates registers : List GateLine) (symbols : List Symbol) (x : Statement) (u : Use) (us : List Use) (s : Symbol) → u.signal < length symbols → slice_get symbols u.signal ≡ Some s →
+    has_kind x ≡ true → ArePlaced gates registers symbols →
+    ArePlaced (gates ++ filter is_gate (option_to_list (line_with x u us))) (registers ++ filter is_register (option_to_list (line_with x u us)))
+    (slice_set symbols u.signal (symbol_after x s (length gates) (length registers)))
+places_after gates registers symbols x u us s low here good h i t at =
+    elim (differ i u.signal) [
+      | inl same ↦
+          let is : t ≡ symbol_after x s (length gates) (length registers) =
+          slice_get-set_same symbols u.signal (symbol_after x s (length gates) (length registers)) t low
+          (subst (λ j. slice_get (slice_set symbols u.signal (symbol_after x s (length gates) (length registers))) j ≡ Some t) same at) in
+          subst (λ j. IsPlacedAt (gates ++ filter is_gate (option_to_list (line_with x u us))) (registers ++ filter is_register (option_to_list (line_with x u us))) j t.role) (sym same)
+          (subst (λ (y : Symbol). IsPlacedAt (gates ++ filter is_gate (option_to_list (line_with x u us))) (registers ++ filter is_register (option_to_list (line_with x u us))) u.signal y.role) (sym is)
+          (own_place gates registers x u us s good (h u.signal s here)))
+      | inr other ↦
+          place_stays gates registers (filter is_gate (option_to_list (line_with x u us))) (filter is_register (option_to_list (line_with x u us))) i t.role
+          (h i t (slice_get-set_other symbols u.signal i (symbol_after x s (length gates) (length registers)) t other at))
+    ]
+
+-- each of the first, and the last
+pub all_front : {X : Type 0} (P : X → Type 0) (xs ys : List X) → All P (xs ++ ys) → All P xs
+all_front P [] ys h = All-nil P
+all_front P (x ∷ xs) ys h = All-cons P x xs (All-head P x (xs ++ ys) h) (all_front P xs ys (All-tail P x (xs ++ ys) h))
+
+pub all_last : {X : Type 0} (P : X → Type 0) (xs : List X) (x : X) → All P (xs ++ x ∷ []) → P x
+all_last P [] x h = All-head P x [] h
+all_last P (y ∷ xs) x h = all_last P xs x (All-tail P y (xs ++ x ∷ []) h)

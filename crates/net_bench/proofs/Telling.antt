@@ -17,11 +17,13 @@ use Rattle.net_bench.specs.Said.{state_of}
 use Rattle.net_bench.specs.Circuit.{is_name_in, with_name, distinct, find, number_of, gate_line, is_gate, is_register}
 use Rattle.net_bench.specs.Fault.{Cause, Misplaced, OperandCount, SecondDefinition, Crowded, max_signals, max_operands, counted_in, operands_in, has_wrong_operands, redefines}
 use Rattle.net_bench.specs.Judge.{Found, told, lexical, syntactic, gate_word, closed, wrong_count, second, crowded, first_of}
-use Rattle.net_bench.specs.Symbols.{counted_of, operands_of, texts, begun_words, counted_words, subject, newest, newest_operands, AreFound, AreParts, IsLater, IsTold, KnowsSubject, CountsMore, IsClosed, IsOver, statement_fault, symbol_after, uses_with, token_tests, Tells, GoesOn, Defines, IsSymbol, AreSymbols, inputs_with, outputs_with, line_with}
+use Rattle.net_bench.specs.Symbols.{counted_of, operands_of, texts, begun_words, counted_words, subject, newest, newest_operands, AreFound, AreParts, IsLater, IsTold, KnowsSubject, CountsMore, IsClosed, IsOver, statement_fault, symbol_after, uses_with, token_tests, Tells, GoesOn, Defines, IsSymbol, AreSymbols, inputs_with, outputs_with, line_with, ArePlaced}
+use Rattle.net_bench.specs.Sound.{has_kind}
+use Rattle.std.proofs.lemmas.Option.{slice_get_within}
 use Rattle.net_bench.proofs.Machine.{Goes, go}
 use Rattle.net_bench.proofs.Numbers.{in_distinct}
 use Rattle.net_bench.proofs.Found.{found_later, found_append, found_inside, found_some, later_fold, number_found}
-use Rattle.net_bench.proofs.Parts.{whole_more, symbols_more, symbols_after, inputs_after, outputs_after, lines_after, uses_found}
+use Rattle.net_bench.proofs.Parts.{whole_more, symbols_more, symbols_after, inputs_after, outputs_after, lines_after, uses_found, places_more, places_after, all_front, all_last}
 use Rattle.net_bench.proofs.Counting.{counted_tokens, operands_tokens, counted_step, operands_step, begun_step, begun_closed, newest_same, newest_operands_same, live, one_more}
 
 -- the fault tells what was found
@@ -292,6 +294,9 @@ module _ (done : List Statement) (s : State) (line : ℕ) (t : Token) (p : Part)
             (subst (λ ns. find ns n ≡ Some i) h.names e) there;
         uses = subst (λ us. AreFound new.names us (flat_map uses done)) (sym h.parts.uses) (found_later old.names new.names (later_now new h) old.uses.items (flat_map uses done) before.uses);
         parts = parts_now new h;
+        places = λ kinds. subst (λ gs. ArePlaced gs new.registers.items new.symbols.items) (sym h.parts.gates)
+            (subst (λ rs. ArePlaced old.gates.items rs new.symbols.items) (sym h.parts.registers)
+            (places_more old.gates.items old.registers.items old.symbols.items new.symbols.items h.symbols.0 h.symbols.1 (before.places kinds)));
         few = few_now new h;
         low = low_now new h;
       })
@@ -393,15 +398,20 @@ module _ (done : List Statement) (s : State) (line : ℕ) (t : Token) (x : State
       whole = λ n e. ap (λ ns. is_name_in ns n) (h.names ∙ names_whole) ∙ in_distinct (flat_map counted (done ++ x ∷ [])) n ∙ e;
       operands = h.operands ∙ operands_stay ∙ ap (λ z. length (operands_of z)) (sym at);
       begun = subst (λ us. AreFound new.names us []) (sym h.begun) tt;
-      each = ap length h.symbols ∙ length-set old.symbols.items u.signal (symbol_after x y) ∙ before.each ∙ ap length (sym h.names);
+      each = ap length h.symbols ∙ length-set old.symbols.items u.signal (symbol_after x y (length old.gates.items) (length old.registers.items)) ∙ before.each ∙ ap length (sym h.names);
       symbols = subst (AreSymbols (done ++ x ∷ []) new.names) (sym h.symbols)
-          (subst (λ ns. AreSymbols (done ++ x ∷ []) ns (slice_set old.symbols.items u.signal (symbol_after x y))) (sym h.names)
-          (symbols_after done old.names old.symbols.items x u.signal y before.each before.symbols words_found.0 there once));
+          (subst (λ ns. AreSymbols (done ++ x ∷ []) ns (slice_set old.symbols.items u.signal (symbol_after x y (length old.gates.items) (length old.registers.items)))) (sym h.names)
+          (symbols_after done old.names old.symbols.items x u.signal y (length old.gates.items) (length old.registers.items) before.each before.symbols words_found.0 there once));
       uses = subst (λ ns. AreFound ns new.uses.items (flat_map uses (done ++ x ∷ []))) (sym h.names)
           (subst (λ us. AreFound old.names us (flat_map uses (done ++ x ∷ []))) (sym h.uses)
           (subst (AreFound old.names (old.uses.items ++ uses_with x u us)) (sym (one_more uses done x (uses x) refl))
           (found_append old.names old.uses.items (uses_with x u us) (flat_map uses done) (uses x) before.uses (uses_found old.names x u us words_found))));
       parts = parts_are;
+      places = λ kinds. subst (λ gs. ArePlaced gs new.registers.items new.symbols.items) (sym h.gates)
+          (subst (λ rs. ArePlaced (old.gates.items ++ filter is_gate (option_to_list (line_with x u us))) rs new.symbols.items) (sym h.registers)
+          (subst (ArePlaced (old.gates.items ++ filter is_gate (option_to_list (line_with x u us))) (old.registers.items ++ filter is_register (option_to_list (line_with x u us)))) (sym h.symbols)
+          (places_after old.gates.items old.registers.items old.symbols.items x u us y (slice_get_within old.symbols.items u.signal y there) there
+          (all_last (λ z. has_kind z ≡ true) done x kinds) (before.places (all_front (λ z. has_kind z ≡ true) done (x ∷ []) kinds)))));
       few = subst (λ (ns : List (List ℕ)). length ns ≤ max_signals) (sym h.names) before.few;
       low = subst (λ n. n ≤ max_operands) (sym h.operands) before.low;
     }

@@ -1,8 +1,10 @@
 -- The netlist that statements make.
-use Rattle.std.specs.Prelude.{◌≡◌, ◌≢◌, ◌⊎◌, ℕ, zero, suc, ◌+◌, ◌<◌, ◌≤◌, Bool, true, false, not, if◌then◌else◌, IsTrue, List, [], ◌∷◌, ◌++◌, map, length, flat_map, filter, filter_map, fold, position, unwrap_or, Option, Some, None, option_map, bytes_eq, Contains, slice_index, slice_index_or, All}
+use Rattle.std.specs.Prelude.{◌≡◌, ◌≢◌, ◌⊎◌, ℕ, zero, suc, ◌+◌, ◌<◌, ◌≤◌, Bool, true, false, not, if◌then◌else◌, IsTrue, List, [], ◌∷◌, ◌++◌, map, length, flat_map, filter, filter_map, fold, position, unwrap_or, Option, Some, None, option_map, bytes_eq, Contains, slice_get, slice_index, slice_index_or, All}
 use Rattle.std.specs.List.{list_any}
 use Rattle.net_bench.specs.declared.netlist.Kind.{Kind}
 use Rattle.net_bench.specs.declared.netlist.Kind.TheVariants.{And, Nand, Or, Nor, Xor, Xnor, Not, Buff, Dff}
+use Rattle.net_bench.specs.declared.netlist.Role.{Role}
+use Rattle.net_bench.specs.declared.netlist.Role.TheVariants.{Undefined as undefined, Input as input, Gate as gate, Register as register}
 use Rattle.net_bench.specs.declared.netlist.GateLine.{GateLine}
 use Rattle.net_bench.specs.Text.{Word}
 use Rattle.net_bench.specs.Statement.{Statement, Input, Output, Gate, kind_of, takes_one, counted, input_name, output_name, operands}
@@ -126,6 +128,24 @@ IsDefined c s = Contains (variables_of c) s ⊎ ((g : GateLine) × Contains c.ga
 -- no number stands twice
 abbrev pub AreOnce : List ℕ → Type 0
 AreOnce xs = (i j : ℕ) → i < j → j < length xs → slice_index xs i ≢ slice_index xs j
+
+-- what gives a signal its value is what its role tells
+abbrev pub HasRole : Net → ℕ → Role → Type 0
+HasRole n s undefined = ⊥
+HasRole n s input = Contains n.inputs s
+HasRole n s (gate p) = (g : GateLine) × (slice_get n.gates p ≡ Some g) × (g.out ≡ s)
+HasRole n s (register p) = (g : GateLine) × (slice_get n.registers p ≡ Some g) × (g.out ≡ s)
+
+-- the first gate with this signal
+abbrev pub gate_of : List GateLine → ℕ → Option GateLine
+gate_of gates s = Rattle.std.specs.Prelude.find (λ g. Rattle.std.specs.Prelude.nat_eq g.out s) gates
+
+-- the gate that a role tells
+abbrev pub gate_by : List GateLine → Role → Option GateLine
+gate_by gates undefined = None
+gate_by gates input = None
+gate_by gates (gate p) = slice_get gates p
+gate_by gates (register p) = None
 
 -- what holds of each netlist that was read
 pub record IsNet (n : Net) : Type 0 where

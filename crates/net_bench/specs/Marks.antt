@@ -2,7 +2,21 @@
 use Rattle.std.specs.Prelude.{◌≡◌, ◌≢◌, ◌⊎◌, ℕ, ◌+◌, ◌<◌, ◌≤◌, Bool, not, ◌&&◌, ◌||◌, ◌==◌, nat_lt, nat_le, if◌then◌else◌, IsTrue, List, [], ◌∷◌, map, length, Option, Some, None, Contains, slice_index, slice_index_or, All}
 use Rattle.std.specs.List.{list_all}
 use Rattle.net_bench.specs.declared.netlist.GateLine.{GateLine}
+use Rattle.net_bench.specs.declared.netlist.Role.{Role}
+use Rattle.net_bench.specs.declared.netlist.Role.TheVariants.{Undefined as undefined, Input as input, Gate as gate, Register as register}
+use Rattle.net_bench.specs.declared.symbols.Symbol.{Symbol}
 use Rattle.net_bench.specs.Circuit.{greatest}
+
+-- the place of the gate that a symbol tells
+abbrev pub place_by : Role → Option ℕ
+place_by undefined = None
+place_by input = None
+place_by (gate p) = Some p
+place_by (register p) = None
+
+abbrev pub gate_place : Option Symbol → Option ℕ
+gate_place None = None
+gate_place (Some s) = place_by s.role
 
 -- the signal has a mark
 abbrev pub has_mark : List ℕ → ℕ → Bool

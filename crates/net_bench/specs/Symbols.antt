@@ -1,8 +1,8 @@
 -- What the reader keeps beside its state: the signals that the tokens so far have counted, and what the whole statements say of them, by number.
-use Rattle.std.specs.Prelude.{◌≡◌, ◌⊎◌, ℕ, ◌+◌, ◌<◌, ◌≤◌, Bool, true, false, ◌||◌, if◌then◌else◌, List, [], ◌∷◌, ◌++◌, map, flat_map, filter, filter_map, fold, length, replicate, slice_get, slice_set, Option, Some, None, option_map, option_to_list}
+use Rattle.std.specs.Prelude.{◌≡◌, ◌⊎◌, ℕ, ◌+◌, ◌<◌, ◌≤◌, Bool, true, false, ◌||◌, if◌then◌else◌, List, [], ◌∷◌, ◌++◌, map, flat_map, filter, filter_map, fold, length, replicate, slice_get, slice_set, All, Option, Some, None, option_map, option_to_list}
 use Rattle.net_bench.specs.declared.symbols.Symbol.{Symbol}
-use Rattle.net_bench.specs.declared.symbols.Role.{Role}
-use Rattle.net_bench.specs.declared.symbols.Role.TheVariants.{Undefined as undefined, Input as input, Gate as gate, Register as register}
+use Rattle.net_bench.specs.declared.netlist.Role.{Role}
+use Rattle.net_bench.specs.declared.netlist.Role.TheVariants.{Undefined as undefined, Input as input, Gate as gate, Register as register}
 use Rattle.net_bench.specs.declared.symbols.Use.{Use}
 use Rattle.net_bench.specs.declared.symbols.SymbolTable.{SymbolTable}
 use Rattle.net_bench.specs.declared.netlist.Kind.{Kind}
@@ -14,7 +14,8 @@ use Rattle.net_bench.specs.Statement.{Statement, Input, Output, Gate, counted, o
 use Rattle.net_bench.specs.Machine.{State, Between, First, Opened, Named, Defining, AtWord, Operands, AfterOperand, AfterComma, Finished, Failed, tokens_of, step, IsRight}
 use Rattle.net_bench.specs.declared.syntax.Part.{Part}
 use Rattle.net_bench.specs.Said.{state_of}
-use Rattle.net_bench.specs.Circuit.{is_name_in, with_name, distinct, find, number_of, gate_line, is_gate, is_register, is_register_kind}
+use Rattle.net_bench.specs.Circuit.{is_name_in, with_name, distinct, find, number_of, gate_line, is_gate, is_register, is_register_kind, Net, HasRole}
+use Rattle.net_bench.specs.Sound.{has_kind}
 use Rattle.net_bench.specs.Fault.{OperandCount, SecondDefinition, max_signals, max_operands, has_wrong_operands, redefines}
 use Rattle.net_bench.specs.Judge.{Found, first_of, tests, told}
 
@@ -104,20 +105,20 @@ IsLater names later = (n : List ℕ) (i : ℕ) → find names n ≡ Some i → f
 abbrev pub is_input_role : Role → Bool
 is_input_role undefined = false
 is_input_role input = true
-is_input_role gate = false
-is_input_role register = false
+is_input_role (gate p) = false
+is_input_role (register p) = false
 
 -- a gate or register has the signal
 abbrev pub is_driven_role : Role → Bool
 is_driven_role undefined = false
 is_driven_role input = false
-is_driven_role gate = true
-is_driven_role register = true
+is_driven_role (gate p) = true
+is_driven_role (register p) = true
 
--- the role that a gate word gives
-abbrev pub driven_role : Option Kind → Role
-driven_role None = gate
-driven_role (Some kind) = if is_register_kind kind then register else gate
+-- the role that a gate word gives, by the places of the next gate and the next register
+abbrev pub driven_role : Option Kind → ℕ → ℕ → Role
+driven_role None p q = gate p
+driven_role (Some kind) p q = if is_register_kind kind then register q else gate p
 
 -- the symbol of a signal of which no whole statement speaks
 abbrev pub blank : Symbol
@@ -138,11 +139,11 @@ abbrev pub KnowsSubject : List Statement → List Use → List Symbol → Statem
 KnowsSubject done begun symbols x =
     (u : Use) (s : Symbol) → slice_get begun 0 ≡ Some u → slice_get symbols u.signal ≡ Some s → IsSymbol done (subject x).text s
 
--- the symbol of a statement's signal behind it
-abbrev pub symbol_after : Statement → Symbol → Symbol
-symbol_after (Input word name) s = record { role = input; is_output = s.is_output }
-symbol_after (Output word name) s = record { role = s.role; is_output = true }
-symbol_after (Gate out word first others) s = record { role = driven_role (kind_of word.text); is_output = s.is_output }
+-- the symbol of a statement's signal behind it, by the places of the next gate and the next register
+abbrev pub symbol_after : Statement → Symbol → ℕ → ℕ → Symbol
+symbol_after (Input word name) s p q = record { role = input; is_output = s.is_output }
+symbol_after (Output word name) s p q = record { role = s.role; is_output = true }
+symbol_after (Gate out word first others) s p q = record { role = driven_role (kind_of word.text) p q; is_output = s.is_output }
 
 -- the inputs that a statement adds
 abbrev pub inputs_with : Statement → Use → Symbol → List ℕ
@@ -166,6 +167,22 @@ uses_with (Input word name) u us = []
 uses_with (Output word name) u us = u ∷ []
 uses_with (Gate out word first others) u us = us
 
+-- a gate or register with this signal stands at the place that a role tells
+abbrev pub IsPlacedAt : List GateLine → List GateLine → ℕ → Role → Type 0
+IsPlacedAt gates registers i undefined = Unit {0}
+IsPlacedAt gates registers i input = Unit {0}
+IsPlacedAt gates registers i (gate p) = (g : GateLine) × (slice_get gates p ≡ Some g) × (g.out ≡ i)
+IsPlacedAt gates registers i (register p) = (g : GateLine) × (slice_get registers p ≡ Some g) × (g.out ≡ i)
+
+-- each symbol's does
+abbrev pub ArePlaced : List GateLine → List GateLine → List Symbol → Type 0
+ArePlaced gates registers symbols = (i : ℕ) (s : Symbol) → slice_get symbols i ≡ Some s → IsPlacedAt gates registers i s.role
+
+-- the symbols tell the roles of a netlist's signals
+pub record AreRoles (n : Net) (symbols : List Symbol) : Type 0 where
+  pub each : length symbols ≡ length n.names
+  pub right : (i : ℕ) (s : Symbol) → slice_get symbols i ≡ Some s → HasRole n i s.role
+
 -- ---- the table
 
 -- the parts of the netlist, by the numbers of these names
@@ -186,6 +203,8 @@ pub record IsTold (done : List Statement) (s : State) (table : SymbolTable) : Ty
   pub symbols : AreSymbols done table.names table.symbols.items
   pub uses : AreFound table.names table.uses.items (flat_map uses done)
   pub parts : (later : List (List ℕ)) → IsLater table.names later → AreParts later done table
+  -- where each gate word is the word of a kind, as it is in a text without a faulty place
+  pub places : All (λ x. has_kind x ≡ true) done → ArePlaced table.gates.items table.registers.items table.symbols.items
   pub few : length table.names ≤ max_signals
   pub low : table.operands ≤ max_operands
 
@@ -221,7 +240,7 @@ pub record Defines (x : Statement) (u : Use) (us : List Use) (s : Symbol) (old n
   pub names : new.names ≡ old.names
   pub operands : new.operands ≡ old.operands
   pub begun : new.begun.items ≡ []
-  pub symbols : new.symbols.items ≡ slice_set old.symbols.items u.signal (symbol_after x s)
+  pub symbols : new.symbols.items ≡ slice_set old.symbols.items u.signal (symbol_after x s (length old.gates.items) (length old.registers.items))
   pub uses : new.uses.items ≡ old.uses.items ++ uses_with x u us
   pub inputs : new.inputs.items ≡ old.inputs.items ++ inputs_with x u s
   pub outputs : new.outputs.items ≡ old.outputs.items ++ outputs_with x u s

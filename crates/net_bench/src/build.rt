@@ -5,8 +5,8 @@ ghost use Rattle.net_bench.specs.Circuit.{is_gate, is_register};
 ghost use Rattle.net_bench.specs.Symbols.{driven_role, inputs_with, line_with, outputs_with, symbol_after, uses_with};
 
 use crate::kinds::kind_of;
-use crate::netlist::{GateLine, Kind, Operands, Signal};
-use crate::symbols::{Role, Symbol, Use};
+use crate::netlist::{GateLine, Kind, Operands, Role, Signal};
+use crate::symbols::{Symbol, Use};
 use crate::syntax::Said;
 use std::alloc::{AllocError, Global};
 
@@ -118,19 +118,19 @@ pub fn add_line(
     Ok(())
 }
 
-/// The role that the word of a gate or register gives.
-fn driven_role(kind: Option<Kind>) -> Role
-    ensures { result ≡ driven_role kind }
+/// The role that the word of a gate or register gives, which goes to one of these places.
+fn driven_role(kind: Option<Kind>, gate: u32, register: u32) -> Role
+    ensures { result ≡ driven_role kind gate register }
 {
     match kind {
-        Some(kind) if kind.is_register() => Role::Register,
-        _ => Role::Gate,
+        Some(kind) if kind.is_register() => Role::Register(register),
+        _ => Role::Gate(gate),
     }
 }
 
-/// The symbol of a statement's signal behind it.
-pub fn symbol_after(said: &Said<'_>, symbol: Symbol) -> Symbol
-    ensures { result ≡ symbol_after (statement_of said.now) symbol }
+/// The symbol of a statement's signal behind it, where a gate or register goes to one of these places.
+pub fn symbol_after(said: &Said<'_>, symbol: Symbol, gate: u32, register: u32) -> Symbol
+    ensures { result ≡ symbol_after (statement_of said.now) symbol gate register }
 {
     match said {
         Said::Input { .. } => Symbol {
@@ -141,8 +141,8 @@ pub fn symbol_after(said: &Said<'_>, symbol: Symbol) -> Symbol
             role: symbol.role,
             is_output: true,
         },
-        Said::Gate(gate) => Symbol {
-            role: driven_role(kind_of(gate.word.text)),
+        Said::Gate(said) => Symbol {
+            role: driven_role(kind_of(said.word.text), gate, register),
             is_output: symbol.is_output,
         },
     }

@@ -44,7 +44,7 @@ impl Model for NameTable {
 }
 
 /// A number of 32 bits, where it is one.
-fn narrow(number: usize) -> Result<u32, AllocError>
+pub(crate) fn narrow(number: usize) -> Result<u32, AllocError>
     ensures { IfOk result (λ n. n ≡ number) }
 {
     match u32::try_from(number) {

@@ -83,6 +83,15 @@ impl fmt::Display for BenchFault {
     }
 }
 
+/// What gives a signal its value: an INPUT, or the gate or register at this place of its list. Each signal of a netlist has one of these.
+#[derive(Clone, Copy, Debug, PartialEq, Eq)]
+pub enum Role {
+    Undefined,
+    Input,
+    Gate(u32),
+    Register(u32),
+}
+
 /// The number of a signal in its netlist.
 #[derive(Clone, Copy, Debug, PartialEq, Eq)]
 pub struct Signal {

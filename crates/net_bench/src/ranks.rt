@@ -1,12 +1,13 @@
 // The ranks of the signals, or the first gate at which an endless chain of operands starts.
-ghost use Rattle.std.specs.Prelude.{◌≡◌, ◌≢◌, ◌⊎◌, ℕ, ◌+◌, ◌-◌, ◌<◌, ◌≤◌, List, [], map, length, Contains, slice_index, slice_index_or, vec_len, All, Some, None, IfOk, IfErr, IfSome, OnOk, IsTrue, true, false};
+ghost use Rattle.std.specs.Prelude.{◌≡◌, ◌≢◌, ◌⊎◌, ℕ, ◌+◌, ◌-◌, ◌<◌, ◌≤◌, List, [], map, length, Contains, slice_get, slice_index, slice_index_or, vec_len, All, Some, None, IfOk, IfErr, IfSome, OnOk, IsTrue, true, false};
 ghost use Rattle.net_bench.specs.declared.netlist.GateLine.{GateLine};
 ghost use Rattle.net_bench.specs.Circuit.{Circuit, AreRanks, variables_of};
 ghost use Rattle.net_bench.specs.Fault.{FirstEndless};
 ghost use Rattle.net_bench.specs.declared.netlist.BenchFault.TheVariants.{Cycle};
-ghost use Rattle.net_bench.specs.Marks.{greatest_mark, unmarked, unmarked_line, AreMarks, HasOneGateEach, IsSettled};
+ghost use Rattle.net_bench.specs.Marks.{gate_place, greatest_mark, unmarked, unmarked_line, AreMarks, HasOneGateEach, IsSettled};
 
-use crate::netlist::{BenchFault, GateLine, Signal};
+use crate::netlist::{BenchFault, GateLine, Role, Signal};
+use crate::symbols::Symbol;
 use std::alloc::{AllocError, Global};
 
 /// The signal's mark: 0, or 1 more than its rank.
@@ -94,10 +95,25 @@ fn steps_for(gates: &[GateLine]) -> usize {
     steps
 }
 
+/// The place of the signal's gate, where it has one.
+fn gate_of(symbols: &[Symbol], signal: Signal) -> Option<usize>
+    ensures { result ≡ gate_place (slice_get symbols.now signal) }
+{
+    match symbols.get(signal.number() as usize) {
+        Some(
+            Symbol {
+                role: Role::Gate(place),
+                ..
+            },
+        ) => Some(*place as usize),
+        _ => None,
+    }
+}
+
 /// The gate at this place goes on to its next operand, waits for that operand's gate, gets its mark, or is left.
 fn advance(
     gates: &[GateLine],
-    gate_of: &[usize],
+    symbols: &[Symbol],
     place: usize,
     marks: &mut [u32],
     started: &mut [bool],
@@ -126,10 +142,9 @@ fn advance(
         waiting.push(place)?;
         return Ok(());
     }
-    let Some(below) = gate_of.get(operand.number() as usize) else {
+    let Some(below) = gate_of(symbols, *operand) else {
         return Ok(());
     };
-    let below = *below;
     if below >= gates.len() || started[below] {
         return Ok(());
     }
@@ -141,7 +156,12 @@ fn advance(
 
 /// Marks gates, each after its operands, from the first gate on, on a stack of gates that wait for an operand.
 /// A gate that meets itself below it is left, and so is each that waits for it.
-fn mark_deep(alloc: Global, gates: &[GateLine], marks: &mut [u32]) -> Result<(), AllocError>
+fn mark_deep(
+    alloc: Global,
+    gates: &[GateLine],
+    symbols: &[Symbol],
+    marks: &mut [u32],
+) -> Result<(), AllocError>
     requires few { length marks.old ≤ 1000000 }
     requires outs { All (λ g. g.out < length marks.old) gates.now }
     requires one_gate { HasOneGateEach gates.now }
@@ -149,10 +169,6 @@ fn mark_deep(alloc: Global, gates: &[GateLine], marks: &mut [u32]) -> Result<(),
     ensures sound { AreMarks gates.now marks.new }
     ensures kept { (s : ℕ) → 0 < slice_index marks.old s → slice_index marks.new s ≡ slice_index marks.old s }
 {
-    let mut gate_of: Vec<usize> = vec![in alloc; usize::MAX; marks.len()]?;
-    for place in 0..gates.len() {
-        gate_of[gates[place].out.number() as usize] = place;
-    }
     let mut started: Vec<bool> = vec![in alloc; false; gates.len()]?;
     let mut passed: Vec<usize> = vec![in alloc; 0; gates.len()]?;
     let mut waiting: Vec<usize> = Vec::new(alloc);
@@ -171,7 +187,7 @@ fn mark_deep(alloc: Global, gates: &[GateLine], marks: &mut [u32]) -> Result<(),
             }
             Some(place) => advance(
                 gates,
-                gate_of.as_slice(),
+                symbols,
                 place,
                 marks,
                 started.as_mut_slice(),
@@ -184,7 +200,12 @@ fn mark_deep(alloc: Global, gates: &[GateLine], marks: &mut [u32]) -> Result<(),
 }
 
 /// Marks each gate from which no endless chain of operands starts.
-fn settle(alloc: Global, gates: &[GateLine], marks: &mut [u32]) -> Result<(), AllocError>
+fn settle(
+    alloc: Global,
+    gates: &[GateLine],
+    symbols: &[Symbol],
+    marks: &mut [u32],
+) -> Result<(), AllocError>
     requires few { length marks.old ≤ 1000000 }
     requires outs { All (λ g. g.out < length marks.old) gates.now }
     requires one_gate { HasOneGateEach gates.now }
@@ -193,7 +214,7 @@ fn settle(alloc: Global, gates: &[GateLine], marks: &mut [u32]) -> Result<(), Al
     ensures kept { (s : ℕ) → 0 < slice_index marks.old s → slice_index marks.new s ≡ slice_index marks.old s }
     ensures settled { OnOk result (All (IsSettled marks.new) gates.now) }
 {
-    mark_deep(alloc, gates, marks)?;
+    mark_deep(alloc, gates, symbols, marks)?;
     'sweeps: while sweep(gates, marks) {}
     Ok(())
 }
@@ -252,30 +273,30 @@ fn lower(marks: &mut [u32])
     }
 }
 
-/// The ranks of the signals, or the line of the first gate at which an endless chain of operands starts.
+/// The ranks of the signals, from their symbols, or the line of the first gate at which an endless chain of operands starts.
 #[tactic(auto, using(crate::proofs::Marks::none_yet, crate::proofs::Marks::all_unmarked))]
 pub fn ranks_of(
     alloc: Global,
-    count: usize,
+    symbols: &[Symbol],
     variables: &[Signal],
     gates: &[GateLine],
 ) -> Result<Vec<u32>, BenchFault>
-    requires few { count ≤ 1000000 }
-    requires variables { All (λ s. s < count) variables.now }
-    requires outs { All (λ g. g.out < count) gates.now }
-    requires operands { All (λ g. All (λ s. s < count) g.operands) gates.now }
+    requires few { length symbols.now ≤ 1000000 }
+    requires variables { All (λ s. s < length symbols.now) variables.now }
+    requires outs { All (λ g. g.out < length symbols.now) gates.now }
+    requires operands { All (λ g. All (λ s. s < length symbols.now) g.operands) gates.now }
     requires some { All (λ g. 0 < length g.operands) gates.now }
     requires apart { All (λ i. All (λ g. g.out ≢ i) gates.now) variables.now }
     requires one_gate { HasOneGateEach gates.now }
-    requires defined { (s : ℕ) → s < count → Contains variables.now s ⊎ ((g : GateLine) × Contains gates.now g × (g.out ≡ s)) }
-    ensures ranks { IfOk result (λ v. (c : Circuit) → length c.names ≡ count → variables_of c ≡ variables.now → c.gates ≡ gates.now → AreRanks c v.items) }
+    requires defined { (s : ℕ) → s < length symbols.now → Contains variables.now s ⊎ ((g : GateLine) × Contains gates.now g × (g.out ≡ s)) }
+    ensures ranks { IfOk result (λ v. (c : Circuit) → length c.names ≡ length symbols.now → variables_of c ≡ variables.now → c.gates ≡ gates.now → AreRanks c v.items) }
     ensures cycle { IfErr result (λ e. (e ≡ BenchFault.OutOfMemory) ⊎ ((line : ℕ) × (e ≡ Cycle line) × ((c : Circuit) → c.gates ≡ gates.now → FirstEndless c line))) }
 {
-    let mut marks: Vec<u32> = match vec![in alloc; 0; count] {
+    let mut marks: Vec<u32> = match vec![in alloc; 0; symbols.len()] {
         Ok(marks) => marks,
         Err(_) => return Err(BenchFault::OutOfMemory),
     };
-    match rank_all(alloc, marks.as_mut_slice(), variables, gates) {
+    match rank_all(alloc, marks.as_mut_slice(), symbols, variables, gates) {
         Ok(()) => Ok(marks),
         Err(fault) => Err(fault),
     }
@@ -286,6 +307,7 @@ pub fn ranks_of(
 fn rank_all(
     alloc: Global,
     ranks: &mut [u32],
+    symbols: &[Symbol],
     variables: &[Signal],
     gates: &[GateLine],
 ) -> Result<(), BenchFault>
@@ -303,7 +325,7 @@ fn rank_all(
     ensures cycle { IfErr result (λ e. (e ≡ BenchFault.OutOfMemory) ⊎ ((line : ℕ) × (e ≡ Cycle line) × ((c : Circuit) → c.gates ≡ gates.now → FirstEndless c line))) }
 {
     mark_variables(ranks, variables);
-    match settle(alloc, gates, ranks) {
+    match settle(alloc, gates, symbols, ranks) {
         Ok(()) => {}
         Err(_) => return Err(BenchFault::OutOfMemory),
     }

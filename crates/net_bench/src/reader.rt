@@ -1,6 +1,6 @@
 //! The netlist of a text.
 ghost use Rattle.std.specs.Prelude.{◌≡◌, ◌+◌, ◌<◌, ◌⊎◌, length, IfOk, IfErr, IfSome, IsTrue, slice_index, slice_get, Some, Err};
-ghost use Rattle.net_bench.specs.Circuit.{circuit, circuit_of, find, variables_of, IsNet, AreRanks};
+ghost use Rattle.net_bench.specs.Circuit.{circuit, circuit_of, find, variables_of, HasRole, gate_by, gate_of, IsNet, AreRanks};
 ghost use Rattle.net_bench.specs.Fault.{IsRefused, MakesNetlist, max_text};
 ghost use Rattle.net_bench.specs.Devices.{TakesAtMost};
 ghost use Rattle.net_bench.specs.Judge.{statements_in};
@@ -12,9 +12,9 @@ use crate::build::variables_of;
 use crate::device::{Source, TextFault, read_text};
 use crate::judge::judge_text;
 use crate::name_table::NameTable;
-use crate::netlist::{BenchFault, GateLine, Signal};
+use crate::netlist::{BenchFault, GateLine, Role, Signal};
 use crate::ranks::ranks_of;
-use crate::symbols::{SymbolTable, first_undefined};
+use crate::symbols::{Symbol, SymbolTable, first_undefined, symbol_of};
 use std::alloc::Global;
 use std::marker::Model;
 
@@ -25,6 +25,7 @@ const MAX_TEXT: usize = 67_108_864;
 #[derive(Drop)]
 pub struct Netlist {
     names: NameTable,
+    symbols: Vec<Symbol>,
     inputs: Vec<Signal>,
     outputs: Vec<Signal>,
     gates: Vec<GateLine>,
@@ -36,6 +37,7 @@ pub struct Netlist {
 impl Model for Netlist {
     ghost use Rattle.std.specs.Prelude.{◌≡◌, ◌++◌, map};
     ghost use Rattle.net_bench.specs.Circuit.{Net, IsNet};
+    ghost use Rattle.net_bench.specs.Symbols.{AreRoles};
 
     ghost Value = { Net };
 
@@ -55,7 +57,14 @@ impl Model for Netlist {
       gates = a.gates.items;
       registers = a.registers.items;
       ranks = a.ranks.items;
-    }) × (a.variables.items ≡ a.inputs.items ++ map (λ g. g.out) a.registers.items) };
+    }) × (a.variables.items ≡ a.inputs.items ++ map (λ g. g.out) a.registers.items) × AreRoles (record {
+      names = a.names;
+      inputs = a.inputs.items;
+      outputs = a.outputs.items;
+      gates = a.gates.items;
+      registers = a.registers.items;
+      ranks = a.ranks.items;
+    }) a.symbols.items };
 }
 
 impl Netlist {
@@ -127,6 +136,17 @@ impl Netlist {
         self.names.name(signal.number())
     }
 
+    /// What gives the signal its value. It is never undefined.
+    pub fn role(&self, signal: Signal) -> Role
+        requires { signal < length self.now.names }
+        ensures value { HasRole self.now signal result }
+        // The gate at its place is the signal's only one, and where the role is no gate, the signal has none.
+        ensures gate { gate_of self.now.gates signal ≡ gate_by self.now.gates result }
+        ensures sound { IsNet self.now }
+    {
+        symbol_of(self.symbols.as_slice(), signal).role
+    }
+
     /// 0 for a variable, 1 more than the greatest of its operands for a gate.
     pub fn rank(&self, signal: Signal) -> u32
         requires { signal < length self.now.names }
@@ -141,20 +161,20 @@ impl Netlist {
 fn ranks_for(
     alloc: Global,
     text: &[u8],
-    count: usize,
+    symbols: &[Symbol],
     variables: &[Signal],
     gates: &[GateLine],
 ) -> Result<Vec<u32>, BenchFault>
     requires sound { IsSound (statements_in text.now) }
     requires defined { AreDefined (statements_in text.now) }
-    requires count { count ≡ length (circuit_of (statements_in text.now)).names }
+    requires count { length symbols.now ≡ length (circuit_of (statements_in text.now)).names }
     requires variables { variables.now ≡ variables_of (circuit_of (statements_in text.now)) }
     requires gates { gates.now ≡ (circuit_of (statements_in text.now)).gates }
     ensures ranks { IfOk result (λ v. AreRanks (circuit_of (statements_in text.now)) v.items) }
     ensures refused { IfErr result (IsLate (statements_in text.now)) }
 {
     let _ = text;
-    match ranks_of(alloc, count, variables, gates) {
+    match ranks_of(alloc, symbols, variables, gates) {
         Ok(ranks) => Ok(ranks),
         Err(fault) => Err(fault),
     }
@@ -172,6 +192,7 @@ fn netlist_of(alloc: Global, text: &[u8], symbols: SymbolTable) -> Result<Netlis
     }
     let SymbolTable {
         names,
+        symbols,
         inputs,
         outputs,
         gates,
@@ -184,12 +205,13 @@ fn netlist_of(alloc: Global, text: &[u8], symbols: SymbolTable) -> Result<Netlis
     match ranks_for(
         alloc,
         text,
-        names.len(),
+        symbols.as_slice(),
         variables.as_slice(),
         gates.as_slice(),
     ) {
         Ok(ranks) => Ok(Netlist {
             names,
+            symbols,
             inputs,
             outputs,
             gates,

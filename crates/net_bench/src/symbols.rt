@@ -9,8 +9,8 @@ ghost use Rattle.net_bench.specs.Symbols.{CountsMore, IsClosed, IsCrowding, IsSy
 
 use crate::build::{add_input, add_line, add_output, add_uses, line_of, symbol_after};
 use crate::kinds::kind_of;
-use crate::name_table::NameTable;
-use crate::netlist::{BenchFault, GateLine, Kind, Signal};
+use crate::name_table::{NameTable, narrow};
+use crate::netlist::{BenchFault, GateLine, Kind, Role, Signal};
 use crate::scan::Token;
 use crate::syntax::{Part, Said, Word};
 use std::alloc::{AllocError, Global};
@@ -20,15 +20,6 @@ const MAX_SIGNALS: usize = 1_000_000;
 
 /// The most operands of all gates.
 const MAX_OPERANDS: u32 = 4_000_000;
-
-/// What defines a signal.
-#[derive(Clone, Copy, Debug, PartialEq, Eq)]
-pub enum Role {
-    Undefined,
-    Input,
-    Gate,
-    Register,
-}
 
 /// What the statements say of a signal.
 #[derive(Clone, Copy, Debug, PartialEq, Eq)]
@@ -63,7 +54,7 @@ pub struct SymbolTable {
 fn is_driven(role: Role) -> bool
     ensures { result ≡ is_driven_role role }
 {
-    matches!(role, Role::Gate | Role::Register)
+    matches!(role, Role::Gate(_) | Role::Register(_))
 }
 
 /// Whether an INPUT, a gate or a register has the signal.
@@ -98,7 +89,7 @@ fn is_known(symbols: &[Symbol], signal: Signal) -> bool
 }
 
 /// The symbol of a signal.
-fn symbol_of(symbols: &[Symbol], signal: Signal) -> Symbol
+pub fn symbol_of(symbols: &[Symbol], signal: Signal) -> Symbol
     requires { signal < length symbols.now }
     ensures { slice_get symbols.now signal ≡ Some result }
 {
@@ -159,12 +150,14 @@ impl SymbolTable {
         };
         let first = *first;
         let symbol = symbol_of(self.symbols.as_slice(), first.signal);
+        let gate = narrow(self.gates.len())?;
+        let register = narrow(self.registers.len())?;
         add_input(&mut self.inputs, said, first, symbol)?;
         add_output(&mut self.outputs, said, first, symbol)?;
         add_uses(&mut self.uses, said, first, operands)?;
         let line = line_of(alloc, said, first, operands)?;
         add_line(&mut self.gates, &mut self.registers, line)?;
-        self.symbols[first.signal.number() as usize] = symbol_after(said, symbol);
+        self.symbols[first.signal.number() as usize] = symbol_after(said, symbol, gate, register);
         self.begun.clear();
         Ok(())
     }

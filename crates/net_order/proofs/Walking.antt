@@ -1,17 +1,15 @@
 -- Steps of the walk.
-use Rattle.std.proofs.Common.{◌≡◌, ℕ, zero, suc, ◌+◌, ◌<◌, ◌⊎◌, inl, inr, List, [], ◌∷◌, ◌++◌, Bool, true, false, refl, sym, ap, ◌∙◌, subst, length, arith, append_assoc, get_or, set, replicate, drop, drop-cons, add-one}
-use Rattle.std.specs.Prelude.{cond, ◌||◌, ◌==◌, fold, flat_map, reverse, All, find, Some, slice_get}
+use Rattle.std.proofs.Common.{◌≡◌, ℕ, zero, suc, ◌+◌, ◌<◌, ◌⊎◌, inl, inr, List, [], ◌∷◌, ◌++◌, Bool, true, false, refl, sym, ap, ◌∙◌, subst, length, arith, append_assoc, get_or, set, replicate, add-one}
+use Rattle.std.specs.Prelude.{cond, ◌||◌, ◌==◌, fold, flat_map, All}
 use Rattle.std.proofs.lemmas.List.Folds.{list_any-append}
 use Rattle.std.proofs.lemmas.List.Sums.{fold-append}
 use Rattle.std.proofs.lemmas.Bool.{cases_eq}
 use Rattle.std.proofs.lemmas.List.{append-nil, length-set, length-replicate}
-use Rattle.std.proofs.lemmas.Option.{slice_get_read}
 use Rattle.std.proofs.lemmas.List.{get_or-set_other, get_or-set_same}
-use Rattle.net_bench.specs.declared.netlist.GateLine.{GateLine}
 use Rattle.net_order.specs.declared.walk.Frame.{Frame}
 use Rattle.net_order.specs.declared.walk.Frame.TheVariants.{Enter, Leave}
 use Rattle.net_order.specs.Order.{is_member, with_number}
-use Rattle.net_order.specs.Walk.{Among, pending, IsWell, entered, signal_of, IsWalking, picked}
+use Rattle.net_order.specs.Walk.{Among, pending, IsWell, entered, signal_of, IsWalking}
 
 or_cases : (a b : Bool) → (a || b) ≡ true → (a ≡ true) ⊎ (b ≡ true)
 or_cases true b e = inl refl
@@ -228,27 +226,7 @@ module _ (leaves : ℕ → List ℕ) where
       inside = entered_inside outs [] inside (λ i d low. absurd (omega arith));
     }
 
--- ---- the table of gates
-
-gate_found : (b : Bool) (g : GateLine) (x y : Rattle.std.specs.Prelude.Option GateLine) → b ≡ true → y ≡ Some g → cond b (Some g) x ≡ y
-gate_found b g x y e h = ap (λ v. cond v (Some g) x) e ∙ sym h
-
-pub gate_kept : (gates : List GateLine) (table : List ℕ) (i k x count : ℕ) (g : GateLine) → i ≡ suc k → k < length gates → g ≡ get_or gates k g → x ≡ g.out → x < length table →
-    ((s : ℕ) → s < count → find (λ h. h.out == s) (drop i gates) ≡ picked gates (get_or table s 0)) →
-    (s : ℕ) → s < count → find (λ h. h.out == s) (drop k gates) ≡ picked gates (get_or (set table x i) s 0)
-gate_kept gates table i k x count g is_i low at out inside each s below =
-    let here : drop k gates ≡ g ∷ drop i gates = drop-cons gates k g low ∙ ap (λ y. y ∷ drop (suc k) gates) (sym at) ∙ ap (λ j. g ∷ drop j gates) (sym is_i) in
-    ap (find (λ h. h.out == s)) here ∙
-    elim (cases_eq s x) [
-      | inl same ↦
-          let yes : (g.out == s) ≡ true = ap (λ y. g.out == y) (same ∙ out) ∙ same_number g.out in
-          let value : get_or (set table x i) s 0 ≡ suc k = ap (λ y. get_or (set table x i) y 0) same ∙ get_or-set_same table x i 0 inside ∙ is_i in
-          let place : slice_get gates k ≡ Some g = slice_get_read gates (length gates) k g refl low at in
-          gate_found (g.out == s) g (find (λ h. h.out == s) (drop i gates)) (picked gates (get_or (set table x i) s 0)) yes (ap (picked gates) value ∙ place)
-      | inr ne ↦
-          let no : (g.out == s) ≡ false = other_number g.out s (λ e. ne (sym e ∙ sym out)) in
-          ap (λ b. cond b (Some g) (find (λ h. h.out == s) (drop i gates))) no ∙ each s below ∙ ap (picked gates) (sym (get_or-set_other table x s i 0 ne))
-    ]
+-- ---- marks and frames
 
 pub same_mark : (marks : List Bool) (i : ℕ) (d e : Bool) → i < length marks → get_or marks i d ≡ get_or marks i e
 same_mark [] i d e h = absurd (omega (arith, h))

@@ -3,7 +3,6 @@ use Rattle.std.proofs.Common.{◌≡◌, ℕ, zero, suc, ◌+◌, ◌-◌, ◌<�
 use Rattle.std.specs.Prelude.{◌==◌, find, flat_map, reverse, nat_lt, Some, None, slice_get, fold}
 use Rattle.std.specs.List.{sum_by}
 use Rattle.std.proofs.lemmas.Bool.Decides.{nat_tests}
-use Rattle.std.proofs.lemmas.Grind.{get_or_default_zero}
 use Rattle.std.proofs.lemmas.List.Sums.{sum_by-cons, fold-append}
 use Rattle.std.proofs.lemmas.List.{reverse-append, append-nil, take_more, drop_more, flat_map_more}
 use Rattle.std.proofs.lemmas.List.Elements.{All-append}
@@ -14,7 +13,7 @@ use Rattle.net_order.specs.declared.walk.Frame.TheVariants.{Enter, Leave}
 use Rattle.net_order.specs.declared.walk.Way.{Way}
 use Rattle.net_order.specs.declared.walk.Way.TheVariants.{ByRank}
 use Rattle.net_order.specs.Order.{below, taken, with_number}
-use Rattle.net_order.specs.Walk.{ArePaths, IsGoing, IsSettled, IsStepsOf, IsWalk, entered, frame_steps, outcome, picked, steps_below, steps_left}
+use Rattle.net_order.specs.Walk.{ArePaths, IsGoing, IsSettled, IsStepsOf, IsWalk, entered, frame_steps, outcome, steps_below, steps_left}
 use Rattle.net_order.proofs.Leaves.{gate_leaves, steps_inside, gate_steps, input_leaves, some_steps, taken_all}
 use Rattle.net_order.proofs.Walking.{started, left, passed, opened, found_input, same_mark, top_low}
 
@@ -40,20 +39,17 @@ no_list_at f [] k e = refl
 no_list_at f (g ∷ gates) zero e = absurd (no_list (f g) (sym e))
 no_list_at f (g ∷ gates) (suc k) e = no_list_at f gates k e
 
--- the table names the gate whose operands are these
-pub listed_steps : (way : Way) (n : Net) (table : List ℕ) (lists : List (List ℕ)) → ArePaths way n table lists → (s place : ℕ) (os : List ℕ) → s < length table → place ≡ get_or table s place → (place ≡ 0 → ⊥) →
-    slice_get lists (place - 1) ≡ Some os → IsStepsOf way (circuit n) s os
-listed_steps way n table lists h s place os low at some e =
-    let here = list_at (λ g. taken way (circuit n) g.operands) n.gates (place - 1) os (subst (λ xs. slice_get xs (place - 1) ≡ Some os) h.each e) in
-    let is_place : get_or table s 0 ≡ suc (place - 1) = sym (at ∙ get_or_default_zero table s place low) ∙ next_of place some in
-    record { gate = here.0; found = h.gates s low ∙ ap (picked n.gates) is_place ∙ here.1; is = here.2 }
+-- the role names the gate whose operands are these
+pub listed_steps : (way : Way) (n : Net) (lists : List (List ℕ)) → ArePaths way n lists → (s place : ℕ) (os : List ℕ) → find (λ g. g.out == s) n.gates ≡ slice_get n.gates place →
+    slice_get lists place ≡ Some os → IsStepsOf way (circuit n) s os
+listed_steps way n lists h s place os gate e =
+    let here = list_at (λ g. taken way (circuit n) g.operands) n.gates place os (subst (λ xs. slice_get xs place ≡ Some os) h.each e) in
+    record { gate = here.0; found = gate ∙ here.1; is = here.2 }
 
-pub no_steps : (way : Way) (n : Net) (table : List ℕ) (lists : List (List ℕ)) → ArePaths way n table lists → (s place : ℕ) → s < length table → place ≡ get_or table s place → (place ≡ 0 → ⊥) →
-    slice_get lists (place - 1) ≡ None → find (λ g. g.out == s) n.gates ≡ None
-no_steps way n table lists h s place low at some e =
-    let here = no_list_at (λ g. taken way (circuit n) g.operands) n.gates (place - 1) (subst (λ xs. slice_get xs (place - 1) ≡ None) h.each e) in
-    let is_place : get_or table s 0 ≡ suc (place - 1) = sym (at ∙ get_or_default_zero table s place low) ∙ next_of place some in
-    h.gates s low ∙ ap (picked n.gates) is_place ∙ here
+pub no_steps : (way : Way) (n : Net) (lists : List (List ℕ)) → ArePaths way n lists → (s place : ℕ) → find (λ g. g.out == s) n.gates ≡ slice_get n.gates place →
+    slice_get lists place ≡ None → find (λ g. g.out == s) n.gates ≡ None
+no_steps way n lists h s place gate e =
+    gate ∙ no_list_at (λ g. taken way (circuit n) g.operands) n.gates place (subst (λ xs. slice_get xs place ≡ None) h.each e)
 
 module _ (way : Way) where
   -- ---- steps

@@ -1,5 +1,5 @@
 -- A walk below the outputs with a stack: what holds between its steps.
-use Rattle.std.specs.Prelude.{◌≡◌, ◌==◌, ◌+◌, ◌<◌, ℕ, zero, suc, Bool, true, false, if◌then◌else◌, List, [], ◌∷◌, ◌++◌, fold, find, flat_map, map, length, slice_index, slice_index_or, slice_get, Option, Some, None, All}
+use Rattle.std.specs.Prelude.{◌≡◌, ◌==◌, ◌+◌, ◌<◌, ℕ, zero, suc, Bool, true, false, if◌then◌else◌, List, [], ◌∷◌, ◌++◌, fold, find, flat_map, map, length, slice_index_or, Some, All}
 use Rattle.std.specs.List.{sum_by}
 use Rattle.net_bench.specs.declared.netlist.GateLine.{GateLine}
 use Rattle.net_bench.specs.Circuit.{Circuit, Net, IsNet, circuit}
@@ -78,15 +78,6 @@ frame_steps steps (Leave s) = 1
 abbrev pub steps_left : Way → Circuit → List Frame → ℕ
 steps_left way c todo = sum_by (frame_steps (steps_below way c)) todo
 
--- The gate at a place, counted from 1, and none at 0.
-abbrev pub picked : List GateLine → ℕ → Option GateLine
-picked gates zero = None
-picked gates (suc k) = slice_get gates k
-
--- The table has for each signal the place of its gate, counted from 1, or 0.
-abbrev pub HasGates : List GateLine → List ℕ → Type 0
-HasGates gates table = (s : ℕ) → s < length table → find (λ g. g.out == s) gates ≡ picked gates (slice_index table s)
-
 -- A walk goes on: it is to find what is left to be found.
 abbrev pub IsGoing : Way → Circuit → List ℕ → List Bool → List Frame → Type 0
 IsGoing way c found marks todo = IsWalk way c (outcome way c found todo) found marks todo
@@ -97,9 +88,7 @@ pub record IsStepsOf (way : Way) (c : Circuit) (s : ℕ) (steps : List ℕ) : Ty
   pub found : find (λ g. g.out == s) c.gates ≡ Some gate
   pub is : steps ≡ taken way c gate.operands
 
--- What walks have at hand of a netlist: the table of its gates, and for each gate its operands as walks take them.
-pub record ArePaths (way : Way) (n : Net) (table : List ℕ) (steps : List (List ℕ)) : Type 0 where
+-- What walks have at hand of a netlist: for each gate its operands as walks take them.
+pub record ArePaths (way : Way) (n : Net) (steps : List (List ℕ)) : Type 0 where
   pub sound : IsNet n
-  pub len : length table ≡ length n.names
-  pub gates : HasGates n.gates table
   pub each : steps ≡ map (λ g. taken way (circuit n) g.operands) n.gates

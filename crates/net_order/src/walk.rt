@@ -1,12 +1,12 @@
 //! The variables as they are met below signals: a walk down with a stack of its own, which opens each gate once.
 ghost use Rattle.std.specs.Prelude.{◌≡◌, ◌<◌, ◌==◌, ◌∷◌, ◌++◌, [], length, map, fold, find, reverse, OnOk, IfOk, MatchOption, All, IsTrue, None};
-ghost use Rattle.net_bench.specs.Circuit.{circuit, variables_of};
+ghost use Rattle.net_bench.specs.Circuit.{IsNet, circuit, variables_of};
 ghost use Rattle.net_order.specs.Order.{below, is_member, met, met_below, taken, with_number};
-ghost use Rattle.net_order.specs.Walk.{ArePaths, HasGates, IsGoing, IsSettled, IsStepsOf, IsWalk, entered, outcome, steps_left};
+ghost use Rattle.net_order.specs.Walk.{ArePaths, IsGoing, IsSettled, IsStepsOf, IsWalk, entered, outcome, steps_left};
 
 use crate::kinds::roots_of;
 use crate::ranked::by_rank;
-use net_bench::netlist::Signal;
+use net_bench::netlist::{Role, Signal};
 use net_bench::reader::Netlist;
 use std::alloc::{AllocError, Global};
 
@@ -31,26 +31,8 @@ pub enum Frame {
 pub struct Paths<'a> {
     pub net: &'a Netlist,
     pub way: Way,
-    /// By signal, the place of its gate, counted from 1, and 0 for a variable.
-    pub table: Vec<usize>,
     /// By gate, its operands in the order in which walks take them.
     pub steps: Vec<Vec<Signal>>,
-}
-
-/// By signal, the place of its gate, counted from 1, and 0 for a variable.
-fn gate_table(alloc: Global, net: &Netlist, count: usize) -> Result<Vec<usize>, AllocError>
-    requires { count ≡ length net.now.names }
-    ensures len { IfOk result (λ v. length v.items ≡ count) }
-    ensures each { IfOk result (λ v. HasGates net.now.gates v.items) }
-{
-    let mut table = Vec::from_elem(alloc, 0usize, count)?;
-    let gates = net.gates();
-    let mut i = gates.len();
-    while i > 0 {
-        table[gates[i - 1].out.number() as usize] = i;
-        i -= 1;
-    }
-    Ok(table)
 }
 
 /// The operands of a gate as walks take them.
@@ -79,7 +61,8 @@ fn push_list(lists: &mut Vec<Vec<Signal>>, list: Vec<Signal>) -> Result<(), Allo
 
 /// By gate, its operands in the order in which walks take them.
 fn all_taken(alloc: Global, net: &Netlist, way: Way) -> Result<Vec<Vec<Signal>>, AllocError>
-    ensures { IfOk result (λ v. map (λ l. l.items) v.items ≡ map (λ g. taken way (circuit net.now) g.operands) net.now.gates) }
+    ensures sound { IsNet net.now }
+    ensures lists { IfOk result (λ v. map (λ l. l.items) v.items ≡ map (λ g. taken way (circuit net.now) g.operands) net.now.gates) }
 {
     let mut steps = Vec::new(alloc);
     let gates = net.gates();
@@ -94,16 +77,10 @@ fn all_taken(alloc: Global, net: &Netlist, way: Way) -> Result<Vec<Vec<Signal>>,
 pub fn paths_of<'a>(alloc: Global, net: &'a Netlist, way: Way) -> Result<Paths<'a>, AllocError>
     ensures net { IfOk result (λ p. p.net.now ≡ net.now) }
     ensures way { IfOk result (λ p. p.way ≡ way) }
-    ensures paths { IfOk result (λ p. ArePaths way net.now p.table.items (map (λ l. l.items) p.steps.items)) }
+    ensures paths { IfOk result (λ p. ArePaths way net.now (map (λ l. l.items) p.steps.items)) }
 {
-    let table = gate_table(alloc, net, net.count())?;
     let steps = all_taken(alloc, net, way)?;
-    Ok(Paths {
-        net,
-        way,
-        table,
-        steps,
-    })
+    Ok(Paths { net, way, steps })
 }
 
 /// Puts the operands on the stack, the first on top.
@@ -120,15 +97,14 @@ fn push_operands(stack: &mut Vec<Frame>, operands: &[Signal]) -> Result<(), Allo
 
 /// The operands of the signal's gate as walks take them, none for a variable.
 fn steps_of<'a>(paths: &'a Paths<'_>, signal: u32) -> Option<&'a [Signal]>
-    requires inside { signal < length paths.now.table.items }
-    requires paths { ArePaths paths.now.way paths.now.net.now paths.now.table.items (map (λ l. l.items) paths.now.steps.items) }
+    requires inside { signal < length paths.now.net.now.names }
+    requires paths { ArePaths paths.now.way paths.now.net.now (map (λ l. l.items) paths.now.steps.items) }
     ensures { MatchOption result (find (λ g. g.out == signal) paths.now.net.now.gates ≡ None) (λ os. IsStepsOf paths.now.way (circuit paths.now.net.now) signal os.now) }
 {
-    let place = paths.table[signal as usize];
-    if place == 0 {
+    let Role::Gate(place) = paths.net.role(Signal::of(signal)) else {
         return None;
-    }
-    match paths.steps.get(place - 1) {
+    };
+    match paths.steps.get(place as usize) {
         Some(list) => Some(list.as_slice()),
         None => None,
     }
@@ -142,7 +118,7 @@ fn enter(
     stack: &mut Vec<Frame>,
     signal: u32,
 ) -> Result<(), AllocError>
-    requires paths { ArePaths paths.now.way paths.now.net.now paths.now.table.items (map (λ l. l.items) paths.now.steps.items) }
+    requires paths { ArePaths paths.now.way paths.now.net.now (map (λ l. l.items) paths.now.steps.items) }
     requires walking { IsGoing paths.now.way (circuit paths.now.net.now) found.old.items marks.old.items (Frame.Enter signal ∷ reverse stack.old.items) }
     ensures walking { OnOk result (IsWalk paths.now.way (circuit paths.now.net.now) (outcome paths.now.way (circuit paths.now.net.now) found.old.items (Frame.Enter signal ∷ reverse stack.old.items)) found.new.items marks.new.items (reverse stack.new.items)) }
     ensures fewer { OnOk result (steps_left paths.now.way (circuit paths.now.net.now) (reverse stack.new.items) < steps_left paths.now.way (circuit paths.now.net.now) (Frame.Enter signal ∷ reverse stack.old.items)) }
@@ -172,7 +148,7 @@ pub fn walk_below(
     marks: &mut Vec<bool>,
     root: u32,
 ) -> Result<(), AllocError>
-    requires paths { ArePaths paths.now.way paths.now.net.now paths.now.table.items (map (λ l. l.items) paths.now.steps.items) }
+    requires paths { ArePaths paths.now.way paths.now.net.now (map (λ l. l.items) paths.now.steps.items) }
     requires inside { root < length paths.now.net.now.names }
     requires settled { IsSettled paths.now.way (circuit paths.now.net.now) found.old.items marks.old.items }
     ensures settled { OnOk result (IsSettled paths.now.way (circuit paths.now.net.now) found.new.items marks.new.items) }
@@ -200,7 +176,7 @@ pub fn no_marks(alloc: Global, paths: &Paths<'_>) -> Result<Vec<bool>, AllocErro
 
 /// The variables below one signal, each where a walk meets it first.
 pub fn met_below(alloc: Global, paths: &Paths<'_>, root: u32) -> Result<Vec<Signal>, AllocError>
-    requires paths { ArePaths paths.now.way paths.now.net.now paths.now.table.items (map (λ l. l.items) paths.now.steps.items) }
+    requires paths { ArePaths paths.now.way paths.now.net.now (map (λ l. l.items) paths.now.steps.items) }
     requires inside { root < length paths.now.net.now.names }
     ensures { IfOk result (λ v. v.items ≡ met_below paths.now.way (circuit paths.now.net.now) root) }
 {

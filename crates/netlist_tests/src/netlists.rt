@@ -2,7 +2,7 @@
 use crate::devices::{Endless, OneByte, Refusing};
 use net_bench::device::{Failed, Sink, Source, Through};
 use net_bench::name_table::NameTable;
-use net_bench::netlist::{BenchFault, GateLine, Kind, Signal};
+use net_bench::netlist::{BenchFault, GateLine, Kind, Role, Signal};
 use net_bench::reader::{Netlist, parse_bench, read_bench};
 use std::alloc::{AllocError, Global};
 use std::test::Fail;
@@ -278,6 +278,15 @@ fn rank_of(net: &Netlist, signal: Signal) -> Option<u32> {
     None
 }
 
+/// What gives the signal of this name its value.
+fn role_of(net: &Netlist, name: &[u8]) -> Option<Role> {
+    let signal = net.find(name)?;
+    if (signal.number() as usize) < net.count() {
+        return Some(net.role(signal));
+    }
+    None
+}
+
 /// The names of signals, each behind a blank.
 fn add_names(text: &mut Vec<u8>, net: &Netlist, signals: &[Signal]) -> Result<(), AllocError> {
     for signal in signals {
@@ -368,6 +377,24 @@ fn netlists(rt: HostRuntime) -> Result<(), Fail> {
     for (text, with_lines, want) in table {
         let text = read_netlist(rt.alloc(), text.as_bytes(), with_lines)?;
         assert_eq!(rt; text.as_slice(), want.as_bytes());
+    }
+    Ok(())
+}
+
+#[test]
+fn roles(rt: HostRuntime) -> Result<(), Fail> {
+    let text = b"h = NOT(q)\nINPUT(a)\nq = DFF(g)\nOUTPUT(g)\ng = AND(a, h)\nr = DFF(a)\n";
+    let net = parse_bench(rt.alloc(), text)?;
+    let table: [(&[u8], Option<Role>); 6] = [
+        (b"a", Some(Role::Input)),
+        (b"h", Some(Role::Gate(0))),
+        (b"g", Some(Role::Gate(1))),
+        (b"q", Some(Role::Register(0))),
+        (b"r", Some(Role::Register(1))),
+        (b"b", None),
+    ];
+    for (name, want) in table {
+        assert_eq!(rt; role_of(&net, name), want);
     }
     Ok(())
 }

@@ -4,7 +4,7 @@ use Rattle.net_bench.specs.Judge.{statements_in}
 use Rattle.net_bench.specs.Circuit.{Net, circuit, IsNet}
 use Rattle.net_bench.specs.Symbols.{undefined_use}
 use Rattle.net_bench.proofs.CircuitOf.{net}
-use Rattle.net_bench.proofs.Building.{late_undefined, all_defined, same_net}
+use Rattle.net_bench.proofs.Building.{late_undefined, all_defined, same_net, roles}
 use Rattle.net_bench.proofs.reader.netlist_of.Goals as goal
 
 pub returns-in-Some-clause-refused : goal.returns-in-Some-clause-refused
@@ -18,7 +18,7 @@ ranks_for-requires-clause-defined c =
     (c.in_default.ensures ∙ ap (λ ss. undefined_use ss c.as_slice-2.result.now) c.as_slice.ensures.value ∙ ap (undefined_use c.args.symbols.symbols.items) c.as_slice-2.ensures.value)
 
 pub ranks_for-requires-clause-gates : goal.ranks_for-requires-clause-gates
-ranks_for-requires-clause-gates c = c.as_slice-6.ensures.value ∙ ap (λ (n : Net). n.gates) (same_net (statements_in c.args.text.now) c.args.symbols [] c.requires.told)
+ranks_for-requires-clause-gates c = c.as_slice-7.ensures.value ∙ ap (λ (n : Net). n.gates) (same_net (statements_in c.args.text.now) c.args.symbols [] c.requires.told)
 
 pub invariant_of-result : goal.invariant_of-result
 invariant_of-result c = (
@@ -27,6 +27,8 @@ invariant_of-result c = (
       (c.in_default.ensures ∙ ap (λ ss. undefined_use ss c.as_slice-2.result.now) c.as_slice.ensures.value ∙ ap (undefined_use c.args.symbols.symbols.items) c.as_slice-2.ensures.value)) c.in-Ok-ranks_for.ranks.items c.in-Ok-ranks_for.ensures.ranks),
   c.in-Ok.ensures ∙ ap (λ xs. xs ++ map (λ (g : GateLine). g.out) c.as_slice-4.result.now) c.as_slice-3.ensures.value ∙
       ap (λ gs. c.args.symbols.inputs.items ++ map (λ (g : GateLine). g.out) gs) c.as_slice-4.ensures.value,
+  roles (statements_in c.args.text.now) c.args.symbols c.requires.told c.requires.sound (all_defined (statements_in c.args.text.now) c.args.symbols c.requires.told
+      (c.in_default.ensures ∙ ap (λ ss. undefined_use ss c.as_slice-2.result.now) c.as_slice.ensures.value ∙ ap (undefined_use c.args.symbols.symbols.items) c.as_slice-2.ensures.value)) c.in-Ok-ranks_for.ranks.items,
 )
 
 pub returns-in-Ok-ranks_for-clause-accepted : goal.returns-in-Ok-ranks_for-clause-accepted
