@@ -165,8 +165,6 @@ pub fn command<'a>(alloc: Global) -> Result<Command<'a>, AllocError>
         .arg(sizes(alloc))?
         .arg(print_order(alloc))?
         .arg(format(alloc))?;
-    let command = command
-        .arg(first(alloc))?
-        .arg(second(alloc))?;
+    let command = command.arg(first(alloc))?.arg(second(alloc))?;
     Ok(command)
 }
