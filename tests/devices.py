@@ -41,7 +41,7 @@ class Devices:
     # Outputs.
 
     def full_disk(self):
-        for words in (["--sizes"], ["--workers", 1]):
+        for words in (["--sizes"], ["--workers", 1], ["--format", "json"]):
             with open("/dev/full", "wb") as full:
                 seen = self.run(*words, self.c17, self.c17b, stdout=full)
             self.check("a full disk", seen, Run(3, b"", UNWRITTEN))

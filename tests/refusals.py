@@ -84,6 +84,7 @@ def rows(place):
     yield Row("c17 on standard input", ["--workers", 2, "--sizes"], (), C17 + b"%%\n" + C17B)
     yield Row("first on standard input", ["--workers", 2, "-", c17b], (), C17)
     yield Row("second on standard input", ["--workers", 2, "--sizes", c17, "-"], (), C17B)
+    yield Row("JSON", ["--workers", 2, "--format", "json", "--sizes", c17, c17b])
     yield Row("order file", ["--workers", 2, "--match", "position", "--order-file", order, c17, c17b])
     machines = [TOP / "examples" / f"{name}.bench" for name in ("s27", "s27_renamed")]
     yield Row("registers", ["--workers", 2, "--sizes", *machines])

@@ -5,7 +5,7 @@
 #
 # usage: tests/run.sh [--seed N] [--long] [PART ..]
 #
-# PART is stored, examples, papers, devices, signals, refusals, fuzz, second or flows; all of them where none is named. Second is a
+# PART is stored, examples, papers, objects, devices, signals, refusals, fuzz, second or flows; all of them where none is named. Second is a
 # part of these on the program as the kit's other compiler builds it, where rt ci has left that. --long goes on with
 # refusals and fuzz, by other seeds, until it is stopped or something fails. BDDCHECK names another program than the proved one.
 cd "$(dirname "$0")/.." || exit 2
@@ -18,7 +18,7 @@ while :; do
     *) break ;;
     esac
 done
-[ $# -gt 0 ] || set -- stored examples papers devices signals refusals fuzz second flows
+[ $# -gt 0 ] || set -- stored examples papers objects devices signals refusals fuzz second flows
 
 # What the parts print goes on, and their last lines are added up.
 passed=0 failed=0
@@ -59,7 +59,7 @@ part() {
 second() {
     other=$program.by-rattle
     if [ -x "$other" ] && [ -z "$(find crates.txt crates -name out -prune -o -type f -newer "$other" -print | head -n 1)" ]; then
-        for name in stored examples devices signals; do
+        for name in stored examples objects devices signals; do
             part "$name" python3 "tests/$name.py" "$other"
         done
         part fuzz python3 tests/fuzz.py "$other" --seconds 30 ${seed:+--seed "$seed"}
@@ -70,7 +70,7 @@ second() {
 parts() {
     for name; do
         case $name in
-        stored | examples | papers | devices | signals) part "$name" python3 "tests/$name.py" "$program" ;;
+        stored | examples | papers | objects | devices | signals) part "$name" python3 "tests/$name.py" "$program" ;;
         refusals | fuzz) part "$name" python3 "tests/$name.py" "$program" ${seed:+--seed "$seed"} ;;
         second) second ;;
         flows) part flows tests/flows.sh "$program" ;;

@@ -4,7 +4,8 @@
 usage: tools/build.py [--jobs N]
 
 Each crate that the program stands on is begun as soon as those below it are proved, the one with the longest way to the
-program first, N at a time: by default as many as there are processors, and 3 GB of free memory for each. (`rt run` in the
+program first, N jobs at a time: by default as many as there are processors, and 3 GB of free memory for each. Where fewer
+crates can be begun than there are jobs, as near the end, a crate gets several, by which it is checked faster. (`rt run` in the
 program's folder does the same one crate after the other; `rt all check --jobs N` proves the crates of tests as well.)
 Standard error tells how many are done, which are worked on, and the time so far. What an earlier call has proved is kept. A
 second call waits for the first, and takes what that has built.
@@ -75,9 +76,9 @@ def jobs_here():
     return max(1, min(len(os.sched_getaffinity(0)), free_memory() // MEMORY_OF_A_JOB))
 
 
-def build(crate):
-    """What `rt` says of a crate, and whether it is proved. The program itself is built by running it."""
-    words = ["rt", "run", "--jobs", "1", "--", "--help"] if crate == PROGRAM else ["rt", "lib", "--jobs", "1"]
+def build(crate, jobs):
+    """What `rt` says of a crate that is checked by so many jobs, and whether it is proved. The program is built by running it."""
+    words = ["rt", "run", "--jobs", str(jobs), "--", "--help"] if crate == PROGRAM else ["rt", "lib", "--jobs", str(jobs)]
     run = subprocess.run(
         words, cwd=TOP / "crates" / crate, stdin=subprocess.DEVNULL, stdout=subprocess.PIPE, stderr=subprocess.STDOUT
     )
@@ -85,20 +86,24 @@ def build(crate):
 
 
 def build_all(jobs):
-    """Whether all crates were proved."""
+    """Whether all crates were proved. A crate that is begun gets its share of the jobs that are free."""
     needed = below()
     order = sorted(needed, key=ways(needed).get, reverse=True)
-    done, running = set(), {}
+    done, running, free = set(), {}, jobs
     with concurrent.futures.ThreadPoolExecutor(jobs) as pool:
         while len(done) < len(needed):
-            for crate in order:
-                ready = crate not in done and crate not in running.values() and done.issuperset(needed[crate])
-                if ready and len(running) < jobs:
-                    running[pool.submit(build, crate)] = crate
-            say(f"{len(done)} of {len(needed)} crates proved; now {', '.join(running.values())}")
+            begun = {crate for crate, _ in running.values()}
+            ready = [crate for crate in order if crate not in done | begun and done.issuperset(needed[crate])]
+            while ready and free:
+                share = -(-free // len(ready))
+                crate = ready.pop(0)
+                running[pool.submit(build, crate, share)] = crate, share
+                free -= share
+            say(f"{len(done)} of {len(needed)} crates proved; now {', '.join(crate for crate, _ in running.values())}")
             ended, _ = concurrent.futures.wait(running, return_when=concurrent.futures.FIRST_COMPLETED)
             for task in ended:
-                crate = running.pop(task)
+                crate, share = running.pop(task)
+                free += share
                 is_proved, told = task.result()
                 if not is_proved:
                     say(f"{crate} was not proved:\n{told}")

@@ -16,7 +16,7 @@ work=$(mktemp -d) || exit 2
 trap 'rm -rf "$work"' EXIT
 place=$work/$name
 mkdir "$place" &&
-    cp crates/bddcheck/out/bddcheck docs/bddcheck.1 tools/install.sh README.md docs/FLOWS.md docs/CI.md "$place" &&
+    cp crates/bddcheck/out/bddcheck docs/bddcheck.1 tools/install.sh README.md docs/FLOWS.md docs/CI.md docs/report.schema.json docs/report.example.json "$place" &&
     cp -R tools/completions examples "$place" || exit 2
 cat >"$place/PROVENANCE" <<TEXT
 bddcheck, x86-64 (x86-64-v2), Linux

@@ -5,12 +5,13 @@ _bddcheck() {
     case $before in
     --match) mapfile -t COMPREPLY < <(compgen -W 'name position' -- "$word") ;;
     --order) mapfile -t COMPREPLY < <(compgen -W 'declared depth interleave' -- "$word") ;;
+    --format) mapfile -t COMPREPLY < <(compgen -W 'text json' -- "$word") ;;
     --workers) mapfile -t COMPREPLY < <(compgen -W '1 2 4 8 16' -- "$word") ;;
     --limit) COMPREPLY=() ;;
     --order-file) mapfile -t COMPREPLY < <(compgen -f -- "$word") ;;
     *)
         case $word in
-        -*) mapfile -t COMPREPLY < <(compgen -W '--match --order --order-file --workers --limit --sizes --print-order --help --version' -- "$word") ;;
+        -*) mapfile -t COMPREPLY < <(compgen -W '--match --order --order-file --workers --limit --sizes --print-order --format --help --version' -- "$word") ;;
         *) mapfile -t COMPREPLY < <(compgen -f -- "$word") ;;
         esac
         ;;

@@ -1,5 +1,5 @@
 -- What a run compares, what it writes, and why it writes no report.
-use Rattle.std.specs.Prelude.{◌≡◌, ◌<◌, ◌≤◌, ◌⊎◌, ℕ, Bool, false, List, [], ◌∷◌, ◌++◌, length, Option, Some, None, IfSome, ⊤}
+use Rattle.std.specs.Prelude.{◌≡◌, ◌<◌, ◌≤◌, ◌⊎◌, ℕ, Bool, true, false, List, [], ◌∷◌, ◌++◌, length, Option, Some, None, IfSome, ⊤}
 use Rattle.std.specs.Borrow.{Bor}
 use Rattle.std.specs.Io.KnownBytes.{Appends}
 use Rattle.check_report.specs.Writing.{AppendsFront}
@@ -91,9 +91,9 @@ IsOrderOf told Depth order = order ≡ depth
 IsOrderOf told Interleave order = order ≡ interleave
 IsOrderOf told (File path) order = (names : List (List ℕ)) × (order ≡ Listed names) × IfSome (told path.now) (λ text. IsOrderText text names)
 
--- the bytes are what the options ask for of these two texts in this order: the report, with its counts, or the order itself
+-- the bytes are what the options ask for of these two texts in this order: the report in the form that they ask for, with its counts, or the order itself
 abbrev pub IsMade : (one two : Option (List ℕ)) → Options → Order → Done → (bytes : List ℕ) → Type 0
-IsMade one two o order (Compared outcome) bytes = (o.print_order ≡ false) × IsChecked one two o.matching order o.sizes outcome bytes
+IsMade one two o order (Compared outcome) bytes = (o.print_order ≡ false) × IsChecked o.json one two o.matching order o.sizes outcome bytes
 IsMade one two o order OrderPrinted bytes = (o.print_order ≡ true) × IsOrderPrinted one two o.matching order bytes
 
 -- the bytes are what the options ask for of these two texts

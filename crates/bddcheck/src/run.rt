@@ -93,6 +93,7 @@ fn compare<H: Threads + Wait + Sync, F: Folder, R1: Source, R2: Source, W: Sink>
         workers: options.workers,
         limit: options.limit,
         sizes: options.sizes,
+        json: options.json,
     };
     if options.print_order {
         return match print_order(alloc, first, second, &settings, out) {

@@ -4,6 +4,7 @@ mod devices;
 mod fault_lines;
 mod meetings;
 mod netlists;
+mod objects;
 mod orders;
 mod processes;
 mod refusals;

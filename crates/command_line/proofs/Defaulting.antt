@@ -1,5 +1,5 @@
 -- What clap finds where there are no words.
-use Rattle.std.proofs.Common.{◌≡◌, ◌∙◌, refl, ap, subst, ℕ, [], Option, Some, None, rules}
+use Rattle.std.proofs.Common.{Bool, true, false, ◌≡◌, ◌∙◌, refl, ap, subst, ℕ, [], Option, Some, None, rules}
 use Rattle.std.specs.Prelude.{codes}
 use Rattle.clap.specs.Words.{first_of, one_of, matches_of}
 use Rattle.clap.specs.declared.builder.value_parser.ValueParser.{ValueParser}
@@ -9,43 +9,47 @@ use Rattle.net_order.specs.declared.order.Match.TheVariants.{Name, Position}
 use Rattle.command_line.specs.declared.options.Options.{Options}
 use Rattle.command_line.specs.declared.options.OrderChoice.{OrderChoice}
 use Rattle.command_line.specs.declared.options.OrderChoice.TheVariants.{Declared, Depth, Interleave, File}
-use Rattle.command_line.specs.Words.{tool_app, AreTexts, AskFor, IsChoice, IsFlag, IsMatching, IsNumberIn}
+use Rattle.command_line.specs.Words.{tool_app, AreTexts, AskFor, IsChoice, IsFlag, IsForm, IsMatching, IsNumberIn}
 use Rattle.command_line.specs.Defaults.{AreDefaults}
 
-module _ (matching order : Option ValueParser) where
-  matching_found : first_of (codes "match") (matches_of (tool_app matching order) []) ≡ Some (codes "name")
+module _ (matching order format : Option ValueParser) where
+  matching_found : first_of (codes "match") (matches_of (tool_app matching order format) []) ≡ Some (codes "name")
   unfolding clap_on_literals
   matching_found = refl
 
-  order_found : first_of (codes "order") (matches_of (tool_app matching order) []) ≡ Some (codes "declared")
+  order_found : first_of (codes "order") (matches_of (tool_app matching order format) []) ≡ Some (codes "declared")
   unfolding clap_on_literals
   order_found = refl
 
-  file_found : first_of (codes "order-file") (matches_of (tool_app matching order) []) ≡ None
+  file_found : first_of (codes "order-file") (matches_of (tool_app matching order format) []) ≡ None
   unfolding clap_on_literals
   file_found = refl
 
-  workers_found : one_of (codes "workers") (matches_of (tool_app matching order) []) ≡ Some (codes "4")
+  workers_found : one_of (codes "workers") (matches_of (tool_app matching order format) []) ≡ Some (codes "4")
   unfolding clap_on_literals
   workers_found = refl
 
-  limit_found : one_of (codes "limit") (matches_of (tool_app matching order) []) ≡ Some (codes "67108864")
+  limit_found : one_of (codes "limit") (matches_of (tool_app matching order format) []) ≡ Some (codes "67108864")
   unfolding clap_on_literals
   limit_found = refl
 
-  sizes_found : one_of (codes "sizes") (matches_of (tool_app matching order) []) ≡ Some (codes "false")
+  sizes_found : one_of (codes "sizes") (matches_of (tool_app matching order format) []) ≡ Some (codes "false")
   unfolding clap_on_literals
   sizes_found = refl
 
-  print_order_found : one_of (codes "print-order") (matches_of (tool_app matching order) []) ≡ Some (codes "false")
+  print_order_found : one_of (codes "print-order") (matches_of (tool_app matching order format) []) ≡ Some (codes "false")
   unfolding clap_on_literals
   print_order_found = refl
 
-  first_found : first_of (codes "FIRST") (matches_of (tool_app matching order) []) ≡ None
+  format_found : first_of (codes "format") (matches_of (tool_app matching order format) []) ≡ Some (codes "text")
+  unfolding clap_on_literals
+  format_found = refl
+
+  first_found : first_of (codes "FIRST") (matches_of (tool_app matching order format) []) ≡ None
   unfolding clap_on_literals
   first_found = refl
 
-  second_found : first_of (codes "SECOND") (matches_of (tool_app matching order) []) ≡ None
+  second_found : first_of (codes "SECOND") (matches_of (tool_app matching order format) []) ≡ None
   unfolding clap_on_literals
   second_found = refl
 
@@ -59,6 +63,10 @@ as_declared Depth is = cc
 as_declared Interleave is = cc
 as_declared (File path) is = absurd is
 
+as_text : (json : Bool) → IsForm (Some (codes "text")) json → json ≡ false
+as_text false is = refl
+as_text true is = cc
+
 four : (n : ℕ) → IsNumberIn 1 16 (Some (codes "4")) n → n ≡ 4
 four n is = is (search rules)
 
@@ -69,15 +77,17 @@ pub defaults : (o : Options) → AskFor [] o → AreDefaults o
 defaults o (rows, found, one, are) =
     let m = found.0 in
     let d = found.1 in
-    let e = found.5 in
+    let f = found.2 in
+    let e = found.7 in
     record {
-      matching = by_name o.matching (subst (λ w. IsMatching w o.matching) (ap (first_of (codes "match")) e ∙ matching_found m d) are.matching);
-      order = as_declared o.order (subst (λ w. IsChoice w (Some (codes "declared")) o.order) (ap (first_of (codes "order-file")) e ∙ file_found m d)
-          (subst (λ w. IsChoice (first_of (codes "order-file") rows) w o.order) (ap (first_of (codes "order")) e ∙ order_found m d) are.order));
-      workers = four o.workers (subst (λ w. IsNumberIn 1 16 w o.workers) (ap (one_of (codes "workers")) e ∙ workers_found m d) are.workers);
-      limit = most o.limit (subst (λ w. IsNumberIn 1 4294967295 w o.limit) (ap (one_of (codes "limit")) e ∙ limit_found m d) are.limit);
-      sizes = (subst (λ w. IsFlag w o.sizes) (ap (one_of (codes "sizes")) e ∙ sizes_found m d) are.sizes).1 refl;
-      print_order = (subst (λ w. IsFlag w o.print_order) (ap (one_of (codes "print-order")) e ∙ print_order_found m d) are.print_order).1 refl;
-      texts = subst (λ w. AreTexts w None o.texts) (ap (first_of (codes "FIRST")) e ∙ first_found m d)
-          (subst (λ w. AreTexts (first_of (codes "FIRST") rows) w o.texts) (ap (first_of (codes "SECOND")) e ∙ second_found m d) are.texts);
+      matching = by_name o.matching (subst (λ w. IsMatching w o.matching) (ap (first_of (codes "match")) e ∙ matching_found m d f) are.matching);
+      order = as_declared o.order (subst (λ w. IsChoice w (Some (codes "declared")) o.order) (ap (first_of (codes "order-file")) e ∙ file_found m d f)
+          (subst (λ w. IsChoice (first_of (codes "order-file") rows) w o.order) (ap (first_of (codes "order")) e ∙ order_found m d f) are.order));
+      workers = four o.workers (subst (λ w. IsNumberIn 1 16 w o.workers) (ap (one_of (codes "workers")) e ∙ workers_found m d f) are.workers);
+      limit = most o.limit (subst (λ w. IsNumberIn 1 4294967295 w o.limit) (ap (one_of (codes "limit")) e ∙ limit_found m d f) are.limit);
+      sizes = (subst (λ w. IsFlag w o.sizes) (ap (one_of (codes "sizes")) e ∙ sizes_found m d f) are.sizes).1 refl;
+      print_order = (subst (λ w. IsFlag w o.print_order) (ap (one_of (codes "print-order")) e ∙ print_order_found m d f) are.print_order).1 refl;
+      json = as_text o.json (subst (λ w. IsForm w o.json) (ap (first_of (codes "format")) e ∙ format_found m d f) are.json);
+      texts = subst (λ w. AreTexts w None o.texts) (ap (first_of (codes "FIRST")) e ∙ first_found m d f)
+          (subst (λ w. AreTexts (first_of (codes "FIRST") rows) w o.texts) (ap (first_of (codes "SECOND")) e ∙ second_found m d f) are.texts);
     }

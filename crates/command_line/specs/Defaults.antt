@@ -13,4 +13,5 @@ pub record AreDefaults (o : Options) : Type 0 where
   pub limit : o.limit ≡ 67108864
   pub sizes : o.sizes ≡ false
   pub print_order : o.print_order ≡ false
+  pub json : o.json ≡ false
   pub texts : o.texts ≡ Input

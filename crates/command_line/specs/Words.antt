@@ -53,6 +53,9 @@ sizes_rule = record (new_rule (codes "sizes")) { long = Some (codes "sizes"); ac
 abbrev pub print_order_rule : Rule
 print_order_rule = record (new_rule (codes "print-order")) { long = Some (codes "print-order"); action = Some SetTrue }
 
+abbrev pub format_rule : Option ValueParser → Rule
+format_rule parser = value_rule (codes "format") (codes "text" ∷ []) parser
+
 -- the command before it has arguments: its words begin behind the program's name, and it tells its version
 abbrev pub bare_app : App
 bare_app = on_top (λ s. record s { no_binary_name = true; has_version = true }) (new_app (codes "bddcheck"))
@@ -67,14 +70,17 @@ TakesMatches = TakesOnly (codes "name" ∷ codes "position" ∷ [])
 abbrev pub TakesOrders : Option ValueParser → Type 0
 TakesOrders = TakesOnly (codes "declared" ∷ codes "depth" ∷ codes "interleave" ∷ [])
 
--- The command with its arguments. The parsers of two lists of words are named apart.
-abbrev pub tool_app : (matching order : Option ValueParser) → App
-tool_app matching order =
-    with_rule (with_rule (with_rule (with_rule (with_rule (with_rule (with_rule (with_rule (with_rule bare_app (match_rule matching)) (order_rule order)) order_file_rule) workers_rule) limit_rule) sizes_rule) print_order_rule) (new_rule (codes "FIRST"))) (new_rule (codes "SECOND"))
+abbrev pub TakesFormats : Option ValueParser → Type 0
+TakesFormats = TakesOnly (codes "text" ∷ codes "json" ∷ [])
+
+-- The command with its arguments. The parsers of three lists of words are named apart.
+abbrev pub tool_app : (matching order format : Option ValueParser) → App
+tool_app matching order format =
+    with_rule (with_rule (with_rule (with_rule (with_rule (with_rule (with_rule (with_rule (with_rule (with_rule bare_app (match_rule matching)) (order_rule order)) order_file_rule) workers_rule) limit_rule) sizes_rule) print_order_rule) (format_rule format)) (new_rule (codes "FIRST"))) (new_rule (codes "SECOND"))
 
 -- the command has these arguments
 abbrev pub IsTool : App → Type 0
-IsTool a = (matching order : Option ValueParser) × TakesMatches matching × TakesOrders order × (a ≡ tool_app matching order)
+IsTool a = (matching order format : Option ValueParser) × TakesMatches matching × TakesOrders order × TakesFormats format × (a ≡ tool_app matching order format)
 
 -- by position where that word is given
 abbrev pub IsMatching : Option (List ℕ) → Match → Type 0
@@ -121,6 +127,11 @@ AreTexts None None texts = texts ≡ Input
 AreTexts (Some first) None texts = texts ≡ One
 AreTexts None (Some second) texts = texts ≡ One
 
+-- as JSON where that word is given
+abbrev pub IsForm : Option (List ℕ) → Bool → Type 0
+IsForm (Some word) json = bytes_eq word (codes "json") ≡ json
+IsForm None json = json ≡ false
+
 -- what a flag asks for, whose text is one of two
 abbrev pub IsFlag : Option (List ℕ) → Bool → Type 0
 IsFlag word asked = (word ≡ Some (codes "true") → asked ≡ true) × (word ≡ Some (codes "false") → asked ≡ false)
@@ -145,18 +156,19 @@ pub record AreOptions (rows : List Row) (o : Options) : Type 0 where
   pub limit : IsNumberIn 1 4294967295 (one_of (codes "limit") rows) o.limit
   pub texts : AreTexts (first_of (codes "FIRST") rows) (first_of (codes "SECOND") rows) o.texts
   pub sizes : IsFlag (one_of (codes "sizes") rows) o.sizes
+  pub json : IsForm (first_of (codes "format") rows) o.json
   pub print_order : IsFlag (one_of (codes "print-order") rows) o.print_order
 
 -- the kinds of the first fault that clap finds in the words; none where it takes them
 abbrev pub AreFaults : List Text → Kinds → Type 0
 AreFaults words kinds =
-    (matching order : Option ValueParser) × TakesMatches matching × TakesOrders order × (kinds ≡ fault_of (tool_app matching order) words)
+    (matching order format : Option ValueParser) × TakesMatches matching × TakesOrders order × TakesFormats format × (kinds ≡ fault_of (tool_app matching order format) words)
 
 -- clap takes the words, and the rows are its matches of the command
 abbrev pub AreFound : List Text → List Row → Type 0
 AreFound words rows =
-    (matching order : Option ValueParser) × TakesMatches matching × TakesOrders order
-    × (fault_of (tool_app matching order) words ≡ []) × (rows ≡ matches_of (tool_app matching order) words)
+    (matching order format : Option ValueParser) × TakesMatches matching × TakesOrders order × TakesFormats format
+    × (fault_of (tool_app matching order format) words ≡ []) × (rows ≡ matches_of (tool_app matching order format) words)
 
 -- The words ask for these options, by clap's matches of the command. They give one order.
 abbrev pub AskFor : List Text → Options → Type 0

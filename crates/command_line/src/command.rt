@@ -1,7 +1,7 @@
 //! The command of the program, as clap knows it.
 ghost use Rattle.std.specs.Prelude.{◌≡◌, false, codes, IfOk};
 ghost use Rattle.clap.specs.Words.{app_of, new_rule, rule_of};
-ghost use Rattle.command_line.specs.Words.{TakesMatches, TakesOrders, match_rule, order_rule, order_file_rule, workers_rule, limit_rule, sizes_rule, print_order_rule, bare_app, IsTool};
+ghost use Rattle.command_line.specs.Words.{TakesMatches, TakesOrders, match_rule, order_rule, order_file_rule, workers_rule, limit_rule, sizes_rule, print_order_rule, TakesFormats, format_rule, bare_app, IsTool};
 
 use clap::{Arg, ArgAction, Command, value_parser};
 use std::alloc::{AllocError, Global};
@@ -9,6 +9,8 @@ use std::alloc::{AllocError, Global};
 static MATCHES: [&str; 2] = ["name", "position"];
 
 static ORDERS: [&str; 3] = ["declared", "depth", "interleave"];
+
+static FORMATS: [&str; 2] = ["text", "json"];
 
 static ABOUT: &str =
     "Decides for each pair of outputs and of registers of two bench netlists whether both compute the same Boolean function";
@@ -109,6 +111,19 @@ fn print_order<'a>(alloc: Global) -> Arg<'a>
         )
 }
 
+fn format<'a>(alloc: Global) -> Arg<'a>
+    ensures rule { rule_of result ≡ format_rule result.value_parser }
+    ensures parser { TakesFormats result.value_parser }
+    ensures local { result.global ≡ false }
+{
+    Arg::new(alloc, "format")
+        .long("format")
+        .value_name("FORM")
+        .value_parser(FORMATS.as_slice())
+        .default_value("text")
+        .help("Write the report as lines of text, or as one JSON object")
+}
+
 fn first<'a>(alloc: Global) -> Arg<'a>
     ensures rule { rule_of result ≡ new_rule (codes "FIRST") }
     ensures local { result.global ≡ false }
@@ -149,7 +164,7 @@ pub fn command<'a>(alloc: Global) -> Result<Command<'a>, AllocError>
         .arg(limit(alloc))?
         .arg(sizes(alloc))?
         .arg(print_order(alloc))?
-        .arg(first(alloc))?
-        .arg(second(alloc))?;
+        .arg(format(alloc))?;
+    let command = command.arg(first(alloc))?.arg(second(alloc))?;
     Ok(command)
 }

@@ -40,6 +40,8 @@ pub struct Options<'a> {
     pub sizes: bool,
     /// Whether the order of the variables is printed, and nothing compared.
     pub print_order: bool,
+    /// Whether the report is one JSON object, and not lines.
+    pub json: bool,
     pub texts: Texts<'a>,
     ghost some_workers: { 1 ≤ workers },
     ghost few_workers: { workers ≤ 16 },

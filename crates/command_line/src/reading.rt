@@ -2,7 +2,7 @@
 ghost use Rattle.std.specs.Prelude.{◌≡◌, ◌≤◌, ◌↔◌, IfOk, IfErr, IsTrue, codes, map, option_map, string_bytes};
 ghost use Rattle.clap.specs.Values.{kind_of};
 ghost use Rattle.clap.specs.Words.{app_of, found_of, one_of, rows_of};
-ghost use Rattle.command_line.specs.Words.{IsTool, IsMatching, IsChoice, IsNumberIn, IsGiven, GiveTwoOrders, AreTexts, AreOptions, AreFound, AskFor, TellsVersion, IsToldAs, IsRefusal};
+ghost use Rattle.command_line.specs.Words.{IsTool, IsMatching, IsChoice, IsForm, IsNumberIn, IsGiven, GiveTwoOrders, AreTexts, AreOptions, AreFound, AskFor, TellsVersion, IsToldAs, IsRefusal};
 
 use crate::command::command;
 use crate::options::{Options, OrderChoice, Texts};
@@ -151,6 +151,16 @@ fn texts_of<'a>(first: Option<&'a str>, second: Option<&'a str>) -> Texts<'a>
     }
 }
 
+/// As JSON where that word is given.
+fn is_json(word: Option<&str>) -> bool
+    ensures { IsForm (option_map (λ s. s.now) word.entry) result }
+{
+    match word {
+        Some("json") => true,
+        _ => false,
+    }
+}
+
 /// The number of workers. The parser has its default, and has tested its range.
 fn workers_of(matches: &ArgMatches<'_>) -> u32
     ensures some { 1 ≤ result }
@@ -183,6 +193,7 @@ fn options_of<'a>(matches: &ArgMatches<'a>) -> Options<'a>
         limit: limit_of(matches),
         sizes: matches.get_flag("sizes"),
         print_order: matches.get_flag("print-order"),
+        json: is_json(matches.get_str("format")),
         texts: texts_of(matches.get_str("FIRST"), matches.get_str("SECOND")),
     }
 }

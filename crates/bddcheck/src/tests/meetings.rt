@@ -101,6 +101,7 @@ fn report_of<R: Threads + Wait + Sync, G: Gate>(
         workers: 2,
         limit: 67_108_864,
         sizes: false,
+        json: false,
     };
     let mut first = Through::new(text.as_bytes());
     let mut second = Through::new(text.as_bytes());
