@@ -1,7 +1,6 @@
 -- The number of Ends that a line keeps is that of its list.
-use Rattle.std.proofs.Common.{◌≡◌, ℕ, ◌+◌, List, [], ◌∷◌, ◌++◌, map, sym, refl, ap, ◌∙◌, subst, arith}
+use Rattle.std.proofs.Common.{◌≡◌, ℕ, ◌+◌, List, [], ◌∷◌, ◌++◌, map, sym, refl, subst, arith}
 use Rattle.req_table.specs.declared.Key.{Key}
-use Rattle.req_table.specs.declared.Item.{Item}
 use Rattle.lane_queue.specs.declared.load.Load.{Load}
 use Rattle.lane_queue.specs.declared.load.Load.TheVariants.{Bundle, End}
 use Rattle.lane_queue.specs.declared.rule.View.{View}

@@ -1,18 +1,17 @@
 -- Facts on lists of items: what a sender's list is, and what keeps it fair.
-use Rattle.std.proofs.Common.{◌≡◌, ◌≢◌, ℕ, zero, suc, ◌+◌, ◌<◌, cond, List, [], ◌∷◌, ◌++◌, refl, sym, ap, ◌∙◌, subst, arith, eq-eqb, ne_eqb, append_assoc, map, length, get_or}
+use Rattle.std.proofs.Common.{◌≡◌, ◌≢◌, ℕ, zero, suc, ◌+◌, ◌<◌, cond, List, [], ◌∷◌, ◌++◌, refl, sym, ap, ◌∙◌, subst, arith, eq-eqb, ne_eqb, append_assoc, map, length}
 use Rattle.std.specs.Prelude.{All}
 use Rattle.std.proofs.lemmas.List.{append-nil, length-append, get_or_append_left}
 use Rattle.req_table.specs.declared.Item.{Item}
-use Rattle.req_table.specs.declared.Item.TheVariants.{Ask, End}
+use Rattle.req_table.specs.declared.Item.TheVariants.{End}
 use Rattle.req_table.specs.declared.Key.{Key}
 use Rattle.req_table.specs.Wave.{Scope}
-use Rattle.req_table.specs.Lanes.{from_of, sent_by, ends, MayFollow, IsFairFrom, IsFair, HasSenders, LaneLaw, IsClosed}
+use Rattle.req_table.specs.Lanes.{from_of, sent_by, ends, MayFollow, IsFairFrom, IsFair, HasSenders, LaneLaw}
 use Rattle.lane_queue.specs.declared.load.Load.{Load}
 use Rattle.lane_queue.specs.declared.load.Load.TheVariants.{Bundle, End as load_end}
 use Rattle.lane_queue.specs.Loads.{load_from, ask_of, items_in, flat, Carries, MayFollowAll}
-use Rattle.req_table.proofs.Lists.{has_of, all_of, map_has}
-use Rattle.req_table.proofs.Items.{sent_by_of}
-use Rattle.req_table.proofs.Fair.{sent_by-append, sent_by-self, fair_join, fair_front, fair_back, fair_end}
+use Rattle.req_table.proofs.Lists.{all_of, map_has}
+use Rattle.req_table.proofs.Fair.{fair_join, fair_front}
 use Rattle.lane_queue.specs.Lists.{Begins}
 
 -- ---- All

@@ -92,6 +92,10 @@ module _ (p : PortView) (h : IsKept p) where
       let u : h.under_way ≡ [] = sym (append_cancel_left s [] h.under_way q) in
       sym (sent-own p ∙ h.all ∙ ap (λ l. sent_by p.number p.taken ++ l) u ∙ append-nil (sent_by p.number p.taken))
 
+  -- what it took of its own is a beginning of what it sent to itself
+  pub own-prefix : Begins (sent_by p.number p.taken) (sent_to p p.number)
+  own-prefix = (h.under_way, sent-own p ∙ h.all)
+
   -- a load is put on a lane
   kept-put-own : (x : Load) → p.number < length p.passed → MayFollowAll (port_scope p) (ends (sent_to p p.number)) x → IsKept (has_put p p.number x)
   kept-put-own x lt may = let xs = items_in x in let q = has_put p p.number x in

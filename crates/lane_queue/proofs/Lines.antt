@@ -1,5 +1,5 @@
 -- What a port is after one of its lines changed.
-use Rattle.std.proofs.Common.{◌≡◌, ◌≢◌, ℕ, ◌+◌, ◌<◌, ◌≤◌, cond, eqb, arith, ⊎_elim, List, [], ◌∷◌, ◌++◌, map, length, get_or, set, sym, refl, ap, ◌∙◌, subst, Option, Some, None, Result, Ok, Err, inl, inr}
+use Rattle.std.proofs.Common.{◌≡◌, ◌≢◌, ℕ, ◌+◌, ◌<◌, ◌≤◌, cond, eqb, arith, ⊎_elim, List, [], ◌∷◌, ◌++◌, map, length, get_or, set, sym, refl, ap, ◌∙◌, subst, Option, Some, None, inl, inr}
 use Rattle.std.specs.Prelude.{MatchOption, IfSome, slice_index_or, All}
 use Rattle.std.proofs.lemmas.Bool.{cases_eq}
 use Rattle.std.proofs.lemmas.List.{map-set, get_or-map, get_or-set_same, get_or-set_other, length-set, length-map, append-nil}
@@ -14,7 +14,7 @@ use Rattle.lane_queue.specs.declared.port.Hold.{Hold}
 use Rattle.lane_queue.specs.declared.port.Hold.TheVariants.{Live, Joined}
 use Rattle.lane_queue.specs.declared.port.Line.{Line}
 use Rattle.lane_queue.specs.declared.rule.Lane.{Lane}
-use Rattle.req_table.specs.declared.Item.TheVariants.{Ask, End as item_end}
+use Rattle.req_table.specs.declared.Item.TheVariants.{End as item_end}
 use Rattle.req_table.specs.declared.Key.{Key}
 use Rattle.req_table.specs.Wave.{Scope}
 use Rattle.lane_queue.specs.declared.load.Load.{Load}

@@ -13,6 +13,7 @@ ghost use Rattle.lane_queue.specs.declared.port.Line.{Line};
 ghost use Rattle.lane_queue.specs.declared.rule.Lane.{Lane};
 ghost use Rattle.lane_queue.specs.Joining.{pass_view, retired, RootsOf, RootsBelow, RootsWith};
 ghost use Rattle.lane_queue.specs.Make.{NewLines, new_port};
+ghost use Rattle.lane_queue.specs.Lists.{Begins};
 ghost use Rattle.lane_queue.specs.Line.{line_view, IsLine, IsLiveOn};
 
 use crate::load::Load;
@@ -179,10 +180,13 @@ impl Port {
         }
     }
 
-    /// The worker that it belongs to: below the number of lanes.
+    /// The worker that it belongs to: below the number of lanes. What the port took of its own is a beginning of what it
+    /// sent to itself.
     pub fn number(&self) -> u32
         ensures number { result ≡ self.now.number }
         ensures within { self.now.number < length self.now.lanes }
+        ensures lists { length self.now.put ≡ length self.now.lanes }
+        ensures own { let p = self.now in Begins (sent_by p.number p.taken) (sent_to p p.number) }
     {
         self.number
     }
