@@ -1,5 +1,5 @@
 -- From the lanes' new ports, and from the parts of all workers, to the expanded wave.
-use Rattle.std.proofs.Common.{◌≡◌, ℕ, zero, suc, ◌+◌, ◌*◌, ◌<◌, List, [], ◌∷◌, map, length, slice_index_or, All, Contains, AllPairs, refl, sym, ap, ◌∙◌, subst, arith}
+use Rattle.std.proofs.Common.{◌≡◌, ℕ, zero, suc, ◌+◌, ◌*◌, ◌<◌, true, false, cond, eqb, List, [], ◌∷◌, map, length, slice_index_or, All, Contains, AllPairs, refl, sym, ap, ◌∙◌, subst, arith}
 use Rattle.std.specs.List.{sum_by}
 use Rattle.std.proofs.lemmas.List.Sums.{sum_by-cons}
 use Rattle.std.proofs.lemmas.List.{get_or-map, length-map}
@@ -7,6 +7,8 @@ use Rattle.dd_store.specs.Nodes.{Nodes, IsSound}
 use Rattle.req_table.specs.declared.Key.{Key}
 use Rattle.req_table.specs.declared.Record.{Record}
 use Rattle.req_table.specs.declared.Item.{Item}
+use Rattle.lane_queue.specs.declared.load.Load.{Load}
+use Rattle.lane_queue.specs.Loads.{flat}
 use Rattle.req_table.specs.declared.Sizes.{Sizes}
 use Rattle.req_table.specs.Wave.{Wave}
 use Rattle.req_table.specs.Keys.{wave_of}
@@ -16,16 +18,16 @@ use Rattle.req_table.specs.Settled.{IsSettled, IsSplit, IsClosure, level_of_rows
 use Rattle.req_table.specs.Tables.{row_at}
 use Rattle.req_table.proofs.Waved.{is_wave}
 use Rattle.req_table.proofs.Sized.{fair_in_wave, law_in_wave}
-use Rattle.lane_queue.specs.PortView.{LanesView, PortView, sent_to}
+use Rattle.lane_queue.specs.PortView.{LanesView, PortView, sent_to, put_to}
 use Rattle.lane_queue.specs.Make.{new_port}
 use Rattle.lane_queue.specs.Joining.{ArePorts, AreRetired, LawOfAll, retired, sent_from, taken_by}
 use Rattle.expand_work.specs.declared.part.Part.{Part}
-use Rattle.expand_work.specs.Parts.{IsPart, sum_below, items_of, asked_of_all}
+use Rattle.expand_work.specs.Parts.{IsPart, sum_below, bundles_of, loads_of}
 use Rattle.expand_work.specs.Worked.{IsFresh, IsWorked}
 use Rattle.expand_work.specs.Team.{AreNew, AreWorked}
-use Rattle.expand_work.specs.Expanded.{IsSettledFor, AreByNumber, put_by, row_of}
+use Rattle.expand_work.specs.Expanded.{IsSettledFor, AreByNumber, put_by, bundles_between, row_of}
 use Rattle.expand_work.proofs.Parting.{parts_settle}
-use Rattle.expand_work.proofs.Counting.{sum_same, items_count}
+use Rattle.expand_work.proofs.Counting.{sum_add, sum_const}
 use Rattle.expand_work.proofs.Chain.{lanes_close}
 use Rattle.expand_work.proofs.Teams.{first_of}
 
@@ -36,12 +38,21 @@ none_at [] (suc k) = refl
 none_at (x ∷ xs) zero = refl
 none_at (x ∷ xs) (suc k) = none_at xs k
 
+zero_at : {A : Type 0} (xs : List A) (k : ℕ) → slice_index_or (map {B = ℕ} (λ (x : A). 0) xs) k 0 ≡ 0
+zero_at [] zero = refl
+zero_at [] (suc k) = refl
+zero_at (x ∷ xs) zero = refl
+zero_at (x ∷ xs) (suc k) = zero_at xs k
+
+new_sent : (i k : ℕ) (l : LanesView) → sent_to (new_port i l.sizes l.lanes) k ≡ []
+new_sent i k l = elim (eqb k i) as (λ b. cond b [] (slice_index_or (map {B = List Item} (λ x. []) l.lanes) k []) ≡ []) [ true ↦ refl | false ↦ none_at l.lanes k ]
+
 pub new_ports : (l : LanesView) (workers : ℕ) (ports : List PortView) → length l.lanes ≡ workers → length ports ≡ workers
     → ((i : ℕ) (d : PortView) → i < workers → slice_index_or ports i d ≡ new_port i l.sizes l.lanes) → AreNew l ports
 new_ports l workers ports wide long is = record {
   long = long ∙ sym wide;
   made = λ i d b. (let e = is i d (subst (λ n. i < n) wide b) in (ap (λ (p : PortView). p.lanes) e, ap (λ (p : PortView). p.sizes) e));
-  fresh = λ i d b. subst IsFresh (sym (is i d (subst (λ n. i < n) wide b))) ((λ k. none_at l.lanes k), refl);
+  fresh = λ i d b. subst IsFresh (sym (is i d (subst (λ n. i < n) wide b))) ((λ k. new_sent i k l), refl, λ k. zero_at l.lanes k);
   numbered = λ i d b. ap (λ (p : PortView). p.number) (is i d (subst (λ n. i < n) wide b));
 }
 
@@ -59,10 +70,10 @@ sum_by_below f (x ∷ xs) g h =
     let e = sum_front (length xs) g in
     omega (arith, a, b, k, e)
 
-sent_at : (xs : List (List Item)) (k : ℕ) (d : List Item) → k < length xs → slice_index_or xs k d ≡ slice_index_or xs k []
-sent_at [] k d b = absurd (omega (arith, b))
-sent_at (x ∷ xs) zero d b = refl
-sent_at (x ∷ xs) (suc k) d b = sent_at xs k d (omega (arith, b))
+count_at : (xs : List ℕ) (k d : ℕ) → k < length xs → slice_index_or xs k d ≡ slice_index_or xs k 0
+count_at [] k d b = absurd (omega (arith, b))
+count_at (x ∷ xs) zero d b = refl
+count_at (x ∷ xs) (suc k) d b = count_at xs k d (omega (arith, b))
 
 -- ---- records by level that are the same level by level
 module _ (w : Wave) (rows records : ℕ → List Record) (same : (v : ℕ) → v < w.levels → records v ≡ rows v) where
@@ -74,9 +85,6 @@ module _ (w : Wave) (rows records : ℕ → List Record) (same : (v : ℕ) → v
     recorded = λ x h. (let (b, k) = c.recorded x h in (b, subst (λ (rs : List Record). Contains (map key_of rs) x) (sym (same (w.level x) b)) k));
     once = λ v vb. subst (AllPairs (λ (a b : Record). ¬ (a.key ≡ b.key))) (sym (same v vb)) (c.once v vb);
   }
-
-  asked_same : asked_of_all w.levels records ≡ asked_of_all w.levels rows
-  asked_same = sum_same w.levels (λ v. length (asked_by (records v))) (λ v. length (asked_by (rows v))) (λ v vb. ap (λ (rs : List Record). length (asked_by rs)) (same v vb))
 
 -- ---- the parts of all workers
 module _ (S : Nodes) (l : LanesView) (roots : List Key) (parts : List Part) (worked : AreWorked l S roots parts) where
@@ -110,7 +118,7 @@ pub merged_as : (S : Nodes) (parts : List Part) (rows : List (List (List Record)
 merged_as S parts rows n records n-is is h v b = subst (λ (xs : List (List (List Record))). row_at records v ≡ level_of_rows (length xs) (row_of xs) v) is (h v (omega (arith, b, n-is)))
 
 module _ (S : Nodes) (sound : IsSound S) (l : LanesView) (sizes : l.sizes ≡ sizes_of S) (some : 0 < length l.lanes) (roots : List Key) (parts : List Part) (worked : AreWorked l S roots parts)
-    (ports : List PortView) (gone : AreRetired (length l.lanes) (map (λ (p : Part). p.port) parts) ports) (left : List (List Item)) (law : LawOfAll (length l.lanes) l.sizes ports left) where
+    (ports : List PortView) (gone : AreRetired (length l.lanes) (map (λ (p : Part). p.port) parts) ports) (left : List (List Load)) (law : LawOfAll (length l.lanes) l.sizes ports left) where
   abbrev pub w : Wave
   w = wave_of S (length l.lanes)
 
@@ -153,21 +161,31 @@ module _ (S : Nodes) (sound : IsSound S) (l : LanesView) (sizes : l.sizes ≡ si
 
   settles : IsSettled w roots (λ s k. sent_from ports k s) (λ k. taken_by ports k) (row_of rows)
   settles =
-      parts_settle w roots (λ s k. sent_from ports k s) (λ k. taken_by ports k) (λ k. slice_index_or left k []) (row_of rows) part_in
-      (λ k b. law_in_wave S (length l.lanes) (sent_from ports k) (taken_by ports k) (slice_index_or left k []) (laws k b).0)
+      parts_settle w roots (λ s k. sent_from ports k s) (λ k. taken_by ports k) (λ k. flat (slice_index_or left k [])) (row_of rows) part_in
+      (λ k b. law_in_wave S (length l.lanes) (sent_from ports k) (taken_by ports k) (flat (slice_index_or left k [])) (laws k b).0)
       (λ s k ls lk. fair_in_wave S (length l.lanes) 0 (sent_from ports k s) ((laws k lk).1 s ls))
 
-  puts_from : (s : ℕ) (d : PortView) → s < length ports → sum_by (λ (xs : List Item). length xs) (slice_index_or ports s d).sent ≡ sum_below (length l.lanes) (λ k. length (sent_from ports k s))
+  puts_at : (s : ℕ) (b : s < length l.lanes) (k : ℕ) → k < length l.lanes → put_to (part_at s b).port k ≡ loads_of S.levels s k (sent_from ports k s)
+  puts_at s b k kb = (worked_at s b).put k kb ∙ ap (λ xs. loads_of S.levels s k xs) (sends s b k)
+
+  puts_from : (s : ℕ) (d : PortView) → s < length ports → sum_by (λ (n : ℕ). n) (slice_index_or ports s d).put ≡ sum_below (length l.lanes) (λ k. cond (eqb s k) 0 (bundles_of S.levels (sent_from ports k s))) + length l.lanes * S.levels
   puts_from s d m =
       let b : s < length l.lanes = (let n = gone.0 in omega (arith, m, n)) in
       let p = (part_at s b).port in
-      ap (λ (q : PortView). sum_by (λ (xs : List Item). length xs) q.sent) (port_at s b d)
-      ∙ sum_by_below (λ (xs : List Item). length xs) p.sent (λ k. length (sent_from ports k s)) (λ k e kb. ap (λ (xs : List Item). length xs) (sent_at p.sent k e kb ∙ sends s b k))
-      ∙ ap (λ n. sum_below n (λ k. length (sent_from ports k s))) (worked_at s b).lists
+      let long = (worked_at s b).lists in
+      ap (λ (q : PortView). sum_by (λ (n : ℕ). n) q.put) (port_at s b d)
+      ∙ sum_by_below (λ (n : ℕ). n) p.put (λ k. loads_of S.levels s k (sent_from ports k s)) (λ k e kb. count_at p.put k e kb ∙ puts_at s b k (omega (arith, kb, long)))
+      ∙ ap (λ n. sum_below n (λ k. loads_of S.levels s k (sent_from ports k s))) long
+      ∙ sum_add (length l.lanes) (λ k. cond (eqb s k) 0 (bundles_of S.levels (sent_from ports k s))) (λ k. S.levels)
+      ∙ ap (λ n. sum_below (length l.lanes) (λ k. cond (eqb s k) 0 (bundles_of S.levels (sent_from ports k s))) + n) (sum_const (length l.lanes) S.levels)
 
-  puts : put_by ports ≡ items_of (length l.lanes) (λ s k. sent_from ports k s)
-  puts = sum_by_below (λ (p : PortView). sum_by (λ (xs : List Item). length xs) p.sent) ports (λ s. sum_below (length l.lanes) (λ k. length (sent_from ports k s))) puts_from
-      ∙ ap (λ n. sum_below n (λ s. sum_below (length l.lanes) (λ k. length (sent_from ports k s)))) gone.0
+  puts : put_by ports ≡ bundles_between (length l.lanes) S.levels (sent_from ports) + length l.lanes * (length l.lanes * S.levels)
+  puts =
+      let f : ℕ → ℕ = λ s. sum_below (length l.lanes) (λ k. cond (eqb s k) 0 (bundles_of S.levels (sent_from ports k s))) in
+      sum_by_below (λ (p : PortView). sum_by (λ (n : ℕ). n) p.put) ports (λ s. f s + length l.lanes * S.levels) puts_from
+      ∙ ap (λ n. sum_below n (λ s. f s + length l.lanes * S.levels)) gone.0
+      ∙ sum_add (length l.lanes) f (λ s. length l.lanes * S.levels)
+      ∙ ap (λ n. sum_below (length l.lanes) f + n) (sum_const (length l.lanes) (length l.lanes * S.levels))
 
   module _ (records : List (List Record)) (merged : (v : ℕ) → v < S.levels → row_at records v ≡ level_of_rows (length rows) (row_of rows) v) where
     same : (v : ℕ) → v < S.levels → row_at records v ≡ level_of_rows (length l.lanes) (row_of rows) v
@@ -180,10 +198,8 @@ module _ (S : Nodes) (sound : IsSound S) (l : LanesView) (sizes : l.sizes ≡ si
     closes workers wide = subst (λ n. IsClosure (wave_of S n) roots (row_at records)) wide
         (closure_same w (level_of_rows (length l.lanes) (row_of rows)) (row_at records) same roots (lanes_close S sound (length l.lanes) some roots ports left (row_of rows) laws part_in))
 
-    pub counts : (workers : ℕ) → length l.lanes ≡ workers → put_by ports ≡ (length roots + asked_of_all S.levels (row_at records)) + workers * (workers * S.levels)
-    counts workers wide = subst (λ n. put_by ports ≡ (length roots + asked_of_all S.levels (row_at records)) + n * (n * S.levels)) wide
-        (puts ∙ items_count w (is_wave S sound (length l.lanes) some) roots (λ s k. sent_from ports k s) (λ k. taken_by ports k) (row_of rows) settles
-        ∙ ap (λ a. (length roots + a) + length l.lanes * (length l.lanes * S.levels)) (sym (asked_same w (level_of_rows (length l.lanes) (row_of rows)) (row_at records) same)))
+  pub counts : (workers : ℕ) → length l.lanes ≡ workers → put_by ports ≡ bundles_between workers S.levels (sent_from ports) + workers * (workers * S.levels)
+  counts workers wide = subst (λ n. put_by ports ≡ bundles_between n S.levels (sent_from ports) + n * (n * S.levels)) wide puts
 
   pub by_number : (workers : ℕ) → length l.lanes ≡ workers → AreByNumber workers ports
   by_number workers wide = subst (λ n. AreByNumber n ports) wide (record { long = gone.0; numbered = λ s d b. ap (λ (q : PortView). q.number) (port_at s b d) ∙ (worked_at s b).number })

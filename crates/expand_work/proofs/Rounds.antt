@@ -1,12 +1,12 @@
 -- One level of a worker, from what its calls say.
-use Rattle.std.proofs.Common.{◌≡◌, ℕ, suc, ◌+◌, ◌-◌, ◌<◌, ◌≤◌, true, false, eqb, List, [], ◌∷◌, ◌++◌, map, filter, length, get_or, All, refl, sym, ap, ◌∙◌, subst, arith, eqb-true}
+use Rattle.std.proofs.Common.{◌≡◌, ℕ, suc, ◌+◌, ◌-◌, ◌<◌, ◌≤◌, true, false, cond, eqb, List, [], ◌∷◌, ◌++◌, map, filter, length, get_or, All, refl, sym, ap, ◌∙◌, subst, arith, eqb-true, eq-eqb, ne_eqb, append-nil}
 use Rattle.std.proofs.lemmas.List.{length-append, get_or_append_left}
 use Rattle.std.proofs.Math.Seq.{get_or-append_seam}
 use Rattle.req_table.specs.declared.Key.{Key}
 use Rattle.req_table.specs.declared.Record.{Record}
 use Rattle.req_table.specs.declared.Item.{Item}
 use Rattle.req_table.specs.declared.Item.TheVariants.{End}
-use Rattle.req_table.specs.Lanes.{ends, MayFollow, IsClosed}
+use Rattle.req_table.specs.Lanes.{sent_by, ends, MayFollow, IsFair, IsClosed}
 use Rattle.req_table.specs.Settled.{IsSplit, key_of, asked_by}
 use Rattle.req_table.proofs.Fair.{ends-append}
 use Rattle.level_close.specs.Counts.{Counts}
@@ -15,20 +15,20 @@ use Rattle.req_table.specs.Keys.{IsKey, level_of, wave_of}
 use Rattle.req_table.specs.Sizes.{sizes_of, scope_of, IsKeyOf}
 use Rattle.req_table.proofs.Sized.{key_of_sizes}
 use Rattle.req_table.proofs.Lists.{each, all_of}
-use Rattle.lane_queue.specs.PortView.{LanesView, PortView, sent_to, lanes_scope}
+use Rattle.lane_queue.specs.Lists.{Begins}
+use Rattle.lane_queue.specs.PortView.{LanesView, PortView, sent_to, put_to, IsPortOf, lanes_scope}
 use Rattle.expand_work.specs.declared.worker.Worker.{Worker}
-use Rattle.expand_work.specs.Parts.{IsAt, IsLevelDone}
-use Rattle.expand_work.specs.Work.{at, item_of, owned_by, lanes_wave, HasSent, MaySend, IsHeard, StaysClosed}
+use Rattle.expand_work.specs.Parts.{loads_of, IsAt, IsLevelDone}
+use Rattle.expand_work.specs.Work.{at, item_of, owned_by, lanes_wave, MaySend, SentToAll, HasKept, put_items, put_loads, IsHeard, StaysClosed}
 use Rattle.expand_work.specs.Working.{IsWorking}
-use Rattle.expand_work.proofs.Levels.{key_held, advances}
+use Rattle.expand_work.proofs.Levels.{key_held, advances, loads-more, all-own}
 use Rattle.expand_work.proofs.Waves.{lanes_laws}
-use Rattle.expand_work.proofs.Saying.{ends-items}
-
-pub ended_before : (l : LanesView) (s : Nodes) (roots : List Key) (v : ℕ) (w : Worker) (p : PortView) → IsWorking l s roots v w
-    → ((k : ℕ) → k < length l.lanes → sent_to p k ≡ sent_to w.port k ++ map (item_of s w.port.number) (at w.due k)) → (k : ℕ) → k < length l.lanes → ends (sent_to p k) ≡ v
-ended_before l s roots v w p h g k kb =
-    ap ends (g k kb) ∙ ends-append (sent_to w.port k) (map (item_of s w.port.number) (at w.due k))
-    ∙ (let a = h.level.ended k kb in let z = ends-items s w.port.number (at w.due k) in omega (arith, a, z))
+use Rattle.expand_work.proofs.Saying.{ends-items, still_of, may_still}
+use Rattle.expand_work.proofs.Parting.{ends_of_closed}
+use Rattle.expand_work.proofs.Hearing.{stays_on}
+use mathlib.Core.Logic.{dite}
+use native.Mathlib.Decide.{ℕ_discrete}
+use Rattle.std.specs.Prelude.{slice_index_or}
 
 -- what is due may be asked for
 pub due_may : (l : LanesView) (s : Nodes) (roots : List Key) (v : ℕ) (w : Worker) → IsWorking l s roots v w → (k : ℕ) → k < length l.lanes → MaySend l s w.port k (at w.due k)
@@ -50,67 +50,124 @@ keys_held l s v taken clock tables sizes vb h =
     let i = subst (λ z. IsHeard (scope_of (length l.lanes) z) taken clock tables) sizes h in
     all_of (IsKey s) (at tables v) (λ x m. key_of_sizes s x (key_held (scope_of (length l.lanes) (sizes_of s)) v taken (at tables v) i.fair i.senders (i.tabled v vb) x m).0)
 
-module _ (l : LanesView) (s : Nodes) (roots : List Key) (v : ℕ) (w : Worker) (p1 p2 p3 : PortView) (clock : Counts) (tables : List (List Key)) (row : List Record) (due : List (List Key)) (rows : List (List Record))
-    (vb : v < s.levels) (h : IsWorking l s roots v w)
-    (s1 : HasSent w.port p1) (g1 : (k : ℕ) → k < length l.lanes → sent_to p1 k ≡ sent_to w.port k ++ map (item_of s w.port.number) (at w.due k))
-    (s2 : HasSent p1 p2) (g2 : (k : ℕ) → k < length l.lanes → sent_to p2 k ≡ sent_to p1 k ++ End p1.number v ∷ [])
-    (s3 : p3 ≡ record p2 { taken = p3.taken })
-    (heard : IsHeard (lanes_scope l) p3.taken clock tables) (stays : StaysClosed (lanes_scope l) p2.taken p3.taken w.tables tables)
-    (closed : IsClosed (lanes_scope l) v p3.taken)
-    (keys : map key_of row ≡ at tables v) (split : All (IsSplit (wave_of s (length l.lanes))) row) (many : length due ≡ length l.lanes)
-    (owed : (k : ℕ) → k < length l.lanes → at due k ≡ filter (owned_by (length l.lanes) k) (asked_by row)) (rows-is : rows ≡ w.rows ++ row ∷ []) where
-  n1 : p1.number ≡ w.port.number
-  n1 = ap (λ (q : PortView). q.number) s1.0
+-- ---- what is due was put on the lanes of others, and then the worker's own was kept
+module _ (l : LanesView) (s : Nodes) (roots : List Key) (v : ℕ) (w : Worker) (h : IsWorking l s roots v w) (p : PortView)
+    (s1 : SentToAll w.port p (length l.lanes) (put_items s w.port.number (at w.due)) (put_loads w.port.number (at w.due))) (n : ℕ) (n-is : n ≡ p.number) where
+  own-is : p.number ≡ w.port.number
+  own-is = s1.port.0
 
-  pub number_same : p3.number ≡ w.port.number
-  number_same = ap (λ (q : PortView). q.number) s3 ∙ ap (λ (q : PortView). q.number) s2.0 ∙ n1
+  -- nothing was put on its own lane
+  own_same : sent_to p w.port.number ≡ sent_to w.port w.port.number
+  own_same = s1.sent w.port.number h.within ∙ ap (λ b. sent_to w.port w.port.number ++ cond b [] (map (item_of s w.port.number) (at w.due w.port.number))) (eq-eqb w.port.number w.port.number refl) ∙ append-nil (sent_to w.port w.port.number)
 
-  taken_same : p2.taken ≡ w.port.taken
-  taken_same = ap (λ (q : PortView). q.taken) s2.0 ∙ ap (λ (q : PortView). q.taken) s1.0
+  pub port_due : IsPortOf l p
+  port_due = still_of l w.port p s1.port h.port
 
-  row_here : at rows v ≡ row
-  row_here = ap (λ m. get_or m v []) rows-is ∙ ap (λ n. get_or (w.rows ++ row ∷ []) n []) (sym h.many_rows) ∙ get_or-append_seam w.rows row [] []
+  pub heard_due : IsHeard (lanes_scope l) p.taken w.clock w.tables
+  heard_due = subst (λ xs. IsHeard (lanes_scope l) xs w.clock w.tables) (sym s1.taken) h.heard
 
-  row_below : (u : ℕ) → u < v → at rows u ≡ at w.rows u
-  row_below u ub = ap (λ m. get_or m u []) rows-is ∙ get_or_append_left w.rows (row ∷ []) [] u (let z = h.many_rows in omega (arith, z, ub))
+  pub own_may : MaySend l s p p.number (at w.due n)
+  own_may = subst (λ (y : ℕ × ℕ). MaySend l s p y.0 (at w.due y.1)) (λ j. (sym own-is j, sym (n-is ∙ own-is) j)) (may_still l s w.port p w.port.number (at w.due w.port.number) own-is s1.taken own_same (due_may l s roots v w h w.port.number h.within))
 
-  heard' : IsHeard (scope_of (length l.lanes) (sizes_of s)) p3.taken clock tables
-  heard' = subst (λ z. IsHeard (scope_of (length l.lanes) z) p3.taken clock tables) h.sizes heard
+  -- all of its own was taken: the level before is closed, and behind its End nothing was sent
+  pub own_taken : Begins (sent_by p.number p.taken) (sent_to p p.number) → sent_by p.number p.taken ≡ sent_to p p.number
+  own_taken b =
+      let c = lanes_wave s (length l.lanes) in let m = w.port.number in
+      let f : IsFair c.scope (sent_by m w.port.taken) = h.level.fair m h.within in
+      let le = ends_of_closed c m v w.port.taken h.within f h.level.closed in
+      let is : sent_to w.port m ≡ sent_by m w.port.taken ++ b.0 = sym own_same ∙ ap (λ k. sent_to p k) (sym own-is) ∙ b.1 ∙ (λ j. sent_by (own-is j) (s1.taken j) ++ b.0) in
+      (λ j. sent_by (own-is j) (s1.taken j)) ∙ all-own v (sent_by m w.port.taken) (sent_to w.port m) b.0 is (h.level.ended m h.within) (h.level.none_in m h.within) le ∙ sym own_same ∙ ap (λ k. sent_to p k) (sym own-is)
 
-  was_closed : (u : ℕ) → u < v → IsClosed (lanes_scope l) u p2.taken
-  was_closed u ub = subst (λ xs. IsClosed (lanes_scope l) u xs) (sym taken_same) (h.level.closed u ub)
+  module _ (q : PortView) (kept : HasKept p q (map (item_of s p.number) (at w.due n))) where
+    pub number_kept : q.number ≡ w.port.number
+    number_kept = kept.port.0 ∙ own-is
 
-  done : IsLevelDone (lanes_wave s (length l.lanes)) w.port.number v (sent_to w.port) w.port.taken (at w.due) (at w.tables) (at w.rows) (sent_to p3) p3.taken (at due) (at tables) (at rows)
-  done = record {
-    sends = λ k kb. ap (λ (q : PortView). sent_to q k) s3 ∙ g2 k kb ∙ ap (λ xs. xs ++ End p1.number v ∷ []) (g1 k kb) ∙ ap (λ n. (sent_to w.port k ++ map (item_of s w.port.number) (at w.due k)) ++ End n v ∷ []) n1;
-    fair = heard'.fair;
-    senders = heard'.senders;
-    closed = λ u ub. elim (eqb u v) as (λ b. eqb u v ≡ b → IsClosed (scope_of (length l.lanes) (sizes_of s)) u p3.taken) [
-      | true ↦ λ t. subst (λ m. IsClosed (scope_of (length l.lanes) (sizes_of s)) m p3.taken) (sym (eqb-true u v t)) closed
-      | false ↦ λ t. stays.closed u (was_closed u (grind (arith, ub, t)))
-    ] refl;
-    tabled = heard'.tabled;
-    tables_stay = λ u ub. stays.same u (was_closed u ub);
-    rows_stay = row_below;
-    rowed = ap (map key_of) row_here ∙ keys;
-    split = subst (All (IsSplit (lanes_wave s (length l.lanes)))) (sym row_here) split;
-    dues = λ k kb. owed k kb ∙ ap (λ rs. filter (owned_by (length l.lanes) k) (asked_by rs)) (sym row_here);
-  }
+    pub port_kept : IsPortOf l q
+    port_kept = still_of l p q kept.port port_due
 
-  pub level_next : IsWorking l s roots (v + 1) (record { port = p3; clock = clock; tables = tables; rows = rows; due = due })
-  level_next =
-      let some : 0 < length l.lanes = (let z = h.within in omega (arith, z)) in
-      let next = advances (lanes_wave s (length l.lanes)) (lanes_laws s h.sound (length l.lanes) some) roots w.port.number v (sent_to w.port) w.port.taken (at w.due) (at w.tables) (at w.rows) (sent_to p3) p3.taken (at due) (at tables) (at rows) vb h.level done in
-      let up : suc v ≡ v + 1 = omega arith in
-      record {
-        port = (ap (λ (q : PortView). q.lanes) s3 ∙ ap (λ (q : PortView). q.lanes) s2.0 ∙ ap (λ (q : PortView). q.lanes) s1.0 ∙ h.port.0, ap (λ (q : PortView). q.sizes) s3 ∙ ap (λ (q : PortView). q.sizes) s2.0 ∙ ap (λ (q : PortView). q.sizes) s1.0 ∙ h.port.1);
-        within = subst (λ n. n < length l.lanes) (sym number_same) h.within;
-        lists = ap (λ (q : PortView). length q.sent) s3 ∙ s2.1 ∙ s1.1 ∙ h.lists;
-        sizes = h.sizes;
-        sound = h.sound;
-        heard = heard;
-        many_rows = ap (λ m. length m) rows-is ∙ length-append w.rows (row ∷ []) ∙ ap (λ n. n + 1) h.many_rows;
-        many_due = many;
-        level = subst (λ n. IsAt (lanes_wave s (length l.lanes)) roots n (v + 1) (sent_to p3) p3.taken (at due) (at tables) (at rows)) (sym number_same)
-            (subst (λ n. IsAt (lanes_wave s (length l.lanes)) roots w.port.number n (sent_to p3) p3.taken (at due) (at tables) (at rows)) up next);
+    pub sent_all : (k : ℕ) → k < length l.lanes → sent_to q k ≡ sent_to w.port k ++ map (item_of s w.port.number) (at w.due k)
+    sent_all k kb = dite (ℕ_discrete k w.port.number)
+        (λ e. subst (λ m. sent_to q m ≡ sent_to w.port m ++ map (item_of s w.port.number) (at w.due m)) (sym e)
+        (ap (λ m. sent_to q m) (sym own-is) ∙ kept.own ∙ (λ j. sent_to p (own-is j) ++ map (item_of s (own-is j)) (at w.due ((n-is ∙ own-is) j)))
+        ∙ ap (λ xs. xs ++ map (item_of s w.port.number) (at w.due w.port.number)) own_same))
+        (λ m. kept.others k (λ e. m (e ∙ own-is)) ∙ s1.sent k kb ∙ ap (λ b. sent_to w.port k ++ cond b [] (map (item_of s w.port.number) (at w.due k))) (ne_eqb w.port.number k (λ e. m (sym e))))
+
+    pub put_all : (k : ℕ) → k < length l.lanes → put_to q k ≡ put_to w.port k + put_loads w.port.number (at w.due) k
+    put_all k kb = ap (λ xs. slice_index_or xs k 0) kept.put ∙ s1.put k kb
+
+    pub ended_before : (k : ℕ) → k < length l.lanes → ends (sent_to q k) ≡ v
+    ended_before k kb =
+        ap ends (sent_all k kb) ∙ ends-append (sent_to w.port k) (map (item_of s w.port.number) (at w.due k))
+        ∙ (let a = h.level.ended k kb in let z = ends-items s w.port.number (at w.due k) in omega (arith, a, z))
+
+    -- ---- the level's Ends were sent, and it was closed
+    module _ (p2 p3 : PortView) (clock : Counts) (heldt tables : List (List Key)) (row : List Record) (due : List (List Key)) (rows : List (List Record))
+        (vb : v < s.levels) (stay1 : StaysClosed (lanes_scope l) p.taken q.taken w.tables heldt)
+        (s2 : SentToAll q p2 (length l.lanes) (λ k. End q.number v ∷ []) (λ k. 1))
+        (s3 : p3 ≡ record p2 { popped = p3.popped; taken = p3.taken })
+        (heard : IsHeard (lanes_scope l) p3.taken clock tables) (stay2 : StaysClosed (lanes_scope l) p2.taken p3.taken heldt tables)
+        (closed : IsClosed (lanes_scope l) v p3.taken)
+        (keys : map key_of row ≡ at tables v) (split : All (IsSplit (wave_of s (length l.lanes))) row) (many : length due ≡ length l.lanes)
+        (owed : (k : ℕ) → k < length l.lanes → at due k ≡ filter (owned_by (length l.lanes) k) (asked_by row)) (rows-is : rows ≡ w.rows ++ row ∷ []) where
+      pub number_same : p3.number ≡ w.port.number
+      number_same = ap (λ (q : PortView). q.number) s3 ∙ s2.port.0 ∙ number_kept
+
+      stays : StaysClosed (lanes_scope l) w.port.taken p3.taken w.tables tables
+      stays = stays_on (lanes_scope l) w.port.taken q.taken p3.taken w.tables heldt tables (subst (λ xs. StaysClosed (lanes_scope l) xs q.taken w.tables heldt) s1.taken stay1) (subst (λ xs. StaysClosed (lanes_scope l) xs p3.taken heldt tables) s2.taken stay2)
+
+      row_here : at rows v ≡ row
+      row_here = ap (λ m. get_or m v []) rows-is ∙ ap (λ n. get_or (w.rows ++ row ∷ []) n []) (sym h.many_rows) ∙ get_or-append_seam w.rows row [] []
+
+      row_below : (u : ℕ) → u < v → at rows u ≡ at w.rows u
+      row_below u ub = ap (λ m. get_or m u []) rows-is ∙ get_or_append_left w.rows (row ∷ []) [] u (let z = h.many_rows in omega (arith, z, ub))
+
+      heard' : IsHeard (scope_of (length l.lanes) (sizes_of s)) p3.taken clock tables
+      heard' = subst (λ z. IsHeard (scope_of (length l.lanes) z) p3.taken clock tables) h.sizes heard
+
+      was_closed : (u : ℕ) → u < v → IsClosed (lanes_scope l) u w.port.taken
+      was_closed u ub = subst (λ z. IsClosed (scope_of (length l.lanes) z) u w.port.taken) (sym h.sizes) (h.level.closed u ub)
+
+      sends : (k : ℕ) → k < length l.lanes → sent_to p3 k ≡ (sent_to w.port k ++ map (item_of s w.port.number) (at w.due k)) ++ End w.port.number v ∷ []
+      sends k kb = ap (λ (q : PortView). sent_to q k) s3 ∙ s2.sent k kb ∙ (λ j. sent_all k kb j ++ End (number_kept j) v ∷ [])
+
+      done : IsLevelDone (lanes_wave s (length l.lanes)) w.port.number v (sent_to w.port) w.port.taken (at w.due) (at w.tables) (at w.rows) (sent_to p3) p3.taken (at due) (at tables) (at rows)
+      done = record {
+        sends = sends;
+        fair = heard'.fair;
+        senders = heard'.senders;
+        closed = λ u ub. elim (eqb u v) as (λ b. eqb u v ≡ b → IsClosed (scope_of (length l.lanes) (sizes_of s)) u p3.taken) [
+          | true ↦ λ t. subst (λ m. IsClosed (scope_of (length l.lanes) (sizes_of s)) m p3.taken) (sym (eqb-true u v t)) closed
+          | false ↦ λ t. stays.closed u (was_closed u (grind (arith, ub, t)))
+        ] refl;
+        tabled = heard'.tabled;
+        tables_stay = λ u ub. stays.same u (was_closed u ub);
+        rows_stay = row_below;
+        rowed = ap (map key_of) row_here ∙ keys;
+        split = subst (All (IsSplit (lanes_wave s (length l.lanes)))) (sym row_here) split;
+        dues = λ k kb. owed k kb ∙ ap (λ rs. filter (owned_by (length l.lanes) k) (asked_by rs)) (sym row_here);
       }
+
+      puts : (k : ℕ) → k < length l.lanes → put_to p3 k ≡ loads_of (v + 1) p3.number k (sent_to p3 k)
+      puts k kb =
+          let up : suc v ≡ v + 1 = omega arith in
+          ap (λ (q : PortView). put_to q k) s3 ∙ s2.put k kb ∙ ap (λ c. c + 1) (put_all k kb ∙ ap (λ c. c + put_loads w.port.number (at w.due) k) (h.put k kb))
+          ∙ sym (loads-more (lanes_wave s (length l.lanes)) w.port.number k v (sent_to w.port k) (at w.due k) (h.level.ended k kb) (h.level.none_in k kb))
+          ∙ (λ j. loads_of (up j) (sym number_same j) k (sym (sends k kb) j))
+
+      pub level_next : IsWorking l s roots (v + 1) (record { port = p3; clock = clock; tables = tables; rows = rows; due = due })
+      level_next =
+          let some : 0 < length l.lanes = (let z = h.within in omega (arith, z)) in
+          let next = advances (lanes_wave s (length l.lanes)) (lanes_laws s h.sound (length l.lanes) some) roots w.port.number v (sent_to w.port) w.port.taken (at w.due) (at w.tables) (at w.rows) (sent_to p3) p3.taken (at due) (at tables) (at rows) vb h.level done in
+          let up : suc v ≡ v + 1 = omega arith in
+          record {
+            port = (ap (λ (q : PortView). q.lanes) s3 ∙ s2.port.1 ∙ port_kept.0, ap (λ (q : PortView). q.sizes) s3 ∙ s2.port.2 ∙ port_kept.1);
+            within = subst (λ n. n < length l.lanes) (sym number_same) h.within;
+            sizes = h.sizes;
+            sound = h.sound;
+            heard = heard;
+            many_rows = ap (λ m. length m) rows-is ∙ length-append w.rows (row ∷ []) ∙ ap (λ n. n + 1) h.many_rows;
+            many_due = many;
+            level = subst (λ n. IsAt (lanes_wave s (length l.lanes)) roots n (v + 1) (sent_to p3) p3.taken (at due) (at tables) (at rows)) (sym number_same)
+                (subst (λ n. IsAt (lanes_wave s (length l.lanes)) roots w.port.number n (sent_to p3) p3.taken (at due) (at tables) (at rows)) up next);
+            put = puts;
+          }

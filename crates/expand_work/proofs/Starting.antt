@@ -19,12 +19,12 @@ use Rattle.req_table.proofs.Sized.{sizes_of_key}
 use Rattle.lane_queue.specs.PortView.{LanesView, PortView, sent_to, IsPortOf}
 use Rattle.expand_work.specs.declared.worker.Worker.{Worker}
 use Rattle.expand_work.specs.declared.part.Part.{Part}
-use Rattle.expand_work.specs.Parts.{asks_behind, IsAt, IsPart}
+use Rattle.expand_work.specs.Parts.{asks_behind, loads_of, IsAt, IsPart}
 use Rattle.expand_work.specs.Work.{at, owned_by, lanes_wave, IsHeard}
 use Rattle.expand_work.specs.Working.{IsWorking}
 use Rattle.expand_work.specs.Worked.{IsFresh, IsWorked}
 use Rattle.expand_work.proofs.Waves.{lanes_laws, part_in_wave}
-use Rattle.expand_work.proofs.Levels.{ends_whole}
+use Rattle.expand_work.proofs.Levels.{ends_whole, loads-none}
 
 pub starts_at : (w : Wave) (roots : List Key) (s : ℕ) (sent : ℕ → List Item) (taken : List Item) (due tables : ℕ → List Key) (rows : ℕ → List Record) → All w.Holds roots
     → ((k : ℕ) → sent k ≡ []) → taken ≡ [] → ((u : ℕ) → u < w.levels → tables u ≡ []) → ((k : ℕ) → k < w.workers → due k ≡ filter (is_owned w k) (dealt_from w.workers s 0 roots))
@@ -55,14 +55,13 @@ starts_heard c taken clock tables nothing clock-is tables-is = record {
 }
 
 pub starts_working : (l : LanesView) (S : Nodes) (roots : List Key) (p : PortView) (clock : Counts) (tables : List (List Key)) (rows : List (List Record)) (due : List (List Key))
-    → IsPortOf l p → p.number < length l.lanes → length p.sent ≡ length l.lanes → IsFresh p → l.sizes ≡ sizes_of S → IsSound S → All (IsKey S) roots
+    → IsPortOf l p → p.number < length l.lanes → IsFresh p → l.sizes ≡ sizes_of S → IsSound S → All (IsKey S) roots
     → clock ≡ record { levels = S.levels; ended = replicate (length l.lanes) 0 } → tables ≡ replicate S.levels [] → rows ≡ [] → length due ≡ length l.lanes
     → ((k : ℕ) → k < length l.lanes → at due k ≡ filter (owned_by (length l.lanes) k) (dealt_from (length l.lanes) p.number 0 roots))
     → IsWorking l S roots 0 (record { port = p; clock = clock; tables = tables; rows = rows; due = due })
-starts_working l S roots p clock tables rows due o b lists fresh sizes sound held clock-is tables-is rows-is many e = record {
+starts_working l S roots p clock tables rows due o b fresh sizes sound held clock-is tables-is rows-is many e = record {
   port = o;
   within = b;
-  lists = lists;
   sizes = sizes;
   sound = sound;
   heard = subst (λ z. IsHeard (scope_of (length l.lanes) z) p.taken clock tables) (sym sizes) (starts_heard (scope_of (length l.lanes) (sizes_of S)) p.taken clock tables fresh.1 clock-is tables-is);
@@ -71,21 +70,23 @@ starts_working l S roots p clock tables rows due o b lists fresh sizes sound hel
   level = starts_at (lanes_wave S (length l.lanes)) roots p.number (sent_to p) p.taken (at due) (at tables) (at rows)
       (all_of (IsKeyOf (sizes_of S)) roots (λ x h. sizes_of_key S x (each (IsKey S) roots x held h))) fresh.0 fresh.1
       (λ u ub. ap (λ ts. get_or ts u []) tables-is ∙ get_or-replicate S.levels u [] [] ub) e;
+  put = λ k kb. fresh.2 k ∙ sym (loads-none p.number k (sent_to p k));
 }
 
-pub ends_worked : (l : LanesView) (S : Nodes) (roots : List Key) (n : ℕ) (w : Worker) (p : Part) → IsWorking l S roots S.levels w → w.port.number ≡ n → p.port ≡ w.port → p.rows ≡ w.rows → IsWorked l S roots n p
-ends_worked l S roots n w p h num port-is rows-is =
+pub ends_worked : (l : LanesView) (S : Nodes) (roots : List Key) (n : ℕ) (w : Worker) (p : Part) → IsWorking l S roots S.levels w → length w.port.put ≡ length l.lanes → w.port.number ≡ n → p.port ≡ w.port → p.rows ≡ w.rows → IsWorked l S roots n p
+ends_worked l S roots n w p h lists num port-is rows-is =
     let some : 0 < length l.lanes = (let z = h.within in omega (arith, z)) in
     let q : Part = record { port = w.port; rows = w.rows } in
     let same : p ≡ q = λ i. record { port = port-is i; rows = rows-is i } in
     subst (IsWorked l S roots n) (sym same) (record {
       ports = h.port;
       number = num;
-      lists = h.lists;
+      lists = lists;
       levels = h.many_rows;
       part = subst (λ m. IsPart (wave_of S (length l.lanes)) roots m (sent_to w.port) w.port.taken (row_at w.rows)) num
           (part_in_wave S (length l.lanes) roots w.port.number (sent_to w.port) w.port.taken (row_at w.rows)
           (ends_whole (lanes_wave S (length l.lanes)) (lanes_laws S h.sound (length l.lanes) some) roots w.port.number (sent_to w.port) w.port.taken (at w.due) (at w.tables) (at w.rows) h.level));
+      put = λ k kb. h.put k kb ∙ ap (λ m. loads_of S.levels m k (sent_to w.port k)) num;
     })
 
 pub width : (l : LanesView) (p : PortView) → IsPortOf l p → length p.lanes ≡ length l.lanes

@@ -1,12 +1,14 @@
 -- What contracts see of an expanded wave.
-use Rattle.std.specs.Prelude.{◌≡◌, ℕ, ◌<◌, List, [], length, slice_index_or}
+use Rattle.std.specs.Prelude.{◌≡◌, ℕ, ◌<◌, ◌==◌, cond, List, [], length, slice_index_or}
 use Rattle.std.specs.List.{sum_by}
 use Rattle.req_table.specs.declared.Key.{Key}
 use Rattle.req_table.specs.declared.Record.{Record}
 use Rattle.req_table.specs.Wave.{Wave}
 use Rattle.req_table.specs.Settled.{IsSettled, level_of_rows}
 use Rattle.req_table.specs.Tables.{row_at}
+use Rattle.req_table.specs.declared.Item.{Item}
 use Rattle.lane_queue.specs.PortView.{PortView}
+use Rattle.expand_work.specs.Parts.{sum_below, bundles_of}
 use Rattle.lane_queue.specs.Joining.{sent_from, taken_by}
 
 -- The records by level, and the workers' ports by number.
@@ -26,9 +28,14 @@ pub record AreByNumber (workers : ℕ) (ports : List PortView) : Type 0 where
   pub long : length ports ≡ workers
   pub numbered : (i : ℕ) (d : PortView) → i < workers → (slice_index_or ports i d).number ≡ i
 
--- How many items the ports put on all lanes together.
+-- How many loads the ports put on all lanes together.
 abbrev pub put_by : List PortView → ℕ
-put_by ports = sum_by (λ (p : PortView). sum_by (λ xs. length xs) p.sent) ports
+put_by ports = sum_by (λ (p : PortView). sum_by (λ n. n) p.put) ports
+
+-- How many bundles go from one worker to another, where `sent k s` is what s sent to k, with n Ends.
+abbrev pub bundles_between : ℕ → ℕ → (ℕ → ℕ → List Item) → ℕ
+bundles_between workers n sent =
+    sum_below workers (λ s. sum_below workers (λ k. cond (s == k) 0 (bundles_of n (sent k s))))
 
 -- The records of worker k at level v, where each worker has its rows by level.
 abbrev pub row_of : List (List (List Record)) → ℕ → ℕ → List Record

@@ -1,5 +1,5 @@
 -- What the functions of a worker say.
-use Rattle.std.specs.Prelude.{◌≡◌, ℕ, ◌-◌, ◌<◌, Bool, ◌==◌, List, [], length, slice_index, slice_index_or, All}
+use Rattle.std.specs.Prelude.{◌≡◌, ◌≢◌, ℕ, ◌+◌, ◌-◌, ◌<◌, ◌≤◌, Bool, ◌==◌, cond, List, [], ◌∷◌, ◌++◌, length, map, slice_index, slice_index_or, slice_set, All}
 use Rattle.dd_store.specs.Nodes.{Nodes}
 use Rattle.req_table.specs.declared.Key.{Key}
 use Rattle.req_table.specs.declared.Item.{Item}
@@ -8,9 +8,10 @@ use Rattle.req_table.specs.Wave.{Scope, Wave}
 use Rattle.req_table.specs.Sizes.{sizes_of, scope_of}
 use Rattle.req_table.specs.Keys.{level_of, child_of, owner}
 use Rattle.req_table.specs.Lanes.{sent_by, ends, asks_at, IsFair, HasSenders, MayFollow, IsClosed}
-use Rattle.req_table.specs.Settled.{IsDistinctOf}
+use Rattle.req_table.specs.Settled.{Admits, IsDistinctOf}
+use Rattle.expand_work.specs.Parts.{bundles}
 use Rattle.level_close.specs.Counts.{Counts}
-use Rattle.lane_queue.specs.PortView.{LanesView, PortView, sent_to, lanes_scope}
+use Rattle.lane_queue.specs.PortView.{LanesView, PortView, sent_to, put_to, lanes_scope}
 
 -- The wave over a store as its lanes tell it: a key is known by the store's sizes.
 abbrev pub lanes_wave : Nodes → ℕ → Wave
@@ -28,9 +29,52 @@ owned_by workers k x = owner workers x == k
 abbrev pub at : {X : Type 0} → List (List X) → ℕ → List X
 at xs k = slice_index_or xs k []
 
--- Nothing of the port has changed but what it sent.
-abbrev pub HasSent : PortView → PortView → Type 0
-HasSent p q = (q ≡ record p { sent = q.sent }) × (length q.sent ≡ length p.sent)
+-- It is the port that it was.
+abbrev pub IsSamePort : PortView → PortView → Type 0
+IsSamePort p q = (q.number ≡ p.number) × (q.lanes ≡ p.lanes) × (q.sizes ≡ p.sizes)
+
+-- The port has sent these items to this worker, in so many loads, and nothing to another.
+pub record SentTo (p q : PortView) (to : ℕ) (items : List Item) (loads : ℕ) : Type 0 where
+  pub port : IsSamePort p q
+  pub taken : q.taken ≡ p.taken
+  pub sent : sent_to q to ≡ sent_to p to ++ items
+  pub others : (k : ℕ) → k ≢ to → sent_to q k ≡ sent_to p k
+  pub put : put_to q to ≡ put_to p to + loads
+  pub others_put : (k : ℕ) → k ≢ to → put_to q k ≡ put_to p k
+
+-- The port has sent `items k` to each worker k below n, in `loads k` loads.
+pub record SentToAll (p q : PortView) (n : ℕ) (items : ℕ → List Item) (loads : ℕ → ℕ) : Type 0 where
+  pub port : IsSamePort p q
+  pub taken : q.taken ≡ p.taken
+  pub sent : (k : ℕ) → k < n → sent_to q k ≡ sent_to p k ++ items k
+  pub rest : (k : ℕ) → n ≤ k → sent_to q k ≡ sent_to p k
+  pub put : (k : ℕ) → k < n → put_to q k ≡ put_to p k + loads k
+  pub rest_put : (k : ℕ) → n ≤ k → put_to q k ≡ put_to p k
+
+-- The requests as a bundle has them: each with its level.
+abbrev pub with_levels : Nodes → List Key → List (ℕ × Key)
+with_levels S keys = map (λ x. (level_of S x, x)) keys
+
+-- What worker s puts on the lane of k where these keys are due there, and in how many loads: it keeps its own.
+abbrev pub put_items : Nodes → ℕ → (ℕ → List Key) → ℕ → List Item
+put_items S s due k = cond (s == k) [] (map (item_of S s) (due k))
+
+abbrev pub put_loads : ℕ → (ℕ → List Key) → ℕ → ℕ
+put_loads s due k = cond (s == k) 0 (bundles (length (due k)))
+
+-- The port has kept these items: it counts as having sent them to itself and taken them.
+pub record HasKept (p q : PortView) (items : List Item) : Type 0 where
+  pub port : IsSamePort p q
+  pub put : q.put ≡ p.put
+  pub own : sent_to q p.number ≡ sent_to p p.number ++ items
+  pub others : (k : ℕ) → k ≢ p.number → sent_to q k ≡ sent_to p k
+  pub taken : q.taken ≡ p.taken ++ items
+
+-- The requests were offered to their levels' tables, one after the other.
+abbrev pub Offered : List (ℕ × Key) → List (List Key) → List (List Key) → Type 0
+Offered [] ts us = us ≡ ts
+Offered (a ∷ more) ts us =
+    (keys : List Key) × Admits (at ts a.0) (a.1 ∷ []) keys × Offered more (slice_set ts a.0 keys) us
 
 -- The port may ask for these keys on that lane.
 pub record MaySend (l : LanesView) (S : Nodes) (p : PortView) (to : ℕ) (keys : List Key) : Type 0 where

@@ -1,22 +1,23 @@
 -- What a worker begins with, and what it ends with.
-use Rattle.std.specs.Prelude.{◌≡◌, ℕ, List, [], length}
+use Rattle.std.specs.Prelude.{◌≡◌, ℕ, ◌<◌, List, [], length}
 use Rattle.dd_store.specs.Nodes.{Nodes}
 use Rattle.req_table.specs.declared.Key.{Key}
 use Rattle.req_table.specs.Keys.{wave_of}
 use Rattle.req_table.specs.Tables.{row_at}
-use Rattle.lane_queue.specs.PortView.{LanesView, PortView, sent_to, IsPortOf}
+use Rattle.lane_queue.specs.PortView.{LanesView, PortView, sent_to, put_to, IsPortOf}
 use Rattle.expand_work.specs.declared.part.Part.{Part}
-use Rattle.expand_work.specs.Parts.{IsPart}
+use Rattle.expand_work.specs.Parts.{IsPart, loads_of}
 
 -- The port has sent and taken nothing.
 abbrev pub IsFresh : PortView → Type 0
-IsFresh p = ((k : ℕ) → sent_to p k ≡ []) × (p.taken ≡ [])
+IsFresh p = ((k : ℕ) → sent_to p k ≡ []) × (p.taken ≡ []) × ((k : ℕ) → put_to p k ≡ 0)
 
 -- The part of worker s in the wave over a store: its port is the worker's and of these lanes, its rows are by level,
--- and what it sent, took and recorded is the worker's part of the wave.
+-- and what it sent, took and recorded is the worker's part of the wave. On each lane it put as few loads as that takes.
 pub record IsWorked (l : LanesView) (S : Nodes) (roots : List Key) (s : ℕ) (p : Part) : Type 0 where
   pub ports : IsPortOf l p.port
   pub number : p.port.number ≡ s
-  pub lists : length p.port.sent ≡ length l.lanes
+  pub lists : length p.port.put ≡ length l.lanes
   pub levels : length p.rows ≡ S.levels
   pub part : IsPart (wave_of S (length l.lanes)) roots s (sent_to p.port) p.port.taken (row_at p.rows)
+  pub put : (k : ℕ) → k < length l.lanes → put_to p.port k ≡ loads_of S.levels s k (sent_to p.port k)

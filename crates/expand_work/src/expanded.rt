@@ -3,8 +3,8 @@ ghost use Rattle.std.specs.Prelude.{◌≡◌, ◌≢◌, ◌+◌, ◌*◌, ◌<
 ghost use Rattle.req_table.specs.Keys.{IsKey, wave_of};
 ghost use Rattle.req_table.specs.Settled.{IsClosure};
 ghost use Rattle.req_table.specs.Tables.{row_at};
-ghost use Rattle.expand_work.specs.Parts.{asked_of_all};
-ghost use Rattle.expand_work.specs.Expanded.{IsSettledFor, AreByNumber, put_by};
+ghost use Rattle.lane_queue.specs.Joining.{sent_from};
+ghost use Rattle.expand_work.specs.Expanded.{IsSettledFor, AreByNumber, put_by, bundles_between};
 
 use crate::merge::{merge_rows, split_parts};
 use crate::team::run_workers;
@@ -70,7 +70,7 @@ pub fn expand_all<R: Threads + Wait + Sync, G: Gate>(
     ensures settled { IfOk result (λ e. IsSettledFor (wave_of store.now workers) roots.now e) }
     ensures closure { IfOk result (λ e. IsClosure (wave_of store.now workers) roots.now (row_at e.records)) }
     ensures put { IfOk result (λ e. put_by e.ports
-        ≡ (length roots.now + asked_of_all store.now.levels (row_at e.records)) + workers * (workers * store.now.levels)) }
+        ≡ bundles_between workers store.now.levels (sent_from e.ports) + workers * (workers * store.now.levels)) }
     ensures fault { IfErr result (λ f. f ≢ WaveFault.Full) }
 {
     let levels = store.levels();

@@ -10,6 +10,7 @@ mod lists;
 mod merge;
 mod part;
 mod say;
+mod site;
 mod team;
 mod worker;
 

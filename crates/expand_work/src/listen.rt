@@ -1,19 +1,63 @@
-//! What a worker takes.
-ghost use Rattle.std.specs.Prelude.{◌≡◌, OnOk};
+//! What a worker takes, and what it keeps.
+ghost use Rattle.std.specs.Prelude.{◌≡◌, ◌<◌, length, map, All, OnOk};
 ghost use Rattle.req_table.specs.Lanes.{IsClosed};
-ghost use Rattle.lane_queue.specs.PortView.{IsPortOf, lanes_scope};
-ghost use Rattle.expand_work.specs.Work.{IsHeard, StaysClosed};
+ghost use Rattle.lane_queue.specs.PortView.{sent_to, IsPortOf, lanes_scope};
+ghost use Rattle.req_table.specs.Lanes.{sent_by};
+ghost use Rattle.expand_work.specs.Work.{item_of, MaySend, HasKept, Offered, IsHeard, StaysClosed};
 
 use crate::WorkFault;
 use crate::lists::Tables;
+use crate::site::Site;
 use crossbeam_utils::Backoff;
-use lane_queue::{Lanes, Port};
+use dd_store::Store;
+use lane_queue::{Lanes, Load, Port};
 use level_close::Clock;
-use req_table::Item;
+use req_table::Key;
+use req_table::requests::level_of;
+use std::alloc::AllocError;
 use std::sync::Wait;
-use std::sync::atomic::{AtomicBool, Ordering};
+use std::sync::atomic::Ordering;
 
-// Takes one item if there is one, and notes it: an End on the clock, a key in its level's table.
+// Admits the requests of a bundle to their levels' tables.
+fn admit_all(tables: &mut Tables, asks: &[(u16, Key)]) -> Result<(), AllocError>
+    requires { All (λ a. a.0 < length tables.old) asks.now }
+    ensures { OnOk result (Offered asks.now tables.old tables.new) }
+{
+    for ask in asks {
+        let (level, key) = *ask;
+        tables.admit(level, key)?;
+    }
+    Ok(())
+}
+
+/// Keeps the keys that the worker owns itself: it counts as having sent and taken them. Nothing of its own is under way.
+pub fn keep_own(
+    site: Site<'_>,
+    port: &mut Port,
+    clock: &Clock,
+    tables: &mut Tables,
+    keys: &[Key],
+) -> Result<(), AllocError>
+    requires port { IsPortOf site.lanes.now port.old }
+    requires may { MaySend site.lanes.now site.store.now port.old port.old.number keys.now }
+    requires taken { sent_by port.old.number port.old.taken ≡ sent_to port.old port.old.number }
+    requires heard { IsHeard (lanes_scope site.lanes.now) port.old.taken clock.now tables.old }
+    ensures kept { OnOk result (HasKept port.old port.new (map (item_of site.entry.store.now port.old.number) keys.now)) }
+    ensures heard { OnOk result (IsHeard (lanes_scope site.entry.lanes.now) port.new.taken clock.now tables.new) }
+    ensures stays { OnOk result
+        (StaysClosed (lanes_scope site.entry.lanes.now) port.old.taken port.new.taken tables.old tables.new) }
+{
+    let _clock = clock;
+    let own = port.number();
+    for key in keys {
+        let level = level_of(site.store, *key);
+        port.keep(level, *key);
+        tables.admit(level, *key)?;
+    }
+    Ok(())
+}
+
+// Takes one load if there is one, and notes it: an End on the clock, the keys of a bundle in their levels' tables.
 fn take_one<R: Wait>(
     rt: &R,
     lanes: &Lanes,
@@ -23,19 +67,19 @@ fn take_one<R: Wait>(
 ) -> Result<bool, WorkFault>
     requires port { IsPortOf lanes.now port.old }
     requires heard { IsHeard (lanes_scope lanes.now) port.old.taken clock.old tables.old }
-    ensures same { OnOk result (port.new ≡ record port.old { taken = port.new.taken }) }
+    ensures same { OnOk result (port.new ≡ record port.old { popped = port.new.popped; taken = port.new.taken }) }
     ensures heard { OnOk result (IsHeard (lanes_scope lanes.now) port.new.taken clock.new tables.new) }
     ensures stays { OnOk result
         (StaysClosed (lanes_scope lanes.now) port.old.taken port.new.taken tables.old tables.new) }
 {
-    let Some(item) = lanes.take(rt, port) else {
+    let Some(load) = lanes.take(rt, port) else {
         return Ok(false);
     };
-    match item {
-        Item::End { from, level } => clock.note(from, level),
-        Item::Ask { from, level, key } => {
+    match load {
+        Load::End { from, level } => clock.note(from, level),
+        Load::Bundle { from, asks } => {
             let _from = from;
-            tables.admit(level, key)?;
+            admit_all(tables, asks.asks())?;
         }
     }
     Ok(true)
@@ -44,21 +88,21 @@ fn take_one<R: Wait>(
 /// Takes until every sender has ended the level. Where the lane is empty it pauses, and gives up once the flag is set.
 pub fn take_until_closed<R: Wait>(
     rt: &R,
-    lanes: &Lanes,
+    site: Site<'_>,
     port: &mut Port,
     clock: &mut Clock,
     tables: &mut Tables,
     level: u16,
-    stop: &AtomicBool,
 ) -> Result<(), WorkFault>
-    requires port { IsPortOf lanes.now port.old }
-    requires heard { IsHeard (lanes_scope lanes.now) port.old.taken clock.old tables.old }
-    ensures same { OnOk result (port.new ≡ record port.old { taken = port.new.taken }) }
-    ensures heard { OnOk result (IsHeard (lanes_scope lanes.now) port.new.taken clock.new tables.new) }
+    requires port { IsPortOf site.lanes.now port.old }
+    requires heard { IsHeard (lanes_scope site.lanes.now) port.old.taken clock.old tables.old }
+    ensures same { OnOk result (port.new ≡ record port.old { popped = port.new.popped; taken = port.new.taken }) }
+    ensures heard { OnOk result (IsHeard (lanes_scope site.entry.lanes.now) port.new.taken clock.new tables.new) }
     ensures stays { OnOk result
-        (StaysClosed (lanes_scope lanes.now) port.old.taken port.new.taken tables.old tables.new) }
-    ensures closed { OnOk result (IsClosed (lanes_scope lanes.now) level port.new.taken) }
+        (StaysClosed (lanes_scope site.entry.lanes.now) port.old.taken port.new.taken tables.old tables.new) }
+    ensures closed { OnOk result (IsClosed (lanes_scope site.entry.lanes.now) level port.new.taken) }
 {
+    let Site { lanes, stop, .. } = site;
     let backoff = Backoff::new();
     for turn in rt.forever() {
         if clock.closed(level) {

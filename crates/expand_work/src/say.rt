@@ -1,68 +1,97 @@
 //! What a worker sends.
-ghost use Rattle.std.specs.Prelude.{◌≡◌, ℕ, ◌<◌, [], ◌∷◌, ◌++◌, length, map, slice_set, OnOk};
+ghost use Rattle.std.specs.Prelude.{◌≡◌, ◌≢◌, ℕ, ◌<◌, [], ◌∷◌, length, map, All, OnOk};
 ghost use Rattle.req_table.specs.declared.Item.TheVariants.{End};
-ghost use Rattle.req_table.specs.Lanes.{ends};
-ghost use Rattle.lane_queue.specs.PortView.{sent_to, IsPortOf};
-ghost use Rattle.expand_work.specs.Work.{at, item_of, HasSent, MaySend};
+ghost use Rattle.req_table.specs.Lanes.{ends, MayFollow, IsClosed};
+ghost use Rattle.lane_queue.specs.Loads.{ask_of};
+ghost use Rattle.lane_queue.specs.PortView.{sent_to, IsPortOf, MayLeave, lanes_scope};
+ghost use Rattle.expand_work.specs.Parts.{bundles};
+ghost use Rattle.expand_work.specs.Work.{at, item_of, MaySend, SentTo, SentToAll, put_items, put_loads};
 
 use crate::lists::KeyLists;
-use dd_store::Store;
-use lane_queue::{Lanes, Port};
+use crate::site::Site;
+use lane_queue::{Bundle, Lanes, Load, Port};
+use req_table::Key;
 use req_table::requests::level_of;
-use req_table::{Item, Key};
 use std::alloc::AllocError;
+use std::mem;
 use std::sync::Wait;
 
-// Asks the worker `to` for the keys.
-fn send_asks<R: Wait>(
+/// How many requests a bundle carries at most.
+const FULL: usize = 64;
+
+// Sends what is in hand for the worker `to`.
+fn send_bundle<R: Wait>(
     rt: &R,
     lanes: &Lanes,
     port: &mut Port,
-    store: &Store,
     to: u32,
-    keys: &[Key],
+    asks: Bundle,
 ) -> Result<(), AllocError>
     requires port { IsPortOf lanes.now port.old }
     requires to { to < length lanes.now.lanes }
-    requires may { MaySend lanes.now store.now port.old to keys.now }
-    ensures { OnOk result (port.new ≡ record port.old {
-      sent = slice_set port.old.sent to
-          (sent_to port.old to ++ map (item_of store.now port.old.number) keys.now);
-    }) }
+    requires some { 0 < length asks }
+    requires may { All (MayFollow (lanes_scope lanes.now) (ends (sent_to port.old to))) (map (ask_of port.old.number) asks) }
+    requires leave { All (MayLeave (lanes_scope lanes.now) port.old.taken (ends (sent_to port.old to))) (map (ask_of port.old.number) asks) }
+    ensures { OnOk result (SentTo port.old port.new to (map (ask_of port.old.number) asks) 1) }
 {
     let from = port.number();
+    let Ok(_) = lanes.send(rt, port, to, Load::Bundle { from, asks }) else {
+        return Err(AllocError);
+    };
+    Ok(())
+}
+
+// Asks another worker for the keys: a bundle is in hand, which goes when it is full, and at the end.
+fn send_asks<R: Wait>(
+    rt: &R,
+    site: Site<'_>,
+    port: &mut Port,
+    to: u32,
+    keys: &[Key],
+) -> Result<(), AllocError>
+    requires port { IsPortOf site.lanes.now port.old }
+    requires to { to < length site.lanes.now.lanes }
+    requires may { MaySend site.lanes.now site.store.now port.old to keys.now }
+    ensures { OnOk result (SentTo port.old port.new to (map (item_of site.entry.store.now port.old.number) keys.now)
+        (bundles (length keys.now))) }
+{
+    let Site { alloc, lanes, store, .. } = site;
+    if keys.is_empty() {
+        return Ok(());
+    }
+    let mut hand = Bundle::new(alloc)?;
     for key in keys {
-        let ask = Item::Ask {
-            from,
-            level: level_of(store, *key),
-            key: *key,
-        };
-        let Ok(_) = lanes.send(rt, port, to, ask) else {
-            return Err(AllocError);
-        };
+        hand.add(level_of(store, *key), *key);
+        if hand.len() == FULL {
+            let full = mem::replace(&mut hand, Bundle::new(alloc)?);
+            send_bundle(rt, lanes, port, to, full)?;
+        }
+    }
+    if hand.len() > 0 {
+        send_bundle(rt, lanes, port, to, hand)?;
     }
     Ok(())
 }
 
-/// Asks every worker for what is due from it.
+/// Asks every other worker for what is due from it.
 pub fn send_due<R: Wait>(
     rt: &R,
-    lanes: &Lanes,
+    site: Site<'_>,
     port: &mut Port,
-    store: &Store,
     due: &KeyLists,
 ) -> Result<(), AllocError>
-    requires port { IsPortOf lanes.now port.old }
-    requires long { length due.now ≡ length lanes.now.lanes }
-    requires wide { length port.old.sent ≡ length lanes.now.lanes }
-    requires may { (k : ℕ) → k < length lanes.now.lanes
-        → MaySend lanes.now store.now port.old k (at due.now k) }
-    ensures same { OnOk result (HasSent port.old port.new) }
-    ensures sent { OnOk result ((k : ℕ) → k < length lanes.now.lanes
-        → sent_to port.new k ≡ sent_to port.old k ++ map (item_of store.now port.old.number) (at due.now k)) }
+    requires port { IsPortOf site.lanes.now port.old }
+    requires long { length due.now ≡ length site.lanes.now.lanes }
+    requires may { (k : ℕ) → k < length site.lanes.now.lanes
+        → MaySend site.lanes.now site.store.now port.old k (at due.now k) }
+    ensures { OnOk result (SentToAll port.old port.new (length site.entry.lanes.now.lanes)
+        (put_items site.entry.store.now port.old.number (at due.now)) (put_loads port.old.number (at due.now))) }
 {
-    for to in 0..lanes.count() {
-        send_asks(rt, lanes, port, store, to, due.list(to))?;
+    let own = port.number();
+    for to in 0..site.lanes.count() {
+        if to != own {
+            send_asks(rt, site, port, to, due.list(to))?;
+        }
     }
     Ok(())
 }
@@ -77,15 +106,14 @@ pub fn send_ends<R: Wait>(
     requires port { IsPortOf lanes.now port.old }
     requires level { level < lanes.now.sizes.levels }
     requires ended { (k : ℕ) → k < length lanes.now.lanes → ends (sent_to port.old k) ≡ level }
-    ensures same { OnOk result (HasSent port.old port.new) }
-    ensures sent { OnOk result ((k : ℕ) → k < length lanes.now.lanes
-        → sent_to port.new k ≡ sent_to port.old k ++ End port.old.number level ∷ []) }
+    ensures { OnOk result (SentToAll port.old port.new (length lanes.now.lanes)
+        (λ k. End port.old.number level ∷ []) (λ k. 1)) }
 {
     let from = port.number();
     for to in 0..lanes.count() {
-        if lanes.send(rt, port, to, Item::End { from, level }).is_err() {
+        let Ok(_) = lanes.send(rt, port, to, Load::End { from, level }) else {
             return Err(AllocError);
-        }
+        };
     }
     Ok(())
 }

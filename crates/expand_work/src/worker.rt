@@ -7,9 +7,10 @@ ghost use Rattle.expand_work.specs.Working.{IsWorking};
 ghost use Rattle.expand_work.specs.Worked.{IsFresh, IsWorked};
 
 use crate::expand::{deal_roots, expand_row};
-use crate::listen::take_until_closed;
+use crate::listen::{keep_own, take_until_closed};
 use crate::lists::{KeyLists, Rows, Tables};
 use crate::say::{send_due, send_ends};
+use crate::site::Site;
 use crate::{Gate, Part, WorkFault};
 use dd_store::Store;
 use lane_queue::{Lanes, Port};
@@ -30,25 +31,20 @@ pub struct Worker {
     pub due: KeyLists,
 }
 
-// Sends what is due and ends the level, takes until the level is closed, tells the gate, and expands the level's keys.
+// Sends what is due, keeps what it owns itself, and ends the level; takes until the level is closed, tells the gate, and
+// expands the level's keys.
 fn do_level<R: Wait, G: Gate>(
     rt: &R,
-    alloc: Global,
-    lanes: &Lanes,
+    site: Site<'_>,
     worker: Worker,
-    store: &Store,
-    roots: &[Key],
     level: u16,
     gate: &G,
-    stop: &AtomicBool,
 ) -> Result<Worker, WorkFault>
-    requires level { level < store.now.levels }
-    requires working { IsWorking lanes.now store.now roots.now level worker }
-    ensures { IfOk result (λ w. IsWorking lanes.now store.now roots.now (level + 1) w
+    requires level { level < site.store.now.levels }
+    requires working { IsWorking site.lanes.now site.store.now site.roots.now level worker }
+    ensures { IfOk result (λ w. IsWorking site.entry.lanes.now site.entry.store.now site.entry.roots.now (level + 1) w
         × (w.port.number ≡ worker.port.number)) }
 {
-    // The contract speaks of the roots.
-    let _roots = roots.len();
     let Worker {
         mut port,
         mut clock,
@@ -56,11 +52,14 @@ fn do_level<R: Wait, G: Gate>(
         mut rows,
         due,
     } = worker;
-    send_due(rt, lanes, &mut port, store, &due)?;
-    send_ends(rt, lanes, &mut port, level)?;
-    take_until_closed(rt, lanes, &mut port, &mut clock, &mut tables, level, stop)?;
-    gate.at_level(port.number(), level);
-    let Ok((row, due)) = expand_row(alloc, store, tables.keys(level), lanes.count()) else {
+    send_due(rt, site, &mut port, &due)?;
+    let own = port.number();
+    keep_own(site, &mut port, &clock, &mut tables, due.list(own))?;
+    send_ends(rt, site.lanes, &mut port, level)?;
+    take_until_closed(rt, site, &mut port, &mut clock, &mut tables, level)?;
+    gate.at_level(own, level);
+    let workers = site.lanes.count();
+    let Ok((row, due)) = expand_row(site.alloc, site.store, tables.keys(level), workers) else {
         return Err(WorkFault::OutOfMemory);
     };
     let Ok(_) = rows.push(row) else {
@@ -78,20 +77,23 @@ fn do_level<R: Wait, G: Gate>(
 // Goes through the levels.
 fn run_levels<R: Wait, G: Gate>(
     rt: &R,
-    alloc: Global,
-    lanes: &Lanes,
+    site: Site<'_>,
     port: Port,
-    store: &Store,
-    roots: &[Key],
     gate: &G,
-    stop: &AtomicBool,
 ) -> Result<Part, WorkFault>
-    requires port { IsPortOf lanes.now port }
+    requires port { IsPortOf site.lanes.now port }
     requires fresh { IsFresh port }
-    requires sizes { lanes.now.sizes ≡ sizes_of store.now }
-    requires roots { All (IsKey store.now) roots.now }
-    ensures { IfOk result (λ p. IsWorked lanes.now store.now roots.now port.number p) }
+    requires sizes { site.lanes.now.sizes ≡ sizes_of site.store.now }
+    requires roots { All (IsKey site.store.now) site.roots.now }
+    ensures { IfOk result (λ p. IsWorked site.entry.lanes.now site.entry.store.now site.entry.roots.now port.number p) }
 {
+    let Site {
+        alloc,
+        lanes,
+        store,
+        roots,
+        stop,
+    } = site;
     let workers = lanes.count();
     let number = port.number();
     let levels = store.levels();
@@ -110,8 +112,9 @@ fn run_levels<R: Wait, G: Gate>(
         if stop.load(Ordering::SeqCst) {
             return Err(WorkFault::Stopped);
         }
-        worker = do_level(rt, alloc, lanes, worker, store, roots, level, gate, stop)?;
+        worker = do_level(rt, site, worker, level, gate)?;
     }
+    let own = worker.port.number();
     Ok(Part {
         port: worker.port,
         rows: worker.rows.into_records(),
@@ -119,8 +122,9 @@ fn run_levels<R: Wait, G: Gate>(
 }
 
 /// Does one worker's part of a wave over the lanes' store. At each level it sends all that is due (its roots at level
-/// 0, the children of the level before at each other), ends the level on every lane, takes until every sender has
-/// ended it, tells the gate, and records the distinct keys that it was asked for at that level.
+/// 0, the children of the level before at each other) to the other workers, in bundles of 64 and then one with the rest,
+/// and keeps what it owns itself; it ends the level on every lane, takes until every sender has ended it, tells the gate,
+/// and records the distinct keys that it was asked for at that level.
 ///
 /// The flag is read when a level begins and whenever the lane is empty; once it is set the answer is Stopped. A worker
 /// that meets want of memory sets it before it answers. After a refusal the port is gone.
@@ -140,7 +144,14 @@ pub fn work<R: Wait, G: Gate>(
     requires roots { All (IsKey store.now) roots.now }
     ensures { IfOk result (λ p. IsWorked lanes.now store.now roots.now port.number p) }
 {
-    let result = run_levels(rt, alloc, lanes, port, store, roots, gate, stop);
+    let site = Site {
+        alloc,
+        lanes,
+        store,
+        roots,
+        stop,
+    };
+    let result = run_levels(rt, site, port, gate);
     if matches!(result, Err(WorkFault::OutOfMemory)) {
         stop.store(true, Ordering::SeqCst);
     }

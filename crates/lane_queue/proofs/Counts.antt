@@ -1,17 +1,29 @@
--- The numbers that a line keeps are those of its list.
-use Rattle.std.proofs.Common.{◌≡◌, ℕ, ◌+◌, List, [], ◌∷◌, ◌++◌, length, sym, refl, ◌∙◌, subst, arith, length-append}
-use Rattle.req_table.specs.declared.Item.{Item}
+-- The number of Ends that a line keeps is that of its list.
+use Rattle.std.proofs.Common.{◌≡◌, ℕ, ◌+◌, List, [], ◌∷◌, ◌++◌, map, sym, refl, subst, arith}
+use Rattle.req_table.specs.declared.Key.{Key}
+use Rattle.lane_queue.specs.declared.load.Load.{Load}
+use Rattle.lane_queue.specs.declared.load.Load.TheVariants.{Bundle, End}
 use Rattle.lane_queue.specs.declared.rule.View.{View}
-use Rattle.req_table.specs.Lanes.{count_end, ends}
+use Rattle.req_table.specs.Lanes.{ends}
+use Rattle.lane_queue.specs.Loads.{ask_of, items_in}
 use Rattle.lane_queue.specs.Rule.{port, own_sent, IsPort}
-use Rattle.req_table.proofs.Fair.{ends-append, count_end_is}
+use Rattle.req_table.proofs.Fair.{ends-append}
 
-abbrev pub Counted : View → ℕ → ℕ → Type 0
-Counted v e p = IsPort v × (e ≡ ends (own_sent v)) × (p ≡ length (own_sent v))
+-- how many Ends a load carries
+abbrev pub ends_in : Load → ℕ
+ends_in (Bundle from asks) = 0
+ends_in (End from level) = 1
 
--- one more item counts one more End, or none
-one_more : (x : Item) (e : ℕ) (xs : List Item) → e ≡ ends xs → count_end x e ≡ ends (xs ++ x ∷ [])
-one_more x e xs a = let i = count_end_is x e [] in let j = ends-append xs (x ∷ []) in let z : count_end x e + 0 ≡ count_end x e = omega arith in omega (arith, a)
+pub ends-asks : (from : ℕ) (asks : List (ℕ × Key)) → ends (map (ask_of from) asks) ≡ 0
+ends-asks from [] = refl
+ends-asks from (a ∷ more) = ends-asks from more
 
-pub counted-push : (v w : View) (x : Item) (e p e' : ℕ) → w ≡ port v.terms v.low (own_sent v ++ x ∷ []) v.taken → e ≡ ends (own_sent v) → p ≡ length (own_sent v) → e' ≡ count_end x e → Counted w e' (p + 1)
-counted-push v w x e p e' is a b c = subst (λ u. Counted u e' (p + 1)) (sym is) (refl, c ∙ one_more x e (own_sent v) a, omega (arith, length-append (own_sent v) (x ∷ [])))
+pub ends-load : (x : Load) → ends (items_in x) ≡ ends_in x
+ends-load (Bundle from asks) = ends-asks from asks
+ends-load (End from level) = refl
+
+abbrev pub Counted : View → ℕ → Type 0
+Counted v e = IsPort v × (e ≡ ends (own_sent v))
+
+pub counted-push : (v w : View) (x : Load) (e e' : ℕ) → w ≡ port v.terms v.low (own_sent v ++ items_in x) v.taken → e ≡ ends (own_sent v) → e' ≡ e + ends_in x → Counted w e'
+counted-push v w x e e' is a c = subst (λ u. Counted u e') (sym is) (refl, (let j = ends-append (own_sent v) (items_in x) in let z = ends-load x in omega (arith, a, c, j, z)))

@@ -1,19 +1,50 @@
 -- Facts on lists of items: what a sender's list is, and what keeps it fair.
-use Rattle.std.proofs.Common.{◌≡◌, ◌≢◌, ℕ, zero, suc, ◌+◌, ◌<◌, cond, List, [], ◌∷◌, ◌++◌, refl, sym, ap, ◌∙◌, subst, arith, eq-eqb, ne_eqb}
+use Rattle.std.proofs.Common.{◌≡◌, ◌≢◌, ℕ, zero, suc, ◌+◌, ◌<◌, cond, List, [], ◌∷◌, ◌++◌, refl, sym, ap, ◌∙◌, subst, arith, eq-eqb, ne_eqb, append_assoc, map, length}
 use Rattle.std.specs.Prelude.{All}
+use Rattle.std.proofs.lemmas.List.{append-nil, length-append, get_or_append_left}
 use Rattle.req_table.specs.declared.Item.{Item}
-use Rattle.req_table.specs.declared.Item.TheVariants.{Ask, End}
+use Rattle.req_table.specs.declared.Item.TheVariants.{End}
 use Rattle.req_table.specs.declared.Key.{Key}
 use Rattle.req_table.specs.Wave.{Scope}
-use Rattle.req_table.specs.Lanes.{from_of, sent_by, ends, MayFollow, IsFairFrom, IsFair, HasSenders, LaneLaw, IsClosed}
-use Rattle.req_table.proofs.Lists.{has_of}
-use Rattle.req_table.proofs.Items.{sent_by_of}
-use Rattle.req_table.proofs.Fair.{sent_by-append, sent_by-self, fair_join, fair_front, fair_back, fair_end}
+use Rattle.req_table.specs.Lanes.{from_of, sent_by, ends, MayFollow, IsFairFrom, IsFair, HasSenders, LaneLaw}
+use Rattle.lane_queue.specs.declared.load.Load.{Load}
+use Rattle.lane_queue.specs.declared.load.Load.TheVariants.{Bundle, End as load_end}
+use Rattle.lane_queue.specs.Loads.{load_from, ask_of, items_in, flat, Carries, MayFollowAll}
+use Rattle.req_table.proofs.Lists.{all_of, map_has}
+use Rattle.req_table.proofs.Fair.{fair_join, fair_front}
 use Rattle.lane_queue.specs.Lists.{Begins}
+
+-- ---- All
+pub all-one : {X : Type 0} (P : X → Type 0) (x : X) → P x → All P (x ∷ [])
+all-one P x h zero d lt = h
+all-one P x h (suc k) d lt = absurd (omega arith)
+
+pub all-front : {X : Type 0} (P : X → Type 0) (xs ys : List X) → All P (xs ++ ys) → All P xs
+all-front P xs ys h k d lt = let n = length-append xs ys in subst P (get_or_append_left xs ys d k lt) (h k d (omega (arith, lt, n)))
+
+pub all-back : {X : Type 0} (P : X → Type 0) (xs ys : List X) → All P (xs ++ ys) → All P ys
+all-back P [] ys h = h
+all-back P (x ∷ xs) ys h = all-back P xs ys (λ k d lt. h (suc k) d (omega arith))
+
+pub all-at : {X : Type 0} (P : X → Type 0) (xs : List X) (y : X) (ys : List X) → All P (xs ++ y ∷ ys) → P y
+all-at P [] y ys h = h 0 y (omega arith)
+all-at P (x ∷ xs) y ys h = all-at P xs y ys (λ k d lt. h (suc k) d (omega arith))
 
 -- an item that may follow all Ends of a fair list may stand behind it
 pub fair-push : (w : Scope) (xs : List Item) (y : Item) → IsFair w xs → MayFollow w (ends xs) y → IsFair w (xs ++ y ∷ [])
 fair-push w xs y h m = let z : 0 + ends xs ≡ ends xs = omega arith in fair_join w 0 xs (y ∷ []) h (subst (λ n. MayFollow w n y) (sym z) m, tt)
+
+-- and so may what a load carries
+fair-asks : (w : Scope) (e from : ℕ) (asks : List (ℕ × Key)) → All (MayFollow w e) (map (ask_of from) asks) → IsFairFrom w e (map (ask_of from) asks)
+fair-asks w e from [] h = tt
+fair-asks w e from (a ∷ more) h = (h 0 (ask_of from a) (omega arith), fair-asks w e from more (λ k d lt. h (suc k) d (omega arith)))
+
+fair-load : (w : Scope) (e : ℕ) (x : Load) → MayFollowAll w e x → IsFairFrom w e (items_in x)
+fair-load w e (Bundle from asks) h = fair-asks w e from asks h
+fair-load w e (load_end from level) h = (h 0 (End from level) (omega arith), tt)
+
+pub fair-more : (w : Scope) (xs : List Item) (x : Load) → IsFair w xs → MayFollowAll w (ends xs) x → IsFair w (xs ++ items_in x)
+fair-more w xs x h m = let z : 0 + ends xs ≡ ends xs = omega arith in fair_join w 0 xs (items_in x) h (subst (λ n. IsFairFrom w n (items_in x)) (sym z) (fair-load w (ends xs) x m))
 
 -- ---- lists of one sender
 pub of-mine : (s : ℕ) (x : Item) (xs : List Item) → from_of x ≡ s → sent_by s (x ∷ xs) ≡ x ∷ sent_by s xs
@@ -22,21 +53,48 @@ of-mine s x xs e = ap (λ b. cond b (x ∷ sent_by s xs) (sent_by s xs)) (eq-eqb
 pub of-other : (s : ℕ) (x : Item) (xs : List Item) → from_of x ≢ s → sent_by s (x ∷ xs) ≡ sent_by s xs
 of-other s x xs n = ap (λ b. cond b (x ∷ sent_by s xs) (sent_by s xs)) (ne_eqb (from_of x) s n)
 
+-- ---- what a load carries is its sender's
+mine-asks : (s from : ℕ) (asks : List (ℕ × Key)) → from ≡ s → sent_by s (map (ask_of from) asks) ≡ map (ask_of from) asks
+mine-asks s from [] e = refl
+mine-asks s from (a ∷ more) e = of-mine s (ask_of from a) (map (ask_of from) more) e ∙ ap (λ l. ask_of from a ∷ l) (mine-asks s from more e)
+
+pub load-mine : (s : ℕ) (x : Load) → load_from x ≡ s → sent_by s (items_in x) ≡ items_in x
+load-mine s (Bundle from asks) e = mine-asks s from asks e
+load-mine s (load_end from level) e = of-mine s (End from level) [] e
+
+other-asks : (s from : ℕ) (asks : List (ℕ × Key)) → from ≢ s → sent_by s (map (ask_of from) asks) ≡ []
+other-asks s from [] n = refl
+other-asks s from (a ∷ more) n = of-other s (ask_of from a) (map (ask_of from) more) n ∙ other-asks s from more n
+
+pub load-other : (s : ℕ) (x : Load) → load_from x ≢ s → sent_by s (items_in x) ≡ []
+load-other s (Bundle from asks) n = other-asks s from asks n
+load-other s (load_end from level) n = of-other s (End from level) [] n
+
+pub from-load : (n : ℕ) (x : Load) → load_from x < n → All (λ y. from_of y < n) (items_in x)
+from-load n (Bundle from asks) lt = all_of (λ y. from_of y < n) (map (ask_of from) asks) (λ y h. let t = map_has (ask_of from) asks y h in subst (λ z. from_of z < n) t.2 lt)
+from-load n (load_end from level) lt = all-one (λ y. from_of y < n) (End from level) lt
+
+pub load-from : (n : ℕ) (x : Load) → Carries x → All (λ y. from_of y < n) (items_in x) → load_from x < n
+load-from n (Bundle from []) c h = absurd (omega (arith, c))
+load-from n (Bundle from (a ∷ more)) c h = h 0 (ask_of from a) (omega arith)
+load-from n (load_end from level) c h = h 0 (End from level) (omega arith)
+
+-- ---- loads, one after the other
+pub flat-append : (xs ys : List Load) → flat (xs ++ ys) ≡ flat xs ++ flat ys
+flat-append [] ys = refl
+flat-append (x ∷ xs) ys = ap (λ l. items_in x ++ l) (flat-append xs ys) ∙ sym (append_assoc (items_in x) (flat xs) (flat ys))
+
+pub flat-push : (xs : List Load) (x : Load) → flat (xs ++ x ∷ []) ≡ flat xs ++ items_in x
+flat-push xs x = flat-append xs (x ∷ []) ∙ ap (λ l. flat xs ++ l) (append-nil (items_in x))
+
+-- a load is never empty, so neither are loads
+pub flat-none : (xs : List Load) → All Carries xs → flat xs ≡ [] → xs ≡ []
+flat-none [] h e = refl
+flat-none (x ∷ xs) h e = absurd (let c = h 0 x (omega arith) in let n = ap (λ l. length l) e in let m = length-append (items_in x) (flat xs) in omega (arith, c, n, m))
+
 -- a beginning of a fair list is fair
 pub fair-begins : (w : Scope) (xs ys : List Item) → Begins xs ys → IsFair w ys → IsFair w xs
 fair-begins w xs ys b h = fair_front w 0 xs b.0 (subst (IsFair w) b.1 h)
-
--- an Ask that is taken in its turn is of no closed level
-pub ask-open : (w : Scope) (s level : ℕ) (key : Key) (taken sent : List Item)
-    → s < w.workers → IsFair w sent → Begins (sent_by s (taken ++ Ask s level key ∷ [])) sent → ¬ IsClosed w level taken
-ask-open w s level key taken sent lt fair begins closed =
-    let split : sent_by s (taken ++ Ask s level key ∷ []) ≡ sent_by s taken ++ Ask s level key ∷ [] =
-    sent_by-append s taken (Ask s level key ∷ []) ∙ ap (λ l. sent_by s taken ++ l) (sent_by-self (Ask s level key) []) in
-    let front : IsFair w (sent_by s taken ++ Ask s level key ∷ []) = subst (IsFair w) split (fair-begins w _ sent begins fair) in
-    let here : IsFairFrom w (0 + ends (sent_by s taken)) (Ask s level key ∷ []) = fair_back w 0 (sent_by s taken) (Ask s level key ∷ []) front in
-    let past = fair_end w 0 (sent_by s taken) s level (fair_front w 0 (sent_by s taken) (Ask s level key ∷ []) front)
-    (sent_by_of s taken (End s level) (has_of taken (End s level) (closed s lt)) refl) in
-    let low = here.0.0 in omega arith
 
 -- ---- the law
 -- it speaks of what was taken and then what waits
@@ -45,12 +103,3 @@ law-along w sent taken waits taken' waits' e h = record {
   senders = subst (HasSenders w) e h.senders;
   in_order = λ s lt. ap (sent_by s) (sym e) ∙ h.in_order s lt;
 }
-
--- ---- All
-pub all-one : {X : Type 0} (P : X → Type 0) (x : X) → P x → All P (x ∷ [])
-all-one P x h zero d lt = h
-all-one P x h (suc k) d lt = absurd (omega arith)
-
-pub all-at : {X : Type 0} (P : X → Type 0) (xs : List X) (y : X) (ys : List X) → All P (xs ++ y ∷ ys) → P y
-all-at P [] y ys h = h 0 y (omega arith)
-all-at P (x ∷ xs) y ys h = all-at P xs y ys (λ k d lt. h (suc k) d (omega arith))

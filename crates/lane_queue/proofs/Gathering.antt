@@ -14,29 +14,29 @@ use Rattle.lane_queue.specs.declared.rule.View.{View}
 use Rattle.lane_queue.specs.declared.rule.Lane.{Lane}
 use Rattle.lane_queue.specs.declared.make.Root.{Root}
 use Rattle.lane_queue.specs.Rule.{port, joined}
-use Rattle.lane_queue.specs.PortView.{PortView, sent_to}
+use Rattle.lane_queue.specs.PortView.{PortView, passed_to, IsKept}
 use Rattle.lane_queue.specs.Ports.{terms_of}
-use Rattle.lane_queue.specs.Joining.{taken_on, retired, RootsOf, IsBelow, RootsBelow, RootsWith, whole_view, RootsHave, ArePorts, AreRetired}
+use Rattle.lane_queue.specs.Joining.{popped_on, retired, RootsOf, IsBelow, RootsBelow, RootsWith, whole_view, RootsHave, ArePorts, AreRetired, AreKept}
 
 -- ---- what the joined pass knows of one port more
 takens : (ports : List PortView) (p : PortView) (i : ℕ) → p.number ≡ length ports
-    → slice_index_or (map (λ (q : PortView). q.taken) ports) i [] ++ taken_on p i ≡ slice_index_or (map (λ (q : PortView). q.taken) (ports ++ p ∷ [])) i []
-takens ports p i n = let f : PortView → List Item = λ q. q.taken in
-    let m : map f (ports ++ p ∷ []) ≡ map f ports ++ p.taken ∷ [] = map-append f ports (p ∷ []) in
+    → slice_index_or (map (λ (q : PortView). q.popped) ports) i [] ++ popped_on p i ≡ slice_index_or (map (λ (q : PortView). q.popped) (ports ++ p ∷ [])) i []
+takens ports p i n = let f : PortView → List Item = λ q. q.popped in
+    let m : map f (ports ++ p ∷ []) ≡ map f ports ++ p.popped ∷ [] = map-append f ports (p ∷ []) in
     let z : length (map f ports) ≡ length ports = length-map ports f in
     dite (ℕ_discrete i p.number)
     (λ e. let a : slice_index_or (map f ports) i [] ≡ [] = get_or-eq_default (map f ports) [] (omega arith) in
-    let b : taken_on p i ≡ p.taken = ap (λ b. cond b p.taken []) (eq-eqb i p.number e) in
-    ap (λ l. l ++ taken_on p i) a ∙ b ∙ sym (get_or-append_seam (map f ports) p.taken [] []) ∙ ap (λ k. slice_index_or (map f ports ++ p.taken ∷ []) k []) (z ∙ sym n ∙ sym e) ∙ ap (λ l. slice_index_or l i []) (sym m))
-    (λ e. let b : taken_on p i ≡ [] = ap (λ b. cond b p.taken []) (ne_eqb i p.number e) in
+    let b : popped_on p i ≡ p.popped = ap (λ b. cond b p.popped []) (eq-eqb i p.number e) in
+    ap (λ l. l ++ popped_on p i) a ∙ b ∙ sym (get_or-append_seam (map f ports) p.popped [] []) ∙ ap (λ k. slice_index_or (map f ports ++ p.popped ∷ []) k []) (z ∙ sym n ∙ sym e) ∙ ap (λ l. slice_index_or l i []) (sym m))
+    (λ e. let b : popped_on p i ≡ [] = ap (λ b. cond b p.popped []) (ne_eqb i p.number e) in
     ap (λ l. slice_index_or (map f ports) i [] ++ l) b ∙ append-nil (slice_index_or (map f ports) i []) ∙
     dite (dec_le (length ports) i)
     (λ ge. get_or-eq_default (map f ports) [] (omega arith) ∙ sym (get_or-eq_default (map f (ports ++ p ∷ [])) [] (let y = length-map (ports ++ p ∷ []) f in let x = length-append ports (p ∷ []) in omega arith)))
-    (λ lt. sym (get_or_append_left (map f ports) (p.taken ∷ []) [] i (omega arith)) ∙ ap (λ l. slice_index_or l i []) (sym m)))
+    (λ lt. sym (get_or_append_left (map f ports) (p.popped ∷ []) [] i (omega arith)) ∙ ap (λ l. slice_index_or l i []) (sym m)))
 
 whole_more : (workers : ℕ) (sizes : Sizes) (ports : List PortView) (p : PortView) (i : ℕ) → p.number ≡ length ports
-    → joined (terms_of workers i sizes) (length ports + 1) (map (λ q. sent_to q i) ports ++ sent_to p i ∷ []) (slice_index_or (map (λ (q : PortView). q.taken) ports) i [] ++ taken_on p i) [] ≡ whole_view workers sizes (ports ++ p ∷ []) i
-whole_more workers sizes ports p i n = λ j. joined (terms_of workers i sizes) (sym (length-append ports (p ∷ [])) j) (sym (map-append (λ q. sent_to q i) ports (p ∷ [])) j) (takens ports p i n j) []
+    → joined (terms_of workers i sizes) (length ports + 1) (map (λ q. passed_to q i) ports ++ passed_to p i ∷ []) (slice_index_or (map (λ (q : PortView). q.popped) ports) i [] ++ popped_on p i) [] ≡ whole_view workers sizes (ports ++ p ∷ []) i
+whole_more workers sizes ports p i n = λ j. joined (terms_of workers i sizes) (sym (length-append ports (p ∷ [])) j) (sym (map-append (λ q. passed_to q i) ports (p ∷ [])) j) (takens ports p i n j) []
 
 -- ---- the ports below `next` gave their passes away
 pub record Gathered (workers : ℕ) (sizes : Sizes) (next : ℕ) (lanes : List Lane) (given ports : List PortView) (roots : List Root) : Type 0 where
@@ -44,6 +44,7 @@ pub record Gathered (workers : ℕ) (sizes : Sizes) (next : ℕ) (lanes : List L
   pub gone : (i : ℕ) (d : PortView) → i < next → get_or ports i d ≡ retired (get_or given i d)
   pub rest : (i : ℕ) (d : PortView) → next ≤ i → get_or ports i d ≡ get_or given i d
   pub have : RootsHave workers sizes (take next given) lanes roots
+  pub kept : (i : ℕ) (d : PortView) → i < next → IsKept (get_or given i d)
 
 module _ (workers : ℕ) (sizes : Sizes) (lanes : List Lane) (ids : List (SegId Global)) (given : List PortView) (are : ArePorts workers sizes ids given) where
   taken_front : (next : ℕ) (p : PortView) → next < workers → p ≡ get_or given next p → take (next + 1) given ≡ take next given ++ p ∷ []
@@ -52,8 +53,8 @@ module _ (workers : ℕ) (sizes : Sizes) (lanes : List Lane) (ids : List (SegId 
   front_long : (next : ℕ) → next ≤ workers → length (take next given) ≡ next
   front_long next le = let z = are.0 in omega (arith, length-take next given)
 
-  pub gathered-first : (ports : List PortView) (p new : PortView) (roots : List Root) → 0 < workers → p ≡ get_or given 0 p → length roots ≡ workers → RootsOf workers p lanes roots → new ≡ retired p → ports ≡ set given 0 new → Gathered workers sizes 1 lanes given ports roots
-  gathered-first ports p new roots lt is long h gone set_is = let z = are.0 in let a = are.1 0 p lt in
+  pub gathered-first : (ports : List PortView) (p new : PortView) (roots : List Root) → 0 < workers → p ≡ get_or given 0 p → length roots ≡ workers → RootsOf workers p lanes roots → IsKept p → new ≡ retired p → ports ≡ set given 0 new → Gathered workers sizes 1 lanes given ports roots
+  gathered-first ports p new roots lt is long h kept gone set_is = let z = are.0 in let a = are.1 0 p lt in
       let number : p.number ≡ 0 = ap (λ (q : PortView). q.number) is ∙ a.2 in let store : p.sizes ≡ sizes = ap (λ (q : PortView). q.sizes) is ∙ a.1 in
       subst (λ l. Gathered workers sizes 1 lanes given l roots) (sym set_is) (record {
         long = length-set given 0 new;
@@ -63,8 +64,9 @@ module _ (workers : ℕ) (sizes : Sizes) (lanes : List Lane) (ids : List (SegId 
         have = (
           long,
           λ i d e less. let r = h i d e less in
-              (r.0, r.1 ∙ (λ j. port (terms_of workers i (store j)) (number j) (sent_to p i) (taken_on p i)) ∙ whole_more workers sizes [] p i number ∙ ap (λ l. whole_view workers sizes l i) (sym (taken_front 0 p lt is))),
+              (r.0, r.1 ∙ (λ j. port (terms_of workers i (store j)) (number j) (passed_to p i) (popped_on p i)) ∙ whole_more workers sizes [] p i number ∙ ap (λ l. whole_view workers sizes l i) (sym (taken_front 0 p lt is))),
         );
+        kept = λ i d less. let q : i ≡ 0 = omega arith in subst IsKept (is ∙ get_or_default given 0 p d (omega arith) ∙ ap (λ k. get_or given k d) (sym q)) kept;
       })
 
   pub roots-below : (next : ℕ) (ports : List PortView) (p : PortView) (roots : List Root) → Gathered workers sizes next lanes given ports roots → next < workers → p ≡ get_or ports next p → RootsBelow workers p lanes roots
@@ -72,10 +74,10 @@ module _ (workers : ℕ) (sizes : Sizes) (lanes : List Lane) (ids : List (SegId 
       let was : p ≡ get_or given next p = is ∙ h.rest next p (omega arith) in let a = are.1 next p lt in
       let number : p.number ≡ next = ap (λ (q : PortView). q.number) was ∙ a.2 in let store : p.sizes ≡ sizes = ap (λ (q : PortView). q.sizes) was ∙ a.1 in
       let front = take next given in let fl : length front ≡ next = front_long next (omega arith) in
-      let f : PortView → List Item = λ q. q.taken in (
+      let f : PortView → List Item = λ q. q.popped in (
         r.0,
         subst (λ (v : View). IsBelow workers p i v) (sym r.1) (
-          (refl, length-map front (λ q. sent_to q i)),
+          (refl, length-map front (λ q. passed_to q i)),
           refl,
           ap (λ (s : Sizes). terms_of workers i s) (sym store),
           fl ∙ sym number,
@@ -84,8 +86,8 @@ module _ (workers : ℕ) (sizes : Sizes) (lanes : List Lane) (ids : List (SegId 
       )
 
   pub gathered-more : (next : ℕ) (ports ports' : List PortView) (p new : PortView) (roots roots' : List Root) → Gathered workers sizes next lanes given ports roots → next < workers → p ≡ get_or ports next p
-      → length roots' ≡ workers → RootsWith workers p lanes roots roots' → new ≡ retired p → ports' ≡ set ports next new → Gathered workers sizes (next + 1) lanes given ports' roots'
-  gathered-more next ports ports' p new roots roots' h lt is long w gone set_is = let z = are.0 in let y = h.long in
+      → length roots' ≡ workers → RootsWith workers p lanes roots roots' → IsKept p → new ≡ retired p → ports' ≡ set ports next new → Gathered workers sizes (next + 1) lanes given ports' roots'
+  gathered-more next ports ports' p new roots roots' h lt is long w kept gone set_is = let z = are.0 in let y = h.long in
       let was : p ≡ get_or given next p = is ∙ h.rest next p (omega arith) in let a = are.1 next p lt in
       let number : p.number ≡ next = ap (λ (q : PortView). q.number) was ∙ a.2 in
       let front = take next given in let fl : length front ≡ next = front_long next (omega arith) in
@@ -99,12 +101,15 @@ module _ (workers : ℕ) (sizes : Sizes) (lanes : List Lane) (ids : List (SegId 
           long,
           λ i d e less. let r = w i d e less in let o = (h.have.1 i d e less).1 in (
             r.0,
-            r.1 ∙ ap (λ (v : View). joined v.terms (v.high + 1) (v.sent ++ sent_to p i ∷ []) (v.taken ++ taken_on p i) []) o
+            r.1 ∙ ap (λ (v : View). joined v.terms (v.high + 1) (v.sent ++ passed_to p i ∷ []) (v.taken ++ popped_on p i) []) o
                 ∙ whole_more workers sizes front p i (number ∙ sym fl) ∙ ap (λ l. whole_view workers sizes l i) (sym (taken_front next p lt was)),
           ),
         );
+        kept = λ i d less. dite (ℕ_discrete i next)
+            (λ q. subst IsKept (was ∙ get_or_default given next p d (omega arith) ∙ ap (λ k. get_or given k d) (sym q)) kept)
+            (λ q. h.kept i d (omega arith));
       })
 
-  pub gathered-all : (next : ℕ) (ports : List PortView) (roots : List Root) → Gathered workers sizes next lanes given ports roots → next ≡ workers → RootsHave workers sizes given lanes roots × AreRetired workers given ports
+  pub gathered-all : (next : ℕ) (ports : List PortView) (roots : List Root) → Gathered workers sizes next lanes given ports roots → next ≡ workers → RootsHave workers sizes given lanes roots × AreRetired workers given ports × AreKept workers given
   gathered-all next ports roots h e = let z = are.0 in
-      (subst (λ l. RootsHave workers sizes l lanes roots) (take_all next given (omega arith)) h.have, (h.long ∙ z, λ i d lt. h.gone i d (omega arith)))
+      (subst (λ l. RootsHave workers sizes l lanes roots) (take_all next given (omega arith)) h.have, (h.long ∙ z, λ i d lt. h.gone i d (omega arith)), λ i d lt. h.kept i d (omega arith))

@@ -1,6 +1,6 @@
 -- What a port is after one of its lines changed.
-use Rattle.std.proofs.Common.{◌≡◌, ℕ, ◌<◌, List, [], ◌∷◌, ◌++◌, map, length, get_or, set, sym, refl, ap, ◌∙◌, subst, Option, Some, None, Result, Ok, Err, inl, inr}
-use Rattle.std.specs.Prelude.{MatchResult, MatchOption, IfSome, slice_index_or}
+use Rattle.std.proofs.Common.{◌≡◌, ◌≢◌, ℕ, ◌+◌, ◌<◌, ◌≤◌, cond, eqb, arith, ⊎_elim, List, [], ◌∷◌, ◌++◌, map, length, get_or, set, sym, refl, ap, ◌∙◌, subst, Option, Some, None, inl, inr}
+use Rattle.std.specs.Prelude.{MatchOption, IfSome, slice_index_or, All}
 use Rattle.std.proofs.lemmas.Bool.{cases_eq}
 use Rattle.std.proofs.lemmas.List.{map-set, get_or-map, get_or-set_same, get_or-set_other, length-set, length-map, append-nil}
 use Rattle.std.proofs.Math.Seq.{map-set_same}
@@ -14,15 +14,24 @@ use Rattle.lane_queue.specs.declared.port.Hold.{Hold}
 use Rattle.lane_queue.specs.declared.port.Hold.TheVariants.{Live, Joined}
 use Rattle.lane_queue.specs.declared.port.Line.{Line}
 use Rattle.lane_queue.specs.declared.rule.Lane.{Lane}
-use Rattle.req_table.specs.declared.Item.TheVariants.{Ask, End}
-use Rattle.lane_queue.proofs.Facts.{ask-open}
+use Rattle.req_table.specs.declared.Item.TheVariants.{End as item_end}
+use Rattle.req_table.specs.declared.Key.{Key}
+use Rattle.req_table.specs.Wave.{Scope}
+use Rattle.lane_queue.specs.declared.load.Load.{Load}
+use Rattle.lane_queue.specs.declared.load.Load.TheVariants.{Bundle, End as load_end}
+use Rattle.lane_queue.specs.Loads.{load_from, ask_of, items_in}
+use Rattle.req_table.proofs.Lists.{Has, has_of, all_of, map_has}
+use Rattle.req_table.proofs.Items.{sent_by_of}
+use Rattle.req_table.proofs.Fair.{sent_by-append, fair_front, fair_back, fair_end}
+use Rattle.lane_queue.proofs.Facts.{all-one, load-mine, fair-begins}
+use Rattle.lane_queue.proofs.Keeping.{all-taken, taken-next, kept-take}
 use Rattle.lane_queue.specs.Rule.{scope, port, own_sent, IsNext, Owns}
 use Rattle.req_table.specs.Sizes.{scope_of}
-use Rattle.req_table.specs.Lanes.{from_of, sent_by, IsFair, IsClosed}
+use Rattle.req_table.specs.Lanes.{sent_by, ends, IsFair, IsFairFrom}
 use Rattle.lane_queue.specs.Lists.{Begins}
 use Rattle.lane_queue.specs.Line.{line_view, IsLine, IsLiveOn}
-use Rattle.lane_queue.specs.PortView.{PortView, LanesView, IsTaken, IsPortOf, IsOpen, lanes_scope, port_scope}
-use Rattle.lane_queue.specs.Ports.{hold_on, IsAtHand, line_on, line_sent, line_taken, LineOk, PortOk, view_of}
+use Rattle.lane_queue.specs.PortView.{PortView, LanesView, sent_to, passed_to, IsTaken, IsKept, IsPortOf, IsOpen, lanes_scope, port_scope, has_put, has_taken}
+use Rattle.lane_queue.specs.Ports.{hold_on, IsAtHand, line_on, line_sent, line_taken, line_put, terms_of, LineOk, PortOk, view_of}
 
 pub on_live : (q : SegId Global) (h : Hold) → IsLiveOn q h → hold_on h ≡ Some q
 on_live q (Live pass) e = λ i. Some (record { web = e.0.0 i; heap = e.0.1 i })
@@ -34,126 +43,131 @@ hand_live q (Joined was) e = absurd e
 
 -- the line of the place was `old`, and becomes `new`
 module _ (number to : ℕ) (sizes : Sizes) (lines : List Line) (old new : Line) (at : to < length lines) (was : old ≡ get_or lines to old) (on : line_on new ≡ line_on old) where
-  pub sent-view : (x : Item) → line_sent new ≡ line_sent old ++ x ∷ [] → line_taken new ≡ line_taken old
-      → view_of number sizes (set lines to new) ≡ record (view_of number sizes lines) { sent = set (map line_sent lines) to (slice_index_or (map line_sent lines) to [] ++ x ∷ []) }
-  sent-view x sent taken = let o : Line = old in
-      let a : map line_on (set lines to new) ≡ map line_on lines = map-set_same line_on lines to new old (on ∙ ap line_on was) in
-      let t : map line_taken (set lines to new) ≡ map line_taken lines = map-set_same line_taken lines to new old (taken ∙ ap line_taken was) in
+  lanes-same : map line_on (set lines to new) ≡ map line_on lines
+  lanes-same = map-set_same line_on lines to new old (on ∙ ap line_on was)
+
+  pub sent-view : (own taken own' taken' : List Item) (x : Load) → line_sent new ≡ line_sent old ++ items_in x → line_taken new ≡ line_taken old → new.put ≡ old.put + 1 → own' ≡ cond (eqb to number) (own ++ items_in x) own → taken' ≡ taken
+      → view_of number sizes (set lines to new) own' taken' ≡ has_put (view_of number sizes lines own taken) to x
+  sent-view own taken own' taken' x sent took put is same =
+      let t : map line_taken (set lines to new) ≡ map line_taken lines = map-set_same line_taken lines to new old (took ∙ ap line_taken was) in
       let g : slice_index_or (map line_sent lines) to [] ≡ line_sent old = get_or-map line_sent lines to old [] at ∙ ap line_sent (sym was) in
-      let s : map line_sent (set lines to new) ≡ set (map line_sent lines) to (slice_index_or (map line_sent lines) to [] ++ x ∷ []) =
-      map-set line_sent lines to new ∙ ap (λ l. set (map line_sent lines) to l) (sent ∙ ap (λ l. l ++ x ∷ []) (sym g)) in
-      λ i. record { number = number; lanes = a i; sizes = sizes; sent = s i; taken = slice_index_or (t i) number [] }
+      let s : map line_sent (set lines to new) ≡ set (map line_sent lines) to (slice_index_or (map line_sent lines) to [] ++ items_in x) =
+      map-set line_sent lines to new ∙ ap (λ l. set (map line_sent lines) to l) (sent ∙ ap (λ l. l ++ items_in x) (sym g)) in
+      let h : slice_index_or (map line_put lines) to 0 ≡ old.put = get_or-map line_put lines to old 0 at ∙ ap line_put (sym was) in
+      let p : map line_put (set lines to new) ≡ set (map line_put lines) to (slice_index_or (map line_put lines) to 0 + 1) =
+      map-set line_put lines to new ∙ ap (λ n. set (map line_put lines) to n) (put ∙ ap (λ n. n + 1) (sym h)) in
+      λ i. record { number = number; lanes = lanes-same i; sizes = sizes; passed = s i; put = p i; popped = slice_index_or (t i) number []; own = is i; taken = same i }
 
-  pub same-view : line_sent new ≡ line_sent old → line_taken new ≡ line_taken old → view_of number sizes (set lines to new) ≡ view_of number sizes lines
-  same-view sent taken =
-      let a : map line_on (set lines to new) ≡ map line_on lines = map-set_same line_on lines to new old (on ∙ ap line_on was) in
-      let t : map line_taken (set lines to new) ≡ map line_taken lines = map-set_same line_taken lines to new old (taken ∙ ap line_taken was) in
-      let s : map line_sent (set lines to new) ≡ map line_sent lines = map-set_same line_sent lines to new old (sent ∙ ap line_sent was) in
-      λ i. record { number = number; lanes = a i; sizes = sizes; sent = s i; taken = slice_index_or (t i) number [] }
+  pub same-view : (own taken : List Item) → line_view new ≡ line_view old → new.put ≡ old.put → view_of number sizes (set lines to new) own taken ≡ view_of number sizes lines own taken
+  same-view own taken e put =
+      let t : map line_taken (set lines to new) ≡ map line_taken lines = map-set_same line_taken lines to new old (ap (λ (v : View). v.taken) e ∙ ap line_taken was) in
+      let s : map line_sent (set lines to new) ≡ map line_sent lines = map-set_same line_sent lines to new old (ap own_sent e ∙ ap line_sent was) in
+      let p : map line_put (set lines to new) ≡ map line_put lines = map-set_same line_put lines to new old (put ∙ ap line_put was) in
+      λ i. record { number = number; lanes = lanes-same i; sizes = sizes; passed = s i; put = p i; popped = slice_index_or (t i) number []; own = own; taken = taken }
 
-  pub taken-view : (x : Item) → to ≡ number → line_sent new ≡ line_sent old → line_taken new ≡ line_taken old ++ x ∷ []
-      → view_of number sizes (set lines to new) ≡ record (view_of number sizes lines) { taken = slice_index_or (map line_taken lines) number [] ++ x ∷ [] }
-  taken-view x mine sent taken =
-      let a : map line_on (set lines to new) ≡ map line_on lines = map-set_same line_on lines to new old (on ∙ ap line_on was) in
+  pub taken-view : (own taken own' taken' : List Item) (x : Load) → to ≡ number → line_sent new ≡ line_sent old → line_taken new ≡ line_taken old ++ items_in x → new.put ≡ old.put → own' ≡ own → taken' ≡ taken ++ items_in x
+      → view_of number sizes (set lines to new) own' taken' ≡ has_taken (view_of number sizes lines own taken) x
+  taken-view own taken own' taken' x mine sent took put same is =
       let s : map line_sent (set lines to new) ≡ map line_sent lines = map-set_same line_sent lines to new old (sent ∙ ap line_sent was) in
+      let p : map line_put (set lines to new) ≡ map line_put lines = map-set_same line_put lines to new old (put ∙ ap line_put was) in
       let g : slice_index_or (map line_taken lines) number [] ≡ line_taken old = ap (λ n. slice_index_or (map line_taken lines) n []) (sym mine) ∙ get_or-map line_taken lines to old [] at ∙ ap line_taken (sym was) in
-      let t : slice_index_or (map line_taken (set lines to new)) number [] ≡ slice_index_or (map line_taken lines) number [] ++ x ∷ [] =
+      let t : slice_index_or (map line_taken (set lines to new)) number [] ≡ slice_index_or (map line_taken lines) number [] ++ items_in x =
       ap (λ n. slice_index_or (map line_taken (set lines to new)) n []) (sym mine) ∙ get_or-map line_taken (set lines to new) to new [] (subst (λ n. to < n) (sym (length-set lines to new)) at)
-      ∙ ap line_taken (get_or-set_same lines to new new at) ∙ taken ∙ ap (λ l. l ++ x ∷ []) (sym g) in
-      λ i. record { number = number; lanes = a i; sizes = sizes; sent = s i; taken = t i }
+      ∙ ap line_taken (get_or-set_same lines to new new at) ∙ took ∙ ap (λ l. l ++ items_in x) (sym g) in
+      λ i. record { number = number; lanes = lanes-same i; sizes = sizes; passed = s i; put = p i; popped = t i; own = same i; taken = is i }
 
--- a port whose lane `to` was sent on
-pub send-returns : (number to : ℕ) (sizes : Sizes) (lines : List Line) (old new : Line) (q : SegId Global) (x : Item) (r : Result (Unit {0}) Item)
-    → to < length lines → old ≡ get_or lines to old → line_on old ≡ Some q → IsLiveOn q new.hold
-    → MatchResult r (λ _. line_view new ≡ port (line_view old).terms (line_view old).low (own_sent (line_view old) ++ x ∷ []) (line_view old).taken) (λ y. (y ≡ x) × (line_view new ≡ line_view old))
-    → MatchResult r (λ _. view_of number sizes (set lines to new) ≡ record (view_of number sizes lines) { sent = set (map line_sent lines) to (slice_index_or (map line_sent lines) to [] ++ x ∷ []) }) (λ y. (y ≡ x) × (view_of number sizes (set lines to new) ≡ view_of number sizes lines))
-send-returns number to sizes lines old new q x (Ok u) at was on live e = sent-view number to sizes lines old new at was (on_live q new.hold live ∙ sym on) x (ap own_sent e) (ap (λ (v : View). v.taken) e)
-send-returns number to sizes lines old new q x (Err y) at was on live e = (e.0, same-view number to sizes lines old new at was (on_live q new.hold live ∙ sym on) (ap own_sent e.1) (ap (λ (v : View). v.taken) e.1))
+  -- the lines are still those of a port
+  pub set-ok : PortOk number sizes lines → (q : SegId Global) → IsLiveOn q new.hold → IsLine new → (line_view new).terms ≡ (line_view old).terms → (line_view new).low ≡ (line_view old).low → (to ≢ number → line_taken new ≡ line_taken old)
+      → PortOk number sizes (set lines to new)
+  set-ok ok q live line terms low taken =
+      let here : LineOk (length lines) number sizes to old = subst (λ l. LineOk (length lines) number sizes to l) (sym was) (ok.each to old at) in
+      let there : LineOk (length lines) number sizes to new = record {
+        terms = terms ∙ here.terms;
+        low = low ∙ here.low;
+        line = line;
+        hand = hand_live q new.hold live;
+        other = λ h. taken h ∙ here.other h;
+      } in
+      record {
+        within = subst (λ n. number < n) (sym (length-set lines to new)) ok.within;
+        few = ok.few;
+        each = λ i d lt.
+            let lt' : i < length lines = subst (λ n. i < n) (length-set lines to new) lt in
+            subst (λ n. LineOk n number sizes i (get_or (set lines to new) i d)) (sym (length-set lines to new))
+            (elim (cases_eq i to) [
+              | inl same ↦ subst (λ k. LineOk (length lines) number sizes k (get_or (set lines to new) k d)) (sym same)
+                  (subst (λ l. LineOk (length lines) number sizes to l) (sym (get_or-set_same lines to new d at)) there)
+              | inr apart ↦ subst (λ l. LineOk (length lines) number sizes i l) (sym (get_or-set_other lines to i new d apart)) (ok.each i d lt')
+            ]);
+      }
 
--- a port that took from its lane
-pub take-returns : (number : ℕ) (sizes : Sizes) (lines : List Line) (old new : Line) (q : SegId Global) (r : Option Item)
-    → number < length lines → old ≡ get_or lines number old → line_on old ≡ Some q → IsLiveOn q new.hold
-    → LineOk (length lines) number sizes number old
-    → MatchOption r ((line_view new ≡ line_view old) × Owns (line_view old) []) (λ x. (line_view new ≡ port (line_view old).terms (line_view old).low (own_sent (line_view old)) ((line_view old).taken ++ x ∷ [])) × IsNext (line_view old) x)
-    → (p : PortView) → p ≡ view_of number sizes lines
-    → MatchOption r ((view_of number sizes (set lines number new) ≡ p) × (sent_by p.number p.taken ≡ slice_index_or p.sent p.number []))
-    (λ x. (view_of number sizes (set lines number new) ≡ record p { taken = p.taken ++ x ∷ [] }) × IsTaken p x)
-take-returns number sizes lines old new q None at was on live ok e p is =
-    let g : slice_index_or (map line_taken lines) number [] ≡ line_taken old = get_or-map line_taken lines number old [] at ∙ ap line_taken (sym was) in
-    let h : slice_index_or (map line_sent lines) number [] ≡ line_sent old = get_or-map line_sent lines number old [] at ∙ ap line_sent (sym was) in
-    let own : sent_by number (slice_index_or (map line_taken lines) number []) ≡ slice_index_or (map line_sent lines) number [] =
-    ap (sent_by number) (g ∙ sym (append-nil (line_taken old))) ∙ ap (λ n. sent_by n (line_taken old ++ [])) (sym ok.low) ∙ e.1 ∙ sym h in
-    subst (λ (u : PortView). (view_of number sizes (set lines number new) ≡ u) × (sent_by u.number u.taken ≡ slice_index_or u.sent u.number [])) (sym is)
-    (same-view number number sizes lines old new at was (on_live q new.hold live ∙ sym on) (ap own_sent e.0) (ap (λ (v : View). v.taken) e.0), own)
-take-returns number sizes lines old new q (Some x) at was on live ok e p is =
-    let g : slice_index_or (map line_taken lines) number [] ≡ line_taken old = get_or-map line_taken lines number old [] at ∙ ap line_taken (sym was) in
-    let h : slice_index_or (map line_sent lines) number [] ≡ line_sent old = get_or-map line_sent lines number old [] at ∙ ap line_sent (sym was) in
-    let next : IsNext (line_view old) x = e.1 in
-    let lt : from_of x < length (map line_on lines) = subst (λ n. from_of x < n) (ap (λ (t : Terms). t.workers) ok.terms ∙ sym (length-map lines line_on)) next.1 in
-    let fair : IsFair (scope_of (length (map line_on lines)) sizes) next.0 = subst (λ n. IsFair (scope_of n sizes) next.0) (sym (length-map lines line_on)) (subst (λ (t : Terms). IsFair (scope t) next.0) ok.terms next.2) in
-    let begins : Begins (sent_by (from_of x) (slice_index_or (map line_taken lines) number [] ++ x ∷ [])) next.0 = subst (λ l. Begins (sent_by (from_of x) (l ++ x ∷ [])) next.0) (sym g) next.3 in
-    let taken : IsTaken (view_of number sizes lines) x = (next.0, lt, fair, begins, λ m. next.4 (m ∙ sym ok.low) ∙ sym h) in
-    subst (λ (u : PortView). (view_of number sizes (set lines number new) ≡ record u { taken = u.taken ++ x ∷ [] }) × IsTaken u x) (sym is)
-    (taken-view number number sizes lines old new at was (on_live q new.hold live ∙ sym on) x refl (ap own_sent e.0) (ap (λ (v : View). v.taken) e.0), taken)
+-- a port has a line on its own lane
+pub own_lane : (number : ℕ) (sizes : Sizes) (lines : List Line) (own taken : List Item) (p : PortView) → view_of number sizes lines own taken ≡ p → PortOk number sizes lines → number < length p.lanes
+own_lane number sizes lines own taken p is ok = subst (λ (u : PortView). number < length u.lanes) is (subst (λ n. number < n) (sym (length-map lines line_on)) ok.within)
 
--- the same, told of the port as contracts see it
-line-there : (number : ℕ) (sizes : Sizes) (lines : List Line) (to : ℕ) (old : Line) (p : PortView) (q : SegId Global) → view_of number sizes lines ≡ p → to < length lines → old ≡ get_or lines to old
-    → slice_index_or p.lanes to None ≡ Some q → line_on old ≡ Some q
-line-there number sizes lines to old p q is at was on = ap line_on was ∙ sym (get_or-map line_on lines to old None at) ∙ ap (λ (u : PortView). slice_index_or u.lanes to None) is ∙ on
+-- a port as contracts see it, and the line that it steps with
+module _ (number to : ℕ) (sizes : Sizes) (lines : List Line) (own taken : List Item) (old new : Line) (q : SegId Global) (p : PortView) (is : view_of number sizes lines own taken ≡ p) (ok : PortOk number sizes lines)
+    (was : old ≡ get_or lines to old) (at : to < length p.lanes) (on : slice_index_or p.lanes to None ≡ Some q) (live : IsLiveOn q new.hold) where
+  within : to < length lines
+  within = subst (λ n. to < n) (ap (λ (u : PortView). length u.lanes) (sym is) ∙ length-map lines line_on) at
 
-pub port-sent : (number to : ℕ) (sizes : Sizes) (lines : List Line) (old new : Line) (q : SegId Global) (x : Item) (r : Result (Unit {0}) Item) (p : PortView)
-    → view_of number sizes lines ≡ p → to < length p.lanes → old ≡ get_or lines to old → slice_index_or p.lanes to None ≡ Some q → IsLiveOn q new.hold
-    → MatchResult r (λ _. line_view new ≡ port (line_view old).terms (line_view old).low (own_sent (line_view old) ++ x ∷ []) (line_view old).taken) (λ y. (y ≡ x) × (line_view new ≡ line_view old))
-    → MatchResult r (λ _. view_of number sizes (set lines to new) ≡ record p { sent = set p.sent to (slice_index_or p.sent to [] ++ x ∷ []) }) (λ y. (y ≡ x) × (view_of number sizes (set lines to new) ≡ p))
-port-sent number to sizes lines old new q x r p is at was on live e =
-    let at' : to < length lines = subst (λ n. to < n) (ap (λ (u : PortView). length u.lanes) (sym is) ∙ length-map lines line_on) at in
-    subst (λ (u : PortView). MatchResult r (λ _. view_of number sizes (set lines to new) ≡ record u { sent = set u.sent to (slice_index_or u.sent to [] ++ x ∷ []) }) (λ y. (y ≡ x) × (view_of number sizes (set lines to new) ≡ u))) is
-    (send-returns number to sizes lines old new q x r at' was (line-there number sizes lines to old p q is at' was on) live e)
+  on-old : line_on new ≡ line_on old
+  on-old = on_live q new.hold live ∙ sym (ap line_on was ∙ sym (get_or-map line_on lines to old None within) ∙ ap (λ (u : PortView). slice_index_or u.lanes to None) is ∙ on)
 
-pub port-took : (number : ℕ) (sizes : Sizes) (lines : List Line) (old new : Line) (q : SegId Global) (r : Option Item) (p : PortView)
-    → view_of number sizes lines ≡ p → PortOk number sizes lines → old ≡ get_or lines number old → slice_index_or p.lanes p.number None ≡ Some q → IsLiveOn q new.hold
-    → MatchOption r ((line_view new ≡ line_view old) × Owns (line_view old) []) (λ x. (line_view new ≡ port (line_view old).terms (line_view old).low (own_sent (line_view old)) ((line_view old).taken ++ x ∷ [])) × IsNext (line_view old) x)
-    → MatchOption r ((view_of number sizes (set lines number new) ≡ p) × (sent_by p.number p.taken ≡ slice_index_or p.sent p.number []))
-    (λ x. (view_of number sizes (set lines number new) ≡ record p { taken = p.taken ++ x ∷ [] }) × IsTaken p x)
-port-took number sizes lines old new q r p is ok was on live e =
-    take-returns number sizes lines old new q r ok.within was
-    (line-there number sizes lines number old p q is ok.within was (ap (λ (u : PortView). slice_index_or p.lanes u.number None) is ∙ on)) live
-    (subst (λ l. LineOk (length lines) number sizes number l) (sym was) (ok.each number old ok.within)) e p (sym is)
+  here : LineOk (length lines) number sizes to old
+  here = subst (λ l. LineOk (length lines) number sizes to l) (sym was) (ok.each to old within)
 
--- the port's fields after it sent on the line: they are those of a port
-pub sent-ok : (number to : ℕ) (sizes : Sizes) (lines : List Line) (old new : Line) (q : SegId Global) (x : Item) (r : Result (Unit {0}) Item) (p : PortView)
-    → view_of number sizes lines ≡ p → PortOk number sizes lines → to < length p.lanes → old ≡ get_or lines to old → IsLiveOn q new.hold → IsLine new
-    → MatchResult r (λ _. line_view new ≡ port (line_view old).terms (line_view old).low (own_sent (line_view old) ++ x ∷ []) (line_view old).taken) (λ y. (y ≡ x) × (line_view new ≡ line_view old))
-    → PortOk number sizes (set lines to new)
-sent-ok number to sizes lines old new q x r p is ok at was live line e =
-    let at' : to < length lines = subst (λ n. to < n) (ap (λ (u : PortView). length u.lanes) (sym is) ∙ length-map lines line_on) at in
-    let here : LineOk (length lines) number sizes to old = subst (λ l. LineOk (length lines) number sizes to l) (sym was) (ok.each to old at') in
-    let kept = same_terms r e in
-    let there : LineOk (length lines) number sizes to new = record {
-      terms = kept.0 ∙ here.terms;
-      low = kept.1 ∙ here.low;
-      line = line;
-      hand = hand_live q new.hold live;
-      other = λ h. kept.2 ∙ here.other h;
-    } in
-    record {
-      within = subst (λ n. number < n) (sym (length-set lines to new)) ok.within;
-      few = ok.few;
-      each = λ i d lt.
-          let lt' : i < length lines = subst (λ n. i < n) (length-set lines to new) lt in
-          subst (λ n. LineOk n number sizes i (get_or (set lines to new) i d)) (sym (length-set lines to new))
-          (elim (cases_eq i to) [
-            | inl same ↦ subst (λ k. LineOk (length lines) number sizes k (get_or (set lines to new) k d)) (sym same)
-                (subst (λ l. LineOk (length lines) number sizes to l) (sym (get_or-set_same lines to new d at')) there)
-            | inr apart ↦ subst (λ l. LineOk (length lines) number sizes i l) (sym (get_or-set_other lines to i new d apart)) (ok.each i d lt')
-          ]);
-    }
-  where
-    same_terms : (r : Result (Unit {0}) Item)
-        → MatchResult r (λ _. line_view new ≡ port (line_view old).terms (line_view old).low (own_sent (line_view old) ++ x ∷ []) (line_view old).taken) (λ y. (y ≡ x) × (line_view new ≡ line_view old))
-        → ((line_view new).terms ≡ (line_view old).terms) × ((line_view new).low ≡ (line_view old).low) × (line_taken new ≡ line_taken old)
-    same_terms (Ok u) e = (ap (λ (v : View). v.terms) e, ap (λ (v : View). v.low) e, ap (λ (v : View). v.taken) e)
-    same_terms (Err y) e = (ap (λ (v : View). v.terms) e.1, ap (λ (v : View). v.low) e.1, ap (λ (v : View). v.taken) e.1)
+  -- it stays a port
+  pub port-ok : IsLine new → (line_view new).terms ≡ (line_view old).terms → (line_view new).low ≡ (line_view old).low → (to ≢ number → line_taken new ≡ line_taken old) → PortOk number sizes (set lines to new)
+  port-ok line terms low taken = set-ok number to sizes lines old new within was on-old ok q live line terms low taken
+
+  -- it put a load on the lane
+  pub port-sent : (x : Load) (own' taken' : List Item) → line_view new ≡ port (line_view old).terms (line_view old).low (own_sent (line_view old) ++ items_in x) (line_view old).taken → new.put ≡ old.put + 1
+      → own' ≡ cond (eqb to number) (own ++ items_in x) own → taken' ≡ taken → view_of number sizes (set lines to new) own' taken' ≡ has_put p to x
+  port-sent x own' taken' e put o t = sent-view number to sizes lines old new within was on-old own taken own' taken' x (ap own_sent e) (ap (λ (v : View). v.taken) e) put o t ∙ ap (λ u. has_put u to x) is
+
+  pub wide : (length p.passed ≡ length p.lanes) × (length p.put ≡ length p.lanes)
+  wide = subst (λ (u : PortView). (length u.passed ≡ length u.lanes) × (length u.put ≡ length u.lanes)) is (length-map lines line_sent ∙ sym (length-map lines line_on), length-map lines line_put ∙ sym (length-map lines line_on))
+
+  pub number-within : p.number < length p.passed
+  number-within = subst (λ (u : PortView). u.number < length u.passed) is (subst (λ n. number < n) (sym (length-map lines line_sent)) ok.within)
+
+  pub port-same : line_view new ≡ line_view old → new.put ≡ old.put → view_of number sizes (set lines to new) own taken ≡ p
+  port-same e put = same-view number to sizes lines old new within was on-old own taken e put ∙ is
+
+  -- it took from its own lane
+  module _ (mine : to ≡ number) (kept : IsKept p) where
+    took-passed : line_sent old ≡ passed_to p p.number
+    took-passed = ap line_sent was ∙ sym (get_or-map line_sent lines to old [] within) ∙ ap (λ (n : ℕ). slice_index_or (map line_sent lines) n []) mine ∙ ap (λ (u : PortView). passed_to u u.number) is
+
+    took-popped : line_taken old ≡ p.popped
+    took-popped = ap line_taken was ∙ sym (get_or-map line_taken lines to old [] within) ∙ ap (λ (n : ℕ). slice_index_or (map line_taken lines) n []) mine ∙ ap (λ (u : PortView). u.popped) is
+
+    low-is : (line_view old).low ≡ p.number
+    low-is = here.low ∙ ap (λ (u : PortView). u.number) is
+
+    pub port-none : Owns (line_view old) [] → sent_by p.number p.taken ≡ sent_to p p.number
+    port-none e = all-taken p kept (subst (λ (y : ℕ × List Item × List Item). sent_by y.0 y.1 ≡ y.2) (λ j. (low-is j, (append-nil (line_taken old) ∙ took-popped) j, took-passed j)) e)
+
+    module _ (x : Load) (next : IsNext (line_view old) x) where
+      begins : Begins (sent_by (load_from x) (p.popped ++ items_in x)) next.0
+      begins = subst (λ l. Begins (sent_by (load_from x) (l ++ items_in x)) next.0) took-popped next.4
+
+      same-list : load_from x ≡ p.number → next.0 ≡ passed_to p p.number
+      same-list e = next.5 (e ∙ sym low-is) ∙ took-passed
+
+      terms-is : (line_view old).terms ≡ terms_of (length p.lanes) to p.sizes
+      terms-is = here.terms ∙ (λ j. terms_of ((sym (length-map lines line_on) ∙ ap (λ (u : PortView). length u.lanes) is) j) to (is j).sizes)
+
+      pub port-taken : IsTaken p x
+      port-taken = taken-next p kept x next.0 next.1 (subst (λ (t : Terms). load_from x < t.workers) terms-is next.2) (subst (λ (t : Terms). IsFair (scope t) next.0) terms-is next.3) begins same-list
+
+      pub port-kept : IsKept (has_taken p x)
+      port-kept = kept-take p kept x (λ e. subst (λ (y : ℕ × List Item). Begins (sent_by y.0 (p.popped ++ items_in x)) y.1) (λ j. (e j, same-list e j)) begins)
+
+      pub port-took : (own' taken' : List Item) → line_view new ≡ port (line_view old).terms (line_view old).low (own_sent (line_view old)) ((line_view old).taken ++ items_in x) → new.put ≡ old.put → own' ≡ own → taken' ≡ taken ++ items_in x
+          → view_of number sizes (set lines to new) own' taken' ≡ has_taken p x
+      port-took own' taken' e put a b = taken-view number to sizes lines old new within was on-old own taken own' taken' x mine (ap own_sent e) (ap (λ (v : View). v.taken) e) put a b ∙ ap (λ u. has_taken u x) is
 
 -- ---- a port of these lanes
 lane-of : (lanes : List Lane) (i : ℕ) (lane : Lane) → i < length lanes → lane ≡ get_or lanes i lane → slice_index_or (map (λ (q : SegId Global). Some q) (map (λ (x : Lane). x.queue) lanes)) i None ≡ Some lane.queue
@@ -177,41 +191,24 @@ pub port-long : (l : LanesView) (p : PortView) → IsPortOf l p → length p.lan
 port-long l p of = ap (λ xs. length xs) of.0 ∙ length-map l.lanes (λ q. Some q)
 
 -- what was taken in its turn is of no closed level
-pub taken-open : (l : LanesView) (p : PortView) (r : Option Item) (A : Type 0) (B : Item → Type 0) → IsPortOf l p → MatchOption r A (λ x. B x × IsTaken p x) → IfSome r (IsOpen (lanes_scope l) p.taken)
+open-asks : (w : Scope) (s : ℕ) (asks : List (ℕ × Key)) (taken sent : List Item) → s < w.workers → IsFair w sent → Begins (sent_by s (taken ++ map (ask_of s) asks)) sent → All (IsOpen w taken) (map (ask_of s) asks)
+open-asks w s asks taken sent lt fair b = all_of (IsOpen w taken) (map (ask_of s) asks) (λ y h.
+    let t = map_has (ask_of s) asks y h in
+    subst (IsOpen w taken) t.2 (λ closed.
+    let fits : IsFair w (sent_by s taken ++ map (ask_of s) asks) = subst (IsFair w) (sent_by-append s taken (map (ask_of s) asks) ∙ ap (λ l. sent_by s taken ++ l) (load-mine s (Bundle s asks) refl)) (fair-begins w _ sent b fair) in
+    let past = fair_end w 0 (sent_by s taken) s t.0.0 (fair_front w 0 (sent_by s taken) (map (ask_of s) asks) fits) (sent_by_of s taken (item_end s t.0.0) (has_of taken (item_end s t.0.0) (closed s lt)) refl) in
+    let low = fair_asks w s asks (0 + ends (sent_by s taken)) t.0 (fair_back w 0 (sent_by s taken) (map (ask_of s) asks) fits) t.1 in
+    omega (arith, past, low)))
+  where
+    fair_asks : (w : Scope) (s : ℕ) (asks : List (ℕ × Key)) (e : ℕ) (a : ℕ × Key) → IsFairFrom w e (map (ask_of s) asks) → Has asks a → e ≤ a.0
+    fair_asks w s [] e a f h = absurd h
+    fair_asks w s (b ∷ more) e a f h = ⊎_elim (λ (q : b ≡ a). subst (λ (z : ℕ × Key). e ≤ z.0) q f.0.0) (λ (q : Has more a). fair_asks w s more e a f.1 q) h
+
+load-open : (w : Scope) (x : Load) (taken sent : List Item) → load_from x < w.workers → IsFair w sent → Begins (sent_by (load_from x) (taken ++ items_in x)) sent → All (IsOpen w taken) (items_in x)
+load-open w (Bundle from asks) taken sent lt fair b = open-asks w from asks taken sent lt fair b
+load-open w (load_end from level) taken sent lt fair b = all-one (IsOpen w taken) (item_end from level) tt
+
+pub taken-open : (l : LanesView) (p : PortView) (r : Option Load) (A : Type 0) (B : Load → Type 0) → IsPortOf l p → MatchOption r A (λ x. B x × IsTaken p x) → IfSome r (λ x. All (IsOpen (lanes_scope l) p.taken) (items_in x))
 taken-open l p None A B of h = tt
-taken-open l p (Some (End from level)) A B of h = tt
-taken-open l p (Some (Ask from level key)) A B of h = let t = h.1 in λ closed. ask-open (port_scope p) from level key p.taken t.0 t.1 t.2 t.3 (subst (λ k. IsClosed (scope_of k p.sizes) level p.taken) (sym (port-long l p of)) closed)
-
--- the port's fields after it took from its own line: they are those of a port
-took_terms : (v w : View) (r : Option Item)
-    → MatchOption r ((w ≡ v) × Owns v []) (λ x. (w ≡ port v.terms v.low (own_sent v) (v.taken ++ x ∷ [])) × IsNext v x)
-    → (w.terms ≡ v.terms) × (w.low ≡ v.low)
-took_terms v w None e = (ap (λ (u : View). u.terms) e.0, ap (λ (u : View). u.low) e.0)
-took_terms v w (Some x) e = (ap (λ (u : View). u.terms) e.0, ap (λ (u : View). u.low) e.0)
-
-pub took-ok : (number : ℕ) (sizes : Sizes) (lines : List Line) (old new : Line) (q : SegId Global) (r : Option Item)
-    → PortOk number sizes lines → old ≡ get_or lines number old → IsLiveOn q new.hold → IsLine new
-    → MatchOption r ((line_view new ≡ line_view old) × Owns (line_view old) []) (λ x. (line_view new ≡ port (line_view old).terms (line_view old).low (own_sent (line_view old)) ((line_view old).taken ++ x ∷ [])) × IsNext (line_view old) x)
-    → PortOk number sizes (set lines number new)
-took-ok number sizes lines old new q r ok was live line e =
-    let here : LineOk (length lines) number sizes number old = subst (λ l. LineOk (length lines) number sizes number l) (sym was) (ok.each number old ok.within) in
-    let kept = took_terms (line_view old) (line_view new) r e in
-    let there : LineOk (length lines) number sizes number new = record {
-      terms = kept.0 ∙ here.terms;
-      low = kept.1 ∙ here.low;
-      line = line;
-      hand = hand_live q new.hold live;
-      other = λ h. absurd (h refl);
-    } in
-    record {
-      within = subst (λ n. number < n) (sym (length-set lines number new)) ok.within;
-      few = ok.few;
-      each = λ i d lt.
-          let lt' : i < length lines = subst (λ n. i < n) (length-set lines number new) lt in
-          subst (λ n. LineOk n number sizes i (get_or (set lines number new) i d)) (sym (length-set lines number new))
-          (elim (cases_eq i number) [
-            | inl same ↦ subst (λ k. LineOk (length lines) number sizes k (get_or (set lines number new) k d)) (sym same)
-                (subst (λ l. LineOk (length lines) number sizes number l) (sym (get_or-set_same lines number new d ok.within)) there)
-            | inr apart ↦ subst (λ l. LineOk (length lines) number sizes i l) (sym (get_or-set_other lines number i new d apart)) (ok.each i d lt')
-          ]);
-    }
+taken-open l p (Some x) A B of h = let t = h.1 in
+    subst (λ n. All (IsOpen (scope_of n p.sizes) p.taken) (items_in x)) (port-long l p of) (load-open (port_scope p) x p.taken t.0 t.2 t.3 t.4)

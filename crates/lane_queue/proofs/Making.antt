@@ -5,6 +5,7 @@ use Rattle.std.proofs.lemmas.List.{get_or-set_same, get_or-set_other, get_or_app
 use Rattle.std.proofs.Math.Seq.{get_or-append_seam}
 use mathlib.Core.Logic.{dite}
 use native.Mathlib.Decide.{ℕ_discrete}
+use Rattle.req_table.specs.declared.Item.{Item}
 use Rattle.req_table.specs.declared.Sizes.{Sizes}
 use Rattle.lane_queue.specs.declared.rule.Lane.{Lane}
 use Rattle.lane_queue.specs.declared.make.Root.{Root}
@@ -16,7 +17,8 @@ use Rattle.lane_queue.specs.Rule.{blank, issuer, port, own_sent, IsPort}
 use Rattle.req_table.specs.Lanes.{ends}
 use Rattle.lane_queue.proofs.Lines.{on_live, hand_live}
 use Rattle.lane_queue.specs.Line.{line_view, IsLiveOn}
-use Rattle.lane_queue.specs.Ports.{terms_of, line_on, line_sent, line_taken, PortOk, view_of}
+use Rattle.lane_queue.specs.Ports.{terms_of, line_on, line_sent, line_taken, line_put, PortOk, view_of}
+use Rattle.lane_queue.specs.PortView.{IsKept}
 use Rattle.lane_queue.specs.Make.{RootOk, RootsOk, NewLine, NewLines, new_port}
 
 -- whatever stands for an element past the end
@@ -139,13 +141,13 @@ module _ (workers number : ℕ) (sizes : Sizes) (lanes : List Lane) (lines : Lis
     each = λ i d less. let d' : Lane = element lanes i (omega arith) in let h = n.1 i d' d (omega arith) in let v = h.1 in record {
       terms = ap (λ (u : View). u.terms) v ∙ ap (λ m. terms_of m i sizes) (sym long ∙ sym z);
       low = ap (λ (u : View). u.low) v;
-      line = (subst IsPort (sym v) refl, h.2 ∙ ap (λ (u : View). ends (own_sent u)) (sym v), h.3 ∙ ap (λ (u : View). length (own_sent u)) (sym v));
+      line = (subst IsPort (sym v) refl, h.2 ∙ ap (λ (u : View). ends (own_sent u)) (sym v));
       hand = hand_live (get_or lanes i d').queue (get_or lines i d).hold h.0;
       other = λ _. ap (λ (u : View). u.taken) v;
     };
   }
 
-  pub new-view : view_of number sizes lines ≡ new_port number sizes (map (λ (x : Lane). x.queue) lanes)
+  pub new-view : view_of number sizes lines [] [] ≡ new_port number sizes (map (λ (x : Lane). x.queue) lanes)
   new-view = let z = n.0 in
       let a : map line_on lines ≡ map (λ (q : SegId Global). Some q) (map (λ (x : Lane). x.queue) lanes) =
       map-both line_on (λ (x : Lane). Some x.queue) lines lanes z (λ i d e less. on_live (get_or lanes i e).queue (get_or lines i d).hold (n.1 i e d less).0)
@@ -153,6 +155,28 @@ module _ (workers number : ℕ) (sizes : Sizes) (lanes : List Lane) (lines : Lis
       let s : map line_sent lines ≡ map (λ (q : SegId Global). []) (map (λ (x : Lane). x.queue) lanes) =
       map-both line_sent (λ (x : Lane). []) lines lanes z (λ i d e less. ap own_sent (n.1 i e d less).1)
       ∙ sym (map-twice (λ (x : Lane). x.queue) (λ (q : SegId Global). []) lanes) in
+      let p : map line_put lines ≡ map (λ (q : SegId Global). 0) (map (λ (x : Lane). x.queue) lanes) =
+      map-both line_put (λ (x : Lane). 0) lines lanes z (λ i d e less. (n.1 i e d less).3)
+      ∙ sym (map-twice (λ (x : Lane). x.queue) (λ (q : SegId Global). 0) lanes) in
       let d : Line = element lines number (omega arith) in let d' : Lane = element lanes number (omega arith) in
       let t : slice_index_or (map line_taken lines) number [] ≡ [] = get_or-map line_taken lines number d [] (omega arith) ∙ ap (λ (u : View). u.taken) (n.1 number d' d (omega arith)).1 in
-      λ j. record { number = number; lanes = a j; sizes = sizes; sent = s j; taken = t j }
+      λ j. record { number = number; lanes = a j; sizes = sizes; passed = s j; put = p j; popped = t j; own = []; taken = [] }
+
+-- a port that has sent and taken nothing has kept nothing
+abbrev no-items : List Item
+no-items = []
+
+none-sent : {A : Type 0} (xs : List A) (i : ℕ) → slice_index_or (map (λ (q : A). no-items) xs) i [] ≡ []
+none-sent [] i = refl
+none-sent (x ∷ xs) zero = refl
+none-sent (x ∷ xs) (suc i) = none-sent xs i
+
+pub new-kept : (number : ℕ) (sizes : Sizes) (lanes : List (SegId Global)) → IsKept (new_port number sizes lanes)
+new-kept number sizes lanes = let none : slice_index_or (map (λ (q : SegId Global). no-items) lanes) number [] ≡ [] = none-sent lanes number in record {
+  fair = tt;
+  ended = ap ends (sym none);
+  others = λ o n. refl;
+  under_way = [];
+  all = refl;
+  through = none;
+}

@@ -12,11 +12,13 @@ use Rattle.crossbeam_queue.proofs.Lists.{at_set, set_here, set_else}
 use Rattle.req_table.specs.declared.Item.{Item}
 use Rattle.lane_queue.specs.declared.rule.Terms.{Terms}
 use Rattle.lane_queue.specs.declared.rule.View.{View}
-use Rattle.req_table.specs.Lanes.{from_of, sent_by, ends, MayFollow, IsFair, LaneLaw}
+use Rattle.req_table.specs.Lanes.{from_of, sent_by, ends, IsFair, LaneLaw}
+use Rattle.lane_queue.specs.declared.load.Load.{Load}
+use Rattle.lane_queue.specs.Loads.{load_from, items_in, flat, Carries, MayFollowAll}
 use Rattle.lane_queue.specs.Lists.{FairLane}
-use Rattle.lane_queue.specs.Rule.{scope, blank, port, Has, sent_of, Fits, Ruled, Kept, Sends, IsNext, Takes, Owns}
+use Rattle.lane_queue.specs.Rule.{scope, blank, port, Has, sent_of, Fits, Ruled, Kept, Holds, Sends, IsNext, Takes, Owns}
 use Rattle.req_table.proofs.Fair.{sent_by-append}
-use Rattle.lane_queue.proofs.Facts.{fair-push, all-one, all-at, of-mine, of-other, law-along}
+use Rattle.lane_queue.proofs.Facts.{fair-more, all-one, all-front, all-back, load-mine, load-other, from-load, load-from, flat-push, law-along}
 
 -- ---- views by number
 pub there : (views : List View) (i : ℕ) (v : View) → get_elem? views i ≡ some v → i < length views
@@ -87,42 +89,49 @@ own_list c s p sent taken e = let z : p - s ≡ 0 = omega arith in ap (λ n. sli
 pub own : (c : Terms) (s : ℕ) (sent taken : List Item) (items : List Item) (views : List View) (i : ℕ) (r : Ruled items views) → get_elem? views i ≡ some (port c s sent taken) → Fits r.c r.seat r.sent r.taken r.left i (port c s sent taken) s
 own c s sent taken items views i r at = r.fits i (port c s sent taken) s at (lone c s sent taken)
 
--- ---- send: an item behind the port's list and behind the lane
-pub push_step : (i : ℕ) (c : Terms) (s : ℕ) (sent taken : List Item) (x : Item) (items : List Item) (views : List View) → from_of x ≡ s → MayFollow (scope c) (ends sent) x
-    → (r : Ruled items views) → get_elem? views i ≡ some (port c s sent taken) → Ruled (items ++ x ∷ []) (set views i (port c s (sent ++ x ∷ []) taken))
-push_step i c s sent taken x items views mine may r at = let v = port c s sent taken in let w = port c s (sent ++ x ∷ []) taken in
+-- ---- send: what a load carries behind the port's list and behind the lane
+pub push_step : (i : ℕ) (c : Terms) (s : ℕ) (sent taken : List Item) (x : Load) (items : List Item) (views : List View) → load_from x ≡ s → MayFollowAll (scope c) (ends sent) x
+    → (r : Ruled items views) → get_elem? views i ≡ some (port c s sent taken) → Ruled (items ++ items_in x) (set views i (port c s (sent ++ items_in x) taken))
+push_step i c s sent taken x items views mine may r at = let v = port c s sent taken in let xs = items_in x in let w = port c s (sent ++ xs) taken in
     let f = own c s sent taken items views i r at in
     let is : sent ≡ r.sent s = sym (own_list c s s sent taken refl) ∙ f.sends in
-    let sent' : ℕ → List Item = λ p. r.sent p ++ sent_by p (x ∷ []) in
-    let whole : (r.taken ++ (r.left ++ items)) ++ x ∷ [] ≡ r.taken ++ (r.left ++ (items ++ x ∷ [])) = append_assoc r.taken (r.left ++ items) (x ∷ []) ∙ ap (λ l. r.taken ++ l) (append_assoc r.left items (x ∷ [])) in
-    let bound : from_of x < r.c.workers = subst (λ n. n < r.c.workers) (sym mine) f.within in
-    let law : LaneLaw (scope r.c) sent' r.taken (r.left ++ (items ++ x ∷ [])) = record {
+    let sent' : ℕ → List Item = λ p. r.sent p ++ sent_by p xs in
+    let whole : (r.taken ++ (r.left ++ items)) ++ xs ≡ r.taken ++ (r.left ++ (items ++ xs)) = append_assoc r.taken (r.left ++ items) xs ∙ ap (λ l. r.taken ++ l) (append_assoc r.left items xs) in
+    let bound : load_from x < r.c.workers = subst (λ n. n < r.c.workers) (sym mine) f.within in
+    let law : LaneLaw (scope r.c) sent' r.taken (r.left ++ (items ++ xs)) = record {
       senders = subst (λ (l : List Item). All (λ y. from_of y < r.c.workers) l) whole
-          (All-append (λ y. from_of y < r.c.workers) (r.taken ++ (r.left ++ items)) (x ∷ []) r.law.senders (all-one (λ y. from_of y < r.c.workers) x bound));
-      in_order = λ p lt. ap (sent_by p) (sym whole) ∙ sent_by-append p (r.taken ++ (r.left ++ items)) (x ∷ []) ∙ ap (λ l. l ++ sent_by p (x ∷ [])) (r.law.in_order p lt);
+          (All-append (λ y. from_of y < r.c.workers) (r.taken ++ (r.left ++ items)) xs r.law.senders (from-load r.c.workers x bound));
+      in_order = λ p lt. ap (sent_by p) (sym whole) ∙ sent_by-append p (r.taken ++ (r.left ++ items)) xs ∙ ap (λ l. l ++ sent_by p xs) (r.law.in_order p lt);
     } in
     let fair : FairLane (scope r.c) sent' = λ p lt.
-    dite (ℕ_discrete (from_of x) p)
+    dite (ℕ_discrete (load_from x) p)
     (λ e. let q : s ≡ p = sym mine ∙ e in
-    subst (IsFair (scope r.c)) (ap (λ l. l ++ x ∷ []) (is ∙ ap r.sent q) ∙ ap (λ l. r.sent p ++ l) (sym (of-mine p x [] e)))
-    (fair-push (scope r.c) sent x (subst (IsFair (scope r.c)) (sym (is ∙ ap r.sent q)) (r.fair p lt)) (subst (λ (t : Terms). MayFollow (scope t) (ends sent) x) f.terms may)))
-    (λ n. subst (IsFair (scope r.c)) (sym (ap (λ l. r.sent p ++ l) (of-other p x [] n) ∙ append-nil (r.sent p))) (r.fair p lt)) in
-    step items (items ++ x ∷ []) views i v w r at refl refl refl sent' r.taken r.left law fair
-    (λ p away. ap (λ l. r.sent p ++ l) (of-other p x [] (λ e. away (ap r.seat (sym (sym mine ∙ e)) ∙ f.seated))) ∙ append-nil (r.sent p))
+    subst (IsFair (scope r.c)) (ap (λ l. l ++ xs) (is ∙ ap r.sent q) ∙ ap (λ l. r.sent p ++ l) (sym (load-mine p x e)))
+    (fair-more (scope r.c) sent x (subst (IsFair (scope r.c)) (sym (is ∙ ap r.sent q)) (r.fair p lt)) (subst (λ (t : Terms). MayFollowAll (scope t) (ends sent) x) f.terms may)))
+    (λ n. subst (IsFair (scope r.c)) (sym (ap (λ l. r.sent p ++ l) (load-other p x n) ∙ append-nil (r.sent p))) (r.fair p lt)) in
+    step items (items ++ xs) views i v w r at refl refl refl sent' r.taken r.left law fair
+    (λ p away. ap (λ l. r.sent p ++ l) (load-other p x (λ e. away (ap r.seat (sym (sym mine ∙ e)) ∙ f.seated))) ∙ append-nil (r.sent p))
     (λ _. (refl, refl))
-    (λ p has. let q : p ≡ s = only c s p (sent ++ x ∷ []) taken has in record {
+    (λ p has. let q : p ≡ s = only c s p (sent ++ xs) taken has in record {
       terms = f.terms;
       within = subst (λ n. n < r.c.workers) (sym q) f.within;
       seated = ap r.seat q ∙ f.seated;
-      sends = own_list c s p (sent ++ x ∷ []) taken q ∙ ap (λ l. l ++ x ∷ []) (is ∙ ap r.sent (sym q)) ∙ ap (λ l. r.sent p ++ l) (sym (of-mine p x [] (mine ∙ sym q)));
+      sends = own_list c s p (sent ++ xs) taken q ∙ ap (λ l. l ++ xs) (is ∙ ap r.sent (sym q)) ∙ ap (λ l. r.sent p ++ l) (sym (load-mine p x (mine ∙ sym q)));
       takes = λ o. f.takes (sym q ∙ o);
     })
 
-pub pushes : (n i : ℕ) (c : Terms) (s : ℕ) (sent taken : List Item) (x : Item) → from_of x ≡ s → MayFollow (scope c) (ends sent) x → Pushes Kept n i (port c s sent taken) x (Sends (port c s sent taken) x)
-pushes n i c s sent taken x mine may items views room h at =
-    (port c s (sent ++ x ∷ []) taken, inr (push_step i c s sent taken x items views mine may (ruled items views i (port c s sent taken) h at refl) at), refl)
+pub pushes : (n i : ℕ) (c : Terms) (s : ℕ) (sent taken : List Item) (x : Load) → Carries x → load_from x ≡ s → MayFollowAll (scope c) (ends sent) x → Pushes Holds n i (port c s sent taken) x (Sends (port c s sent taken) x)
+pushes n i c s sent taken x carries mine may loads views room h at =
+    let w = port c s (sent ++ items_in x) taken in (
+      w,
+      (
+        All-append Carries loads (x ∷ []) h.0 (all-one Carries x carries),
+        inr (subst (λ (l : List Item). Ruled l (set views i w)) (sym (flat-push loads x)) (push_step i c s sent taken x (flat loads) views mine may (ruled (flat loads) views i (port c s sent taken) h.1 at refl) at)),
+      ),
+      refl,
+    )
 
--- ---- take: the front of the lane behind what the owner took
+-- ---- take: what the front of the lane carries behind what the owner took
 -- what the queue holds behind the owner's list, where nothing was read out
 front_is : (c : Terms) (s : ℕ) (sent taken : List Item) (items : List Item) (views : List View) (i : ℕ) (r : Ruled items views) → s ≡ c.owner → get_elem? views i ≡ some (port c s sent taken)
     → (taken ≡ r.taken) × ([] ≡ r.left)
@@ -131,45 +140,51 @@ front_is c s sent taken items views i r mine at = let f = own c s sent taken ite
 pub along : (r_taken r_left taken items : List Item) → (taken ≡ r_taken) × ([] ≡ r_left) → r_taken ++ (r_left ++ items) ≡ taken ++ items
 along r_taken r_left taken items t = λ k. (sym t.0) k ++ ((sym t.1) k ++ items)
 
-pub take_step : (i : ℕ) (c : Terms) (s : ℕ) (sent taken : List Item) (x : Item) (items : List Item) (views : List View) → s ≡ c.owner
-    → (r : Ruled (x ∷ items) views) → get_elem? views i ≡ some (port c s sent taken) → Ruled items (set views i (port c s sent (taken ++ x ∷ [])))
-take_step i c s sent taken x items views mine r at = let v = port c s sent taken in let w = port c s sent (taken ++ x ∷ []) in
-    let f = own c s sent taken (x ∷ items) views i r at in
-    let t = front_is c s sent taken (x ∷ items) views i r mine at in
-    let whole : r.taken ++ (r.left ++ (x ∷ items)) ≡ (taken ++ x ∷ []) ++ ([] ++ items) = along r.taken r.left taken (x ∷ items) t ∙ sym (append_assoc taken (x ∷ []) items) in
-    let law : LaneLaw (scope r.c) r.sent (taken ++ x ∷ []) ([] ++ items) = law-along (scope r.c) r.sent r.taken (r.left ++ (x ∷ items)) (taken ++ x ∷ []) ([] ++ items) whole r.law in
-    step (x ∷ items) items views i v w r at refl refl refl r.sent (taken ++ x ∷ []) [] law r.fair
+pub take_step : (i : ℕ) (c : Terms) (s : ℕ) (sent taken xs items : List Item) (views : List View) → s ≡ c.owner
+    → (r : Ruled (xs ++ items) views) → get_elem? views i ≡ some (port c s sent taken) → Ruled items (set views i (port c s sent (taken ++ xs)))
+take_step i c s sent taken xs items views mine r at = let v = port c s sent taken in let w = port c s sent (taken ++ xs) in
+    let f = own c s sent taken (xs ++ items) views i r at in
+    let t = front_is c s sent taken (xs ++ items) views i r mine at in
+    let whole : r.taken ++ (r.left ++ (xs ++ items)) ≡ (taken ++ xs) ++ ([] ++ items) = along r.taken r.left taken (xs ++ items) t ∙ sym (append_assoc taken xs items) in
+    let law : LaneLaw (scope r.c) r.sent (taken ++ xs) ([] ++ items) = law-along (scope r.c) r.sent r.taken (r.left ++ (xs ++ items)) (taken ++ xs) ([] ++ items) whole r.law in
+    step (xs ++ items) items views i v w r at refl refl refl r.sent (taken ++ xs) [] law r.fair
     (λ p _. refl)
     (λ away. absurd (away (ap r.seat (sym (mine ∙ ap (λ (t : Terms). t.owner) f.terms)) ∙ f.seated)))
-    (λ p has. let q : p ≡ s = only c s p sent (taken ++ x ∷ []) has in record {
+    (λ p has. let q : p ≡ s = only c s p sent (taken ++ xs) has in record {
       terms = f.terms;
       within = subst (λ n. n < r.c.workers) (sym q) f.within;
       seated = ap r.seat q ∙ f.seated;
-      sends = own_list c s p sent (taken ++ x ∷ []) q ∙ sym (own_list c s s sent taken refl) ∙ f.sends ∙ ap r.sent (sym q);
+      sends = own_list c s p sent (taken ++ xs) q ∙ sym (own_list c s s sent taken refl) ∙ f.sends ∙ ap r.sent (sym q);
       takes = λ o. (refl, refl);
     })
 
-pub next_is : (i : ℕ) (c : Terms) (s : ℕ) (sent taken : List Item) (x : Item) (items : List Item) (views : List View) → s ≡ c.owner
-    → (r : Ruled (x ∷ items) views) → get_elem? views i ≡ some (port c s sent taken) → IsNext (port c s sent taken) x
-next_is i c s sent taken x items views mine r at =
-    let f = own c s sent taken (x ∷ items) views i r at in
-    let t = front_is c s sent taken (x ∷ items) views i r mine at in
-    let whole : r.taken ++ (r.left ++ (x ∷ items)) ≡ (taken ++ x ∷ []) ++ items = along r.taken r.left taken (x ∷ items) t ∙ sym (append_assoc taken (x ∷ []) items) in
-    let lt : from_of x < r.c.workers = all-at (λ y. from_of y < r.c.workers) taken x items (subst (λ (l : List Item). All (λ y. from_of y < r.c.workers) l) (along r.taken r.left taken (x ∷ items) t) r.law.senders) in (
-      r.sent (from_of x),
-      subst (λ (t : Terms). from_of x < t.workers) (sym f.terms) lt,
-      subst (λ (t : Terms). IsFair (scope t) (r.sent (from_of x))) (sym f.terms) (r.fair (from_of x) lt),
-      (sent_by (from_of x) items, sym (r.law.in_order (from_of x) lt) ∙ ap (sent_by (from_of x)) whole ∙ sent_by-append (from_of x) (taken ++ x ∷ []) items),
+pub next_is : (i : ℕ) (c : Terms) (s : ℕ) (sent taken : List Item) (x : Load) (items : List Item) (views : List View) → Carries x → s ≡ c.owner
+    → (r : Ruled (items_in x ++ items) views) → get_elem? views i ≡ some (port c s sent taken) → IsNext (port c s sent taken) x
+next_is i c s sent taken x items views carries mine r at = let xs = items_in x in
+    let f = own c s sent taken (xs ++ items) views i r at in
+    let t = front_is c s sent taken (xs ++ items) views i r mine at in
+    let whole : r.taken ++ (r.left ++ (xs ++ items)) ≡ (taken ++ xs) ++ items = along r.taken r.left taken (xs ++ items) t ∙ sym (append_assoc taken xs items) in
+    let senders : All (λ y. from_of y < r.c.workers) (taken ++ (xs ++ items)) = subst (λ (l : List Item). All (λ y. from_of y < r.c.workers) l) (along r.taken r.left taken (xs ++ items) t) r.law.senders in
+    let lt : load_from x < r.c.workers = load-from r.c.workers x carries (all-front (λ y. from_of y < r.c.workers) xs items (all-back (λ y. from_of y < r.c.workers) taken (xs ++ items) senders)) in (
+      r.sent (load_from x),
+      carries,
+      subst (λ (t : Terms). load_from x < t.workers) (sym f.terms) lt,
+      subst (λ (t : Terms). IsFair (scope t) (r.sent (load_from x))) (sym f.terms) (r.fair (load_from x) lt),
+      (sent_by (load_from x) items, sym (r.law.in_order (load_from x) lt) ∙ ap (sent_by (load_from x)) whole ∙ sent_by-append (load_from x) (taken ++ xs) items),
       λ q. ap r.sent q ∙ sym f.sends ∙ own_list c s s sent taken refl,
     )
 
-pub pops : (i : ℕ) (c : Terms) (s : ℕ) (sent taken : List Item) → s ≡ c.owner → Pops Kept i (port c s sent taken) (Takes (port c s sent taken))
-pops i c s sent taken mine x items views h at = let r = ruled (x ∷ items) views i (port c s sent taken) h at refl in
-    (port c s sent (taken ++ x ∷ []), inr (take_step i c s sent taken x items views mine r at), (refl, next_is i c s sent taken x items views mine r at))
+pub pops : (i : ℕ) (c : Terms) (s : ℕ) (sent taken : List Item) → s ≡ c.owner → Pops Holds i (port c s sent taken) (Takes (port c s sent taken))
+pops i c s sent taken mine x loads views h at = let r = ruled (flat (x ∷ loads)) views i (port c s sent taken) h.1 at refl in
+    let carries : Carries x = h.0 0 x (omega arith) in (
+      port c s sent (taken ++ items_in x),
+      ((λ k d lt. h.0 (suc k) d (omega arith)), inr (take_step i c s sent taken (items_in x) (flat loads) views mine r at)),
+      (refl, next_is i c s sent taken x (flat loads) views carries mine r at),
+    )
 
 -- what an owner learns of the lane's content
-pub owns : (i : ℕ) (c : Terms) (s : ℕ) (sent taken : List Item) → s ≡ c.owner → Learns Kept i (port c s sent taken) (Owns (port c s sent taken))
-owns i c s sent taken mine items views h at = let r = ruled items views i (port c s sent taken) h at refl in
+pub owns : (i : ℕ) (c : Terms) (s : ℕ) (sent taken : List Item) → s ≡ c.owner → Learns Holds i (port c s sent taken) (Owns (port c s sent taken))
+owns i c s sent taken mine loads views h at = let items = flat loads in let r = ruled items views i (port c s sent taken) h.1 at refl in
     let f = own c s sent taken items views i r at in
     let t = front_is c s sent taken items views i r mine at in
     ap (sent_by s) (sym (along r.taken r.left taken items t)) ∙ r.law.in_order s f.within ∙ sym f.sends ∙ own_list c s s sent taken refl

@@ -13,7 +13,8 @@ use Rattle.req_table.specs.declared.Item.{Item}
 use Rattle.lane_queue.specs.declared.rule.Terms.{Terms}
 use Rattle.lane_queue.specs.declared.rule.View.{View}
 use Rattle.req_table.specs.Lanes.{HasSenders, from_of, IsFair, LaneLaw}
-use Rattle.lane_queue.specs.Rule.{scope, blank, spent, issuer, joined, port, Has, sent_of, Fits, Ruled, Kept, Reads, Whole}
+use Rattle.lane_queue.specs.Rule.{scope, blank, spent, issuer, joined, port, Has, sent_of, Fits, Ruled, Holds, Reads, Whole}
+use Rattle.lane_queue.specs.Loads.{items_in, flat}
 use Rattle.lane_queue.proofs.Facts.{law-along}
 use Rattle.lane_queue.proofs.Moves.{there, same_there, ruled, step, only, own_list, own}
 
@@ -76,11 +77,11 @@ begins c lt owned = record {
   fits = begins_fits c lt;
 }
 
-pub issues_first : (i : ℕ) (c : Terms) → 0 < c.workers → c.owner < c.workers → Forks Kept i blank (issuer c 1) (port c 0 [] [])
-issues_first i c lt owned items views h at = ⊎_elim
+pub issues_first : (i : ℕ) (c : Terms) → 0 < c.workers → c.owner < c.workers → Forks Holds i blank (issuer c 1) (port c 0 [] [])
+issues_first i c lt owned loads views h at = let items = flat loads in (h.0, ⊎_elim
     (λ (x : (items ≡ []) × (views ≡ blank ∷ [])). inr (subst (λ (y : List Item × List View). Ruled y.0 y.1) (λ k. (sym x.0 k, sym (first_views i views (issuer c 1) (port c 0 [] []) x.1 at) k)) (begins c lt owned)))
     (λ (r : Ruled items views). absurd (true≢false (sym (r.begun i blank at))))
-    h
+    h.1)
 
 -- ---- the next port
 pub issue_step : (i : ℕ) (c : Terms) (low : ℕ) (items : List Item) (views : List View) → low < c.workers → (r : Ruled items views) → get_elem? views i ≡ some (issuer c low)
@@ -129,8 +130,8 @@ issue_step i c low items views lt r at = let l = issuer c (low + 1) in let w = p
           (snoc_at vs w u j e);
     }
 
-pub issues : (i : ℕ) (c : Terms) (low : ℕ) → low < c.workers → Forks Kept i (issuer c low) (issuer c (low + 1)) (port c low [] [])
-issues i c low lt items views h at = inr (issue_step i c low items views lt (ruled items views i (issuer c low) h at refl) at)
+pub issues : (i : ℕ) (c : Terms) (low : ℕ) → low < c.workers → Forks Holds i (issuer c low) (issuer c (low + 1)) (port c low [] [])
+issues i c low lt loads views h at = (h.0, inr (issue_step i c low (flat loads) views lt (ruled (flat loads) views i (issuer c low) h.1 at refl) at))
 
 -- ---- a port is joined to those below it
 -- the ports below j
@@ -203,10 +204,10 @@ merge_step i c j lists taken other sent more items views long theirs mine r at a
 
 pub merges : (i : ℕ) (c : Terms) (j : ℕ) (lists : List (List Item)) (taken : List Item) (other : ℕ) (sent more : List Item)
     → length lists ≡ j → (j ≢ c.owner → more ≡ []) → ((c.owner < j → ⊥) → taken ≡ [])
-    → Merges Kept i (joined c j lists taken []) other (port c j sent more) (joined c (j + 1) (lists ++ sent ∷ []) (taken ++ more) []) spent
-merges i c j lists taken other sent more long theirs mine items views h at apart that =
+    → Merges Holds i (joined c j lists taken []) other (port c j sent more) (joined c (j + 1) (lists ++ sent ∷ []) (taken ++ more) []) spent
+merges i c j lists taken other sent more long theirs mine loads views h at apart that =
     let both = joined c (j + 1) (lists ++ sent ∷ []) (taken ++ more) [] in
-    inr (merge_step i c j lists taken other sent more items views long theirs mine (ruled items views i (joined c j lists taken []) h at refl) at apart (sym (set_else views i other both apart) ∙ that))
+    (h.0, inr (merge_step i c j lists taken other sent more (flat loads) views long theirs mine (ruled (flat loads) views i (joined c j lists taken []) h.1 at refl) at apart (sym (set_else views i other both apart) ∙ that)))
 
 -- ---- the last read
 -- what a view of all ports knows
@@ -214,26 +215,29 @@ all_ports : (i : ℕ) (c : Terms) (lists : List (List Item)) (taken left : List 
     → (p : ℕ) → p < c.workers → Fits r.c r.seat r.sent r.taken r.left i (joined c c.workers lists taken left) p
 all_ports i c lists taken left items views r at p lt = r.fits i (joined c c.workers lists taken left) p at (omega arith, lt)
 
-pub read_step : (i : ℕ) (c : Terms) (lists : List (List Item)) (taken left : List Item) (x : Item) (items : List Item) (views : List View) → c.owner < c.workers
-    → (r : Ruled (x ∷ items) views) → get_elem? views i ≡ some (joined c c.workers lists taken left) → Ruled items (set views i (joined c c.workers lists taken (left ++ x ∷ [])))
-read_step i c lists taken left x items views lt r at = let v = joined c c.workers lists taken left in let w = joined c c.workers lists taken (left ++ x ∷ []) in
-    let f = all_ports i c lists taken left (x ∷ items) views r at in
+pub read_step : (i : ℕ) (c : Terms) (lists : List (List Item)) (taken left xs items : List Item) (views : List View) → c.owner < c.workers
+    → (r : Ruled (xs ++ items) views) → get_elem? views i ≡ some (joined c c.workers lists taken left) → Ruled items (set views i (joined c c.workers lists taken (left ++ xs)))
+read_step i c lists taken left xs items views lt r at = let v = joined c c.workers lists taken left in let w = joined c c.workers lists taken (left ++ xs) in
+    let f = all_ports i c lists taken left (xs ++ items) views r at in
     let o : c.owner ≡ r.c.owner = ap (λ (t : Terms). t.owner) (f c.owner lt).terms in
     let t = (f c.owner lt).takes o in
-    let whole : r.taken ++ (r.left ++ (x ∷ items)) ≡ taken ++ ((left ++ x ∷ []) ++ items) = (λ k. (sym t.0) k ++ ((sym t.1) k ++ (x ∷ items))) ∙ ap (λ l. taken ++ l) (sym (append_assoc left (x ∷ []) items)) in
-    let law : LaneLaw (scope r.c) r.sent taken ((left ++ x ∷ []) ++ items) = law-along (scope r.c) r.sent r.taken (r.left ++ (x ∷ items)) taken ((left ++ x ∷ []) ++ items) whole r.law in
-    step (x ∷ items) items views i v w r at refl refl refl r.sent taken (left ++ x ∷ []) law r.fair
+    let whole : r.taken ++ (r.left ++ (xs ++ items)) ≡ taken ++ ((left ++ xs) ++ items) = (λ k. (sym t.0) k ++ ((sym t.1) k ++ (xs ++ items))) ∙ ap (λ l. taken ++ l) (sym (append_assoc left (xs) items)) in
+    let law : LaneLaw (scope r.c) r.sent taken ((left ++ xs) ++ items) = law-along (scope r.c) r.sent r.taken (r.left ++ (xs ++ items)) taken ((left ++ xs) ++ items) whole r.law in
+    step (xs ++ items) items views i v w r at refl refl refl r.sent taken (left ++ xs) law r.fair
     (λ p _. refl)
     (λ away. absurd (away (ap r.seat (sym o) ∙ (f c.owner lt).seated)))
     (λ p has. let g = f p has.1 in record { terms = g.terms; within = g.within; seated = g.seated; sends = g.sends; takes = λ _. (refl, refl) })
 
-pub reads : (i : ℕ) (c : Terms) (lists : List (List Item)) (taken left : List Item) → c.owner < c.workers → Pops Kept i (joined c c.workers lists taken left) (Reads (joined c c.workers lists taken left))
-reads i c lists taken left lt x items views h at =
-    (joined c c.workers lists taken (left ++ x ∷ []), inr (read_step i c lists taken left x items views lt (ruled (x ∷ items) views i (joined c c.workers lists taken left) h at refl) at), refl)
+pub reads : (i : ℕ) (c : Terms) (lists : List (List Item)) (taken left : List Item) → c.owner < c.workers → Pops Holds i (joined c c.workers lists taken left) (Reads (joined c c.workers lists taken left))
+reads i c lists taken left lt x loads views h at = (
+  joined c c.workers lists taken (left ++ items_in x),
+  ((λ k d less. h.0 (suc k) d (omega arith)), inr (read_step i c lists taken left (items_in x) (flat loads) views lt (ruled (flat (x ∷ loads)) views i (joined c c.workers lists taken left) h.1 at refl) at)),
+  refl,
+)
 
 -- once all ports are joined the law is known
-pub wholes : (i : ℕ) (c : Terms) (lists : List (List Item)) (taken left : List Item) → c.owner < c.workers → Learns Kept i (joined c c.workers lists taken left) (Whole (joined c c.workers lists taken left))
-wholes i c lists taken left lt items views h at = let r = ruled items views i (joined c c.workers lists taken left) h at refl in
+pub wholes : (i : ℕ) (c : Terms) (lists : List (List Item)) (taken left : List Item) → c.owner < c.workers → Learns Holds i (joined c c.workers lists taken left) (Whole (joined c c.workers lists taken left))
+wholes i c lists taken left lt loads views h at = let items = flat loads in let r = ruled items views i (joined c c.workers lists taken left) h.1 at refl in
     let f = all_ports i c lists taken left items views r at in
     let o : c.owner ≡ r.c.owner = ap (λ (t : Terms). t.owner) (f c.owner lt).terms in
     let t = (f c.owner lt).takes o in

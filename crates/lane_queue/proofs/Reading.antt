@@ -8,6 +8,8 @@ use native.Mathlib.Decide.{ℕ_discrete}
 use Rattle.crossbeam_queue.specs.SegTies.{IsSegPassOf}
 use Rattle.req_table.specs.declared.Item.{Item}
 use Rattle.req_table.specs.declared.Sizes.{Sizes}
+use Rattle.lane_queue.specs.declared.load.Load.{Load}
+use Rattle.lane_queue.specs.Loads.{flat}
 use Rattle.lane_queue.specs.declared.rule.View.{View}
 use Rattle.lane_queue.specs.declared.rule.Lane.{Lane}
 use Rattle.lane_queue.specs.declared.make.Root.{Root}
@@ -15,17 +17,17 @@ use Rattle.req_table.specs.Sizes.{scope_of}
 use Rattle.req_table.specs.Lanes.{LaneLaw}
 use Rattle.lane_queue.specs.Lists.{FairLane}
 use Rattle.lane_queue.specs.Rule.{scope, joined, IsWhole}
-use Rattle.lane_queue.specs.PortView.{PortView, sent_to}
-use Rattle.lane_queue.specs.Joining.{root_view, retired, whole_view, RootsHave, AreRetired, sent_from, taken_by}
+use Rattle.lane_queue.specs.PortView.{PortView, passed_to}
+use Rattle.lane_queue.specs.Joining.{root_view, retired, whole_view, RootsHave, AreRetired, passed_from, popped_by}
 use Rattle.lane_queue.proofs.Rounds.{Turned, turned-none, turned-more, still}
 use Rattle.lane_queue.proofs.Settling.{map-alike}
 
-pub record Read (workers : ℕ) (sizes : Sizes) (k : ℕ) (ports : List PortView) (roots roots' : List Root) (left : List (List Item)) : Type 0 where
+pub record Read (workers : ℕ) (sizes : Sizes) (k : ℕ) (ports : List PortView) (roots roots' : List Root) (left : List (List Load)) : Type 0 where
   pub turned : Turned k roots roots'
   pub long : length left ≡ k
-  pub law : (i : ℕ) → i < k → LaneLaw (scope_of workers sizes) (sent_from ports i) (taken_by ports i) (slice_index_or left i []) × FairLane (scope_of workers sizes) (sent_from ports i)
+  pub law : (i : ℕ) → i < k → LaneLaw (scope_of workers sizes) (passed_from ports i) (popped_by ports i) (flat (slice_index_or left i [])) × FairLane (scope_of workers sizes) (passed_from ports i)
 
-pub read-none : {X : Type 0} (items : X → List Item) (workers : ℕ) (sizes : Sizes) (ports : List PortView) (roots : List Root) (left : List X) → left ≡ [] → Read workers sizes 0 ports roots roots (map items left)
+pub read-none : {X : Type 0} (items : X → List Load) (workers : ℕ) (sizes : Sizes) (ports : List PortView) (roots : List Root) (left : List X) → left ≡ [] → Read workers sizes 0 ports roots roots (map items left)
 read-none items workers sizes ports roots left e = record { turned = turned-none roots; long = length-map left items ∙ ap (λ l. length l) e; law = λ i lt. absurd (omega arith) }
 
 -- what reading a lane asks and tells, where its pass is as it was
@@ -37,20 +39,20 @@ as-joined workers sizes k lanes ports roots roots' lane root h t lt long at is =
 pub is-whole : (workers : ℕ) (sizes : Sizes) (k : ℕ) (ports : List PortView) (v : View) → length ports ≡ workers → k < workers → v ≡ whole_view workers sizes ports k → IsWhole v × (v.left ≡ [])
 is-whole workers sizes k ports v long lt e = subst (λ (u : View). IsWhole u × (u.left ≡ [])) (sym e) (((λ j. record (whole_view workers sizes ports k) { high = long j }), lt), refl)
 
-pub read-more : {X : Type 0} (items : X → List Item) (workers : ℕ) (sizes : Sizes) (k : ℕ) (ports : List PortView) (roots roots' : List Root) (left left' : List X) (x : X) (v : View) (root : Root)
+pub read-more : {X : Type 0} (items : X → List Load) (workers : ℕ) (sizes : Sizes) (k : ℕ) (ports : List PortView) (roots roots' : List Root) (left left' : List X) (x : X) (v : View) (root : Root)
     → Read workers sizes k ports roots roots' (map items left) → v ≡ whole_view workers sizes ports k
-    → LaneLaw (scope v.terms) (λ s. slice_index_or v.sent s []) v.taken (items x) × FairLane (scope v.terms) (λ s. slice_index_or v.sent s [])
+    → LaneLaw (scope v.terms) (λ s. slice_index_or v.sent s []) v.taken (flat (items x)) × FairLane (scope v.terms) (λ s. slice_index_or v.sent s [])
     → left' ≡ left ++ x ∷ [] → Read workers sizes (k + 1) ports roots (set roots' k root) (map items left')
 read-more items workers sizes k ports roots roots' left left' x v root h e law is =
     let m : map items left' ≡ map items left ++ items x ∷ [] = ap (λ l. map items l) is ∙ map-append items left (x ∷ []) in
-    let here = subst (λ (u : View). LaneLaw (scope u.terms) (λ s. slice_index_or u.sent s []) u.taken (items x) × FairLane (scope u.terms) (λ s. slice_index_or u.sent s [])) e law in
+    let here = subst (λ (u : View). LaneLaw (scope u.terms) (λ s. slice_index_or u.sent s []) u.taken (flat (items x)) × FairLane (scope u.terms) (λ s. slice_index_or u.sent s [])) e law in
     subst (λ l. Read workers sizes (k + 1) ports roots (set roots' k root) l) (sym m) (record {
       turned = turned-more k roots roots' root h.turned;
       long = length-append (map items left) (items x ∷ []) ∙ ap (λ n. n + 1) h.long;
       law = λ i less. dite (ℕ_discrete i k)
           (λ q. let b : items x ≡ slice_index_or (map items left ++ items x ∷ []) i [] = sym (get_or-append_seam (map items left) (items x) [] []) ∙ ap (λ n. slice_index_or (map items left ++ items x ∷ []) n []) (h.long ∙ sym q) in
-          subst (λ (y : ℕ × List Item). LaneLaw (scope_of workers sizes) (sent_from ports y.0) (taken_by ports y.0) y.1 × FairLane (scope_of workers sizes) (sent_from ports y.0)) (λ j. (sym q j, b j)) here)
-          (λ q. let z = h.long in subst (λ l. LaneLaw (scope_of workers sizes) (sent_from ports i) (taken_by ports i) l × FairLane (scope_of workers sizes) (sent_from ports i)) (sym (get_or_append_left (map items left) (items x ∷ []) [] i (omega arith))) (h.law i (omega arith)));
+          subst (λ (y : ℕ × List Load). LaneLaw (scope_of workers sizes) (passed_from ports y.0) (popped_by ports y.0) (flat y.1) × FairLane (scope_of workers sizes) (passed_from ports y.0)) (λ j. (sym q j, b j)) here)
+          (λ q. let z = h.long in subst (λ l. LaneLaw (scope_of workers sizes) (passed_from ports i) (popped_by ports i) (flat l) × FairLane (scope_of workers sizes) (passed_from ports i)) (sym (get_or_append_left (map items left) (items x ∷ []) [] i (omega arith))) (h.law i (omega arith)));
     })
 
 -- ---- a port that gave its passes away has its lists
@@ -60,5 +62,5 @@ have-retired workers sizes ports ports' lanes roots long h r = (
   λ i d e lt. let a = r.1 i d e lt in
       let n : length ports ≡ length ports' = long ∙ sym h.0 in
       let same : (f : PortView → List Item) → ((p : PortView) → f (retired p) ≡ f p) → map f ports ≡ map f ports' = λ f g. map-alike f f ports ports' n (λ j p less. let z = h.0 in sym (ap f (h.1 j p (omega arith)) ∙ g (get_or ports j p))) in
-      (a.0, a.1 ∙ (λ j. joined (whole_view workers sizes ports i).terms (n j) (same (λ p. sent_to p i) (λ p. refl) j) (slice_index_or (same (λ p. p.taken) (λ p. refl) j) i []) [])),
+      (a.0, a.1 ∙ (λ j. joined (whole_view workers sizes ports i).terms (n j) (same (λ p. passed_to p i) (λ p. refl) j) (slice_index_or (same (λ p. p.popped) (λ p. refl) j) i []) [])),
 )

@@ -6,6 +6,7 @@ use mathlib.Core.Logic.{dite}
 use native.Mathlib.Decide.{ℕ_discrete}
 use Rattle.crossbeam_queue.specs.SegTies.{SegId}
 use Rattle.std.specs.declared.alloc.Global.{Global}
+use Rattle.req_table.specs.declared.Item.{Item}
 use Rattle.req_table.specs.declared.Sizes.{Sizes}
 use Rattle.lane_queue.specs.declared.rule.Terms.{Terms}
 use Rattle.lane_queue.specs.declared.rule.View.{View}
@@ -17,9 +18,10 @@ use Rattle.lane_queue.specs.declared.port.Line.{Line}
 use Rattle.req_table.specs.Lanes.{ends}
 use Rattle.lane_queue.specs.Rule.{port, own_sent, IsPort}
 use Rattle.lane_queue.specs.Line.{line_view, IsLiveOn}
-use Rattle.lane_queue.specs.PortView.{PortView, sent_to}
-use Rattle.lane_queue.specs.Ports.{terms_of, hold_on, IsAtHand, line_on, line_sent, line_taken, LineOk, PortOk, view_of}
-use Rattle.lane_queue.specs.Joining.{root_view, Retired, MayJoinAll, JoinedTo, HaveJoined, HaveBegun, AllLive, taken_on, pass_view, retired, RootsOf, RootsBelow, RootsWith}
+use Rattle.lane_queue.specs.PortView.{PortView, passed_to, IsKept}
+use Rattle.lane_queue.specs.Ports.{terms_of, hold_on, IsAtHand, line_on, line_sent, line_taken, line_put, LineOk, PortOk, view_of}
+use Rattle.lane_queue.specs.Joining.{root_view, Retired, MayJoinAll, JoinedTo, HaveJoined, HaveBegun, AllLive, popped_on, pass_view, retired, RootsOf, RootsBelow, RootsWith}
+use Rattle.lane_queue.proofs.Keeping.{kept-retired}
 use Rattle.lane_queue.proofs.Making.{map-twice}
 use Rattle.lane_queue.proofs.Rounds.{element}
 
@@ -37,8 +39,8 @@ at_hand : (h : Hold) → hold_on h ≡ None → IsAtHand h
 at_hand (Live pass) e = absurd (cc)
 at_hand (Joined was) e = tt
 
-module _ (number : ℕ) (sizes : Sizes) (lines : List Line) (p : PortView) (workers : ℕ) (lanes : List Lane)
-    (is : view_of number sizes lines ≡ p) (ok : PortOk number sizes lines) (long : length lanes ≡ workers) (of : p.lanes ≡ map (λ (q : SegId Global). Some q) (map (λ (x : Lane). x.queue) lanes)) where
+module _ (number : ℕ) (sizes : Sizes) (lines : List Line) (own taken : List Item) (p : PortView) (workers : ℕ) (lanes : List Lane)
+    (is : view_of number sizes lines own taken ≡ p) (ok : PortOk number sizes lines) (long : length lanes ≡ workers) (of : p.lanes ≡ map (λ (q : SegId Global). Some q) (map (λ (x : Lane). x.queue) lanes)) where
   lines_long : length lines ≡ workers
   lines_long = sym (length-map lines line_on) ∙ ap (λ (u : PortView). length u.lanes) is ∙ ap (λ l. length l) of ∙ length-map (map (λ (x : Lane). x.queue) lanes) (λ (q : SegId Global). Some q) ∙ length-map lanes (λ (x : Lane). x.queue) ∙ long
 
@@ -51,13 +53,13 @@ module _ (number : ℕ) (sizes : Sizes) (lines : List Line) (p : PortView) (work
   line_at : (i : ℕ) (f : Line) → i < workers → LineOk workers number sizes i (get_or lines i f)
   line_at i f lt = let z = lines_long in subst (λ n. LineOk n number sizes i (get_or lines i f)) z (ok.each i f (omega arith))
 
-  sent_at : (i : ℕ) (f : Line) → i < workers → line_sent (get_or lines i f) ≡ sent_to p i
-  sent_at i f lt = let z = lines_long in sym (get_or-map line_sent lines i f [] (omega arith)) ∙ ap (λ (u : PortView). slice_index_or u.sent i []) is
+  sent_at : (i : ℕ) (f : Line) → i < workers → line_sent (get_or lines i f) ≡ passed_to p i
+  sent_at i f lt = let z = lines_long in sym (get_or-map line_sent lines i f [] (omega arith)) ∙ ap (λ (u : PortView). slice_index_or u.passed i []) is
 
-  taken_at : (i : ℕ) (f : Line) → i < workers → line_taken (get_or lines i f) ≡ taken_on p i
+  taken_at : (i : ℕ) (f : Line) → i < workers → line_taken (get_or lines i f) ≡ popped_on p i
   taken_at i f lt = let z = lines_long in let n : number ≡ p.number = ap (λ (u : PortView). u.number) is in dite (ℕ_discrete i number)
-      (λ q. sym (get_or-map line_taken lines i f [] (omega arith)) ∙ ap (λ m. slice_index_or (map line_taken lines) m []) q ∙ ap (λ (u : PortView). u.taken) is ∙ sym (ap (λ b. cond b p.taken []) (eq-eqb i p.number (q ∙ n))))
-      (λ q. (line_at i f lt).other q ∙ sym (ap (λ b. cond b p.taken []) (ne_eqb i p.number (λ e. q (e ∙ sym n)))))
+      (λ q. sym (get_or-map line_taken lines i f [] (omega arith)) ∙ ap (λ m. slice_index_or (map line_taken lines) m []) q ∙ ap (λ (u : PortView). u.popped) is ∙ sym (ap (λ b. cond b p.popped []) (eq-eqb i p.number (q ∙ n))))
+      (λ q. (line_at i f lt).other q ∙ sym (ap (λ b. cond b p.popped []) (ne_eqb i p.number (λ e. q (e ∙ sym n)))))
 
   -- the view of the line, told of the port
   pub view_at : (i : ℕ) (f : Line) → i < workers → line_view (get_or lines i f) ≡ pass_view workers p i
@@ -78,7 +80,7 @@ module _ (number : ℕ) (sizes : Sizes) (lines : List Line) (p : PortView) (work
     one = (line_at i f lt).line;
     terms = ap (λ (u : View). u.terms) v ∙ sym k.2;
     low = ap (λ (u : View). u.low) v ∙ sym k.3;
-    theirs = λ n. ap (λ (u : View). u.taken) v ∙ ap (λ b. cond b p.taken []) (ne_eqb i p.number (λ q. n (k.3 ∙ sym q ∙ sym o)));
+    theirs = λ n. ap (λ (u : View). u.taken) v ∙ ap (λ b. cond b p.popped []) (ne_eqb i p.number (λ q. n (k.3 ∙ sym q ∙ sym o)));
     mine = λ n. k.4 (λ q. n (subst (λ (y : ℕ × ℕ). y.0 < y.1) (λ j. (sym o j, sym k.3 j)) q));
   }
 
@@ -94,20 +96,24 @@ module _ (number : ℕ) (sizes : Sizes) (lines : List Line) (p : PortView) (work
       each = λ i f lt. let lt' : i < workers = omega arith in let g = gone i f lt' in let h = line_at i f lt' in let v = g.1 in record {
         terms = ap (λ (u : View). u.terms) v ∙ h.terms ∙ ap (λ n. terms_of n i sizes) (sym long');
         low = ap (λ (u : View). u.low) v ∙ h.low;
-        line = (subst IsPort (sym v) h.line.0, g.2 ∙ h.line.1 ∙ ap (λ (u : View). ends (own_sent u)) (sym v), g.3 ∙ h.line.2 ∙ ap (λ (u : View). length (own_sent u)) (sym v));
+        line = (subst IsPort (sym v) h.line.0, g.2 ∙ h.line.1 ∙ ap (λ (u : View). ends (own_sent u)) (sym v));
         hand = at_hand (get_or lines' i f).hold g.0;
         other = λ n. ap (λ (u : View). u.taken) v ∙ h.other n;
       };
     }
 
-    pub gone-view : view_of number sizes lines' ≡ retired p
+    pub gone-view : view_of number sizes lines' own taken ≡ retired p
     gone-view = let z = lines_long in
         let n : length lines' ≡ length lines = omega arith in
         let a : map line_on lines' ≡ map (λ (q : Option (SegId Global)). None) (map line_on lines) =
         map-alike line_on (λ (l : Line). None) lines' lines n (λ i f lt. let z' = lines_long in (gone i f (omega arith)).0) ∙ sym (map-twice line_on (λ (q : Option (SegId Global)). None) lines) in
         let s : map line_sent lines' ≡ map line_sent lines = map-alike line_sent line_sent lines' lines n (λ i f lt. let z' = lines_long in ap own_sent (gone i f (omega arith)).1) in
         let t : map line_taken lines' ≡ map line_taken lines = map-alike line_taken line_taken lines' lines n (λ i f lt. let z' = lines_long in ap (λ (u : View). u.taken) (gone i f (omega arith)).1) in
-        (λ j. record { number = number; lanes = a j; sizes = sizes; sent = s j; taken = slice_index_or (t j) number [] }) ∙ ap retired is
+        let m : map line_put lines' ≡ map line_put lines = map-alike line_put line_put lines' lines n (λ i f lt. let z' = lines_long in (gone i f (omega arith)).3) in
+        (λ j. record { number = number; lanes = a j; sizes = sizes; passed = s j; put = m j; popped = slice_index_or (t j) number []; own = own; taken = taken }) ∙ ap retired is
+
+    pub gone-kept : IsKept p → IsKept (view_of number sizes lines' own taken)
+    gone-kept k = subst IsKept (sym gone-view) (kept-retired p k)
 
   -- the first port, where memory may run out first
   module _ {X E : Type 0} (items : X → List Root) (r : Result X E) (lines' : List Line) where
@@ -117,8 +123,14 @@ module _ (number : ℕ) (sizes : Sizes) (lines : List Line) (p : PortView) (work
       | Err e ↦ λ a b h. subst (λ l. PortOk number sizes l) (sym b) ok
     ]
 
-    pub begun-view : IfOk r (λ x. (length (items x) ≡ workers) × (length lines' ≡ workers)) → IfOk r (λ x. HaveBegun workers lanes (items x) lines lines') → OnOk r (view_of number sizes lines' ≡ retired p)
-    begun-view = elim r as (λ r. IfOk r (λ x. (length (items x) ≡ workers) × (length lines' ≡ workers)) → IfOk r (λ x. HaveBegun workers lanes (items x) lines lines') → OnOk r (view_of number sizes lines' ≡ retired p)) [
+    pub begun-kept : IsKept p → IfOk r (λ x. (length (items x) ≡ workers) × (length lines' ≡ workers)) → OnErr r (lines' ≡ lines) → IfOk r (λ x. HaveBegun workers lanes (items x) lines lines') → IsKept (view_of number sizes lines' own taken)
+    begun-kept k = elim r as (λ r. IfOk r (λ x. (length (items x) ≡ workers) × (length lines' ≡ workers)) → OnErr r (lines' ≡ lines) → IfOk r (λ x. HaveBegun workers lanes (items x) lines lines') → IsKept (view_of number sizes lines' own taken)) [
+      | Ok x ↦ λ a b h. gone-kept lines' a.1 (λ i f lt. (h i (element lanes i (omega arith)) (element (items x) i (omega arith)) f lt).2) k
+      | Err e ↦ λ a b h. subst IsKept (sym is ∙ ap (λ l. view_of number sizes l own taken) (sym b)) k
+    ]
+
+    pub begun-view : IfOk r (λ x. (length (items x) ≡ workers) × (length lines' ≡ workers)) → IfOk r (λ x. HaveBegun workers lanes (items x) lines lines') → OnOk r (view_of number sizes lines' own taken ≡ retired p)
+    begun-view = elim r as (λ r. IfOk r (λ x. (length (items x) ≡ workers) × (length lines' ≡ workers)) → IfOk r (λ x. HaveBegun workers lanes (items x) lines lines') → OnOk r (view_of number sizes lines' own taken ≡ retired p)) [
       | Ok x ↦ λ a h. gone-view lines' a.1 (λ i f lt. (h i (element lanes i (omega arith)) (element (items x) i (omega arith)) f lt).2)
       | Err e ↦ λ a h. tt
     ]

@@ -1,8 +1,10 @@
 -- What the rule says of a lane between any two steps.
-use Rattle.std.specs.Prelude.{◌≡◌, ℕ, ◌<◌, ◌⊎◌, List, [], ◌∷◌, ◌++◌}
+use Rattle.std.specs.Prelude.{◌≡◌, ℕ, ◌<◌, ◌⊎◌, List, [], ◌∷◌, ◌++◌, All}
 use mathlib.Core.Option.{some}
 use lib.ListN.{get_elem?}
 use Rattle.req_table.specs.declared.Item.{Item}
+use Rattle.lane_queue.specs.declared.load.Load.{Load}
+use Rattle.lane_queue.specs.Loads.{flat, Carries}
 use Rattle.lane_queue.specs.declared.rule.Terms.{Terms}
 use Rattle.lane_queue.specs.declared.rule.View.{View}
 use Rattle.req_table.specs.Lanes.{LaneLaw}
@@ -20,14 +22,15 @@ AreTerms views c =
 
 -- The passes have these terms, by which the lane's owner is a worker. Each worker's port has a pass, and whatever the
 -- passes say that the ports sent obeys the law and is fair, with what the owner's pass says that it took.
-abbrev pub Lawful : Terms → List Item → List View → Type 0
-Lawful c items views =
+abbrev pub Lawful : Terms → List Load → List View → Type 0
+Lawful c loads views =
     (c.owner < c.workers) × AreTerms views c
     × ((p : ℕ) → p < c.workers → (xs : List Item) × HasSent views p xs)
     × ((sent : ℕ → List Item) (i : ℕ) (o : View) → ((p : ℕ) → p < c.workers → HasSent views p (sent p))
     → get_elem? views i ≡ some o → Has o c.owner
-    → LaneLaw (scope c) sent o.taken (o.left ++ items) × FairLane (scope c) sent)
+    → LaneLaw (scope c) sent o.taken (o.left ++ flat loads) × FairLane (scope c) sent)
 
--- Nothing has begun in the lane, or it is lawful, by some terms.
-abbrev pub Between : List Item → List View → Type 0
-Between items views = ((items ≡ []) × (views ≡ blank ∷ [])) ⊎ ((c : Terms) × Lawful c items views)
+-- Each load carries something. Nothing has begun in the lane, or it is lawful, by some terms.
+abbrev pub Between : List Load → List View → Type 0
+Between loads views =
+    All Carries loads × (((loads ≡ []) × (views ≡ blank ∷ [])) ⊎ ((c : Terms) × Lawful c loads views))

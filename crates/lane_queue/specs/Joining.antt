@@ -4,6 +4,7 @@ use Rattle.crossbeam_queue.specs.SegTies.{SegId, IsSegPassOf}
 use Rattle.std.specs.declared.alloc.Global.{Global}
 use Rattle.req_table.specs.declared.Item.{Item}
 use Rattle.req_table.specs.declared.Sizes.{Sizes}
+use Rattle.lane_queue.specs.declared.load.Load.{Load}
 use Rattle.lane_queue.specs.declared.rule.View.{View}
 use Rattle.lane_queue.specs.declared.rule.Lane.{Lane}
 use Rattle.lane_queue.specs.declared.make.Root.{Root}
@@ -14,7 +15,8 @@ use Rattle.lane_queue.specs.Lists.{FairLane}
 use Rattle.lane_queue.specs.Rule.{own_sent, port, joined, IsJoined}
 use Rattle.lane_queue.specs.Line.{line_view, IsLine, IsLiveOn}
 use Rattle.lane_queue.specs.Ports.{terms_of, line_on}
-use Rattle.lane_queue.specs.PortView.{PortView, sent_to}
+use Rattle.lane_queue.specs.Loads.{flat}
+use Rattle.lane_queue.specs.PortView.{PortView, sent_to, passed_to, IsKept}
 
 -- What the pass knows.
 abbrev pub root_view : Root → View
@@ -74,12 +76,12 @@ AllLive n lanes lines =
 
 -- ---- told of ports
 -- What the port took from this lane.
-abbrev pub taken_on : PortView → ℕ → List Item
-taken_on p i = cond (eqb i p.number) p.taken []
+abbrev pub popped_on : PortView → ℕ → List Item
+popped_on p i = cond (eqb i p.number) p.popped []
 
 -- What the port's pass of the lane i knows, of this many workers.
 abbrev pub pass_view : ℕ → PortView → ℕ → View
-pass_view workers p i = port (terms_of workers i p.sizes) p.number (sent_to p i) (taken_on p i)
+pass_view workers p i = port (terms_of workers i p.sizes) p.number (passed_to p i) (popped_on p i)
 
 -- The port once it was joined: it goes with no lanes.
 abbrev pub retired : PortView → PortView
@@ -112,15 +114,15 @@ RootsWith workers p lanes roots roots' =
     → IsSegPassOf (slice_index_or lanes i d).queue (slice_index_or roots' i e).pass
     × (root_view (slice_index_or roots' i e)
     ≡ joined (root_view (slice_index_or roots i e)).terms ((root_view (slice_index_or roots i e)).high + 1)
-    ((root_view (slice_index_or roots i e)).sent ++ sent_to p i ∷ [])
-    ((root_view (slice_index_or roots i e)).taken ++ taken_on p i) [])
+    ((root_view (slice_index_or roots i e)).sent ++ passed_to p i ∷ [])
+    ((root_view (slice_index_or roots i e)).taken ++ popped_on p i) [])
 
 -- ---- all ports
 -- What the pass of the lane i knows once all these ports were joined.
 abbrev pub whole_view : ℕ → Sizes → List PortView → ℕ → View
 whole_view workers sizes ports i =
-    joined (terms_of workers i sizes) (length ports) (map (λ p. sent_to p i) ports)
-    (slice_index_or (map (λ (p : PortView). p.taken) ports) i []) []
+    joined (terms_of workers i sizes) (length ports) (map (λ p. passed_to p i) ports)
+    (slice_index_or (map (λ (p : PortView). p.popped) ports) i []) []
 
 -- The passes once all these ports were joined, by lane.
 abbrev pub RootsHave : ℕ → Sizes → List PortView → List Lane → List Root → Type 0
@@ -144,7 +146,26 @@ AreRetired workers old new =
     (length new ≡ workers)
     × ((i : ℕ) (d : PortView) → i < workers → slice_index_or new i d ≡ retired (slice_index_or old i d))
 
--- What the port s sent on the lane k.
+-- What each port sent to itself and took is what went through its lane, and what it kept.
+abbrev pub AreKept : ℕ → List PortView → Type 0
+AreKept workers ports = (i : ℕ) (d : PortView) → i < workers → IsKept (slice_index_or ports i d)
+
+-- What the port s put on the lane k.
+abbrev pub passed_from : List PortView → ℕ → ℕ → List Item
+passed_from ports k s = slice_index_or (map (λ p. passed_to p k) ports) s []
+
+-- What the port k took from its lane.
+abbrev pub popped_by : List PortView → ℕ → List Item
+popped_by ports k = slice_index_or (map (λ (p : PortView). p.popped) ports) k []
+
+-- With what is left, the law holds of what went through each lane, and these lists are fair.
+abbrev pub LawOfLanes : ℕ → Sizes → List PortView → List (List Load) → Type 0
+LawOfLanes workers sizes ports left =
+    (k : ℕ) → k < workers
+    → LaneLaw (scope_of workers sizes) (passed_from ports k) (popped_by ports k) (flat (slice_index_or left k []))
+    × FairLane (scope_of workers sizes) (passed_from ports k)
+
+-- What the port s sent to the worker k.
 abbrev pub sent_from : List PortView → ℕ → ℕ → List Item
 sent_from ports k s = slice_index_or (map (λ p. sent_to p k) ports) s []
 
@@ -153,8 +174,8 @@ abbrev pub taken_by : List PortView → ℕ → List Item
 taken_by ports k = slice_index_or (map (λ (p : PortView). p.taken) ports) k []
 
 -- With what is left, the law holds of each lane, and its lists are fair.
-abbrev pub LawOfAll : ℕ → Sizes → List PortView → List (List Item) → Type 0
+abbrev pub LawOfAll : ℕ → Sizes → List PortView → List (List Load) → Type 0
 LawOfAll workers sizes ports left =
     (k : ℕ) → k < workers
-    → LaneLaw (scope_of workers sizes) (sent_from ports k) (taken_by ports k) (slice_index_or left k [])
+    → LaneLaw (scope_of workers sizes) (sent_from ports k) (taken_by ports k) (flat (slice_index_or left k []))
     × FairLane (scope_of workers sizes) (sent_from ports k)

@@ -1,5 +1,5 @@
 -- One port's end of one lane.
-use Rattle.std.specs.Prelude.{◌≡◌, length}
+use Rattle.std.specs.Prelude.{◌≡◌}
 use Rattle.crossbeam_queue.specs.SegTies.{SegId, IsSegPassOf}
 use Rattle.std.specs.declared.alloc.Global.{Global}
 use Rattle.lane_queue.specs.declared.rule.View.{View}
@@ -23,6 +23,6 @@ abbrev pub IsLiveOn : SegId Global → Hold → Type 0
 IsLiveOn q (Live pass) = IsSegPassOf q pass
 IsLiveOn q (Joined was) = ⊥
 
--- The view is that of one port, and the numbers are those of the list that it sent.
+-- The view is that of one port, and the number of Ends is that of the list that it sent.
 abbrev pub IsLine : Line → Type 0
-IsLine l = IsPort (line_view l) × (l.ends ≡ ends (own_sent (line_view l))) × (l.put ≡ length (own_sent (line_view l)))
+IsLine l = IsPort (line_view l) × (l.ends ≡ ends (own_sent (line_view l)))

@@ -1,5 +1,5 @@
 -- What a contract sees of lanes and of a port.
-use Rattle.std.specs.Prelude.{◌≡◌, ℕ, ◌<◌, ◌-◌, List, [], ◌∷◌, ◌++◌, map, length, Option, Some, slice_index_or}
+use Rattle.std.specs.Prelude.{◌≡◌, ◌≢◌, ℕ, ◌+◌, ◌-◌, ◌<◌, ◌==◌, cond, List, [], ◌∷◌, ◌++◌, map, length, Option, Some, slice_index_or, slice_set}
 use Rattle.crossbeam_queue.specs.SegTies.{SegId}
 use Rattle.std.specs.declared.alloc.Global.{Global}
 use Rattle.req_table.specs.declared.Item.{Item}
@@ -7,7 +7,9 @@ use Rattle.req_table.specs.declared.Item.TheVariants.{Ask, End}
 use Rattle.req_table.specs.declared.Sizes.{Sizes}
 use Rattle.req_table.specs.Wave.{Scope}
 use Rattle.req_table.specs.Sizes.{scope_of}
-use Rattle.req_table.specs.Lanes.{from_of, sent_by, IsFair, IsClosed}
+use Rattle.req_table.specs.Lanes.{sent_by, ends, IsFair, IsClosed}
+use Rattle.lane_queue.specs.declared.load.Load.{Load}
+use Rattle.lane_queue.specs.Loads.{load_from, items_in, Carries}
 use Rattle.lane_queue.specs.Lists.{Begins}
 
 -- The queues by worker, and what the lanes keep of their store.
@@ -15,18 +17,29 @@ pub record LanesView : Type 0 where
   pub lanes : List (SegId Global)
   pub sizes : Sizes
 
--- The port's number, its lanes (None once it was joined), what they keep of their store, what it sent on each lane, and
--- what it took.
+-- The port's number, its lanes (None once it was joined), what they keep of their store, what it put on each lane and in
+-- how many loads, what it took from its own lane, what it sent to itself, and what it took: in these last two the requests
+-- that it kept, which went through no lane, stand too.
 pub record PortView : Type 0 where
   pub number : ℕ
   pub lanes : List (Option (SegId Global))
   pub sizes : Sizes
-  pub sent : List (List Item)
+  pub passed : List (List Item)
+  pub put : List ℕ
+  pub popped : List Item
+  pub own : List Item
   pub taken : List Item
 
--- What the port sent on the lane of this worker.
+-- What the port put on the lane of this worker, and in how many loads.
+abbrev pub passed_to : PortView → ℕ → List Item
+passed_to p to = slice_index_or p.passed to []
+
+abbrev pub put_to : PortView → ℕ → ℕ
+put_to p to = slice_index_or p.put to 0
+
+-- What the port sent to this worker: to another through its lane, to itself also what it kept.
 abbrev pub sent_to : PortView → ℕ → List Item
-sent_to p to = slice_index_or p.sent to []
+sent_to p to = cond (to == p.number) p.own (passed_to p to)
 
 -- The port was made with these lanes, and was not joined.
 abbrev pub IsPortOf : LanesView → PortView → Type 0
@@ -40,12 +53,12 @@ lanes_scope l = scope_of (length l.lanes) l.sizes
 abbrev pub port_scope : PortView → Scope
 port_scope p = scope_of (length p.lanes) p.sizes
 
--- The item is the next of a list that is fair. Where the port is its own sender, this is what it sent to itself.
-abbrev pub IsTaken : PortView → Item → Type 0
+-- The load is the next of a list that is fair. Where the port is its own sender, this is what it sent to itself.
+abbrev pub IsTaken : PortView → Load → Type 0
 IsTaken p x =
-    (sent : List Item) × (from_of x < length p.lanes) × IsFair (port_scope p) sent
-    × Begins (sent_by (from_of x) (p.taken ++ x ∷ [])) sent
-    × (from_of x ≡ p.number → sent ≡ sent_to p p.number)
+    (sent : List Item) × Carries x × (load_from x < length p.lanes) × IsFair (port_scope p) sent
+    × Begins (sent_by (load_from x) (p.taken ++ items_in x)) sent
+    × (load_from x ≡ p.number → sent ≡ sent_to p p.number)
 
 -- The item may leave a worker who took these: behind e Ends, an Ask needs the level before e closed, so no child
 -- leaves before the level of its request is closed.
@@ -57,3 +70,31 @@ MayLeave w taken e (End from level) = Unit {0}
 abbrev pub IsOpen : Scope → List Item → Item → Type 0
 IsOpen w taken (Ask from level key) = ¬ IsClosed w level taken
 IsOpen w taken (End from level) = Unit {0}
+
+-- ---- what each call makes of a port
+-- It put the load on the lane of this worker.
+abbrev pub has_put : PortView → ℕ → Load → PortView
+has_put p to x = record p {
+  passed = slice_set p.passed to (passed_to p to ++ items_in x);
+  put = slice_set p.put to (put_to p to + 1);
+  own = cond (to == p.number) (p.own ++ items_in x) p.own;
+}
+
+-- It took the load from its own lane.
+abbrev pub has_taken : PortView → Load → PortView
+has_taken p x = record p { popped = p.popped ++ items_in x; taken = p.taken ++ items_in x }
+
+-- It kept the request.
+abbrev pub has_kept : PortView → Item → PortView
+has_kept p x = record p { own = p.own ++ x ∷ []; taken = p.taken ++ x ∷ [] }
+
+-- ---- what is kept, and what goes through the lane
+-- What a port sent to itself and took differs from what went through its own lane by the requests that it kept: these are
+-- no Ends, no other port's, and none of them was kept while something was under way.
+pub record IsKept (p : PortView) : Type 0 where
+  pub fair : IsFair (port_scope p) p.own
+  pub ended : ends p.own ≡ ends (passed_to p p.number)
+  pub others : (o : ℕ) → o ≢ p.number → sent_by o p.taken ≡ sent_by o p.popped
+  pub under_way : List Item
+  pub all : p.own ≡ sent_by p.number p.taken ++ under_way
+  pub through : passed_to p p.number ≡ sent_by p.number p.popped ++ under_way

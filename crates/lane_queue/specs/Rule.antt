@@ -1,14 +1,16 @@
 -- The lanes' rule: over what the queue of one lane holds, and over what each pass knows.
-use Rattle.std.specs.Prelude.{◌≡◌, ℕ, ◌+◌, ◌<◌, ◌≤◌, ◌-◌, ◌⊎◌, true, false, List, [], ◌∷◌, ◌++◌, length, slice_index_or}
+use Rattle.std.specs.Prelude.{◌≡◌, ℕ, ◌+◌, ◌<◌, ◌≤◌, ◌-◌, ◌⊎◌, true, false, List, [], ◌∷◌, ◌++◌, length, slice_index_or, All}
 use mathlib.Core.Option.{some}
 use lib.ListN.{get_elem?}
 use Rattle.req_table.specs.declared.Item.{Item}
+use Rattle.lane_queue.specs.declared.load.Load.{Load}
 use Rattle.lane_queue.specs.declared.rule.Terms.{Terms}
 use Rattle.lane_queue.specs.declared.rule.View.{View}
 use Rattle.req_table.specs.Wave.{Scope}
 use Rattle.req_table.specs.Sizes.{scope_of}
-use Rattle.req_table.specs.Lanes.{from_of, sent_by, IsFair, LaneLaw}
+use Rattle.req_table.specs.Lanes.{sent_by, IsFair, LaneLaw}
 use Rattle.lane_queue.specs.Lists.{FairLane, Begins}
+use Rattle.lane_queue.specs.Loads.{load_from, items_in, flat, Carries}
 
 -- The terms where there are none.
 abbrev pub no_terms : Terms
@@ -76,40 +78,44 @@ pub record Ruled (items : List Item) (views : List View) : Type 0 where
 abbrev pub Kept : List Item → List View → Type 0
 Kept items views = ((items ≡ []) × (views ≡ blank ∷ [])) ⊎ Ruled items views
 
+-- The rule over loads: each carries something, and what they carry keeps the rule.
+abbrev pub Holds : List Load → List View → Type 0
+Holds loads views = All Carries loads × Kept (flat loads) views
+
 -- ---- what the steps tell
--- The lists with x at the end of the first.
-abbrev pub behind : List (List Item) → Item → List (List Item)
-behind [] x = []
-behind (l ∷ ls) x = (l ++ x ∷ []) ∷ ls
+-- The lists with these items at the end of the first.
+abbrev pub behind : List (List Item) → List Item → List (List Item)
+behind [] xs = []
+behind (l ∷ ls) xs = (l ++ xs) ∷ ls
 
--- The sender put x at the end of its list.
-abbrev pub Sends : View → Item → View → Type 0
-Sends v x w = w ≡ record v { sent = behind v.sent x }
+-- The sender put what x carries at the end of its list.
+abbrev pub Sends : View → Load → View → Type 0
+Sends v x w = w ≡ record v { sent = behind v.sent (items_in x) }
 
--- The item is the next of what its sender had sent by then, which is fair, and which is the port's own list if the port
+-- The load is the next of what its sender had sent by then, which is fair, and which is the port's own list if the port
 -- is the sender.
-abbrev pub IsNext : View → Item → Type 0
+abbrev pub IsNext : View → Load → Type 0
 IsNext v x =
-    (sent : List Item) × (from_of x < v.terms.workers) × IsFair (scope v.terms) sent
-    × Begins (sent_by (from_of x) (v.taken ++ x ∷ [])) sent
-    × (from_of x ≡ v.low → sent ≡ slice_index_or v.sent 0 [])
+    (sent : List Item) × Carries x × (load_from x < v.terms.workers) × IsFair (scope v.terms) sent
+    × Begins (sent_by (load_from x) (v.taken ++ items_in x)) sent
+    × (load_from x ≡ v.low → sent ≡ slice_index_or v.sent 0 [])
 
 -- The owner took x, the next of its sender.
-abbrev pub Takes : View → Item → View → Type 0
-Takes v x w = (w ≡ record v { taken = v.taken ++ x ∷ [] }) × IsNext v x
+abbrev pub Takes : View → Load → View → Type 0
+Takes v x w = (w ≡ record v { taken = v.taken ++ items_in x }) × IsNext v x
 
 -- What the owner sent to itself is what it took of that, and then what waits of it.
-abbrev pub Owns : View → List Item → Type 0
-Owns v items = sent_by v.low (v.taken ++ items) ≡ slice_index_or v.sent 0 []
+abbrev pub Owns : View → List Load → Type 0
+Owns v loads = sent_by v.low (v.taken ++ flat loads) ≡ slice_index_or v.sent 0 []
 
--- The item was read out at the end.
-abbrev pub Reads : View → Item → View → Type 0
-Reads v x w = w ≡ record v { left = v.left ++ x ∷ [] }
+-- The load was read out at the end.
+abbrev pub Reads : View → Load → View → Type 0
+Reads v x w = w ≡ record v { left = v.left ++ items_in x }
 
 -- All ports' lists by number obey the law with what was taken and what is left, and are fair.
-abbrev pub Whole : View → List Item → Type 0
-Whole v items =
-    LaneLaw (scope v.terms) (λ s. slice_index_or v.sent s []) v.taken (v.left ++ items)
+abbrev pub Whole : View → List Load → Type 0
+Whole v loads =
+    LaneLaw (scope v.terms) (λ s. slice_index_or v.sent s []) v.taken (v.left ++ flat loads)
     × FairLane (scope v.terms) (λ s. slice_index_or v.sent s [])
 
 -- ---- what a view is, for the functions that make the steps

@@ -1,24 +1,25 @@
 //! The lanes of all workers.
-ghost use Rattle.std.specs.Prelude.{◌≡◌, ℕ, ◌<◌, ◌≤◌, ◌-◌, ◌++◌, [], ◌∷◌, length, map, slice_index_or, slice_set, IfOk, MatchResult, MatchOption, IfSome};
-ghost use Rattle.req_table.specs.Lanes.{from_of, sent_by, ends, MayFollow};
-ghost use Rattle.lane_queue.specs.PortView.{PortView, sent_to, IsPortOf, IsTaken, MayLeave, IsOpen, lanes_scope};
+ghost use Rattle.std.specs.Prelude.{◌≡◌, ◌≢◌, ℕ, ◌+◌, ◌<◌, ◌≤◌, ◌++◌, length, map, slice_index_or, All, IfOk, OnOk, MatchResult, MatchOption, IfSome};
+ghost use Rattle.req_table.specs.Lanes.{sent_by, ends};
+ghost use Rattle.lane_queue.specs.Loads.{load_from, items_in, Carries, MayFollowAll};
+ghost use Rattle.lane_queue.specs.PortView.{PortView, sent_to, put_to, has_put, has_taken, IsPortOf, IsTaken, IsKept, MayLeave, IsOpen, lanes_scope};
 ghost use Rattle.req_table.specs.Sizes.{sizes_of};
 ghost use Rattle.lane_queue.specs.Make.{new_port};
 ghost use Rattle.crossbeam_queue.specs.SegTies.{SegId, IsSegPassOf};
 ghost use Rattle.std.specs.declared.alloc.Global.{Global};
 ghost use Rattle.lane_queue.specs.Joining.{pass_view, ArePorts, AreRetired, LawOfAll};
 
+use crate::load::Load;
 use crate::port::Port;
 use crate::rule::{Lane, LanePass, Queue};
 use crate::{make, settle};
 use dd_store::Store;
-use req_table::Item;
 use std::alloc::{AllocError, Global};
 use std::marker::Model;
 use std::snapshot::Snapshot;
 use std::sync::Wait;
 
-/// One lane for each of 1 to 16 workers: all ports put items on it, and its worker's port alone takes them.
+/// One lane for each of 1 to 16 workers: all ports put loads on it, and its worker's port alone takes them.
 #[derive(Drop)]
 pub struct Lanes {
     lanes: Vec<Lane>,
@@ -42,7 +43,7 @@ impl Model for Lanes {
 #[derive(Drop)]
 pub struct Settled {
     /// What was left in each lane, by worker, front first.
-    pub left: Vec<Vec<Item>>,
+    pub left: Vec<Vec<Load>>,
     /// The ports by number.
     pub ports: Vec<Port>,
 }
@@ -76,20 +77,25 @@ impl Lanes {
         Ok((Lanes { lanes, store }, ports))
     }
 
-    /// Puts the item at the back of the lane of the worker `to`. It comes back, and the port is as it was, only for want
-    /// of memory, where the port has put 2^62 items on that lane, or at the end of the lane's numbers, which is after
-    /// nearly 2^62 items of all ports.
-    pub fn send<R: Wait>(&self, rt: &R, port: &mut Port, to: u32, item: Item) -> Result<(), Item>
+    /// Puts the load at the back of the lane of the worker `to`. It comes back, and the port is as it was, only for want
+    /// of memory, where the port has put 2^62 loads on that lane, or at the end of the lane's numbers, which is after
+    /// nearly 2^62 loads of all ports.
+    pub fn send<R: Wait>(&self, rt: &R, port: &mut Port, to: u32, load: Load) -> Result<(), Load>
         requires port { IsPortOf self.now port.old }
         requires to { to < length self.now.lanes }
-        requires from { from_of item ≡ port.old.number }
-        requires may { MayFollow (lanes_scope self.now) (ends (sent_to port.old to)) item }
-        requires leave { MayLeave (lanes_scope self.now) port.old.taken (ends (sent_to port.old to)) item }
-        ensures { MatchResult result
-            (λ _. port.new ≡ record port.old { sent = slice_set port.old.sent to (sent_to port.old to ++ item ∷ []) })
-            (λ x. (x ≡ item) × (port.new ≡ port.old)) }
+        requires some { Carries load }
+        requires from { load_from load ≡ port.old.number }
+        requires may { MayFollowAll (lanes_scope self.now) (ends (sent_to port.old to)) load }
+        requires leave { All (MayLeave (lanes_scope self.now) port.old.taken (ends (sent_to port.old to))) (items_in load) }
+        ensures port { MatchResult result
+            (λ _. port.new ≡ has_put port.old to load)
+            (λ x. (x ≡ load) × (port.new ≡ port.old)) }
+        ensures sent { OnOk result (sent_to port.new to ≡ sent_to port.old to ++ items_in load) }
+        ensures others { OnOk result ((k : ℕ) → k ≢ to → sent_to port.new k ≡ sent_to port.old k) }
+        ensures put { OnOk result (put_to port.new to ≡ put_to port.old to + 1) }
+        ensures others_put { OnOk result ((k : ℕ) → k ≢ to → put_to port.new k ≡ put_to port.old k) }
     {
-        port.send_on(rt, &self.lanes[to as usize], to as usize, item)
+        port.send_on(rt, &self.lanes[to as usize], to as usize, load)
     }
 
     /// The pass with which a port steps on the lane of the worker `owner`, whose queue has the lanes' rule.
@@ -98,6 +104,7 @@ impl Lanes {
         requires owner { owner < length self.now.lanes }
         ensures queue { (q : SegId Global) → IsSegPassOf (slice_index_or self.now.lanes owner q) result.now }
         ensures knows { result.now.me.view.client ≡ pass_view (length self.now.lanes) port.now owner }
+        ensures kept { IsKept port.now }
     {
         let _queue: &Queue = &self.lanes[owner as usize].queue;
         port.pass_on(&self.lanes, self.lanes.len() as u32, owner)
@@ -105,13 +112,13 @@ impl Lanes {
 
     /// Takes the front of the port's own lane, or answers that the lane held nothing at some moment of the call. It takes
     /// no memory.
-    pub fn take<R: Wait>(&self, rt: &R, port: &mut Port) -> Option<Item>
+    pub fn take<R: Wait>(&self, rt: &R, port: &mut Port) -> Option<Load>
         requires { IsPortOf self.now port.old }
         ensures some { MatchOption result
             ((port.new ≡ port.old)
             × (sent_by port.old.number port.old.taken ≡ sent_to port.old port.old.number))
-            (λ x. (port.new ≡ record port.old { taken = port.old.taken ++ x ∷ [] }) × IsTaken port.old x) }
-        ensures open { IfSome result (IsOpen (lanes_scope self.now) port.old.taken) }
+            (λ x. (port.new ≡ has_taken port.old x) × IsTaken port.old x) }
+        ensures open { IfSome result (λ x. All (IsOpen (lanes_scope self.now) port.old.taken) (items_in x)) }
     {
         let own = port.number() as usize;
         port.take_on(rt, &self.lanes[own])

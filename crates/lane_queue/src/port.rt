@@ -1,29 +1,34 @@
 //! One worker's end of all lanes.
 ghost use Rattle.std.specs.Prelude.{◌≡◌, ◌≢◌, ◌<◌, ◌≤◌, ◌+◌, ◌^◌, [], ◌∷◌, ◌++◌, length, Some, None};
 ghost use Rattle.std.specs.Prelude.{OnOk, OnErr, IfErr, IfOk, MatchResult, MatchOption, MatchBool, slice_index_or, slice_set, map};
-ghost use Rattle.req_table.specs.Lanes.{from_of, sent_by, ends, MayFollow};
+ghost use Rattle.req_table.specs.Lanes.{sent_by, ends, MayFollow};
+ghost use Rattle.req_table.specs.declared.Item.TheVariants.{Ask};
+ghost use Rattle.lane_queue.specs.Loads.{load_from, items_in, Carries, MayFollowAll};
 ghost use Rattle.crossbeam_queue.specs.SegTies.{IsSegPassOf};
 ghost use Rattle.lane_queue.specs.Rule.{scope, port, own_sent, IsNext, Owns};
-ghost use Rattle.lane_queue.specs.PortView.{sent_to, IsTaken, port_scope};
+ghost use Rattle.lane_queue.specs.PortView.{sent_to, IsTaken, IsKept, MayLeave, has_put, has_taken, has_kept, port_scope};
 ghost use Rattle.req_table.specs.Sizes.{sizes_of};
 ghost use Rattle.std.specs.List.{sum_by};
 ghost use Rattle.lane_queue.specs.declared.port.Line.{Line};
 ghost use Rattle.lane_queue.specs.declared.rule.Lane.{Lane};
 ghost use Rattle.lane_queue.specs.Joining.{pass_view, retired, RootsOf, RootsBelow, RootsWith};
 ghost use Rattle.lane_queue.specs.Make.{NewLines, new_port};
+ghost use Rattle.lane_queue.specs.Lists.{Begins};
 ghost use Rattle.lane_queue.specs.Line.{line_view, IsLine, IsLiveOn};
 
+use crate::load::Load;
 use crate::make::Root;
+use crate::own::Own;
 use crate::rule::{Lane, LanePass};
 use crate::{join, steps};
 use dd_store::Store;
-use req_table::Item;
+use req_table::{Item, Key};
 use std::alloc::{AllocError, Global};
 use std::marker::Model;
 use std::snapshot::Snapshot;
 use std::sync::Wait;
 
-// The most items that a port puts on one lane.
+// The most loads that a port puts on one lane.
 const MOST: u64 = 1 << 62;
 
 /// The pass of one lane, or what it knew when it was joined.
@@ -33,7 +38,7 @@ pub enum Hold {
     Joined(Snapshot<LanePass>),
 }
 
-/// One port's end of one lane: its pass, and how many Ends and how many items it put there.
+/// One port's end of one lane: its pass, and how many Ends and how many loads it put there.
 #[derive(Drop)]
 pub struct Line {
     pub hold: Hold,
@@ -42,35 +47,37 @@ pub struct Line {
 }
 
 impl Line {
-    // Whether the port has put as many items on the lane as it may.
+    // Whether the port has put as many loads on the lane as it may.
     fn is_full(&self) -> bool
         ensures { MatchBool result (2 ^ 62 ≤ self.now.put) (self.now.put < 2 ^ 62) }
     {
         self.put >= MOST
     }
 
-    /// Puts an item at the back of the lane.
-    pub fn send<R: Wait>(&mut self, rt: &R, lane: &Lane, item: Item) -> Result<(), Item>
+    /// Puts a load at the back of the lane.
+    pub fn send<R: Wait>(&mut self, rt: &R, lane: &Lane, load: Load) -> Result<(), Load>
         requires live { IsLiveOn lane.now.queue self.old.hold }
         requires line { IsLine self.old }
-        requires sender { from_of item ≡ (line_view self.old).low }
-        requires may { let v = line_view self.old in MayFollow (scope v.terms) (ends (own_sent v)) item }
+        requires some { Carries load }
+        requires sender { load_from load ≡ (line_view self.old).low }
+        requires may { let v = line_view self.old in MayFollowAll (scope v.terms) (ends (own_sent v)) load }
         requires levels { (line_view self.old).terms.sizes.levels < 2 ^ 16 }
         ensures live { IsLiveOn lane.now.queue self.new.hold }
         ensures line { IsLine self.new }
         ensures sent { let v = line_view self.old in
             MatchResult result
-            (λ _. line_view self.new ≡ port v.terms v.low (own_sent v ++ item ∷ []) v.taken)
-            (λ x. (x ≡ item) × (line_view self.new ≡ v)) }
+            (λ _. line_view self.new ≡ port v.terms v.low (own_sent v ++ items_in load) v.taken)
+            (λ x. (x ≡ load) × (line_view self.new ≡ v)) }
+        ensures put { MatchResult result (λ _. self.new.put ≡ self.old.put + 1) (λ _. self.new.put ≡ self.old.put) }
     {
         if self.is_full() {
-            return Err(item);
+            return Err(load);
         }
-        let is_end = matches!(item, Item::End { .. });
+        let is_end = matches!(load, Load::End { .. });
         let Hold::Live(pass) = &mut self.hold else {
             unreachable!();
         };
-        steps::send(rt, lane, pass, item)?;
+        steps::send(rt, lane, pass, load)?;
         self.put += 1;
         if is_end {
             self.ends += 1;
@@ -79,16 +86,17 @@ impl Line {
     }
 
     /// Takes the front of the lane.
-    pub fn take<R: Wait>(&mut self, rt: &R, lane: &Lane) -> Option<Item>
+    pub fn take<R: Wait>(&mut self, rt: &R, lane: &Lane) -> Option<Load>
         requires live { IsLiveOn lane.now.queue self.old.hold }
         requires line { IsLine self.old }
         requires owner { (line_view self.old).low ≡ (line_view self.old).terms.owner }
         ensures live { IsLiveOn lane.now.queue self.new.hold }
         ensures line { IsLine self.new }
+        ensures put { self.new.put ≡ self.old.put }
         ensures taken { let v = line_view self.old in
             MatchOption result
             ((line_view self.new ≡ v) × Owns v [])
-            (λ x. (line_view self.new ≡ port v.terms v.low (own_sent v) (v.taken ++ x ∷ [])) × IsNext v x) }
+            (λ x. (line_view self.new ≡ port v.terms v.low (own_sent v) (v.taken ++ items_in x)) × IsNext v x) }
     {
         let Hold::Live(pass) = &mut self.hold else {
             unreachable!();
@@ -110,29 +118,31 @@ impl Line {
     }
 }
 
-/// One worker's end of all lanes: all that it sends and takes goes through it. Contracts see what it sent on each lane
-/// and what it took.
+/// One worker's end of all lanes: all that it sends, takes and keeps goes through it. Contracts see what it sent to each
+/// worker and what it took; the port has numbers alone.
 #[derive(Drop)]
 pub struct Port {
     number: u32,
     lines: Vec<Line>,
     store: Snapshot<Store>,
+    own: Own,
 }
 
 impl Model for Port {
-    ghost use Rattle.lane_queue.specs.PortView.{PortView};
+    ghost use Rattle.lane_queue.specs.PortView.{PortView, IsKept};
     ghost use Rattle.req_table.specs.Sizes.{sizes_of};
 
     ghost Value = { PortView };
 
     ghost use Rattle.lane_queue.specs.Ports.{view_of, PortOk};
 
-    ghost view = { λ p. view_of p.number (sizes_of p.store.value) p.lines.items };
+    ghost view = { λ p. view_of p.number (sizes_of p.store.value) p.lines.items p.own.sent p.own.taken };
 
-    ghost invariant = { λ p. PortOk p.number (sizes_of p.store.value) p.lines.items };
+    ghost invariant = { λ p. PortOk p.number (sizes_of p.store.value) p.lines.items
+        × IsKept (view_of p.number (sizes_of p.store.value) p.lines.items p.own.sent p.own.taken) };
 }
 
-// How many items the lines put, together.
+// How many loads the lines put, together.
 fn added(lines: &Vec<Line>) -> u128
     ensures { result ≡ sum_by (λ (l : Line). l.put) lines.now.items }
 {
@@ -161,65 +171,95 @@ impl Port {
         let _workers = workers;
         let _levels = store.levels();
         let store = Snapshot::of(store);
+        let own = Own::new();
         Port {
             number,
             lines,
             store,
+            own,
         }
     }
 
-    /// The worker that it belongs to: below the number of lanes, on each of which it has a list of what it sent.
+    /// The worker that it belongs to: below the number of lanes. What the port took of its own is a beginning of what it
+    /// sent to itself.
     pub fn number(&self) -> u32
         ensures number { result ≡ self.now.number }
         ensures within { self.now.number < length self.now.lanes }
-        ensures lists { length self.now.sent ≡ length self.now.lanes }
+        ensures lists { length self.now.put ≡ length self.now.lanes }
+        ensures own { let p = self.now in Begins (sent_by p.number p.taken) (sent_to p p.number) }
     {
         self.number
     }
 
     /// How many Ends it put on the lane of the worker `to`, which is the level of the next.
     pub fn ends(&self, to: u32) -> u16
-        requires { to < length self.now.sent }
+        requires { to < length self.now.lanes }
         ensures { result ≡ ends (sent_to self.now to) }
     {
         self.lines[to as usize].ends
     }
 
-    /// How many items it put on all lanes together.
+    /// How many loads it put on all lanes together.
     pub fn put(&self) -> u128
-        ensures { result ≡ sum_by (λ xs. length xs) self.now.sent }
+        ensures { result ≡ sum_by (λ n. n) self.now.put }
     {
         added(&self.lines)
     }
 
-    /// Puts an item on this lane, which is that of the worker `to`.
+    /// Keeps a request to itself: it counts as sent and taken at once, and no step is made on a lane. Nothing that the port
+    /// sent to itself may be under way.
+    pub fn keep(&mut self, level: u16, key: Key)
+        requires may { let p = self.old in
+            MayFollow (port_scope p) (ends (sent_to p p.number)) (Ask p.number level key) }
+        requires leave { let p = self.old in
+            MayLeave (port_scope p) p.taken (ends (sent_to p p.number)) (Ask p.number level key) }
+        requires taken { let p = self.old in sent_by p.number p.taken ≡ sent_to p p.number }
+        ensures { self.new ≡ has_kept self.old (Ask self.old.number level key) }
+    {
+        let from = self.number;
+        let ask = Item::Ask { from, level, key };
+        self.own.kept(Snapshot::of(&ask));
+    }
+
+    /// Puts a load on this lane, which is that of the worker `to`.
     pub(crate) fn send_on<R: Wait>(
         &mut self,
         rt: &R,
         lane: &Lane,
         to: usize,
-        item: Item,
-    ) -> Result<(), Item>
+        load: Load,
+    ) -> Result<(), Load>
         requires lane { (to < length self.old.lanes) × (slice_index_or self.old.lanes to None ≡ Some lane.now.queue) }
-        requires sender { from_of item ≡ self.old.number }
-        requires may { MayFollow (port_scope self.old) (ends (sent_to self.old to)) item }
-        ensures { MatchResult result
-            (λ _. self.new ≡ record self.old { sent = slice_set self.old.sent to (sent_to self.old to ++ item ∷ []) })
-            (λ x. (x ≡ item) × (self.new ≡ self.old)) }
+        requires some { Carries load }
+        requires sender { load_from load ≡ self.old.number }
+        requires may { MayFollowAll (port_scope self.old) (ends (sent_to self.old to)) load }
+        ensures port { MatchResult result (λ _. self.new ≡ has_put self.old to load) (λ x. (x ≡ load) × (self.new ≡ self.old)) }
+        ensures wide { (length self.old.passed ≡ length self.old.lanes) × (length self.old.put ≡ length self.old.lanes) }
     {
-        self.lines[to].send(rt, lane, item)
+        let note = Snapshot::of(&load);
+        if let Err(load) = self.lines[to].send(rt, lane, load) {
+            return Err(load);
+        }
+        if to == self.number as usize {
+            self.own.sent(note);
+        }
+        Ok(())
     }
 
     /// Takes the front of this lane, which is the port's own.
-    pub(crate) fn take_on<R: Wait>(&mut self, rt: &R, lane: &Lane) -> Option<Item>
+    pub(crate) fn take_on<R: Wait>(&mut self, rt: &R, lane: &Lane) -> Option<Load>
         requires { slice_index_or self.old.lanes self.old.number None ≡ Some lane.now.queue }
         ensures { MatchOption result
             ((self.new ≡ self.old)
             × (sent_by self.old.number self.old.taken ≡ sent_to self.old self.old.number))
-            (λ x. (self.new ≡ record self.old { taken = self.old.taken ++ x ∷ [] }) × IsTaken self.old x) }
+            (λ x. (self.new ≡ has_taken self.old x) × IsTaken self.old x) }
     {
         let own = self.number as usize;
-        self.lines[own].take(rt, lane)
+        let Some(load) = self.lines[own].take(rt, lane) else {
+            return None;
+        };
+        self.own.took(Snapshot::of(&load));
+        Some(load)
     }
 
     /// The pass with which the port steps on the lane of the worker `owner`.
@@ -229,6 +269,7 @@ impl Port {
         requires owner { owner < workers }
         ensures queue { (d : Lane) → IsSegPassOf (slice_index_or lanes.now.items owner d).queue result.now }
         ensures knows { result.now.me.view.client ≡ pass_view workers self.now owner }
+        ensures kept { IsKept self.now }
     {
         let at = owner as usize;
         self.lines[at].pass(&lanes[at])
@@ -244,6 +285,7 @@ impl Port {
         requires long { length lanes.now.items ≡ workers }
         requires lanes { self.old.lanes ≡ map (λ q. Some q) (map (λ (x : Lane). x.queue) lanes.now.items) }
         ensures port { OnOk result (self.new ≡ retired self.old) }
+        ensures kept { IsKept self.old }
         ensures roots { IfOk result (λ r. (length r.items ≡ workers) × RootsOf workers self.old lanes.now.items r.items) }
     {
         join::begin(alloc, lanes, &mut self.lines, workers)
@@ -255,6 +297,7 @@ impl Port {
         requires lanes { self.old.lanes ≡ map (λ q. Some q) (map (λ (x : Lane). x.queue) lanes.now.items) }
         requires below { RootsBelow workers self.old lanes.now.items roots.old.items }
         ensures port { self.new ≡ retired self.old }
+        ensures kept { IsKept self.old }
         ensures roots { (length roots.new.items ≡ workers)
             × RootsWith workers self.old lanes.now.items roots.old.items roots.new.items }
     {

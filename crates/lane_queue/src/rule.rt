@@ -1,4 +1,5 @@
 //! The lanes' rule, and what each kind of step does to a pass.
+use crate::load::Load;
 use crossbeam_queue::protocol::{Join, Lesson, Outcome, Protocol, Split};
 use crossbeam_queue::{RuledSegQueue, SegPass};
 use req_table::{Item, Sizes};
@@ -25,13 +26,14 @@ pub struct View {
     pub left: LinkedList<Item>,
 }
 
-/// The rule of a lane: what was taken and then what waits is, of each port, what that port sent, which is fair.
+/// The rule of a lane: what was taken and then what waits, each load read as its items, is, of each port, what that port
+/// sent, which is fair.
 pub struct LaneRule;
 
-impl Protocol<Item, View> for LaneRule {
-    ghost use Rattle.lane_queue.specs.Rule.{Kept, blank};
+impl Protocol<Load, View> for LaneRule {
+    ghost use Rattle.lane_queue.specs.Rule.{Holds, blank};
 
-    ghost holds = { Kept };
+    ghost holds = { Holds };
 
     ghost first = { blank };
 }
@@ -75,10 +77,10 @@ impl Join<View> for Merge {
     ghost spent = { spent };
 }
 
-/// A port puts an item on the lane.
+/// A port puts a load on the lane.
 pub struct Put;
 
-impl Outcome<Item, View> for Put {
+impl Outcome<Load, View> for Put {
     ghost use Rattle.lane_queue.specs.Rule.{Sends};
 
     ghost then = { Sends };
@@ -87,13 +89,13 @@ impl Outcome<Item, View> for Put {
 /// The owner takes the front.
 pub struct Take;
 
-impl Outcome<Item, View> for Take {
+impl Outcome<Load, View> for Take {
     ghost use Rattle.lane_queue.specs.Rule.{Takes};
 
     ghost then = { Takes };
 }
 
-impl Lesson<Item, View> for Take {
+impl Lesson<Load, View> for Take {
     ghost use Rattle.lane_queue.specs.Rule.{Owns};
 
     ghost fact = { Owns };
@@ -102,34 +104,34 @@ impl Lesson<Item, View> for Take {
 /// What is left is read out, once all ports are joined.
 pub struct Read;
 
-impl Outcome<Item, View> for Read {
+impl Outcome<Load, View> for Read {
     ghost use Rattle.lane_queue.specs.Rule.{Reads};
 
     ghost then = { Reads };
 }
 
-impl Lesson<Item, View> for Read {
+impl Lesson<Load, View> for Read {
     ghost use Rattle.lane_queue.specs.Rule.{Whole};
 
     ghost fact = { Whole };
 }
 
 /// One lane's queue.
-pub type Queue = RuledSegQueue<Item, View, LaneRule>;
+pub type Queue = RuledSegQueue<Load, View, LaneRule>;
 
 /// What a port needs to step on one lane.
-pub type LanePass = SegPass<Item, View>;
+pub type LanePass = SegPass<Load, View>;
 
 /// A queue that has a rule: what holds of its content and of what its passes know, between any two steps.
 pub trait HasRule {
     ghost use Rattle.std.specs.Prelude.{List};
-    ghost use Rattle.req_table.specs.declared.Item.{Item};
+    ghost use Rattle.lane_queue.specs.declared.load.Load.{Load};
     ghost use Rattle.lane_queue.specs.declared.rule.View.{View};
 
-    ghost rule: { List Item → List View → Type 0 };
+    ghost rule: { List Load → List View → Type 0 };
 }
 
-impl<P: Protocol<Item, View>> HasRule for RuledSegQueue<Item, View, P> {
+impl<P: Protocol<Load, View>> HasRule for RuledSegQueue<Load, View, P> {
     ghost rule = { P.holds };
 }
 

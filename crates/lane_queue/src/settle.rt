@@ -3,17 +3,18 @@ ghost use Rattle.std.specs.Prelude.{◌≡◌, ◌<◌, [], map, length, slice_i
 ghost use Rattle.crossbeam_queue.specs.SegTies.{IsSegPassOf};
 ghost use Rattle.req_table.specs.Lanes.{LaneLaw};
 ghost use Rattle.lane_queue.specs.Lists.{FairLane};
+ghost use Rattle.lane_queue.specs.Loads.{flat};
 ghost use Rattle.lane_queue.specs.Rule.{scope, IsWhole};
 ghost use Rattle.lane_queue.specs.declared.rule.Lane.{Lane};
 ghost use Rattle.req_table.specs.Sizes.{sizes_of};
-ghost use Rattle.lane_queue.specs.Joining.{RootsHave, ArePorts, AreRetired, LawOfAll};
+ghost use Rattle.lane_queue.specs.Joining.{RootsHave, ArePorts, AreRetired, AreKept, LawOfLanes};
 
+use crate::load::Load;
 use crate::make::Root;
 use crate::port::Port;
 use crate::rule::{Lane, LanePass};
 use crate::steps;
 use dd_store::Store;
-use req_table::Item;
 use std::alloc::{AllocError, Global};
 use std::snapshot::Snapshot;
 use std::sync::Wait;
@@ -31,6 +32,7 @@ pub fn join_all(
     ensures roots { IfOk result (λ r.
         RootsHave workers (sizes_of store.now.value) ports.old.items lanes.now.items r.items) }
     ensures ports { OnOk result (AreRetired workers ports.old.items ports.new.items) }
+    ensures kept { OnOk result (AreKept workers ports.old.items) }
 {
     let _store = store;
     let mut roots = ports[0].begin_join(alloc, lanes, workers)?;
@@ -46,20 +48,20 @@ fn read_all<R: Wait>(
     alloc: Global,
     lane: &Lane,
     root: &mut LanePass,
-) -> Result<Vec<Item>, AllocError>
+) -> Result<Vec<Load>, AllocError>
     requires queue { IsSegPassOf lane.now.queue root.old }
     requires whole { IsWhole root.old.me.view.client × (root.old.me.view.client.left ≡ []) }
     ensures { let v = root.old.me.view.client in
         IfOk result (λ r.
-        LaneLaw (scope v.terms) (λ s. slice_index_or v.sent s []) v.taken r.items
+        LaneLaw (scope v.terms) (λ s. slice_index_or v.sent s []) v.taken (flat r.items)
         × FairLane (scope v.terms) (λ s. slice_index_or v.sent s [])) }
 {
     let mut left = Vec::new(alloc);
     for _ in rt.forever() {
-        let Some(item) = steps::read(rt, lane, root) else {
+        let Some(load) = steps::read(rt, lane, root) else {
             return Ok(left);
         };
-        left.push(item)?;
+        left.push(load)?;
     }
     unreachable!()
 }
@@ -73,12 +75,12 @@ pub fn read_lanes<R: Wait>(
     ports: &Vec<Port>,
     mut roots: Vec<Root>,
     workers: u32,
-) -> Result<Vec<Vec<Item>>, AllocError>
+) -> Result<Vec<Vec<Load>>, AllocError>
     requires long { (length lanes.now.items ≡ workers) × (length ports.now.items ≡ workers) }
     requires roots { RootsHave workers (sizes_of store.now.value) ports.now.items lanes.now.items roots.items }
     ensures long { IfOk result (λ r. length r.items ≡ workers) }
     ensures law { IfOk result (λ r.
-        LawOfAll workers (sizes_of store.now.value) ports.now.items (map (λ v. v.items) r.items)) }
+        LawOfLanes workers (sizes_of store.now.value) ports.now.items (map (λ v. v.items) r.items)) }
 {
     let _store = store;
     let _ports = ports;

@@ -1,12 +1,13 @@
 //! The seven kinds of step, each on one lane. No other code steps on a queue.
 ghost use Rattle.std.specs.Prelude.{◌≡◌, ◌≢◌, ◌<◌, ◌+◌, [], ◌∷◌, ◌++◌, IfOk, MatchResult, MatchOption};
 ghost use Rattle.crossbeam_queue.specs.SegTies.{IsSegPassOf};
-ghost use Rattle.req_table.specs.Lanes.{from_of, ends, MayFollow};
+ghost use Rattle.req_table.specs.Lanes.{ends};
+ghost use Rattle.lane_queue.specs.Loads.{load_from, items_in, Carries, MayFollowAll};
 ghost use Rattle.lane_queue.specs.Rule.{scope, blank, issuer, joined, port, own_sent};
 ghost use Rattle.lane_queue.specs.Rule.{IsPort, IsJoined, IsWhole, IsReady, IsNext, Owns, Whole};
 
+use crate::load::Load;
 use crate::rule::{Issue, Lane, LanePass, Merge, Naming, Put, Queue, Read, Take};
-use req_table::Item;
 use std::alloc::{AllocError, Global};
 use std::sync::Wait;
 
@@ -29,23 +30,24 @@ pub fn issue<J: Naming>(lane: &Lane, root: &mut LanePass) -> LanePass
     lane.queue.another::<Issue<J>>(root)
 }
 
-/// Puts an item at the back of the lane. It comes back for want of memory or where the queue's numbers have run out.
-pub fn send<R: Wait>(rt: &R, lane: &Lane, pass: &mut LanePass, item: Item) -> Result<(), Item>
+/// Puts a load at the back of the lane. It comes back for want of memory or where the queue's numbers have run out.
+pub fn send<R: Wait>(rt: &R, lane: &Lane, pass: &mut LanePass, load: Load) -> Result<(), Load>
     requires queue { IsSegPassOf lane.now.queue pass.old }
     requires port { IsPort pass.old.me.view.client }
-    requires sender { from_of item ≡ pass.old.me.view.client.low }
-    requires may { let v = pass.old.me.view.client in MayFollow (scope v.terms) (ends (own_sent v)) item }
+    requires some { Carries load }
+    requires sender { load_from load ≡ pass.old.me.view.client.low }
+    requires may { let v = pass.old.me.view.client in MayFollowAll (scope v.terms) (ends (own_sent v)) load }
     ensures queue { IsSegPassOf lane.now.queue pass.new }
     ensures sent { let v = pass.old.me.view.client in
         MatchResult result
-        (λ _. pass.new.me.view.client ≡ port v.terms v.low (own_sent v ++ item ∷ []) v.taken)
-        (λ x. (x ≡ item) × (pass.new.me.view.client ≡ v)) }
+        (λ _. pass.new.me.view.client ≡ port v.terms v.low (own_sent v ++ items_in load) v.taken)
+        (λ x. (x ≡ load) × (pass.new.me.view.client ≡ v)) }
 {
-    lane.queue.push_as::<Put, R>(rt, pass, item)
+    lane.queue.push_as::<Put, R>(rt, pass, load)
 }
 
 /// Takes the front of the lane.
-pub fn take<R: Wait>(rt: &R, lane: &Lane, pass: &mut LanePass) -> Option<Item>
+pub fn take<R: Wait>(rt: &R, lane: &Lane, pass: &mut LanePass) -> Option<Load>
     requires queue { IsSegPassOf lane.now.queue pass.old }
     requires port { IsPort pass.old.me.view.client }
     requires owner { pass.old.me.view.client.low ≡ pass.old.me.view.client.terms.owner }
@@ -53,7 +55,7 @@ pub fn take<R: Wait>(rt: &R, lane: &Lane, pass: &mut LanePass) -> Option<Item>
     ensures taken { let v = pass.old.me.view.client in
         MatchOption result
         ((pass.new.me.view.client ≡ v) × Owns v [])
-        (λ x. (pass.new.me.view.client ≡ port v.terms v.low (own_sent v) (v.taken ++ x ∷ [])) × IsNext v x) }
+        (λ x. (pass.new.me.view.client ≡ port v.terms v.low (own_sent v) (v.taken ++ items_in x)) × IsNext v x) }
 {
     lane.queue.pop_as::<Take, R>(rt, pass)
 }
@@ -76,14 +78,14 @@ pub fn join(lane: &Lane, root: &mut LanePass, next: LanePass)
 }
 
 /// Reads the front of the lane out, once all ports are joined.
-pub fn read<R: Wait>(rt: &R, lane: &Lane, root: &mut LanePass) -> Option<Item>
+pub fn read<R: Wait>(rt: &R, lane: &Lane, root: &mut LanePass) -> Option<Load>
     requires queue { IsSegPassOf lane.now.queue root.old }
     requires root { IsWhole root.old.me.view.client }
     ensures queue { IsSegPassOf lane.now.queue root.new }
     ensures left { let v = root.old.me.view.client in
         MatchOption result
         ((root.new.me.view.client ≡ v) × Whole v [])
-        (λ x. root.new.me.view.client ≡ joined v.terms v.terms.workers v.sent v.taken (v.left ++ x ∷ [])) }
+        (λ x. root.new.me.view.client ≡ joined v.terms v.terms.workers v.sent v.taken (v.left ++ items_in x)) }
 {
     lane.queue.pop_as::<Read, R>(rt, root)
 }

@@ -40,5 +40,4 @@ pub returns-clause-put : goal.returns-clause-put
 returns-clause-put g c =
     counts c.args.store.now c.levels-levels.ensures.sound c.in_ok-lanes.lanes c.in_ok-lanes.ensures.lanes.1 (let e = c.in_ok-lanes.ensures.lanes.0 in let r = c.requires.workers.0 in omega (arith, e, r)) c.args.roots.now c.in_ok-parts.parts.items c.in_ok-parts.ensures.parts
     c.in_ok-settled.settled.ports.items (subst (λ ps. AreRetired (length c.in_ok-lanes.lanes.lanes) ps c.in_ok-settled.settled.ports.items) c.in_ok-ports.ensures.ports c.in_ok-settled.ensures.ports) (map (λ v. v.items) c.in_ok-settled.settled.left.items) c.in_ok-settled.ensures.law
-    c.in_ok-records.records (merged_as c.args.store.now c.in_ok-parts.parts.items c.as_slice.result.now c.levels-levels.result c.in_ok-records.records c.levels-levels.ensures.value (c.as_slice.ensures.value ∙ c.in_ok-ports.ensures.rows) c.in_ok-records.ensures.rows)
     c.args.workers c.in_ok-lanes.ensures.lanes.0

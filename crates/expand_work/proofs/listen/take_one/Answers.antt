@@ -1,21 +1,20 @@
-use Rattle.std.proofs.Common.{subst, sym, ap}
+use Rattle.std.proofs.Common.{ℕ, ◌<◌, length, All, subst, sym, ap}
+use Rattle.req_table.specs.declared.Key.{Key}
+use Rattle.lane_queue.specs.Loads.{items_in}
 use Rattle.lane_queue.specs.PortView.{IsOpen, lanes_scope}
-use Rattle.expand_work.specs.Work.{IsHeard, StaysClosed}
+use Rattle.expand_work.specs.Work.{Offered, IsHeard, StaysClosed}
 use Rattle.expand_work.proofs.Hearing.{stays_same}
-use Rattle.expand_work.proofs.Taking.{Takes, end_next, ask_level, end_heard, end_stays', ask_heard, ask_stays'}
+use Rattle.expand_work.proofs.Taking.{Takes, end_next, end_heard, end_stays', bundle_levels, bundle_heard, bundle_stays}
 use Rattle.expand_work.proofs.listen.take_one.Goals as goal
 
 pub note-requires-clause-level : goal.note-requires-clause-level
-note-requires-clause-level g c =
-    (end_next c.args.lanes.now c.args.port.now c.args.clock.now c.args.tables.now c.requires.port c.requires.heard c.in-End.from c.in-End.level c.take.new.port (subst (Takes c.args.port.now c.take.new.port) c.in-End.is c.in-Some.ensures.some)).2
+note-requires-clause-level g c = (end_next c.args.lanes.now c.args.port.now c.args.clock.now c.args.tables.now c.requires.port c.requires.heard c.in-End.from c.in-End.level c.take.new.port (subst (Takes c.args.port.now c.take.new.port) c.in-End.is c.in-Some.ensures.some)).2
 
 pub note-requires-clause-next : goal.note-requires-clause-next
-note-requires-clause-next g c =
-    (end_next c.args.lanes.now c.args.port.now c.args.clock.now c.args.tables.now c.requires.port c.requires.heard c.in-End.from c.in-End.level c.take.new.port (subst (Takes c.args.port.now c.take.new.port) c.in-End.is c.in-Some.ensures.some)).1
+note-requires-clause-next g c = (end_next c.args.lanes.now c.args.port.now c.args.clock.now c.args.tables.now c.requires.port c.requires.heard c.in-End.from c.in-End.level c.take.new.port (subst (Takes c.args.port.now c.take.new.port) c.in-End.is c.in-Some.ensures.some)).1
 
-pub admit-requires : goal.admit-requires
-admit-requires g c =
-    ask_level c.args.lanes.now c.args.port.now c.args.clock.now c.args.tables.now c.requires.port c.requires.heard c.in-Ask.from c.in-Ask.level c.in-Ask.key c.take.new.port (subst (Takes c.args.port.now c.take.new.port) c.in-Ask.is c.in-Some.ensures.some)
+pub admit_all-requires : goal.admit_all-requires
+admit_all-requires g c = subst (All (λ (a : ℕ × Key). a.0 < length c.args.tables.now)) (sym c.asks-in-Bundle.ensures.value) (bundle_levels c.args.lanes.now c.args.port.now c.args.clock.now c.args.tables.now c.requires.port c.requires.heard c.in-Bundle.from c.in-Bundle.asks c.take.new.port (subst (Takes c.args.port.now c.take.new.port) c.in-Bundle.is c.in-Some.ensures.some))
 
 pub returns-in_default-clause-stays : goal.returns-in_default-clause-stays
 returns-in_default-clause-stays g c =
@@ -24,17 +23,13 @@ returns-in_default-clause-stays g c =
 
 pub returns-in-End-clause-heard : goal.returns-in-End-clause-heard
 returns-in-End-clause-heard g c =
-    subst (λ k. IsHeard (lanes_scope c.args.lanes.now) c.take.new.port.taken k c.args.tables.now) (sym c.note.ensures)
-    (end_heard c.args.lanes.now c.args.port.now c.args.clock.now c.args.tables.now c.requires.port c.requires.heard c.in-End.from c.in-End.level c.take.new.port (subst (Takes c.args.port.now c.take.new.port) c.in-End.is c.in-Some.ensures.some))
+    subst (λ k. IsHeard (lanes_scope c.args.lanes.now) c.take.new.port.taken k c.args.tables.now) (sym c.note.ensures) (end_heard c.args.lanes.now c.args.port.now c.args.clock.now c.args.tables.now c.requires.port c.requires.heard c.in-End.from c.in-End.level c.take.new.port (subst (Takes c.args.port.now c.take.new.port) c.in-End.is c.in-Some.ensures.some))
 
 pub returns-in-End-clause-stays : goal.returns-in-End-clause-stays
-returns-in-End-clause-stays g c =
-    end_stays' c.args.lanes.now c.args.port.now c.args.clock.now c.args.tables.now c.requires.port c.requires.heard c.in-End.from c.in-End.level c.take.new.port (subst (Takes c.args.port.now c.take.new.port) c.in-End.is c.in-Some.ensures.some)
+returns-in-End-clause-stays g c = end_stays' c.args.lanes.now c.args.port.now c.args.clock.now c.args.tables.now c.requires.port c.requires.heard c.in-End.from c.in-End.level c.take.new.port (subst (Takes c.args.port.now c.take.new.port) c.in-End.is c.in-Some.ensures.some)
 
-pub returns-in_ok-admit-in-Ask-clause-heard : goal.returns-in_ok-admit-in-Ask-clause-heard
-returns-in_ok-admit-in-Ask-clause-heard g c =
-    ask_heard c.args.lanes.now c.args.port.now c.args.clock.now c.args.tables.now c.requires.port c.requires.heard c.in-Ask.from c.in-Ask.level c.in-Ask.key c.take.new.port (subst (Takes c.args.port.now c.take.new.port) c.in-Ask.is c.in-Some.ensures.some) c.admit.new.self c.in_ok-admit-in-Ask.field-0 c.in_ok-admit-in-Ask.ensures
+pub returns-in_ok-admit_all-in-Bundle-clause-heard : goal.returns-in_ok-admit_all-in-Bundle-clause-heard
+returns-in_ok-admit_all-in-Bundle-clause-heard g c = bundle_heard c.args.lanes.now c.args.port.now c.args.clock.now c.args.tables.now c.requires.port c.requires.heard c.in-Bundle.from c.in-Bundle.asks c.take.new.port (subst (Takes c.args.port.now c.take.new.port) c.in-Bundle.is c.in-Some.ensures.some) c.admit_all.new.tables (subst (λ xs. Offered xs c.args.tables.now c.admit_all.new.tables) c.asks-in-Bundle.ensures.value c.in_ok-admit_all-in-Bundle.ensures)
 
-pub returns-in_ok-admit-in-Ask-clause-stays : goal.returns-in_ok-admit-in-Ask-clause-stays
-returns-in_ok-admit-in-Ask-clause-stays g c =
-    ask_stays' c.args.lanes.now c.args.port.now c.args.clock.now c.args.tables.now c.requires.port c.requires.heard c.in-Ask.from c.in-Ask.level c.in-Ask.key c.take.new.port (subst (Takes c.args.port.now c.take.new.port) c.in-Ask.is c.in-Some.ensures.some) c.admit.new.self c.in_ok-admit-in-Ask.field-0 (subst (IsOpen (lanes_scope c.args.lanes.now) c.args.port.now.taken) c.in-Ask.is c.in-Some.ensures.open) c.in_ok-admit-in-Ask.ensures
+pub returns-in_ok-admit_all-in-Bundle-clause-stays : goal.returns-in_ok-admit_all-in-Bundle-clause-stays
+returns-in_ok-admit_all-in-Bundle-clause-stays g c = bundle_stays c.args.lanes.now c.args.port.now c.args.clock.now c.args.tables.now c.requires.port c.requires.heard c.in-Bundle.from c.in-Bundle.asks c.take.new.port (subst (Takes c.args.port.now c.take.new.port) c.in-Bundle.is c.in-Some.ensures.some) c.admit_all.new.tables (subst (λ x. All (IsOpen (lanes_scope c.args.lanes.now) c.args.port.now.taken) (items_in x)) c.in-Bundle.is c.in-Some.ensures.open) (subst (λ xs. Offered xs c.args.tables.now c.admit_all.new.tables) c.asks-in-Bundle.ensures.value c.in_ok-admit_all-in-Bundle.ensures)

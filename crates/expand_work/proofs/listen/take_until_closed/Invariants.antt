@@ -5,6 +5,6 @@ use Rattle.expand_work.proofs.listen.take_until_closed.Given as goal
 
 abbrev pub invariant-loop-turn : goal.invariant-loop-turn
 invariant-loop-turn g l =
-    (l.port ≡ record l.initial.port { taken = l.port.taken })
-    × IsHeard (lanes_scope l.lanes) l.port.taken l.clock l.tables
-    × StaysClosed (lanes_scope l.lanes) l.initial.port.taken l.port.taken l.initial.tables l.tables
+    (l.port ≡ record l.initial.port { popped = l.port.popped; taken = l.port.taken })
+    × IsHeard (lanes_scope l.site.lanes.now) l.port.taken l.clock l.tables
+    × StaysClosed (lanes_scope l.site.lanes.now) l.initial.port.taken l.port.taken l.initial.tables l.tables

@@ -1,32 +1,33 @@
-use Rattle.std.proofs.Common.{◌≡◌, ℕ, ◌<◌, filter, subst, sym, ◌∙◌, All}
+use Rattle.std.proofs.Common.{◌≡◌, ℕ, ◌<◌, filter, map, subst, sym, ◌∙◌, All}
 use Rattle.req_table.specs.Keys.{IsKey}
 use Rattle.req_table.specs.Settled.{asked_by}
-use Rattle.expand_work.specs.Work.{at, owned_by}
-use Rattle.expand_work.proofs.Rounds.{ended_before, due_may, keys_held, level_next, number_same}
+use Rattle.expand_work.specs.Work.{at, item_of, owned_by, MaySend, HasKept}
+use Rattle.expand_work.proofs.Rounds.{due_may, port_due, heard_due, own_may, own_taken, port_kept, ended_before, keys_held, level_next, number_same}
 use Rattle.expand_work.proofs.worker.do_level.Goals as goal
 
 pub send_due-requires-clause-may : goal.send_due-requires-clause-may
-send_due-requires-clause-may g c = due_may c.args.lanes.now c.args.store.now c.args.roots.now c.args.level c.args.worker c.requires.working
+send_due-requires-clause-may g c = due_may c.args.site.lanes.now c.args.site.store.now c.args.site.roots.now c.args.level c.args.worker c.requires.working
+
+pub keep_own-requires-clause-may : goal.keep_own-requires-clause-may
+keep_own-requires-clause-may g c = subst (MaySend c.args.site.lanes.now c.args.site.store.now c.send_due.new.port c.send_due.new.port.number) (sym c.list.ensures) (own_may c.args.site.lanes.now c.args.site.store.now c.args.site.roots.now c.args.level c.args.worker c.requires.working c.send_due.new.port c.in_ok-send_due.ensures c.number-own.result c.number-own.ensures.number)
+
+pub keep_own-requires-clause-taken : goal.keep_own-requires-clause-taken
+keep_own-requires-clause-taken g c = own_taken c.args.site.lanes.now c.args.site.store.now c.args.site.roots.now c.args.level c.args.worker c.requires.working c.send_due.new.port c.in_ok-send_due.ensures c.number-own.result c.number-own.ensures.number c.number-own.ensures.own
 
 pub send_ends-requires-clause-ended : goal.send_ends-requires-clause-ended
-send_ends-requires-clause-ended g c = ended_before c.args.lanes.now c.args.store.now c.args.roots.now c.args.level c.args.worker c.send_due.new.port c.requires.working c.in_ok-send_due.ensures.sent
+send_ends-requires-clause-ended g c = ended_before c.args.site.lanes.now c.args.site.store.now c.args.site.roots.now c.args.level c.args.worker c.requires.working c.send_due.new.port c.in_ok-send_due.ensures c.number-own.result c.number-own.ensures.number c.keep_own.new.port (subst (λ ks. HasKept c.send_due.new.port c.keep_own.new.port (map (item_of c.args.site.store.now c.send_due.new.port.number) ks)) c.list.ensures c.in_ok-keep_own.ensures.kept)
 
 pub expand_row-requires-clause-keys : goal.expand_row-requires-clause-keys
 expand_row-requires-clause-keys g c =
-    subst (All (IsKey c.args.store.now)) (sym c.keys.ensures)
-    (keys_held c.args.lanes.now c.args.store.now c.args.level c.take_until_closed.new.port.taken c.take_until_closed.new.clock c.take_until_closed.new.tables c.requires.working.sizes c.requires.level c.in_ok-take_until_closed.ensures.heard)
+    subst (All (IsKey c.args.site.store.now)) (sym c.keys.ensures)
+    (keys_held c.args.site.lanes.now c.args.site.store.now c.args.level c.take_until_closed.new.port.taken c.take_until_closed.new.clock c.take_until_closed.new.tables c.requires.working.sizes c.requires.level c.in_ok-take_until_closed.ensures.heard)
 
 pub returns : goal.returns
 returns g c =
-    let l = c.args.lanes.now in
-    let s = c.args.store.now in
     let take = c.in_ok-take_until_closed.ensures in
     let keys = c.in-Ok.ensures.keys ∙ c.keys.ensures in
-    let owed = subst (λ n. (k : ℕ) → k < n → at c.in-Ok.due k ≡ filter (owned_by n k) (asked_by c.in-Ok.row.items)) c.count.ensures.count c.in-Ok.ensures.due in (
-      level_next l s c.args.roots.now c.args.level c.args.worker c.send_due.new.port c.send_ends.new.port c.take_until_closed.new.port c.take_until_closed.new.clock c.take_until_closed.new.tables c.in-Ok.row.items c.in-Ok.due c.push.new.self
-          c.requires.level c.requires.working c.in_ok-send_due.ensures.same c.in_ok-send_due.ensures.sent c.in_ok-send_ends.ensures.same c.in_ok-send_ends.ensures.sent
-          take.same take.heard take.stays take.closed keys c.in-Ok.ensures.split (c.in-Ok.ensures.long ∙ c.count.ensures.count) owed c.in-Ok-push.ensures,
-      number_same l s c.args.roots.now c.args.level c.args.worker c.send_due.new.port c.send_ends.new.port c.take_until_closed.new.port c.take_until_closed.new.clock c.take_until_closed.new.tables c.in-Ok.row.items c.in-Ok.due c.push.new.self
-          c.requires.level c.requires.working c.in_ok-send_due.ensures.same c.in_ok-send_due.ensures.sent c.in_ok-send_ends.ensures.same c.in_ok-send_ends.ensures.sent
-          take.same take.heard take.stays take.closed keys c.in-Ok.ensures.split (c.in-Ok.ensures.long ∙ c.count.ensures.count) owed c.in-Ok-push.ensures,
+    let kept = subst (λ ks. HasKept c.send_due.new.port c.keep_own.new.port (map (item_of c.args.site.store.now c.send_due.new.port.number) ks)) c.list.ensures c.in_ok-keep_own.ensures.kept in
+    let owed = subst (λ n. (k : ℕ) → k < n → at c.in-Ok.due k ≡ filter (owned_by n k) (asked_by c.in-Ok.row.items)) c.count-workers.ensures.count c.in-Ok.ensures.due in (
+      level_next c.args.site.lanes.now c.args.site.store.now c.args.site.roots.now c.args.level c.args.worker c.requires.working c.send_due.new.port c.in_ok-send_due.ensures c.number-own.result c.number-own.ensures.number c.keep_own.new.port kept c.send_ends.new.port c.take_until_closed.new.port c.take_until_closed.new.clock c.keep_own.new.tables c.take_until_closed.new.tables c.in-Ok.row.items c.in-Ok.due c.push.new.self c.requires.level c.in_ok-keep_own.ensures.stays c.in_ok-send_ends.ensures take.same take.heard take.stays take.closed keys c.in-Ok.ensures.split (c.in-Ok.ensures.long ∙ c.count-workers.ensures.count) owed c.in-Ok-push.ensures,
+      number_same c.args.site.lanes.now c.args.site.store.now c.args.site.roots.now c.args.level c.args.worker c.requires.working c.send_due.new.port c.in_ok-send_due.ensures c.number-own.result c.number-own.ensures.number c.keep_own.new.port kept c.send_ends.new.port c.take_until_closed.new.port c.take_until_closed.new.clock c.keep_own.new.tables c.take_until_closed.new.tables c.in-Ok.row.items c.in-Ok.due c.push.new.self c.requires.level c.in_ok-keep_own.ensures.stays c.in_ok-send_ends.ensures take.same take.heard take.stays take.closed keys c.in-Ok.ensures.split (c.in-Ok.ensures.long ∙ c.count-workers.ensures.count) owed c.in-Ok-push.ensures,
     )

@@ -1,0 +1,6 @@
+use Rattle.std.proofs.Common.{take}
+use Rattle.expand_work.proofs.Holding.{Holding}
+use Rattle.expand_work.proofs.listen.keep_own.Given as goal
+
+abbrev pub invariant-loop-key : goal.invariant-loop-key
+invariant-loop-key l = Holding l.site.store.now l.initial.port l.port l.initial.tables l.tables (take l.key-index l.keys)

@@ -1,0 +1,70 @@
+//! What a lane carries: requests in bundles, and the Ends of levels.
+ghost use Rattle.std.specs.Prelude.{◌≡◌, ◌<◌, ◌≤◌, [], ◌∷◌, ◌++◌, length, IfOk};
+
+use req_table::Key;
+use std::alloc::{AllocError, Global};
+use std::marker::Model;
+
+/// How many requests a bundle has room for.
+const ROOM: usize = 64;
+
+/// Up to 64 requests, each with its level, in the order in which they were added.
+#[derive(Drop)]
+pub struct Bundle {
+    asks: Vec<(u16, Key)>,
+}
+
+impl Model for Bundle {
+    ghost use Rattle.std.specs.Prelude.{ℕ, List, length, ◌≤◌};
+    ghost use Rattle.std.specs.Vec.{vec_capacity};
+    ghost use Rattle.req_table.specs.declared.Key.{Key};
+
+    ghost Value = { List (ℕ × Key) };
+
+    ghost view = { λ b. b.asks.items };
+
+    ghost invariant = { λ b. (length b.asks.items ≤ 64) × (64 ≤ vec_capacity b.asks) };
+}
+
+impl Bundle {
+    /// No requests, and room for 64.
+    pub fn new(alloc: Global) -> Result<Bundle, AllocError>
+        ensures { IfOk result (λ b. b ≡ []) }
+    {
+        let asks = Vec::with_capacity(alloc, ROOM)?;
+        Ok(Bundle { asks })
+    }
+
+    /// Puts a request at the end. The level is the key's, as `Lanes::send` asks of each request.
+    pub fn add(&mut self, level: u16, key: Key)
+        requires { length self.old < 64 }
+        ensures { self.new ≡ self.old ++ (level, key) ∷ [] }
+    {
+        self.asks.push_reserved((level, key));
+    }
+
+    /// How many requests there are.
+    pub fn len(&self) -> usize
+        ensures count { result ≡ length self.now }
+        ensures few { length self.now ≤ 64 }
+    {
+        self.asks.len()
+    }
+
+    /// The requests.
+    pub fn asks(&self) -> &[(u16, Key)]
+        ensures value { result.now ≡ self.now }
+        ensures few { length self.now ≤ 64 }
+    {
+        self.asks.as_slice()
+    }
+}
+
+/// What is put on a lane and taken from it at once.
+#[derive(Drop)]
+pub enum Load {
+    /// Requests of one sender, at least one.
+    Bundle { from: u32, asks: Bundle },
+    /// The sender asks for nothing more at this level.
+    End { from: u32, level: u16 },
+}
