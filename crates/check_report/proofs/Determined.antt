@@ -1,5 +1,5 @@
 -- The definition of the report determines it: the counts and the bytes.
-use Rattle.std.proofs.Common.{◌≡◌, ◌∙◌, ℕ, suc, ◌<◌, ◌⊎◌, inl, inr, Bool, true, false, List, [], ◌∷◌, ◌++◌, length, Option, Some, refl, sym, ap, subst, arith, slice_index}
+use Rattle.std.proofs.Common.{◌≡◌, ◌∙◌, ℕ, suc, ◌<◌, ◌⊎◌, inl, inr, Bool, true, false, List, [], ◌∷◌, ◌++◌, length, Option, Some, None, refl, sym, ap, subst, arith, slice_index}
 use Rattle.std.specs.Prelude.{All}
 use Rattle.std.specs.List.{AllZip}
 use Rattle.dd_store.specs.Functions.{Agree, Before, IsLeastDifference}
@@ -142,7 +142,7 @@ module _ (n : ℕ) (sizes : Bool) (one two : Net) (sound : IsNet one) (sound' : 
       cc
 
 -- what two comparisons of two netlists in one order find is the same
-pub one_found : (one two : Net) → IsNet one → IsNet two → (how : Match) (order : Order) (p q : Paired) → IsPairing how (circuit one) (circuit two) order p → IsPairing how (circuit one) (circuit two) order q
+pub one_found : (one two : Net) → IsNet one → IsNet two → (how : Match) (order : Order) (p q : Paired) → IsPairing how (circuit one) (circuit two) None order p → IsPairing how (circuit one) (circuit two) None order q
     → (sizes : Bool) (found more : Found) → AreVerdicts sizes (circuit one) (circuit two) p found → AreVerdicts sizes (circuit one) (circuit two) q more → found ≡ more
 one_found one two sound sound' how order p q h k sizes found more r t =
     let names : p.names ≡ q.names = h.names ∙ sym k.names in
@@ -150,7 +150,7 @@ one_found one two sound sound' how order p q h k sizes found more r t =
     let registers : p.registers ≡ q.registers = h.registers ∙ sym k.registers in
     let all_same : subjects (circuit one) (circuit two) p ≡ subjects (circuit one) (circuit two) q = cc in
     let size : length p.names ≡ length q.names = ap length names in
-    let inside = subjects_inside how one two order q sound sound' k in
+    let inside = subjects_inside how one two None order q sound sound' k in
     let of_pairs : r.of_pairs ≡ t.of_pairs =
     one_list (length q.names) sizes one two sound sound' p q size refl (λ i d lt. h.first i d lt ∙ sym (k.first i d lt)) (λ i d lt. h.second i d lt ∙ sym (k.second i d lt)) (subjects (circuit one) (circuit two) q) r.compared t.compared r.of_pairs t.of_pairs
     inside (subst (λ ws. AllZip (AreFunctions (circuit one) (circuit two) p) ws r.compared) all_same r.functions) t.functions (subst (λ n. AllZip (IsVerdictOf n sizes) r.compared r.of_pairs) size r.are_verdicts) t.are_verdicts in
@@ -161,7 +161,7 @@ one_found one two sound sound' how order p q h k sizes found more r t =
     λ i. record { variables = variables i; verdicts = verdicts i }
 
 -- two reports of two netlists in one order have the same counts and the same bytes
-pub one_report : (one two : Net) → IsNet one → IsNet two → (how : Match) (order : Order) (p q : Paired) → IsPairing how (circuit one) (circuit two) order p → IsPairing how (circuit one) (circuit two) order q
+pub one_report : (one two : Net) → IsNet one → IsNet two → (how : Match) (order : Order) (p q : Paired) → IsPairing how (circuit one) (circuit two) None order p → IsPairing how (circuit one) (circuit two) None order q
     → (form : Found → List ℕ) (sizes : Bool) (o more : Outcome) (bytes text : List ℕ) → IsReport form sizes (circuit one) (circuit two) p o bytes → IsReport form sizes (circuit one) (circuit two) q more text
     → (o ≡ more) × (bytes ≡ text)
 one_report one two sound sound' how order p q h k form sizes o more bytes text r t =

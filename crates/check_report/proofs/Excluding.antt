@@ -1,5 +1,5 @@
 -- Where the needed nodes are within a limit, no store of needed nodes is beyond it.
-use Rattle.std.proofs.Common.{◌≡◌, ◌∙◌, ◌≢◌, ℕ, ◌<◌, ◌≤◌, ◌⊎◌, inl, inr, Bool, List, [], ◌∷◌, length, refl, sym, ap, subst, arith}
+use Rattle.std.proofs.Common.{None, ◌≡◌, ◌∙◌, ◌≢◌, ℕ, ◌<◌, ◌≤◌, ◌⊎◌, inl, inr, Bool, List, [], ◌∷◌, length, refl, sym, ap, subst, arith}
 use Rattle.dd_store.specs.declared.reference.Ref.{Ref}
 use Rattle.dd_store.specs.Functions.{Agree}
 use Rattle.dd_store.specs.Nodes.{Nodes, den, IsSound, count_of}
@@ -123,16 +123,16 @@ one_of_both limit a b p f e = by e.over
   where
     few : count_of e.store ≤ count_of f.store
     few =
-        let le = no_longer (length p.names) (IsNeededValue a b p) e.store f.store e.sound f.sound e.levels f.levels e.lean f.complete in
+        let le = no_longer (length p.names) (IsNeededValue a b None p) e.store f.store e.sound f.sound e.levels f.levels e.lean f.complete in
         let s = length-all_refs 0 e.store.shards in
         let t = length-all_refs 0 f.store.shards in
         omega arith
 
-    by : (limit < count_of e.store) ⊎ ((count_of e.store ≡ limit) × (IsCompleteFor a b p e.store → ⊥)) → ⊥
+    by : (limit < count_of e.store) ⊎ ((count_of e.store ≡ limit) × (IsCompleteFor a b None p e.store → ⊥)) → ⊥
     by (inl over) = let le = few in let within = f.within in omega arith
     by (inr full) =
         let within = f.within in
         let same = full.0 in
         let s = length-all_refs 0 e.store.shards in
         let t = length-all_refs 0 f.store.shards in
-        full.1 (all_there (length p.names) (IsNeededValue a b p) e.store f.store e.sound f.sound e.levels f.levels e.lean f.complete (omega arith))
+        full.1 (all_there (length p.names) (IsNeededValue a b None p) e.store f.store e.sound f.sound e.levels f.levels e.lean f.complete (omega arith))

@@ -4,7 +4,7 @@ use Rattle.std.specs.Prelude.{◌==◌, ◌||◌, find, slice_index}
 use Rattle.std.proofs.lemmas.List.{drop_more}
 use Rattle.std.proofs.lemmas.List.Elements.{All-append, All-map}
 use Rattle.net_bench.specs.declared.netlist.GateLine.{GateLine}
-use Rattle.net_bench.specs.Circuit.{Net, IsNet, circuit}
+use Rattle.net_bench.specs.Circuit.{Circuit, Net, IsNet, circuit}
 use Rattle.net_order.specs.declared.order.Match.{Match}
 use Rattle.net_order.specs.declared.order.Order.{Order}
 use Rattle.net_order.specs.Order.{Paired, IsPairing, gate_operands, is_member, registers_of}
@@ -82,12 +82,12 @@ listed_more f xs i x y old new whole lt here is grown done =
 
 -- ---- a pairing's signals
 
-module _ (how : Match) (n m : Net) (order : Order) (p : Paired) (first : IsNet n) (second : IsNet m) (h : IsPairing how (circuit n) (circuit m) order p) where
+module _ (how : Match) (n m : Net) (given : Option Circuit) (order : Order) (p : Paired) (first : IsNet n) (second : IsNet m) (h : IsPairing how (circuit n) (circuit m) given order p) where
   pub subjects_inside : All (IsInside (circuit n) (circuit m)) (subjects (circuit n) (circuit m) p)
   subjects_inside =
-      let outputs = pairs_inside how n m order p first second h in
-      let registers = register_pairs_inside how n m order p first second h in
-      let among = register_pairs_in how n m order p first second h in
+      let outputs = pairs_inside how n m given order p first second h in
+      let registers = register_pairs_inside how n m given order p first second h in
+      let among = register_pairs_in how n m given order p first second h in
       All-append (IsInside (circuit n) (circuit m)) (map output_subject p.outputs.pairs) (map (next_subject (circuit n) (circuit m)) p.registers.pairs)
       (All-map (IsInside (circuit n) (circuit m)) output_subject p.outputs.pairs (λ i d low. let k = outputs i d low in (k.0, k.0, k.1)))
       (All-map (IsInside (circuit n) (circuit m)) (next_subject (circuit n) (circuit m)) p.registers.pairs
@@ -96,8 +96,8 @@ module _ (how : Match) (n m : Net) (order : Order) (p : Paired) (first : IsNet n
   pub all_signals : AreSignals (circuit n) (circuit m) p
   all_signals = record {
     compared = subjects_inside;
-    only_first = only_first_inside how n m order p first second h;
-    only_second = only_second_inside how n m order p first second h;
-    only_first_next = only_first_next_inside how n m order p first second h;
-    only_second_next = only_second_next_inside how n m order p first second h;
+    only_first = only_first_inside how n m given order p first second h;
+    only_second = only_second_inside how n m given order p first second h;
+    only_first_next = only_first_next_inside how n m given order p first second h;
+    only_second_next = only_second_next_inside how n m given order p first second h;
   }

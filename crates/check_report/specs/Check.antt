@@ -1,5 +1,5 @@
 -- What a check has done: the report that it wrote, or why it wrote none.
-use Rattle.std.specs.Prelude.{◌≡◌, ◌⊎◌, ℕ, Bool, List, Option, IfSome}
+use Rattle.std.specs.Prelude.{◌≡◌, ◌⊎◌, ℕ, Bool, List, Option, None, IfSome}
 use Rattle.net_bench.specs.Circuit.{Circuit}
 use Rattle.net_bench.specs.Fault.{MakesNetlist, IsRefused as IsTextRefused}
 use Rattle.net_bench.specs.declared.netlist.BenchFault.{BenchFault}
@@ -23,7 +23,7 @@ Gives told c = IfSome told (λ text. MakesNetlist text c)
 pub record ArePaired (one two : Option (List ℕ)) (how : Match) (order : Order) (a b : Circuit) (p : Paired) : Type 0 where
   pub first : Gives one a
   pub second : Gives two b
-  pub pairing : IsPairing how a b order p
+  pub pairing : IsPairing how a b None order p
 
 -- This is what a comparison of what the devices gave finds.
 pub record IsJudged (one two : Option (List ℕ)) (how : Match) (order : Order) (sizes : Bool) (found : Found) : Type 0 where
@@ -65,7 +65,7 @@ abbrev pub IsCheckFault : (one two : Option (List ℕ)) → (first_failed second
 IsCheckFault one two first_failed second_failed how order (First fault) = IsUnread one first_failed fault
 IsCheckFault one two first_failed second_failed how order (Second fault) = (a : Circuit) × Gives one a × IsUnread two second_failed fault
 IsCheckFault one two first_failed second_failed how order (OrderRefused fault) =
-    (a b : Circuit) × Gives one a × Gives two b × ((fault ≡ NoOrderMemory) ⊎ IsRefused how a b order fault)
+    (a b : Circuit) × Gives one a × Gives two b × ((fault ≡ NoOrderMemory) ⊎ IsRefused how a b None order fault)
 IsCheckFault one two first_failed second_failed how order (Wave fault) = AreAccepted one two how order
 IsCheckFault one two first_failed second_failed how order Write = AreAccepted one two how order
 IsCheckFault one two first_failed second_failed how order OutOfMemory = AreAccepted one two how order

@@ -1,5 +1,5 @@
 //! From two readers to a report.
-ghost use Rattle.std.specs.Prelude.{◌≡◌, ◌≢◌, ℕ, List, IfOk, IfErr, OnOk, OnErr, IsTrue};
+ghost use Rattle.std.specs.Prelude.{None, ◌≡◌, ◌≢◌, ℕ, List, IfOk, IfErr, OnOk, OnErr, IsTrue};
 ghost use Rattle.std.specs.Io.KnownBytes.{Appends};
 ghost use Rattle.net_bench.specs.Circuit.{circuit};
 ghost use Rattle.net_order.specs.Order.{IsPairing};
@@ -36,7 +36,7 @@ fn compare<H: Threads + Wait + Sync, G: Gate>(
     settings: &Settings,
     gate: &G,
 ) -> Result<Verdicts, CheckFault>
-    requires { IsPairing settings.now.matching (circuit first.now) (circuit second.now) settings.now.order pairing }
+    requires { IsPairing settings.now.matching (circuit first.now) (circuit second.now) None settings.now.order pairing }
     ensures ok { IfOk result (λ v. AreVerdicts settings.now.sizes (circuit first.now) (circuit second.now) pairing v) }
     ensures err { IfErr result IsLate }
     ensures within { OnOk result (FitsWithin settings.now.limit (circuit first.now) (circuit second.now) pairing) }
@@ -54,6 +54,7 @@ fn compare<H: Threads + Wait + Sync, G: Gate>(
         &mut store,
         first,
         second,
+        None,
         &pairing,
         settings.workers,
         gate,
@@ -104,7 +105,7 @@ pub fn judge<H: Threads + Wait + Sync, R1: Source, R2: Source, G: Gate>(
         Ok(net) => net,
         Err(fault) => return Err(CheckFault::Second(fault)),
     };
-    let pairing = match pair(alloc, &one, &two, settings.matching, &settings.order) {
+    let pairing = match pair(alloc, &one, &two, None, settings.matching, &settings.order) {
         Ok(pairing) => pairing,
         Err(fault) => return Err(CheckFault::Order(fault)),
     };

@@ -1,5 +1,5 @@
 //! Laws of the definitions.
-ghost use Rattle.std.specs.Prelude.{◌≡◌, ℕ, Bool, List};
+ghost use Rattle.std.specs.Prelude.{None, ◌≡◌, ℕ, Bool, List};
 ghost use Rattle.net_bench.specs.Circuit.{Circuit, Net, IsNet, circuit};
 ghost use Rattle.net_order.specs.declared.order.Match.{Match};
 ghost use Rattle.net_order.specs.declared.order.Order.{Order};
@@ -17,7 +17,7 @@ pub fn limits()
 /// Two netlists have one report for a form, a matching, an order and a wish for sizes: its counts and its bytes are determined.
 pub fn one_report()
     ensures { (one two : Net) → IsNet one → IsNet two → (how : Match) (order : Order) (p q : Paired) →
-        IsPairing how (circuit one) (circuit two) order p → IsPairing how (circuit one) (circuit two) order q →
+        IsPairing how (circuit one) (circuit two) None order p → IsPairing how (circuit one) (circuit two) None order q →
         (form : Found → List ℕ) (sizes : Bool) (o more : Outcome) (bytes text : List ℕ) → IsReport form sizes (circuit one) (circuit two) p o bytes →
         IsReport form sizes (circuit one) (circuit two) q more text → (o ≡ more) × (bytes ≡ text) }
 {}

@@ -1,14 +1,14 @@
 -- Where a build leaves a store over its limit, no step of a gate had to be asked for.
-use Rattle.std.proofs.Common.{◌≡◌, ◌≢◌, ℕ, zero, suc, ◌+◌, ◌-◌, ◌<◌, ◌≤◌, ◌⊎◌, inl, inr, Bool, true, false, cond, min, List, [], ◌∷◌, ◌++◌, length, map, Some, None, sym, ◌∙◌, ap, subst, arith, eq-eqb}
+use Rattle.std.proofs.Common.{◌≡◌, ◌≢◌, ℕ, zero, suc, ◌+◌, ◌-◌, ◌<◌, ◌≤◌, ◌⊎◌, inl, inr, Bool, true, false, cond, min, List, [], ◌∷◌, ◌++◌, length, map, get_or, Option, Some, None, sym, ◌∙◌, ap, subst, arith, eq-eqb}
 use Rattle.std.specs.Prelude.{Contains, slice_index, unwrap_or}
-use Rattle.std.proofs.lemmas.List.Elements.{Contains-append_left, Contains-append_right}
 use Rattle.std.proofs.lemmas.Bool.{ne_eqb}
 use Rattle.dd_store.specs.declared.reference.Ref.{Ref}
 use Rattle.dd_store.specs.Nodes.{Nodes, IsSound, count_of}
 use Rattle.dd_store.specs.View.{Has}
 use Rattle.dd_store.proofs.View.{one_diagram}
 use Rattle.net_bench.specs.declared.netlist.GateLine.{GateLine}
-use Rattle.net_bench.specs.Circuit.{Net, IsNet, circuit, greatest}
+use Rattle.net_order.specs.Order.{Paired}
+use Rattle.net_bench.specs.Circuit.{Circuit, Net, IsNet, circuit, greatest}
 use Rattle.net_bench.specs.Labels.{bit_of}
 use Rattle.net_bench.proofs.Built.{has_labelling}
 use Rattle.req_table.specs.declared.Op.{Op}
@@ -18,18 +18,14 @@ use Rattle.reduce_up.specs.Known.{unknown, IsKeptWave}
 use Rattle.reduce_up.specs.Waves.{HasRequest, IsWithinLimit}
 use Rattle.reduce_up.proofs.Known.{request_unknown, kept_none}
 use Rattle.gate_plan.specs.declared.steps.Step.{Step}
-use Rattle.gate_plan.specs.Plans.{operand_at, folds_of, step_of, step_at, rank_of, plan_steps, plan_folds}
-use Rattle.gate_plan.specs.Building.{Placed, input_level, reference_of, first_operand, entry_of, Denotes, value_after, AreFolded}
+use Rattle.gate_plan.specs.Plans.{operand_at, folds_of, step_of, step_at, rank_of, plan_steps, plan_folds, IsPlan}
+use Rattle.gate_plan.specs.Building.{Placed, input_level, reference_of, first_operand, entry_of, Denotes, value_after, AreFolded, AllFolded, ArePlaced, Levelled, levelled_of, asked}
 use Rattle.gate_plan.specs.Needing.{IsStillWithin}
-use Rattle.gate_plan.specs.Asking.{first_taken, second_taken, IsAsked, Asks, EitherAsksAt, EitherAsksIn, IsWithinOrUnasked, IsHeldWithin}
+use Rattle.gate_plan.specs.Asking.{first_taken, second_taken, IsAsked, Asks, AnyAsks, AnyAsksAt, AnyAsksIn, IsWithinOrUnasked, IsHeldWithin}
 use Rattle.gate_plan.proofs.Lists.{same_number}
+use Rattle.gate_plan.proofs.Together.{image, of_map, refs_there, asked_has}
 use Rattle.gate_plan.proofs.Ranks.{above_none, operand_lower, some_operand, operand_below, rank_top}
 use Rattle.gate_plan.proofs.Picking.{has_pick, folds_within, has_step_of, step_one, step_many, folds_one, folds_many, among_operands}
-
-image : {A B : Type 0} (f : A → B) (xs : List A) (x : A) → Contains xs x → Contains (map f xs) (f x)
-image f [] x (k, lt, e) = absurd (omega arith)
-image f (y ∷ xs) x (zero, lt, e) = (0, omega arith, ap f e)
-image f (y ∷ xs) x (suc k, lt, e) = let m = image f xs x (k, omega arith, e) in (suc m.0, (let z = m.1 in omega arith), m.2)
 
 module _ (net : Net) (h : IsNet net) (level : ℕ → ℕ) where
   -- references that denote one value by the labels are one
@@ -109,26 +105,22 @@ module _ (net : Net) (h : IsNet net) (level : ℕ → ℕ) where
         subst (λ z. short_of s.op (reference_of refs (first_operand s)) z ≡ None) second (subst (λ z. short_of s.op z a.second ≡ None) first a.long),
       )
 
--- what a wave of the steps of two netlists leaves
-pub wave_unasked : (one two : Placed) → IsNet one.net → IsNet two.net → (S T : Nodes) → IsSound S → (first second : List Ref) (r j : ℕ) (ours theirs : List Step) (entries : List (Op × Ref × Ref)) →
-    AreFolded one.net (input_level one) S first r j → AreFolded two.net (input_level two) S second r j → ours ≡ plan_steps one.net one.net.gates r j → theirs ≡ plan_steps two.net two.net.gates r j →
-    entries ≡ map (entry_of first) ours ++ map (entry_of second) theirs → (m : Held) → IsHeldWithin S m → IsWithinLimit S (unknown m entries) T → IsWithinOrUnasked (EitherAsksAt one two T r j) S T
-wave_unasked one two h k S T sound first second r j ours theirs entries w z a b e m held (inl le) = inl le
-wave_unasked one two h k S T sound first second r j ours theirs entries w z a b e m held (inr (none, same)) =
+-- what a wave of the steps of all netlists leaves
+pub wave_unasked : (sides : List Placed) → ((one : Placed) → Contains sides one → IsPlan one.net one.plan) → (S T : Nodes) → IsSound S → (built : List (List Ref)) (r j : ℕ) (entries : List (Op × Ref × Ref)) →
+    AllFolded sides S built r j → entries ≡ asked sides built r j → (m : Held) → IsHeldWithin S m → IsWithinLimit S (unknown m entries) T → IsWithinOrUnasked (AnyAsksAt sides T r j) S T
+wave_unasked sides plans S T sound built r j entries h e m held (inl le) = inl le
+wave_unasked sides plans S T sound built r j entries h e m held (inr (none, same)) =
     elim held.within [
-      | inl empty ↦ inr (λ asked. none (request_unknown m entries empty (by (subst (λ U. EitherAsksAt one two U r j) same asked))), same)
+      | inl empty ↦ inr (λ a. none (request_unknown m entries empty (by (subst (λ U. AnyAsksAt sides U r j) same a))), same)
       | inr le ↦ inl (subst (λ U. count_of U ≤ U.limit) (sym same) le)
     ]
   where
-    front : HasRequest (map (entry_of first) ours) → HasRequest entries
-    front (x, there, long) = (x, subst (λ xs. Contains xs x) (sym e) (Contains-append_left (map (entry_of first) ours) (map (entry_of second) theirs) x there), long)
-
-    back : HasRequest (map (entry_of second) theirs) → HasRequest entries
-    back (x, there, long) = (x, subst (λ xs. Contains xs x) (sym e) (Contains-append_right (map (entry_of first) ours) (map (entry_of second) theirs) x there), long)
-
-    by : EitherAsksAt one two S r j → HasRequest entries
-    by (inl (g, among, rank, asked)) = front (subst (λ ss. HasRequest (map (entry_of first) ss)) (sym a) (asked_step one.net h (input_level one) S first r j sound w g among rank asked))
-    by (inr (g, among, rank, asked)) = back (subst (λ ss. HasRequest (map (entry_of second) ss)) (sym b) (asked_step two.net k (input_level two) S second r j sound z g among rank asked))
+    by : AnyAsksAt sides S r j → HasRequest entries
+    by (one, (k, lt, at), (g, among, rank, is_asked)) =
+        let n = h.0 in
+        let there = refs_there built k (omega arith) in
+        let q = asked_step one.net (plans one (k, lt, at)).sound (input_level one) S (get_or built k []) r j sound (h.1 k one (get_or built k []) lt at there) g among rank is_asked in
+        (q.0, subst (λ xs. Contains xs q.0) (sym e) (asked_has r j sides built k one (get_or built k []) h.0 lt at there q.0 q.1), q.2)
 
 -- what is held after a wave is so still
 pub wave_held : (S T : Nodes) (m : Held) (entries : List (Op × Ref × Ref)) (answers : List Ref) (new : Held) → IsHeldWithin S m → IsWithinLimit S (unknown m entries) T → IsKeptWave m entries answers new → IsRight T new → IsHeldWithin T new
@@ -165,26 +157,39 @@ still_within S T asked (inl le) = inl le
 still_within S T asked (inr (none, same)) = inr same
 
 -- the folds of a rank are all its steps
-pub rank_unasked : (one two : Placed) (S T : Nodes) (r n : ℕ) → plan_folds one.net one.net.gates r ≤ n → plan_folds two.net two.net.gates r ≤ n →
-    IsWithinOrUnasked ((j : ℕ) × (j < n) × EitherAsksAt one two T r j) S T → IsWithinOrUnasked (EitherAsksIn one two T r) S T
-rank_unasked one two S T r n few few' w = less_unasked S T (EitherAsksIn one two T r) ((j : ℕ) × (j < n) × EitherAsksAt one two T r j) by w
+pub rank_unasked : (sides : List Placed) (S T : Nodes) (r n : ℕ) → ((one : Placed) → Contains sides one → plan_folds one.net one.net.gates r ≤ n) →
+    IsWithinOrUnasked ((j : ℕ) × (j < n) × AnyAsksAt sides T r j) S T → IsWithinOrUnasked (AnyAsksIn sides T r) S T
+rank_unasked sides S T r n few w = less_unasked S T (AnyAsksIn sides T r) ((j : ℕ) × (j < n) × AnyAsksAt sides T r j) by w
   where
-    by : EitherAsksIn one two T r → (j : ℕ) × (j < n) × EitherAsksAt one two T r j
-    by (j, inl (g, among, rank, asked)) = (j, (let f : folds_of g ≤ plan_folds one.net one.net.gates r = folds_within one.net r one.net.gates g among rank in let s = asked.step in omega arith), inl (g, among, rank, asked))
-    by (j, inr (g, among, rank, asked)) = (j, (let f : folds_of g ≤ plan_folds two.net two.net.gates r = folds_within two.net r two.net.gates g among rank in let s = asked.step in omega arith), inr (g, among, rank, asked))
+    by : AnyAsksIn sides T r → (j : ℕ) × (j < n) × AnyAsksAt sides T r j
+    by (j, (one, c, (g, among, rank, is_asked))) = (
+      j,
+      (
+        let f : folds_of g ≤ plan_folds one.net one.net.gates r = folds_within one.net r one.net.gates g among rank in
+        let most = few one c in
+        let s = is_asked.step in
+        omega arith
+      ),
+      (one, c, (g, among, rank, is_asked)),
+    )
 
 -- and the ranks are all gates
-pub all_unasked : (one two : Placed) → IsNet one.net → IsNet two.net → (S T : Nodes) (n : ℕ) → greatest (map (rank_of one.net) one.net.gates) ≤ n → greatest (map (rank_of two.net) two.net.gates) ≤ n →
-    IsWithinOrUnasked ((k : ℕ) × (k < n) × EitherAsksIn one two T (k + 1)) S T → IsWithinOrUnasked (Asks (circuit one.net) (input_level one) T ⊎ Asks (circuit two.net) (input_level two) T) S T
-all_unasked one two h k S T n few few' w =
-    less_unasked S T (Asks (circuit one.net) (input_level one) T ⊎ Asks (circuit two.net) (input_level two) T) ((k : ℕ) × (k < n) × EitherAsksIn one two T (k + 1)) by w
+pub all_unasked : (a b : Circuit) (given : Option Circuit) (p : Paired) (sides : List Placed) → ArePlaced a b given p sides → (S T : Nodes) (n : ℕ) →
+    ((one : Placed) → Contains sides one → greatest (map (rank_of one.net) one.net.gates) ≤ n) →
+    IsWithinOrUnasked ((k : ℕ) × (k < n) × AnyAsksIn sides T (k + 1)) S T → IsWithinOrUnasked (AnyAsks a b given p T) S T
+all_unasked a b given p sides placed S T n few w = less_unasked S T (AnyAsks a b given p T) ((k : ℕ) × (k < n) × AnyAsksIn sides T (k + 1)) by w
   where
-    below : (net : Net) → IsNet net → greatest (map (rank_of net) net.gates) ≤ n → (g : GateLine) → Contains net.gates g → (i : ℕ) × (i < n) × (rank_of net g ≡ i + 1)
-    below net sound most g among =
-        let low = above_none net sound g among in
-        let top = rank_top net g among in
-        (rank_of net g - 1, omega arith, omega arith)
+    below : (one : Placed) → Contains sides one → (g : GateLine) → Contains one.net.gates g → (i : ℕ) × (i < n) × (rank_of one.net g ≡ i + 1)
+    below one c g among =
+        let low = above_none one.net (placed.plans one c).sound g among in
+        let top = rank_top one.net g among in
+        let most = few one c in
+        (rank_of one.net g - 1, omega arith, omega arith)
 
-    by : Asks (circuit one.net) (input_level one) T ⊎ Asks (circuit two.net) (input_level two) T → (k : ℕ) × (k < n) × EitherAsksIn one two T (k + 1)
-    by (inl (g, among, (j, asked))) = let b = below one.net h few g among in (b.0, b.1, (j, inl (g, among, b.2, asked)))
-    by (inr (g, among, (j, asked))) = let b = below two.net k few' g among in (b.0, b.1, (j, inr (g, among, b.2, asked)))
+    of_one : (one : Placed) → Contains sides one → Asks (circuit one.net) (input_level one) T → (k : ℕ) × (k < n) × AnyAsksIn sides T (k + 1)
+    of_one one c (g, among, (j, is_asked)) = let d = below one c g among in (d.0, d.1, (j, (one, c, (g, among, d.2, is_asked))))
+
+    by : AnyAsks a b given p T → (k : ℕ) × (k < n) × AnyAsksIn sides T (k + 1)
+    by (l, c, asks) =
+        let m = of_map levelled_of sides l (subst (λ z. Contains z l) (sym placed.netlists) c) in
+        of_one m.0 m.1 (subst (λ (z : Levelled). Asks z.netlist z.level T) (sym m.2) asks)

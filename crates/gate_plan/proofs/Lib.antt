@@ -9,5 +9,6 @@ pub mod Picking
 pub mod Planning
 pub mod Ranks
 pub mod Running
+pub mod Together
 pub mod Signals
 pub mod Writing

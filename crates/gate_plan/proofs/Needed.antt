@@ -1,5 +1,5 @@
--- What a build adds is needed by its two netlists, and what it leaves of a store without nodes is all that they need.
-use Rattle.std.proofs.Common.{◌≡◌, ℕ, ◌<◌, ◌≤◌, inl, inr, Bool, List, length, map, sym, ◌∙◌, ap, subst, arith}
+-- What a build adds is needed by its netlists, and what it leaves of a store without nodes is all that they need.
+use Rattle.std.proofs.Common.{◌≡◌, ℕ, ◌<◌, ◌≤◌, inl, inr, Bool, List, [], Option, length, map, get_or, sym, ◌∙◌, ap, subst, arith}
 use Rattle.std.specs.Prelude.{Contains}
 use Rattle.dd_store.specs.declared.reference.Ref.{Ref}
 use Rattle.dd_store.specs.Functions.{Agree}
@@ -11,89 +11,93 @@ use Rattle.net_bench.specs.declared.netlist.GateLine.{GateLine}
 use Rattle.net_bench.specs.Circuit.{Circuit, Net, circuit, IsNet, greatest}
 use Rattle.net_order.specs.Order.{Paired}
 use Rattle.reduce_up.specs.Reducing.{AddsDescribed}
-use Rattle.gate_plan.specs.Building.{Placed, input_level, first_level, second_level, reference_of, IsDenoted, value_after, AreVariables, AreRight}
-use Rattle.gate_plan.specs.Folds.{IsVariable, IsFoldValue, IsValueOf}
+use Rattle.gate_plan.specs.Building.{Placed, Levelled, levelled, levelled_of, ArePlaced, input_level, reference_of, IsDenoted, value_after, AreVariables, AllRight, AreDiagrams}
+use Rattle.gate_plan.specs.Folds.{IsVariable, IsFoldValue}
 use Rattle.gate_plan.specs.Need.{IsCounted, IsComplete}
-use Rattle.gate_plan.specs.Needing.{IsNeeded, IsNeededValue, IsPlacedValue, IsLeanFor, IsCompleteFor, HasNeed, IsBuildFault, IsStillWithin}
+use Rattle.gate_plan.specs.Needing.{IsNeeded, IsNeededValue, IsPlacedValue, IsValueOf, IsLeanFor, IsCompleteFor, HasNeed, IsBuildFault, IsStillWithin}
 use Rattle.gate_plan.specs.Plans.{rank_of}
 use Rattle.gate_plan.proofs.Counted.{adds_more, fault_more, lean_from}
 use Rattle.gate_plan.proofs.Needs.{complete}
-use Rattle.gate_plan.proofs.Running.{all_values}
+use Rattle.gate_plan.proofs.Running.{all_right, all_values}
+use Rattle.gate_plan.proofs.Together.{levelled_at, of_map, refs_there}
 
--- two netlists that stand as the first and the second of a pairing
-pub record ArePlaced (a b : Net) (p : Paired) (one two : Placed) : Type 0 where
-  pub first : one.net ≡ a
-  pub second : two.net ≡ b
-  pub first_levels : input_level one ≡ first_level p
-  pub second_levels : input_level two ≡ second_level p
+module _ (a b : Circuit) (given : Option Circuit) (p : Paired) where
+  -- what is true of the values of the netlists is true of those that the pairing names
+  needed_as : (P : ((List Bool → Bool) → Type 0) → Type 0) (sides : List Placed) → map levelled_of sides ≡ levelled a b given p → (n : ℕ) → n ≡ length p.names → P (IsPlacedValue n sides) → P (IsNeededValue a b given p)
+  needed_as P sides placed n e h =
+      subst (λ k. P (λ f. IsValueOf k (levelled a b given p) f)) e (subst (λ (z : List Levelled). P (λ f. IsValueOf n z f)) placed h)
 
--- what is true of their values is true of those that the pairing names
-needed_as : (P : ((List Bool → Bool) → Type 0) → Type 0) (a b : Net) (p : Paired) (one two : Placed) → ArePlaced a b p one two → (n : ℕ) → n ≡ length p.names →
-    P (IsPlacedValue n one two) → P (IsNeededValue (circuit a) (circuit b) p)
-needed_as P a b p one two placed n e h =
-    subst (λ k. P (λ f. IsValueOf k (circuit a) (first_level p) (circuit b) (second_level p) f)) e
-    (subst (λ (l : ℕ → ℕ). P (λ f. IsValueOf n (circuit a) (first_level p) (circuit b) l f)) placed.second_levels
-    (subst (λ (l : ℕ → ℕ). P (λ f. IsValueOf n (circuit a) l (circuit b) (input_level two) f)) placed.first_levels
-    (subst (λ (z : Net). P (λ f. IsValueOf n (circuit a) (input_level one) (circuit z) (input_level two) f)) placed.second
-    (subst (λ (z : Net). P (λ f. IsValueOf n (circuit z) (input_level one) (circuit two.net) (input_level two) f)) placed.first h))))
+  pub needed_adds : (sides : List Placed) → map levelled_of sides ≡ levelled a b given p → (n : ℕ) → n ≡ length p.names → (S T : Nodes) →
+      AddsDescribed S T (IsCounted n (IsPlacedValue n sides)) → AddsDescribed S T (IsNeeded a b given p)
+  needed_adds sides placed n e S T i =
+      needed_as (λ Values. AddsDescribed S T (IsCounted (length p.names) Values)) sides placed n e (subst (λ k. AddsDescribed S T (IsCounted k (IsPlacedValue n sides))) e i)
 
-pub needed_adds : (a b : Net) (p : Paired) (one two : Placed) → ArePlaced a b p one two → (n : ℕ) → n ≡ length p.names → (S T : Nodes) →
-    AddsDescribed S T (IsCounted n (IsPlacedValue n one two)) → AddsDescribed S T (IsNeeded (circuit a) (circuit b) p)
-needed_adds a b p one two placed n e S T i =
-    needed_as (λ Values. AddsDescribed S T (IsCounted (length p.names) Values)) a b p one two placed n e (subst (λ k. AddsDescribed S T (IsCounted k (IsPlacedValue n one two))) e i)
+  pub needed_fault : (sides : List Placed) → map levelled_of sides ≡ levelled a b given p → (n : ℕ) → n ≡ length p.names → (S : Nodes) (w : WaveFault) →
+      IsBuildFault n (IsPlacedValue n sides) S w → IsBuildFault (length p.names) (IsNeededValue a b given p) S w
+  needed_fault sides placed n e S w f =
+      needed_as (λ Values. IsBuildFault (length p.names) Values S w) sides placed n e (subst (λ k. IsBuildFault k (IsPlacedValue n sides) S w) e f)
 
-pub needed_fault : (a b : Net) (p : Paired) (one two : Placed) → ArePlaced a b p one two → (n : ℕ) → n ≡ length p.names → (S : Nodes) (w : WaveFault) →
-    IsBuildFault n (IsPlacedValue n one two) S w → IsBuildFault (length p.names) (IsNeededValue (circuit a) (circuit b) p) S w
-needed_fault a b p one two placed n e S w f =
-    needed_as (λ Values. IsBuildFault (length p.names) Values S w) a b p one two placed n e (subst (λ k. IsBuildFault k (IsPlacedValue n one two) S w) e f)
+  -- the variables are needed
+  pub variables_needed : (n : ℕ) → n ≡ length p.names → (S T : Nodes) → AddsDescribed S T (IsCounted n (IsVariable n)) → AddsDescribed S T (IsNeeded a b given p)
+  variables_needed n e S T i =
+      adds_more S T (length p.names) (IsVariable (length p.names)) (IsNeededValue a b given p) (λ f v. inl v) (subst (λ k. AddsDescribed S T (IsCounted k (IsVariable k))) e i)
 
--- the variables are needed
-pub variables_needed : (a b : Circuit) (p : Paired) (n : ℕ) → n ≡ length p.names → (S T : Nodes) → AddsDescribed S T (IsCounted n (IsVariable n)) → AddsDescribed S T (IsNeeded a b p)
-variables_needed a b p n e S T i =
-    adds_more S T (length p.names) (IsVariable (length p.names)) (IsNeededValue a b p) (λ f v. inl v) (subst (λ k. AddsDescribed S T (IsCounted k (IsVariable k))) e i)
-
-pub variables_fault : (a b : Circuit) (p : Paired) (n : ℕ) → n ≡ length p.names → (S : Nodes) (w : WaveFault) → IsBuildFault n (IsVariable n) S w → IsBuildFault (length p.names) (IsNeededValue a b p) S w
-variables_fault a b p n e S w f =
-    fault_more S (length p.names) (IsVariable (length p.names)) (IsNeededValue a b p) (λ f v. inl v) w (subst (λ k. IsBuildFault k (IsVariable k) S w) e f)
+  pub variables_fault : (n : ℕ) → n ≡ length p.names → (S : Nodes) (w : WaveFault) → IsBuildFault n (IsVariable n) S w → IsBuildFault (length p.names) (IsNeededValue a b given p) S w
+  variables_fault n e S w f =
+      fault_more S (length p.names) (IsVariable (length p.names)) (IsNeededValue a b given p) (λ f v. inl v) w (subst (λ k. IsBuildFault k (IsVariable k) S w) e f)
 
 -- the store has a diagram of each value of a netlist's folds
 abbrev HasValues : Net → (ℕ → ℕ) → Nodes → Type 0
 HasValues net level S = (g : GateLine) → Contains net.gates g → (i : ℕ) → 0 < i → i ≤ length g.operands → IsDenoted (circuit net) level S (value_after g i)
 
--- a store with a diagram of each value has each node that is needed
-complete_from : (a b : Net) (p : Paired) (S : Nodes) (variables : List Ref) → IsSound S → S.levels ≡ length p.names → AreVariables S variables → HasValues a (first_level p) S → HasValues b (second_level p) S →
-    IsCompleteFor (circuit a) (circuit b) p S
-complete_from a b p S variables sound e vars first second =
-    subst (λ n. IsComplete n (IsNeededValue (circuit a) (circuit b) p) (part S) (Has S) (den S)) e
-    (complete Ref same_ref S.levels (part S) (Has S) (den S) (parts S sound) (denotes S sound) (IsNeededValue (circuit a) (circuit b) p) diagram)
-  where
-    fold : (net : Net) (level : ℕ → ℕ) → HasValues net level S → (f : List Bool → Bool) → IsFoldValue (circuit net) level (length p.names) f → (r : Ref) × Has S r × Agree S.levels (den S r) f
-    fold net level has f (g, among, (i, pos, all, value)) =
-        let d = has g among i pos all in
-        (d.0, d.1, λ x hx. d.2 x (value x (hx ∙ e)).0 hx (value x (hx ∙ e)).1 ∙ sym (value x (hx ∙ e)).2)
+module _ (a b : Circuit) (given : Option Circuit) (p : Paired) (sides : List Placed) (placed : ArePlaced a b given p sides) where
+  -- a store with a diagram of each value has each node that is needed
+  complete_from : (S : Nodes) (variables : List Ref) → IsSound S → S.levels ≡ length p.names → AreVariables S variables → ((one : Placed) → Contains sides one → HasValues one.net (input_level one) S) →
+      IsCompleteFor a b given p S
+  complete_from S variables sound e vars has_all =
+      subst (λ n. IsComplete n (IsNeededValue a b given p) (part S) (Has S) (den S)) e
+      (complete Ref same_ref S.levels (part S) (Has S) (den S) (parts S sound) (denotes S sound) (IsNeededValue a b given p) diagram)
+    where
+      fold : (one : Placed) → Contains sides one → (f : List Bool → Bool) → IsFoldValue (circuit one.net) (input_level one) (length p.names) f → (r : Ref) × Has S r × Agree S.levels (den S r) f
+      fold one c f (g, among, (i, pos, all, value)) =
+          let d = has_all one c g among i pos all in
+          (d.0, d.1, λ x hx. d.2 x (value x (hx ∙ e)).0 hx (value x (hx ∙ e)).1 ∙ sym (value x (hx ∙ e)).2)
 
-    diagram : (f : List Bool → Bool) → IsNeededValue (circuit a) (circuit b) p f → (r : Ref) × Has S r × Agree S.levels (den S r) f
-    diagram f (inl (v, lt, value)) = (reference_of variables v, vars.has v (omega arith), λ x hx. vars.bits v (omega arith) x ∙ sym (value x (hx ∙ e)))
-    diagram f (inr (inl value)) = fold a (first_level p) first f value
-    diagram f (inr (inr value)) = fold b (second_level p) second f value
+      diagram : (f : List Bool → Bool) → IsNeededValue a b given p f → (r : Ref) × Has S r × Agree S.levels (den S r) f
+      diagram f (inl (v, lt, value)) = (reference_of variables v, vars.has v (omega arith), λ x hx. vars.bits v (omega arith) x ∙ sym (value x (hx ∙ e)))
+      diagram f (inr (l, c, value)) =
+          let m = of_map levelled_of sides l (subst (λ z. Contains z l) (sym placed.netlists) c) in
+          fold m.0 m.1 f (subst (λ (z : Levelled). IsFoldValue z.netlist z.level (length p.names) f) (sym m.2) value)
 
--- what a build leaves of a store without nodes
-pub need_left : (a b : Net) (p : Paired) (one two : Placed) → ArePlaced a b p one two → (old new : Nodes) (variables first second : List Ref) (r : ℕ) → old.levels ≡ length p.names → IsSound new →
-    AddsDescribed old new (IsCounted old.levels (IsPlacedValue old.levels one two)) → IsStillWithin old new → AreVariables new variables → IsNet one.net → IsNet two.net →
-    AreRight one.net (input_level one) new first r → AreRight two.net (input_level two) new second r → greatest (map (rank_of one.net) one.net.gates) < r → greatest (map (rank_of two.net) two.net.gates) < r →
-    count_of old ≡ 0 → HasNeed (circuit a) (circuit b) p new
-need_left a b p one two placed old new variables first second r e sound adds within vars h k w z past past' none = record {
-  lean = lean_from old new (length p.names) (IsNeededValue (circuit a) (circuit b) p) none (needed_adds a b p one two placed old.levels e old new adds);
-  complete = complete_from a b p new variables sound (adds.keeps.levels ∙ e) vars
-      (subst (λ (l : ℕ → ℕ). HasValues a l new) placed.first_levels (subst (λ (net : Net). HasValues net (input_level one) new) placed.first (all_values one.net h (input_level one) new first r past w)))
-      (subst (λ (l : ℕ → ℕ). HasValues b l new) placed.second_levels (subst (λ (net : Net). HasValues net (input_level two) new) placed.second (all_values two.net k (input_level two) new second r past' z)));
-  within = small within;
-}
-  where
-    small : IsStillWithin old new → count_of new ≤ new.limit
-    small (inl le) = le
-    small (inr same) = let c : count_of new ≡ count_of old = ap count_of same in omega arith
+  -- what a build leaves of a store without nodes
+  pub need_left : (old new : Nodes) (variables : List Ref) (built : List (List Ref)) (r : ℕ) → old.levels ≡ length p.names → IsSound new →
+      AddsDescribed old new (IsCounted old.levels (IsPlacedValue old.levels sides)) → IsStillWithin old new → AreVariables new variables → AllRight sides new built r →
+      ((one : Placed) → Contains sides one → greatest (map (rank_of one.net) one.net.gates) < r) → count_of old ≡ 0 → HasNeed a b given p new
+  need_left old new variables built r e sound adds within vars right past none = record {
+    lean = lean_from old new (length p.names) (IsNeededValue a b given p) none (needed_adds a b given p sides placed.netlists old.levels e old new adds);
+    complete = complete_from new variables sound (adds.keeps.levels ∙ e) vars values;
+    within = small within;
+  }
+    where
+      values : (one : Placed) → Contains sides one → HasValues one.net (input_level one) new
+      values one (k, lt, at) =
+          let n = right.0 in
+          all_values one.net (placed.plans one (k, lt, at)).sound (input_level one) new (get_or built k []) r (past one (k, lt, at)) (right.1 k one (get_or built k []) lt at (refs_there built k (omega arith)))
+
+      small : IsStillWithin old new → count_of new ≤ new.limit
+      small (inl le) = le
+      small (inr same) = let c : count_of new ≡ count_of old = ap count_of same in omega arith
+
+  -- each netlist has its diagrams at its place
+  pub diagrams_at : (S : Nodes) (built : List (List Ref)) (r : ℕ) → AllRight sides S built r → 0 < r → ((one : Placed) → Contains sides one → greatest (map (rank_of one.net) one.net.gates) < r) →
+      (k : ℕ) (l : Levelled) → k < length (levelled a b given p) → get_or (levelled a b given p) k l ≡ l → AreDiagrams l.netlist l.level S (get_or built k [])
+  diagrams_at S built r right pos past k l lt at =
+      let m = levelled_at sides (levelled a b given p) placed.netlists k l lt at in
+      let n = right.0 in
+      let low = m.1 in
+      subst (λ (z : Levelled). AreDiagrams z.netlist z.level S (get_or built k [])) m.3
+      (all_right m.0.net (placed.plans m.0 (k, m.1, m.2)).sound (input_level m.0) S (get_or built k []) r (past m.0 (k, m.1, m.2)) pos (right.1 k m.0 (get_or built k []) m.1 m.2 (refs_there built k (omega arith))))
 
 -- what is added to a store without nodes is lean
-pub lean_left : (a b : Circuit) (p : Paired) (S T : Nodes) → count_of S ≡ 0 → AddsDescribed S T (IsNeeded a b p) → IsLeanFor a b p T
-lean_left a b p S T none adds = lean_from S T (length p.names) (IsNeededValue a b p) none adds
+pub lean_left : (a b : Circuit) (given : Option Circuit) (p : Paired) (S T : Nodes) → count_of S ≡ 0 → AddsDescribed S T (IsNeeded a b given p) → IsLeanFor a b given p T
+lean_left a b given p S T none adds = lean_from S T (length p.names) (IsNeededValue a b given p) none adds

@@ -1,13 +1,73 @@
 -- The levels of a pairing's inputs and registers are levels of its variables.
-use Rattle.std.proofs.Common.{◌≡◌, ◌<◌, ℕ, length, sym, subst}
+use Rattle.std.proofs.Common.{◌≡◌, ◌<◌, ℕ, zero, suc, List, ◌∷◌, map, length, get_or, [], ap, ◌∙◌, refl, sym, subst, arith, Option, Some, None, IfSome}
 use Rattle.std.specs.Prelude.{Contains}
-use Rattle.net_bench.specs.Circuit.{Net, circuit, variables_of}
-use Rattle.net_order.specs.Order.{Paired}
-use Rattle.net_order.proofs.InputLevels.{first_below, second_below}
-use Rattle.gate_plan.specs.Building.{IsPaired, first_level, second_level}
+use Rattle.dd_store.specs.declared.reference.Ref.{Ref}
+use Rattle.dd_store.specs.Nodes.{Nodes}
+use Rattle.net_bench.specs.Circuit.{Circuit, Net, circuit, variables_of}
+use Rattle.net_order.specs.declared.order.Match.{Match}
+use Rattle.net_order.specs.declared.order.Order.{Order}
+use Rattle.net_order.specs.Order.{Paired, IsPairing}
+use Rattle.net_order.proofs.InputLevels.{first_below, second_below, given_below}
+use Rattle.gate_plan.specs.declared.inputs.Which.{Which}
+use Rattle.gate_plan.specs.declared.inputs.Which.TheVariants.{First, Second, Given}
+use Rattle.gate_plan.specs.Plans.{IsPlan}
+use Rattle.gate_plan.specs.Building.{IsPaired, ArePlaced, Placed, Levelled, levelled, levelled_given, levelled_of, input_level, first_level, second_level, given_level, AreDiagrams}
+use Rattle.gate_plan.proofs.Together.{image}
 
-pub first_fits : (a b : Net) (p : Paired) (n : ℕ) → IsPaired (circuit a) (circuit b) p → n ≡ length p.names → (s : ℕ) → Contains (variables_of (circuit a)) s → first_level p s < n
-first_fits a b p n (how, order, paired) count s among = subst (λ z. first_level p s < z) (sym count) (first_below how (circuit a) (circuit b) order p paired s among)
+module _ (how : Match) (a b : Circuit) (order : Order) (p : Paired) (n : ℕ) (count : n ≡ length p.names) where
+  abbrev Fits : Levelled → Type 0
+  Fits l = (s : ℕ) → Contains (variables_of l.netlist) s → l.level s < n
 
-pub second_fits : (a b : Net) (p : Paired) (n : ℕ) → IsPaired (circuit a) (circuit b) p → n ≡ length p.names → (s : ℕ) → Contains (variables_of (circuit b)) s → second_level p s < n
-second_fits a b p n (how, order, paired) count s among = subst (λ z. second_level p s < z) (sym count) (second_below how (circuit a) (circuit b) order p paired s among)
+  given_fits : (given : Option Circuit) → IsPairing how a b given order p → (l : Levelled) → Contains (levelled_given given p) l → Fits l
+  given_fits None h l (k, lt, at) = absurd (omega arith)
+  given_fits (Some c) h l (zero, lt, at) = subst Fits at (λ s among. subst (λ z. given_level p s < z) (sym count) (given_below how a b (Some c) order p h c refl s among))
+  given_fits (Some c) h l (suc k, lt, at) = absurd (omega arith)
+
+  each_fits : (given : Option Circuit) → IsPairing how a b given order p → (l : Levelled) → Contains (levelled a b given p) l → Fits l
+  each_fits given h l (zero, lt, at) = subst Fits at (λ s among. subst (λ z. first_level p s < z) (sym count) (first_below how a b given order p h s among))
+  each_fits given h l (suc zero, lt, at) = subst Fits at (λ s among. subst (λ z. second_level p s < z) (sym count) (second_below how a b given order p h s among))
+  each_fits given h l (suc (suc k), lt, at) = given_fits given h l (k, omega (arith, lt), at)
+
+-- the levels of each netlist that is built
+pub placed_fits : (a b : Circuit) (given : Option Circuit) (p : Paired) (n : ℕ) (sides : List Placed) → IsPaired a b given p → n ≡ length p.names → map levelled_of sides ≡ levelled a b given p →
+    (one : Placed) → Contains sides one → (s : ℕ) → Contains (variables_of (circuit one.net)) s → input_level one s < n
+placed_fits a b given p n sides (how, order, paired) count placed one c s among =
+    each_fits how a b order p n count given paired (levelled_of one) (subst (λ z. Contains z (levelled_of one)) placed (image levelled_of sides one c)) s among
+
+-- ---- the netlists with their plans
+
+placed_is : (net : Net) (which : Which) (p : Paired) (one : Placed) → one ≡ record { net = net; which = which; pairing = p; plan = one.plan } → IsPlan net one.plan → IsPlan one.net one.plan
+placed_is net which p one is plan = subst (λ (n : Net). IsPlan n one.plan) (sym (ap (λ (z : Placed). z.net) is)) plan
+
+module _ (a b : Net) (p : Paired) (one two : Placed) (is_one : one ≡ record { net = a; which = First; pairing = p; plan = one.plan }) (is_two : two ≡ record { net = b; which = Second; pairing = p; plan = two.plan })
+    (plan_one : IsPlan a one.plan) (plan_two : IsPlan b two.plan) where
+  pub placed_two : (sides : List Placed) → sides ≡ one ∷ two ∷ [] → ArePlaced (circuit a) (circuit b) None p sides
+  placed_two sides e = subst (ArePlaced (circuit a) (circuit b) None p) (sym e) (record {
+    netlists = ap (λ x. x ∷ levelled_of two ∷ []) (ap levelled_of is_one) ∙ ap (λ x. record { netlist = circuit a; level = first_level p } ∷ x ∷ []) (ap levelled_of is_two);
+    plans = plans;
+  })
+    where
+      plans : (o : Placed) → Contains (one ∷ two ∷ []) o → IsPlan o.net o.plan
+      plans o (zero, lt, at) = subst (λ (z : Placed). IsPlan z.net z.plan) at (placed_is a First p one is_one plan_one)
+      plans o (suc zero, lt, at) = subst (λ (z : Placed). IsPlan z.net z.plan) at (placed_is b Second p two is_two plan_two)
+      plans o (suc (suc k), lt, at) = absurd (omega (arith, lt))
+
+  pub placed_three : (c : Net) (three : Placed) → three ≡ record { net = c; which = Given; pairing = p; plan = three.plan } → IsPlan c three.plan → (sides : List Placed) → sides ≡ one ∷ two ∷ three ∷ [] →
+      ArePlaced (circuit a) (circuit b) (Some (circuit c)) p sides
+  placed_three c three is_three plan_three sides e = subst (ArePlaced (circuit a) (circuit b) (Some (circuit c)) p) (sym e) (record {
+    netlists = ap (λ x. x ∷ levelled_of two ∷ levelled_of three ∷ []) (ap levelled_of is_one) ∙ ap (λ x. record { netlist = circuit a; level = first_level p } ∷ x ∷ levelled_of three ∷ []) (ap levelled_of is_two)
+        ∙ ap (λ x. record { netlist = circuit a; level = first_level p } ∷ record { netlist = circuit b; level = second_level p } ∷ x ∷ []) (ap levelled_of is_three);
+    plans = plans;
+  })
+    where
+      plans : (o : Placed) → Contains (one ∷ two ∷ three ∷ []) o → IsPlan o.net o.plan
+      plans o (zero, lt, at) = subst (λ (z : Placed). IsPlan z.net z.plan) at (placed_is a First p one is_one plan_one)
+      plans o (suc zero, lt, at) = subst (λ (z : Placed). IsPlan z.net z.plan) at (placed_is b Second p two is_two plan_two)
+      plans o (suc (suc zero), lt, at) = subst (λ (z : Placed). IsPlan z.net z.plan) at (placed_is c Given p three is_three plan_three)
+      plans o (suc (suc (suc k)), lt, at) = absurd (omega (arith, lt))
+
+-- the condition has its diagrams where there is one
+pub given_diagrams : (a b : Circuit) (given : Option Circuit) (p : Paired) (S : Nodes) (refs : List Ref) →
+    ((l : Levelled) → 2 < length (levelled a b given p) → get_or (levelled a b given p) 2 l ≡ l → AreDiagrams l.netlist l.level S refs) → IfSome given (λ c. AreDiagrams c (given_level p) S refs)
+given_diagrams a b None p S refs h = tt
+given_diagrams a b (Some c) p S refs h = h (record { netlist = c; level = given_level p }) (omega arith) refl

@@ -24,13 +24,14 @@ use Rattle.reduce_up.specs.Waves.{entry_value, IsEntry, AnswersEach}
 use Rattle.gate_plan.specs.declared.steps.Step.{Step}
 use Rattle.gate_plan.specs.declared.steps.Copied.{Copied}
 use Rattle.gate_plan.specs.Folds.{IsFoldValue, plain_step, last_step, step_at as bit_step}
-use Rattle.gate_plan.specs.Plans.{plain_op, last_op, op_at, operand_at, folds_of, step_of, step_at, copy_of, rank_of, plan_steps, plan_copies, plan_folds}
-use Rattle.gate_plan.specs.Building.{Placed, input_level, reference_of, first_operand, entry_of, copied_all, answered_all, Denotes, IsDenoted, value_after, AreRight, IsBegun, AreFolded, AreVariables, AreInputs, AreDiagrams, IsCopyBelow, IsStepBelow}
+use Rattle.gate_plan.specs.Plans.{plain_op, last_op, op_at, operand_at, folds_of, step_of, step_at, copy_of, rank_of, plan_steps, plan_copies, plan_folds, IsPlan}
+use Rattle.gate_plan.specs.Building.{Placed, input_level, reference_of, first_operand, entry_of, copied_all, answered_all, Denotes, IsDenoted, value_after, AreRight, IsBegun, AreFolded, AreVariables, AreInputs, AreDiagrams, AllRight, AllFolded, AreCopied, IsCopyBelow, IsStepBelow, asked, levelled_of}
 use Rattle.gate_plan.specs.Needing.{IsPlacedValue}
 use Rattle.gate_plan.proofs.Folding.{fold_step, fold_start, one_operand, so_far_last}
 use Rattle.gate_plan.proofs.Lists.{same_number, lt_or_le, at_end, before_end}
 use Rattle.gate_plan.proofs.Ranks.{any_default, above_none, input_rank, operand_lower, some_operand, operand_below, one_gate, rank_top}
 use Rattle.gate_plan.proofs.Picking.{in_picks, has_pick, folds_within, step_is, has_step_of, nand_step, fold_step_of, step_one, step_many, folds_one, folds_many, copy_is, is_copy, among_operands, copies_below, steps_below, all_of}
+use Rattle.gate_plan.proofs.Together.{asked_holds, image, of_map, refs_there}
 use Rattle.gate_plan.proofs.Writing.{IsCopiedTo, IsNotCopied, copied_at, length-copied_all, IsAnsweredTo, IsNoStep, answered_at, length-answered_all, zip_at, zip_length, zip_parts}
 
 -- ---- operations as functions of bits
@@ -100,12 +101,6 @@ after_first : (g : GateLine) (bits : List Bool) → 1 < length g.operands → va
 after_first g bits lt =
     let n : length (map (bit_of bits) g.operands) ≡ length g.operands = length-map g.operands (bit_of bits) in
     fold_start g.kind (map (bit_of bits) g.operands) (omega arith) ∙ map_bit (bit_of bits) g.operands 0 (omega arith)
-
--- an element of a list of images is an image
-of_map : {A B : Type 0} (f : A → B) (xs : List A) (y : B) → Contains (map f xs) y → (x : A) × Contains xs x × (f x ≡ y)
-of_map f [] y (k, lt, e) = absurd (omega arith)
-of_map f (x ∷ xs) y (zero, lt, e) = (x, (0, omega arith, refl), e)
-of_map f (x ∷ xs) y (suc k, lt, e) = let m = of_map f xs y (k, omega arith, e) in (m.0, (suc m.1.0, (let z = m.1.1 in omega arith), m.1.2), m.2)
 
 -- ---- one netlist
 
@@ -472,6 +467,19 @@ module _ (net : Net) (h : IsNet net) (level : ℕ → ℕ) where
       subst (λ y. AreFolded net level T y r (j + 1)) (sym (o ∙ ap (λ y. answered_all y steps answers) e ∙ ap (λ y. answered_all refs y answers) f))
       (fold_right S T refs r j answers sound kept w (subst (λ y. AnswersEach S (map (entry_of refs) y) T answers) f z))
 
+-- the copies of a rank in all netlists
+pub all_copied : (sides : List Placed) → ((one : Placed) → Contains sides one → IsPlan one.net one.plan) → (S : Nodes) (built new : List (List Ref)) (r : ℕ) → AllRight sides S built r → AreCopied sides built new r → AllFolded sides S new r 0
+all_copied sides plans S built new r right copied = (
+  copied.0 ∙ right.0,
+  λ k one refs lt at there.
+      let n = right.0 in
+      let m = copied.0 in
+      let old = get_or built k [] in
+      let was = refs_there built k (omega arith) in
+      let is : refs ≡ copied_all old (plan_copies one.net one.net.gates r) = sym there ∙ any_default new k refs [] (omega arith) ∙ copied.1 k one old lt at was in
+      copies_next one.net (plans one (k, lt, at)).sound (input_level one) S old old refs r (plan_copies one.net one.net.gates r) (right.1 k one old lt at was) refl refl is,
+)
+
 -- ---- entries
 
 known_entries : (S : Nodes) (refs : List Ref) (steps : List Step) → ((s : ℕ) → Has S (reference_of refs s)) → (e : Op × Ref × Ref) → Contains (map (entry_of refs) steps) e → IsEntry S e
@@ -479,45 +487,19 @@ known_entries S refs [] known e (k, lt, f) = absurd (omega arith)
 known_entries S refs (s ∷ steps) known e (zero, lt, f) = subst (IsEntry S) f (known (first_operand s), known s.second)
 known_entries S refs (s ∷ steps) known e (suc k, lt, f) = known_entries S refs steps known e (k, omega arith, f)
 
--- what the steps of both netlists ask for is about references of the store
-pub all_entries : (S : Nodes) (one two : List Ref) (ours theirs : List Step) (entries : List (Op × Ref × Ref)) → ((s : ℕ) → Has S (reference_of one s)) → ((s : ℕ) → Has S (reference_of two s)) →
-    entries ≡ map (entry_of one) ours ++ map (entry_of two) theirs → All (IsEntry S) entries
-all_entries S one two ours theirs entries a b e = all_of (IsEntry S) entries (λ x among. by x (Contains-append_cases (map (entry_of one) ours) (map (entry_of two) theirs) x (subst (λ z. Contains z x) e among)))
-  where
-    by : (x : Op × Ref × Ref) → Contains (map (entry_of one) ours) x ⊎ Contains (map (entry_of two) theirs) x → IsEntry S x
-    by x (inl c) = known_entries S one ours a x c
-    by x (inr c) = known_entries S two theirs b x c
+-- what the steps of all netlists ask for is about references of the store
+pub all_entries : (sides : List Placed) (S : Nodes) (built : List (List Ref)) (r j : ℕ) (entries : List (Op × Ref × Ref)) → AllFolded sides S built r j → entries ≡ asked sides built r j → All (IsEntry S) entries
+all_entries sides S built r j entries h e =
+    all_of (IsEntry S) entries
+    (λ x among. asked_holds (IsEntry S) r j sides built (h.0, λ k one refs lt a b. known_entries S refs (plan_steps one.net one.net.gates r j) (h.1 k one refs lt a b).right.known) x (subst (λ z. Contains z x) e among))
 
--- and asks for values of the folds of either
-pub all_asked : (one two : Placed) → IsNet one.net → IsNet two.net → (S : Nodes) (first second : List Ref) (r j : ℕ) (ours theirs : List Step) (entries : List (Op × Ref × Ref)) →
-    AreFolded one.net (input_level one) S first r j → AreFolded two.net (input_level two) S second r j → ours ≡ plan_steps one.net one.net.gates r j → theirs ≡ plan_steps two.net two.net.gates r j →
-    entries ≡ map (entry_of first) ours ++ map (entry_of second) theirs → (e : Op × Ref × Ref) → Contains entries e → IsPlacedValue S.levels one two (entry_value S e)
-all_asked one two h k S first second r j ours theirs entries w z a b e x among =
-    by (Contains-append_cases (map (entry_of first) ours) (map (entry_of second) theirs) x (subst (λ z. Contains z x) e among))
-  where
-    by : Contains (map (entry_of first) ours) x ⊎ Contains (map (entry_of second) theirs) x → IsPlacedValue S.levels one two (entry_value S x)
-    by (inl c) = inr (inl (asked_value one.net h (input_level one) S first r j w x (subst (λ ss. Contains (map (entry_of first) ss) x) a c)))
-    by (inr c) = inr (inr (asked_value two.net k (input_level two) S second r j z x (subst (λ ss. Contains (map (entry_of second) ss) x) b c)))
-
-module _ (S T : Nodes) (one two : List Ref) (ours theirs : List Step) (entries : List (Op × Ref × Ref)) (answers : List Ref) (e : entries ≡ map (entry_of one) ours ++ map (entry_of two) theirs) (h : AnswersEach S entries T answers) where
-  both : AnswersEach S (map (entry_of one) ours ++ map (entry_of two) theirs) T answers
-  both = subst (λ z. AnswersEach S z T answers) e h
-
-  pub answers_long : length answers ≡ length ours + length theirs
-  answers_long =
-      AllZip-long (λ e r. IsDiagram T r (entry_value S e)) (map (entry_of one) ours ++ map (entry_of two) theirs) answers both
-      ∙ length-append (map (entry_of one) ours) (map (entry_of two) theirs)
-      ∙ ap (λ n. n + length (map (entry_of two) theirs)) (length-map ours (entry_of one)) ∙ ap (λ n. length ours + n) (length-map theirs (entry_of two))
-
-  pub first_answers : (front : List Ref) → front ≡ take (length ours) answers → AnswersEach S (map (entry_of one) ours) T front
-  first_answers front f =
-      subst (λ z. AnswersEach S (map (entry_of one) ours) T z) (ap (λ n. take n answers) (length-map ours (entry_of one)) ∙ sym f)
-      (zip_parts (λ e r. IsDiagram T r (entry_value S e)) (map (entry_of one) ours) (map (entry_of two) theirs) answers both).0
-
-  pub second_answers : (back : List Ref) → back ≡ drop (length ours) answers → AnswersEach S (map (entry_of two) theirs) T back
-  second_answers back f =
-      subst (λ z. AnswersEach S (map (entry_of two) theirs) T z) (ap (λ n. drop n answers) (length-map ours (entry_of one)) ∙ sym f)
-      (zip_parts (λ e r. IsDiagram T r (entry_value S e)) (map (entry_of one) ours) (map (entry_of two) theirs) answers both).1
+-- and asks for values of the folds of one of them
+pub all_asked : (sides : List Placed) → ((one : Placed) → Contains sides one → IsPlan one.net one.plan) → (S : Nodes) (built : List (List Ref)) (r j : ℕ) (entries : List (Op × Ref × Ref)) →
+    AllFolded sides S built r j → entries ≡ asked sides built r j → (e : Op × Ref × Ref) → Contains entries e → IsPlacedValue S.levels sides (entry_value S e)
+all_asked sides plans S built r j entries h e x among =
+    asked_holds (λ y. IsPlacedValue S.levels sides (entry_value S y)) r j sides built
+    (h.0, λ k one refs lt a b y c. inr (levelled_of one, image levelled_of sides one (k, lt, a), asked_value one.net (plans one (k, lt, a)).sound (input_level one) S refs r j (h.1 k one refs lt a b) y c))
+    x (subst (λ z. Contains z x) e among)
 
 -- ---- variables and inputs
 

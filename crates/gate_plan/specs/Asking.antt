@@ -1,5 +1,5 @@
 -- Whether the steps of gates ask for anything: a step does where it has no short answer.
-use Rattle.std.specs.Prelude.{◌≡◌, ℕ, ◌+◌, ◌<◌, ◌≤◌, ◌==◌, ◌⊎◌, Bool, cond, List, [], None, Contains}
+use Rattle.std.specs.Prelude.{◌≡◌, ℕ, ◌+◌, ◌<◌, ◌≤◌, ◌==◌, ◌⊎◌, Bool, cond, List, [], Option, None, Contains}
 use Rattle.dd_store.specs.declared.reference.Ref.{Ref}
 use Rattle.dd_store.specs.Nodes.{Nodes, count_of}
 use Rattle.dd_store.specs.View.{Has}
@@ -9,7 +9,7 @@ use Rattle.net_bench.specs.Labels.{bit_of}
 use Rattle.net_order.specs.Order.{Paired}
 use Rattle.req_table.specs.Memos.{Held, IsRight}
 use Rattle.req_table.specs.Short.{short_of}
-use Rattle.gate_plan.specs.Building.{Placed, input_level, first_level, second_level, Denotes, value_after}
+use Rattle.gate_plan.specs.Building.{Placed, Levelled, levelled, input_level, Denotes, value_after}
 use Rattle.gate_plan.specs.Plans.{rank_of, folds_of, step_at, operand_at}
 
 -- what step j of a gate's fold takes in first, by the labels: the first operand, or the value so far
@@ -35,21 +35,21 @@ pub record IsAsked (c : Circuit) (level : ℕ → ℕ) (S : Nodes) (g : GateLine
 abbrev pub Asks : Circuit → (ℕ → ℕ) → Nodes → Type 0
 Asks c level S = (g : GateLine) × Contains c.gates g × ((j : ℕ) × IsAsked c level S g j)
 
--- some gate of two netlists of a pairing has one
-abbrev pub EitherAsks : Circuit → Circuit → Paired → Nodes → Type 0
-EitherAsks a b p S = Asks a (first_level p) S ⊎ Asks b (second_level p) S
+-- some gate of one of the netlists that are built for a pairing has one
+abbrev pub AnyAsks : Circuit → Circuit → Option Circuit → Paired → Nodes → Type 0
+AnyAsks a b given p S = (one : Levelled) × Contains (levelled a b given p) one × Asks one.netlist one.level S
 
 -- some gate of this rank has a step j without a short answer
 abbrev pub AsksAt : Placed → Nodes → ℕ → ℕ → Type 0
 AsksAt one S r j = (g : GateLine) × Contains one.net.gates g × (rank_of one.net g ≡ r) × IsAsked (circuit one.net) (input_level one) S g j
 
--- some gate of this rank of two netlists has one
-abbrev pub EitherAsksAt : Placed → Placed → Nodes → ℕ → ℕ → Type 0
-EitherAsksAt one two S r j = AsksAt one S r j ⊎ AsksAt two S r j
+-- some gate of this rank of one of the netlists has one
+abbrev pub AnyAsksAt : List Placed → Nodes → ℕ → ℕ → Type 0
+AnyAsksAt sides S r j = (one : Placed) × Contains sides one × AsksAt one S r j
 
 -- and so for some step of this rank
-abbrev pub EitherAsksIn : Placed → Placed → Nodes → ℕ → Type 0
-EitherAsksIn one two S r = (j : ℕ) × EitherAsksAt one two S r j
+abbrev pub AnyAsksIn : List Placed → Nodes → ℕ → Type 0
+AnyAsksIn sides S r = (j : ℕ) × AnyAsksAt sides S r j
 
 -- the store `new` is within its limit, or nothing was asked for and it is as it was
 abbrev pub IsWithinOrUnasked : Type 0 → Nodes → Nodes → Type 0

@@ -1,5 +1,5 @@
--- What is built of two netlists: for each signal a reference that denotes its function.
-use Rattle.std.specs.Prelude.{◌≡◌, ℕ, ◌+◌, ◌<◌, ◌≤◌, ◌⊎◌, Bool, false, List, [], ◌∷◌, map, length, min, unwrap_or, slice_index, slice_index_or, slice_set, Contains}
+-- What is built of netlists over the variables of a pairing: for each signal a reference that denotes its function.
+use Rattle.std.specs.Prelude.{◌≡◌, ℕ, ◌+◌, ◌<◌, ◌≤◌, ◌⊎◌, Bool, false, List, [], ◌∷◌, ◌++◌, map, length, min, unwrap_or, Option, Some, None, slice_index, slice_index_or, slice_set, Contains}
 use Rattle.dd_store.specs.declared.StoreFault.{StoreFault}
 use Rattle.dd_store.specs.declared.StoreFault.TheVariants as store_faults
 use Rattle.dd_store.specs.declared.reference.Ref.{Ref}
@@ -17,27 +17,28 @@ use Rattle.net_order.specs.declared.order.Match.{Match}
 use Rattle.net_order.specs.declared.order.Order.{Order}
 use Rattle.net_order.specs.Order.{Paired, IsPairing}
 use Rattle.gate_plan.specs.declared.inputs.Which.{Which}
-use Rattle.gate_plan.specs.declared.inputs.Which.TheVariants.{First, Second}
+use Rattle.gate_plan.specs.declared.inputs.Which.TheVariants.{First, Second, Given}
 use Rattle.gate_plan.specs.declared.steps.Step.{Step}
 use Rattle.gate_plan.specs.declared.steps.Copied.{Copied}
 use Rattle.gate_plan.specs.Folds.{value_so_far}
-use Rattle.gate_plan.specs.Plans.{rank_of, RankSteps}
+use Rattle.gate_plan.specs.Plans.{rank_of, plan_steps, plan_copies, IsPlan, RankSteps}
 
--- a reference for each signal of the first and of the second netlist
+-- a reference for each signal of the first netlist, of the second and of the condition
 pub record References : Type 0 where
   pub first : List Ref
   pub second : List Ref
+  pub given : List Ref
 
--- one of the two netlists of a pairing, with the plan of its gates
+-- one of the netlists of a pairing, with the plan of its gates
 pub record Placed : Type 0 where
   pub net : Net
   pub which : Which
   pub pairing : Paired
   pub plan : List RankSteps
 
--- p is the pairing of the two netlists for some way of matching and some order
-abbrev pub IsPaired : Circuit → Circuit → Paired → Type 0
-IsPaired a b p = (how : Match) × (order : Order) × IsPairing how a b order p
+-- p is the pairing of the two netlists, with this condition or none, for some way of matching and some order
+abbrev pub IsPaired : Circuit → Circuit → Option Circuit → Paired → Type 0
+IsPaired a b given p = (how : Match) × (order : Order) × IsPairing how a b given order p
 
 -- the level of an input of the first netlist
 abbrev pub first_level : Paired → ℕ → ℕ
@@ -47,14 +48,48 @@ first_level p s = slice_index p.first s
 abbrev pub second_level : Paired → ℕ → ℕ
 second_level p s = slice_index p.second s
 
--- the level of an input of one of the two
+-- the level of an input of the condition
+abbrev pub given_level : Paired → ℕ → ℕ
+given_level p s = slice_index p.given s
+
+-- the level of an input of one of them
 abbrev pub level_in : Which → Paired → ℕ → ℕ
 level_in First p s = first_level p s
 level_in Second p s = second_level p s
+level_in Given p s = given_level p s
 
 -- the level of an input of a netlist of a pairing
 abbrev pub input_level : Placed → ℕ → ℕ
 input_level one s = level_in one.which one.pairing s
+
+-- a netlist with the levels of its variables
+pub record Levelled : Type 0 where
+  pub netlist : Circuit
+  pub level : ℕ → ℕ
+
+-- the condition as a list, with its levels
+abbrev pub levelled_given : Option Circuit → Paired → List Levelled
+levelled_given None p = []
+levelled_given (Some c) p = record { netlist = c; level = given_level p } ∷ []
+
+-- the netlists that are built for a pairing: the first, the second, and the condition where there is one
+abbrev pub levelled : Circuit → Circuit → Option Circuit → Paired → List Levelled
+levelled a b given p = record { netlist = a; level = first_level p } ∷ record { netlist = b; level = second_level p } ∷ levelled_given given p
+
+-- a netlist of a pairing without its plan
+abbrev pub levelled_of : Placed → Levelled
+levelled_of one = record { netlist = circuit one.net; level = input_level one }
+
+-- these are the netlists that are built for a pairing, each with its plan
+pub record ArePlaced (a b : Circuit) (given : Option Circuit) (p : Paired) (sides : List Placed) : Type 0 where
+  pub netlists : map levelled_of sides ≡ levelled a b given p
+  pub plans : (one : Placed) → Contains sides one → IsPlan one.net one.plan
+
+-- this holds of each netlist of a list and its references
+abbrev pub Each : (Placed → List Ref → Type 0) → List Placed → List (List Ref) → Type 0
+Each P sides built =
+    (length built ≡ length sides) ×
+    ((k : ℕ) (one : Placed) (refs : List Ref) → k < length sides → slice_index_or sides k one ≡ one → slice_index_or built k refs ≡ refs → P one refs)
 
 -- the reference of a signal
 abbrev pub reference_of : List Ref → ℕ → Ref
@@ -141,3 +176,24 @@ pub record AreFolded (net : Net) (level : ℕ → ℕ) (S : Nodes) (refs : List 
       Denotes (circuit net) level S (reference_of refs g.out) (value_after g (min (fold + 1) (length g.operands)))
   pub values : (g : GateLine) → Contains net.gates g → rank_of net g ≡ rank → IsBegun g fold →
       (i : ℕ) → 0 < i → i ≤ min (fold + 1) (length g.operands) → IsDenoted (circuit net) level S (value_after g i)
+
+-- ---- all netlists together
+
+abbrev pub AllRight : List Placed → Nodes → List (List Ref) → ℕ → Type 0
+AllRight sides S built rank = Each (λ one refs. AreRight one.net (input_level one) S refs rank) sides built
+
+abbrev pub AllFolded : List Placed → Nodes → List (List Ref) → ℕ → ℕ → Type 0
+AllFolded sides S built rank fold = Each (λ one refs. AreFolded one.net (input_level one) S refs rank fold) sides built
+
+-- what the steps of a rank and a fold number ask for, netlist after netlist
+abbrev pub asked : List Placed → List (List Ref) → ℕ → ℕ → List (Op × Ref × Ref)
+asked [] built rank fold = []
+asked (one ∷ sides) [] rank fold = []
+asked (one ∷ sides) (refs ∷ built) rank fold = map (entry_of refs) (plan_steps one.net one.net.gates rank fold) ++ asked sides built rank fold
+
+-- after the copies of a rank
+abbrev pub AreCopied : List Placed → List (List Ref) → List (List Ref) → ℕ → Type 0
+AreCopied sides old new rank =
+    (length new ≡ length old) ×
+    ((k : ℕ) (one : Placed) (refs : List Ref) → k < length sides → slice_index_or sides k one ≡ one → slice_index_or old k refs ≡ refs →
+    slice_index_or new k [] ≡ copied_all refs (plan_copies one.net one.net.gates rank))

@@ -15,20 +15,23 @@ use net_bench::reader::Netlist;
 use net_order::pairing::Pairing;
 use std::alloc::{AllocError, Global};
 
-/// Which of two netlists is meant.
+/// Which of the netlists of a pairing is meant.
 #[derive(Clone, Copy, Debug, PartialEq, Eq)]
 pub enum Which {
     First,
     Second,
+    /// The condition.
+    Given,
 }
 
-/// The level of an input or register of one of the two netlists.
+/// The level of an input or register of one of the netlists.
 fn level_of(pairing: &Pairing, which: Which, input: Signal) -> u32
     ensures { result ≡ level_in which pairing.now input }
 {
     match which {
         Which::First => pairing.first_level(input),
         Which::Second => pairing.second_level(input),
+        Which::Given => pairing.given_level(input),
     }
 }
 

@@ -1,9 +1,10 @@
-//! The diagrams of two netlists' gates: which folds they need, rank by rank, and the building of them.
+//! The diagrams of netlists' gates: which folds they need, rank by rank, and the building of them.
 #![tactic(auto)]
 
 mod building;
 mod folds;
 mod inputs;
+mod sides;
 mod steps;
 
 pub use building::{Built, build};

@@ -1,14 +1,14 @@
 -- Levels of variables: each is one of the levels, and variables of one netlist have different ones.
-use Rattle.std.proofs.Common.{◌≡◌, ◌≢◌, ℕ, zero, suc, ◌<◌, ◌≤◌, inl, inr, List, [], ◌∷◌, true, false, refl, sym, ap, ◌∙◌, subst, length, arith}
-use Rattle.std.specs.Prelude.{cond, ◌||◌, ◌==◌, Contains, slice_index, slice_index_or}
+use Rattle.std.proofs.Common.{Option, Some, IfSome, ◌≡◌, ◌≢◌, ℕ, zero, suc, ◌<◌, ◌≤◌, inl, inr, List, [], ◌∷◌, true, false, refl, sym, ap, ◌∙◌, subst, length, arith}
+use Rattle.std.specs.Prelude.{cond, ◌||◌, ◌==◌, All, Contains, slice_index, slice_index_or}
 use Rattle.std.proofs.lemmas.Bool.{cases_lt}
 use Rattle.net_bench.specs.Circuit.{Circuit, Net, IsNet, AreOnce, circuit, is_name_in, variables_of}
 use Rattle.net_bench.proofs.Numbers.{in_distinct, or_left, or_right, number_low, numbers_differ}
 use Rattle.net_order.specs.declared.order.Match.{Match}
 use Rattle.net_order.specs.declared.order.Match.TheVariants.{Name, Position}
 use Rattle.net_order.specs.declared.order.Order.{Order}
-use Rattle.net_order.specs.Order.{is_member, AreCounted, IsPairing, Paired, declared, all_names, level_of, name_of, ordered, partner, second_name}
-use Rattle.net_order.proofs.AllNames.{first_all, second_all}
+use Rattle.net_order.specs.Order.{is_member, AreCounted, IsPairing, Paired, declared, all_names, given_names, level_of, name_of, ordered, partner, second_name}
+use Rattle.net_order.proofs.AllNames.{first_all, given_all, second_all}
 use Rattle.net_order.proofs.Members.{named_member}
 use Rattle.net_order.proofs.Orders.{ordered_all, ordered_count}
 use Rattle.net_order.proofs.Seconds.{same_counts}
@@ -26,33 +26,33 @@ contains_member (x ∷ xs) s (suc i, low, at) = or_right (x == s) (is_member s x
 
 -- ---- levels of a pairing
 
-module _ (how : Match) (a b : Circuit) (order : Order) (p : Paired) (h : IsPairing how a b order p) where
+module _ (how : Match) (a b : Circuit) (given : Option Circuit) (order : Order) (p : Paired) (h : IsPairing how a b given order p) where
   -- there are as many levels as variables
-  pub names_count : length p.names ≡ length (declared how a b)
-  names_count = ap length h.names ∙ ordered_count how a b order h.fit
+  pub names_count : length p.names ≡ length (declared how a b given)
+  names_count = ap length h.names ∙ ordered_count how a b given order h.fit
 
   -- and so they are few
   pub few_names : length p.names ≤ 4096
   few_names = omega (arith, names_count, h.few)
 
-  level_low : (n : List ℕ) → is_name_in (all_names how a b) n ≡ true → level_of (ordered how a b order) n < length p.names
+  level_low : (n : List ℕ) → is_name_in (all_names how a b given) n ≡ true → level_of (ordered how a b given order) n < length p.names
   level_low n e =
-      let there : is_name_in (ordered how a b order) n ≡ true = ordered_all how a b order h.fit n (in_distinct (all_names how a b) n ∙ e) in
-      let low : level_of (ordered how a b order) n < length (ordered how a b order) = number_low (ordered how a b order) n there in
-      subst (λ k. level_of (ordered how a b order) n < k) (sym (ap length h.names)) low
+      let there : is_name_in (ordered how a b given order) n ≡ true = ordered_all how a b given order h.fit n (in_distinct (all_names how a b given) n ∙ e) in
+      let low : level_of (ordered how a b given order) n < length (ordered how a b given order) = number_low (ordered how a b given order) n there in
+      subst (λ k. level_of (ordered how a b given order) n < k) (sym (ap length h.names)) low
 
-  first_named : (s : ℕ) → is_member s (variables_of a) ≡ true → is_name_in (all_names how a b) (name_of a s) ≡ true
-  first_named s e = first_all how a b (name_of a s) (named_member (name_of a) (variables_of a) s e)
+  first_named : (s : ℕ) → is_member s (variables_of a) ≡ true → is_name_in (all_names how a b given) (name_of a s) ≡ true
+  first_named s e = first_all how a b given (name_of a s) (named_member (name_of a) (variables_of a) s e)
 
-  second_named : (s : ℕ) → is_member s (variables_of b) ≡ true → is_name_in (all_names how a b) (second_name how a b s) ≡ true
+  second_named : (s : ℕ) → is_member s (variables_of b) ≡ true → is_name_in (all_names how a b given) (second_name how a b s) ≡ true
   second_named s e =
-      second_all how a b (second_name how a b s)
+      second_all how a b given (second_name how a b s)
       (named_member (second_name how a b) (variables_of b) s e)
 
-  first_is : (s : ℕ) → Contains (variables_of a) s → slice_index p.first s ≡ level_of (ordered how a b order) (name_of a s)
+  first_is : (s : ℕ) → Contains (variables_of a) s → slice_index p.first s ≡ level_of (ordered how a b given order) (name_of a s)
   first_is s (i, low, at) = rw at at (h.first i s low)
 
-  second_is : (s : ℕ) → Contains (variables_of b) s → slice_index p.second s ≡ level_of (ordered how a b order) (second_name how a b s)
+  second_is : (s : ℕ) → Contains (variables_of b) s → slice_index p.second s ≡ level_of (ordered how a b given order) (second_name how a b s)
   second_is s (i, low, at) = rw at at (h.second i s low)
 
   -- the level of an input is one of the levels
@@ -62,11 +62,22 @@ module _ (how : Match) (a b : Circuit) (order : Order) (p : Paired) (h : IsPairi
   pub second_below : (s : ℕ) → Contains (variables_of b) s → slice_index p.second s < length p.names
   second_below s e = subst (λ k. k < length p.names) (sym (second_is s e)) (level_low (second_name how a b s) (second_named s (contains_member (variables_of b) s e)))
 
-  same_level : (m n : List ℕ) → is_name_in (all_names how a b) m ≡ true → is_name_in (all_names how a b) n ≡ true →
-      level_of (ordered how a b order) m ≡ level_of (ordered how a b order) n → m ≡ n
+  given_is : (c : Circuit) → given ≡ Some c → (s : ℕ) → Contains (variables_of c) s → slice_index p.given s ≡ level_of (ordered how a b given order) (name_of c s)
+  given_is c e s (i, low, at) = rw at at (subst (λ o. IfSome o (λ d. All (λ t. slice_index p.given t ≡ level_of (ordered how a b given order) (name_of d t)) (variables_of d))) e h.conditional i s low)
+
+  given_named : (c : Circuit) → given ≡ Some c → (s : ℕ) → is_member s (variables_of c) ≡ true → is_name_in (all_names how a b given) (name_of c s) ≡ true
+  given_named c e s k =
+      given_all how a b given (name_of c s) (subst (λ o. is_name_in (given_names o) (name_of c s) ≡ true) (sym e) (named_member (name_of c) (variables_of c) s k))
+
+  -- and that of an input of the condition
+  pub given_below : (c : Circuit) → given ≡ Some c → (s : ℕ) → Contains (variables_of c) s → slice_index p.given s < length p.names
+  given_below c e s k = subst (λ l. l < length p.names) (sym (given_is c e s k)) (level_low (name_of c s) (given_named c e s (contains_member (variables_of c) s k)))
+
+  same_level : (m n : List ℕ) → is_name_in (all_names how a b given) m ≡ true → is_name_in (all_names how a b given) n ≡ true →
+      level_of (ordered how a b given order) m ≡ level_of (ordered how a b given order) n → m ≡ n
   same_level m n e f same =
-      numbers_differ (ordered how a b order) m n (ordered_all how a b order h.fit m (in_distinct (all_names how a b) m ∙ e))
-      (ordered_all how a b order h.fit n (in_distinct (all_names how a b) n ∙ f)) same
+      numbers_differ (ordered how a b given order) m n (ordered_all how a b given order h.fit m (in_distinct (all_names how a b given) m ∙ e))
+      (ordered_all how a b given order h.fit n (in_distinct (all_names how a b given) n ∙ f)) same
 
   -- inputs at one level have one name
   pub first_name : (s t : ℕ) → Contains (variables_of a) s → Contains (variables_of a) t → slice_index p.first s ≡ slice_index p.first t → name_of a s ≡ name_of a t
@@ -114,11 +125,11 @@ default [] i low = absurd (omega arith)
 default (x ∷ xs) zero low = refl
 default (x ∷ xs) (suc i) low = default xs i (omega arith)
 
-module _ (how : Match) (n m : Net) (order : Order) (p : Paired) (first : IsNet n) (second : IsNet m) (h : IsPairing how (circuit n) (circuit m) order p) where
+module _ (how : Match) (n m : Net) (given : Option Circuit) (order : Order) (p : Paired) (first : IsNet n) (second : IsNet m) (h : IsPairing how (circuit n) (circuit m) given order p) where
   -- different inputs of the first netlist have different levels
   pub first_apart : (s t : ℕ) → Contains (variables_of (circuit n)) s → Contains (variables_of (circuit n)) t → slice_index p.first s ≡ slice_index p.first t → s ≡ t
   first_apart s t e f same =
-      one_signal n first s t (input_low n first s e) (input_low n first t f) (first_name how (circuit n) (circuit m) order p h s t e f same)
+      one_signal n first s t (input_low n first s e) (input_low n first t f) (first_name how (circuit n) (circuit m) given order p h s t e f same)
 
   second_one : (how : Match) (s t : ℕ) → AreCounted how (circuit n) (circuit m) → Contains (variables_of (circuit m)) s → Contains (variables_of (circuit m)) t →
       second_name how (circuit n) (circuit m) s ≡ second_name how (circuit n) (circuit m) t → s ≡ t
@@ -137,7 +148,7 @@ module _ (how : Match) (n m : Net) (order : Order) (p : Paired) (first : IsNet n
 
   -- different inputs of the second netlist have different levels
   pub second_apart : (s t : ℕ) → Contains (variables_of (circuit m)) s → Contains (variables_of (circuit m)) t → slice_index p.second s ≡ slice_index p.second t → s ≡ t
-  second_apart s t e f same = second_one how s t h.counted e f (second_same how (circuit n) (circuit m) order p h s t e f same)
+  second_apart s t e f same = second_one how s t h.counted e f (second_same how (circuit n) (circuit m) given order p h s t e f same)
 
   level_once : (levels inputs : List ℕ) → AreOnce inputs → ((s t : ℕ) → Contains inputs s → Contains inputs t → slice_index levels s ≡ slice_index levels t → s ≡ t) →
       (i j : ℕ) → i < j → j < length inputs → slice_index levels (slice_index inputs i) ≢ slice_index levels (slice_index inputs j)

@@ -87,7 +87,7 @@ module _ (a b : Circuit) (ss ts : List ℕ) where
 pub one_of : (P : ℕ → Type 0) (ss : List ℕ) (s : ℕ) → All P ss → IsIn ss s → P s
 one_of P ss s h e = let at = member_at s ss e in subst P at.2 (h at.0 s at.1)
 
-module _ (how : Match) (n m : Net) (order : Order) (p : Paired) (first : IsNet n) (second : IsNet m) (h : IsPairing how (circuit n) (circuit m) order p) where
+module _ (how : Match) (n m : Net) (given : Option Circuit) (order : Order) (p : Paired) (first : IsNet n) (second : IsNet m) (h : IsPairing how (circuit n) (circuit m) given order p) where
   abbrev Low : ℕ → Type 0
   Low s = s < length n.names
 

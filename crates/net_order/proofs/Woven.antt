@@ -1,5 +1,5 @@
 -- A netlist is woven into an order: what the walks below its outputs add.
-use Rattle.std.proofs.Common.{◌≡◌, ℕ, ◌+◌, ◌<◌, ◌≤◌, ◌⊎◌, inl, inr, List, [], ◌∷◌, ◌++◌, true, false, refl, sym, ap, ◌∙◌, subst, length, map, drop, arith, get_or, All, length-append}
+use Rattle.std.proofs.Common.{Option, ◌≡◌, ℕ, ◌+◌, ◌<◌, ◌≤◌, ◌⊎◌, inl, inr, List, [], ◌∷◌, ◌++◌, true, false, refl, sym, ap, ◌∙◌, subst, length, map, drop, arith, get_or, All, length-append}
 use Rattle.std.specs.Prelude.{cond, ◌||◌, ◌==◌, fold, None}
 use Rattle.std.proofs.lemmas.List.{drop_more}
 use Rattle.net_bench.proofs.Numbers.{or_left, or_right, or_cases, in_distinct, number_low}
@@ -175,25 +175,25 @@ netlist_same c f g h order = outputs_same c f g h (falling (rank_of c) (roots c)
 
 -- ---- the numbers of variables
 
-module _ (how : Match) (a b : Circuit) where
-  variable_low : (n : List ℕ) → is_name_in (all_names how a b) n ≡ true → level_of (declared how a b) n < length (declared how a b)
-  variable_low n e = number_low (declared how a b) n (in_distinct (all_names how a b) n ∙ e)
+module _ (how : Match) (a b : Circuit) (given : Option Circuit) where
+  variable_low : (n : List ℕ) → is_name_in (all_names how a b given) n ≡ true → level_of (declared how a b given) n < length (declared how a b given)
+  variable_low n e = number_low (declared how a b given) n (in_distinct (all_names how a b given) n ∙ e)
 
-  pub first_low : (s : ℕ) → is_member s (variables_of a) ≡ true → first_variable how a b s < length (declared how a b)
-  first_low s e = variable_low (name_of a s) (first_all how a b (name_of a s) (named_member (name_of a) (variables_of a) s e))
+  pub first_low : (s : ℕ) → is_member s (variables_of a) ≡ true → first_variable how a b given s < length (declared how a b given)
+  first_low s e = variable_low (name_of a s) (first_all how a b given (name_of a s) (named_member (name_of a) (variables_of a) s e))
 
-  pub second_low : (s : ℕ) → is_member s (variables_of b) ≡ true → second_variable how a b s < length (declared how a b)
+  pub second_low : (s : ℕ) → is_member s (variables_of b) ≡ true → second_variable how a b given s < length (declared how a b given)
   second_low s e =
       variable_low (second_name how a b s)
-      (second_all how a b (second_name how a b s) (named_member (second_name how a b) (variables_of b) s e))
+      (second_all how a b given (second_name how a b s) (named_member (second_name how a b) (variables_of b) s e))
 
-  pub woven_low : (x : ℕ) → is_member x (woven how a b) ≡ true → x < length (declared how a b)
-  woven_low x e = elim (netlist_from b (second_variable how a b) (falling (rank_of b) (roots b)) (weave_netlist a (first_variable how a b) []) x e) [
-    | inl before ↦ elim (netlist_from a (first_variable how a b) (falling (rank_of a) (roots a)) [] x before) [
+  pub woven_low : (x : ℕ) → is_member x (woven how a b given) ≡ true → x < length (declared how a b given)
+  woven_low x e = elim (netlist_from b (second_variable how a b given) (falling (rank_of b) (roots b)) (weave_netlist a (first_variable how a b given) []) x e) [
+    | inl before ↦ elim (netlist_from a (first_variable how a b given) (falling (rank_of a) (roots a)) [] x before) [
       | inl none ↦ absurd (no_true none)
-      | inr (m, input, is) ↦ subst (λ y. y < length (declared how a b)) is (first_low m input)
+      | inr (m, input, is) ↦ subst (λ y. y < length (declared how a b given)) is (first_low m input)
     ]
-    | inr (m, input, is) ↦ subst (λ y. y < length (declared how a b)) is (second_low m input)
+    | inr (m, input, is) ↦ subst (λ y. y < length (declared how a b given)) is (second_low m input)
   ]
 
 -- ---- tables of numbers
@@ -219,10 +219,10 @@ numbers_are t u vs ws inputs name is same h s e =
     ap (λ xs. get_or xs s 0) is ∙ at_inputs (λ x. get_or vs x 0 ≡ level_of t (name x)) inputs h s e ∙ ap (λ k. level_of k (name s)) same
 
 -- what is woven by tables of numbers is woven
-pub woven_is : (how : Match) (a b : Circuit) (t : List (List ℕ)) (vs ws xs ys empty one two : List ℕ) → t ≡ declared how a b → ws ≡ vs → All (λ s. get_or vs s 0 ≡ level_of t (name_of a s)) (variables_of a) →
-    ys ≡ xs → All (λ s. get_or xs s 0 ≡ level_of t (second_name how a b s)) (variables_of b) → empty ≡ [] → one ≡ weave_netlist a (λ s. get_or ws s 0) empty → two ≡ weave_netlist b (λ s. get_or ys s 0) one → two ≡ woven how a b
-woven_is how a b t vs ws xs ys empty one two all is_ws first is_ys second is_empty is_one is_two =
-    let from : one ≡ weave_netlist a (first_variable how a b) [] =
-    is_one ∙ ap (weave_netlist a (λ s. get_or ws s 0)) is_empty ∙ netlist_same a (λ s. get_or ws s 0) (first_variable how a b) (numbers_are t (declared how a b) vs ws (variables_of a) (name_of a) is_ws all first) [] in
+pub woven_is : (how : Match) (a b : Circuit) (given : Option Circuit) (t : List (List ℕ)) (vs ws xs ys empty one two : List ℕ) → t ≡ declared how a b given → ws ≡ vs → All (λ s. get_or vs s 0 ≡ level_of t (name_of a s)) (variables_of a) →
+    ys ≡ xs → All (λ s. get_or xs s 0 ≡ level_of t (second_name how a b s)) (variables_of b) → empty ≡ [] → one ≡ weave_netlist a (λ s. get_or ws s 0) empty → two ≡ weave_netlist b (λ s. get_or ys s 0) one → two ≡ woven how a b given
+woven_is how a b given t vs ws xs ys empty one two all is_ws first is_ys second is_empty is_one is_two =
+    let from : one ≡ weave_netlist a (first_variable how a b given) [] =
+    is_one ∙ ap (weave_netlist a (λ s. get_or ws s 0)) is_empty ∙ netlist_same a (λ s. get_or ws s 0) (first_variable how a b given) (numbers_are t (declared how a b given) vs ws (variables_of a) (name_of a) is_ws all first) [] in
     is_two ∙ ap (weave_netlist b (λ s. get_or ys s 0)) from ∙
-    netlist_same b (λ s. get_or ys s 0) (second_variable how a b) (numbers_are t (declared how a b) xs ys (variables_of b) (second_name how a b) is_ys all second) (weave_netlist a (first_variable how a b) [])
+    netlist_same b (λ s. get_or ys s 0) (second_variable how a b given) (numbers_are t (declared how a b given) xs ys (variables_of b) (second_name how a b) is_ys all second) (weave_netlist a (first_variable how a b given) [])

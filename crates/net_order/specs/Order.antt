@@ -1,8 +1,9 @@
 -- The order of the variables of two netlists.
-use Rattle.std.specs.Prelude.{◌≡◌, ◌<◌, ◌≤◌, ℕ, zero, suc, ◌+◌, ◌==◌, Bool, not, ◌&&◌, if◌then◌else◌, List, [], ◌∷◌, ◌++◌, map, fold, length, flat_map, find, zip, unwrap_or, Option, Some, None, nat_lt, nat_le, slice_index, All}
+use Rattle.std.specs.Prelude.{◌≡◌, ◌<◌, ◌≤◌, ℕ, zero, suc, ◌+◌, ◌==◌, Bool, not, ◌&&◌, if◌then◌else◌, List, [], ◌∷◌, ◌++◌, map, fold, length, flat_map, find, zip, unwrap_or, Option, Some, None, IfSome, nat_lt, nat_le, slice_index, All}
 use Rattle.std.specs.List.{list_any, slice_index_or}
+use Rattle.std.specs.Borrow.{Bor}
 use Rattle.net_bench.specs.declared.netlist.GateLine.{GateLine}
-use Rattle.net_bench.specs.Circuit.{Circuit, is_name_in, distinct, greatest, find as number, variables_of}
+use Rattle.net_bench.specs.Circuit.{Circuit, Net, circuit, is_name_in, distinct, greatest, find as number, variables_of}
 use Rattle.net_order.specs.declared.order.Match.{Match}
 use Rattle.net_order.specs.declared.order.Match.TheVariants.{Name, Position}
 use Rattle.net_order.specs.declared.order.Order.{Order}
@@ -122,18 +123,30 @@ second_names how a b ss = map (second_name how a b) ss
 abbrev pub both_names : Match → Circuit → Circuit → List ℕ → List ℕ → List (List ℕ)
 both_names how a b ss ts = names_of a ss ++ second_names how a b ts
 
--- The names of all variables, as often as they stand: the first netlist's inputs, the second's, the first's registers, the second's.
-abbrev pub all_names : Match → Circuit → Circuit → List (List ℕ)
-all_names how a b = both_names how a b a.inputs b.inputs ++ both_names how a b (registers_of a) (registers_of b)
+-- The circuit of a condition, where there is one.
+abbrev pub condition : Option (Bor Net) → Option Circuit
+condition None = None
+condition (Some net) = Some (circuit net.now)
 
--- The variables as they are declared, each at its first place.
-abbrev pub declared : Match → Circuit → Circuit → List (List ℕ)
-declared how a b = distinct (all_names how a b)
+-- The names of a condition's inputs, then of its registers; none where there is no condition. Its variables go by their names, also
+-- by position.
+abbrev pub given_names : Option Circuit → List (List ℕ)
+given_names None = []
+given_names (Some c) = names_of c (variables_of c)
+
+-- The names of all variables, as often as they stand: the first netlist's inputs, the second's, the first's registers, the second's,
+-- and last those of the condition.
+abbrev pub all_names : Match → Circuit → Circuit → Option Circuit → List (List ℕ)
+all_names how a b given = both_names how a b a.inputs b.inputs ++ both_names how a b (registers_of a) (registers_of b) ++ given_names given
+
+-- The variables as they are declared, each at its first place: those of the condition alone stand behind all others.
+abbrev pub declared : Match → Circuit → Circuit → Option Circuit → List (List ℕ)
+declared how a b given = distinct (all_names how a b given)
 
 -- The variables as they are met below the first netlist's outputs and next states, then below the second's, then the others as they
 -- are declared.
-abbrev pub by_depth : Match → Circuit → Circuit → List (List ℕ)
-by_depth how a b = distinct (both_names how a b (met a) (met b) ++ all_names how a b)
+abbrev pub by_depth : Match → Circuit → Circuit → Option Circuit → List (List ℕ)
+by_depth how a b given = distinct (both_names how a b (met a) (met b) ++ all_names how a b given)
 
 -- A variable's level in an order of names is its place among them.
 abbrev pub level_of : List (List ℕ) → List ℕ → ℕ
@@ -166,32 +179,32 @@ abbrev pub weave_netlist : Circuit → (ℕ → ℕ) → List ℕ → List ℕ
 weave_netlist c variable order = fold (weave_below c variable) order (falling (rank_of c) (roots c))
 
 -- A variable's number is its place among the declared ones.
-abbrev pub first_variable : Match → Circuit → Circuit → ℕ → ℕ
-first_variable how a b s = level_of (declared how a b) (name_of a s)
+abbrev pub first_variable : Match → Circuit → Circuit → Option Circuit → ℕ → ℕ
+first_variable how a b given s = level_of (declared how a b given) (name_of a s)
 
-abbrev pub second_variable : Match → Circuit → Circuit → ℕ → ℕ
-second_variable how a b s = level_of (declared how a b) (second_name how a b s)
+abbrev pub second_variable : Match → Circuit → Circuit → Option Circuit → ℕ → ℕ
+second_variable how a b given s = level_of (declared how a b given) (second_name how a b s)
 
 -- The variables that walks meet, by number: the first netlist is woven into the empty order, then the second.
-abbrev pub woven : Match → Circuit → Circuit → List ℕ
-woven how a b = weave_netlist b (second_variable how a b) (weave_netlist a (first_variable how a b) [])
+abbrev pub woven : Match → Circuit → Circuit → Option Circuit → List ℕ
+woven how a b given = weave_netlist b (second_variable how a b given) (weave_netlist a (first_variable how a b given) [])
 
 -- The name of a variable.
-abbrev pub variable_name : Match → Circuit → Circuit → ℕ → List ℕ
-variable_name how a b v = slice_index_or (declared how a b) v []
+abbrev pub variable_name : Match → Circuit → Circuit → Option Circuit → ℕ → List ℕ
+variable_name how a b given v = slice_index_or (declared how a b given) v []
 
 -- The variables that walks meet, then the others as they are declared.
-abbrev pub interleaved : Match → Circuit → Circuit → List (List ℕ)
-interleaved how a b = distinct (map (variable_name how a b) (woven how a b) ++ all_names how a b)
+abbrev pub interleaved : Match → Circuit → Circuit → Option Circuit → List (List ℕ)
+interleaved how a b given = distinct (map (variable_name how a b given) (woven how a b given) ++ all_names how a b given)
 
 -- ---- the orders
 
 -- The names of the variables in the order that is asked for, from level 0 on.
-abbrev pub ordered : Match → Circuit → Circuit → Order → List (List ℕ)
-ordered how a b Declared = declared how a b
-ordered how a b Depth = by_depth how a b
-ordered how a b Interleave = interleaved how a b
-ordered how a b (Listed names) = names
+abbrev pub ordered : Match → Circuit → Circuit → Option Circuit → Order → List (List ℕ)
+ordered how a b given Declared = declared how a b given
+ordered how a b given Depth = by_depth how a b given
+ordered how a b given Interleave = interleaved how a b given
+ordered how a b given (Listed names) = names
 
 -- ---- a list of names
 
@@ -272,41 +285,43 @@ abbrev pub AreCounted : Match → Circuit → Circuit → Type 0
 AreCounted how a b = AreAsMany how a.inputs b.inputs × AreAsMany how a.outputs b.outputs × AreAsMany how (registers_of a) (registers_of b)
 
 -- A list that is asked for has each variable's name exactly once.
-abbrev pub IsFit : Match → Circuit → Circuit → Order → Type 0
-IsFit how a b Declared = Unit {0}
-IsFit how a b Depth = Unit {0}
-IsFit how a b Interleave = Unit {0}
-IsFit how a b (Listed names) = IsListing (declared how a b) names
+abbrev pub IsFit : Match → Circuit → Circuit → Option Circuit → Order → Type 0
+IsFit how a b given Declared = Unit {0}
+IsFit how a b given Depth = Unit {0}
+IsFit how a b given Interleave = Unit {0}
+IsFit how a b given (Listed names) = IsListing (declared how a b given) names
 
--- A pairing as its users see it: the variables by level, by signal the level of an input or register of each netlist, and which
--- outputs and which registers are compared.
+-- A pairing as its users see it: the variables by level, by signal the level of an input or register of each netlist and of the
+-- condition, and which outputs and which registers are compared.
 pub record Paired : Type 0 where
   pub names : List (List ℕ)
   pub first : List ℕ
   pub second : List ℕ
+  pub given : List ℕ
   pub outputs : Corresponding
   pub registers : Corresponding
 
--- This is the pairing of two netlists: its variables are few and in the order that is asked for, each input or register has its
+-- This is the pairing of two netlists, with a condition or without: its variables are few and in the order that is asked for, each input or register has its
 -- variable's level, and outputs correspond to outputs, registers to registers.
-pub record IsPairing (how : Match) (a b : Circuit) (order : Order) (p : Paired) : Type 0 where
+pub record IsPairing (how : Match) (a b : Circuit) (given : Option Circuit) (order : Order) (p : Paired) : Type 0 where
   pub counted : AreCounted how a b
-  pub few : length (declared how a b) ≤ max_variables
-  pub fit : IsFit how a b order
-  pub names : p.names ≡ ordered how a b order
-  pub first : All (λ s. slice_index p.first s ≡ level_of (ordered how a b order) (name_of a s)) (variables_of a)
-  pub second : All (λ s. slice_index p.second s ≡ level_of (ordered how a b order) (second_name how a b s)) (variables_of b)
+  pub few : length (declared how a b given) ≤ max_variables
+  pub fit : IsFit how a b given order
+  pub names : p.names ≡ ordered how a b given order
+  pub first : All (λ s. slice_index p.first s ≡ level_of (ordered how a b given order) (name_of a s)) (variables_of a)
+  pub second : All (λ s. slice_index p.second s ≡ level_of (ordered how a b given order) (second_name how a b s)) (variables_of b)
+  pub conditional : IfSome given (λ c. All (λ s. slice_index p.given s ≡ level_of (ordered how a b given order) (name_of c s)) (variables_of c))
   pub outputs : p.outputs ≡ correspondence how a b a.outputs b.outputs
   pub registers : p.registers ≡ correspondence how a b (registers_of a) (registers_of b)
 
 -- Why there is no pairing, each cause only where none comes before it. Want of memory is said apart.
-abbrev pub IsRefused : Match → Circuit → Circuit → Order → OrderFault → Type 0
-IsRefused how a b order CountsDiffer = AreCounted how a b → ⊥
-IsRefused how a b order TooManyInputs = AreCounted how a b × (max_variables < length (declared how a b))
-IsRefused how a b order (NotAPermutation place) =
-    AreCounted how a b × (length (declared how a b) ≤ max_variables) ×
-    ((names : List (List ℕ)) × (order ≡ Listed names) × (bad_place (declared how a b) [] names 1 ≡ Some place))
-IsRefused how a b order OutOfMemory = ⊥
-IsRefused how a b order (BadName line) = ⊥
-IsRefused how a b order TooLong = ⊥
-IsRefused how a b order Read = ⊥
+abbrev pub IsRefused : Match → Circuit → Circuit → Option Circuit → Order → OrderFault → Type 0
+IsRefused how a b given order CountsDiffer = AreCounted how a b → ⊥
+IsRefused how a b given order TooManyInputs = AreCounted how a b × (max_variables < length (declared how a b given))
+IsRefused how a b given order (NotAPermutation place) =
+    AreCounted how a b × (length (declared how a b given) ≤ max_variables) ×
+    ((names : List (List ℕ)) × (order ≡ Listed names) × (bad_place (declared how a b given) [] names 1 ≡ Some place))
+IsRefused how a b given order OutOfMemory = ⊥
+IsRefused how a b given order (BadName line) = ⊥
+IsRefused how a b given order TooLong = ⊥
+IsRefused how a b given order Read = ⊥

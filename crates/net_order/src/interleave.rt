@@ -2,7 +2,7 @@
 //! "Interleaving based variable ordering methods for ordered binary decision diagrams", ICCAD 1993.
 ghost use Rattle.std.specs.Prelude.{◌≡◌, ℕ, ◌<◌, ◌≤◌, [], length, map, All, OnOk, IfOk, IfErr, Some, None, insert, slice_index, slice_index_or};
 ghost use Rattle.net_bench.specs.Circuit.{circuit, variables_of};
-ghost use Rattle.net_order.specs.Order.{AreCounted, declared, interleaved, put_behind, weave, weave_netlist, with_variable, woven};
+ghost use Rattle.net_order.specs.Order.{AreCounted, condition, declared, interleaved, put_behind, weave, weave_netlist, with_variable, woven};
 ghost use Rattle.net_order.specs.Tables.{IsMarked, with_names};
 
 use crate::kinds::roots_of;
@@ -149,14 +149,16 @@ fn woven(
     alloc: Global,
     first: &Netlist,
     second: &Netlist,
+    given: Option<&Netlist>,
     how: Match,
     variables: &NameTable,
 ) -> Result<Vec<u32>, AllocError>
     requires counted { AreCounted how (circuit first.now) (circuit second.now) }
-    requires all { variables.now ≡ declared how (circuit first.now) (circuit second.now) }
-    ensures woven { IfOk result (λ v. v.items ≡ woven how (circuit first.now) (circuit second.now)) }
+    requires all { variables.now ≡ declared how (circuit first.now) (circuit second.now) (condition given) }
+    ensures woven { IfOk result (λ v. v.items ≡ woven how (circuit first.now) (circuit second.now) (condition given.entry)) }
     ensures low { IfOk result (λ v. All (λ k. k < length variables.now) v.items) }
 {
+    let _ = given;
     let mut order = Vec::new(alloc);
     let mut marks = Vec::from_elem(alloc, false, variables.len())?;
     let numbers = first_levels(alloc, variables, first)?;
@@ -171,19 +173,20 @@ pub fn interleaved_table(
     alloc: Global,
     first: &Netlist,
     second: &Netlist,
+    given: Option<&Netlist>,
     how: Match,
     variables: &NameTable,
 ) -> Result<NameTable, OrderFault>
     requires counted { AreCounted how (circuit first.now) (circuit second.now) }
-    requires all { variables.now ≡ declared how (circuit first.now) (circuit second.now) }
+    requires all { variables.now ≡ declared how (circuit first.now) (circuit second.now) (condition given) }
     requires few { length variables.now ≤ MAX_VARIABLES }
-    ensures ok { IfOk result (λ t. t ≡ interleaved how (circuit first.now) (circuit second.now)) }
+    ensures ok { IfOk result (λ t. t ≡ interleaved how (circuit first.now) (circuit second.now) (condition given.entry)) }
     ensures few { IfOk result (λ t. length t ≤ MAX_VARIABLES) }
     ensures err { IfErr result (λ fault. fault ≡ OrderFault.OutOfMemory) }
 {
-    let order = woven(alloc, first, second, how, variables)?;
+    let order = woven(alloc, first, second, given, how, variables)?;
     let mut table = NameTable::new(alloc);
     add_variables(alloc, &mut table, variables, order.as_slice())?;
-    add_all(alloc, &mut table, first, second, how)?;
+    add_all(alloc, &mut table, first, second, given, how)?;
     Ok(table)
 }

@@ -1,7 +1,7 @@
 //! The levels of inputs and registers.
-ghost use Rattle.std.specs.Prelude.{◌≡◌, ℕ, ◌<◌, length, All, IfOk, slice_index};
+ghost use Rattle.std.specs.Prelude.{◌≡◌, ℕ, ◌<◌, length, All, IfOk, IfSome, slice_index};
 ghost use Rattle.net_bench.specs.Circuit.{circuit, variables_of};
-ghost use Rattle.net_order.specs.Order.{AreCounted, name_of, second_name, level_of};
+ghost use Rattle.net_order.specs.Order.{AreCounted, condition, name_of, second_name, level_of};
 
 use crate::order::Match;
 use crate::partners::partners;
@@ -68,4 +68,18 @@ pub fn first_levels(
     let variables = first.variables();
     let count = first.count();
     levels(alloc, table, count, variables, first, variables)
+}
+
+/// The levels of the condition's inputs and registers, by signal.
+pub fn given_levels(
+    alloc: Global,
+    table: &NameTable,
+    given: Option<&Netlist>,
+) -> Result<Vec<u32>, AllocError>
+    ensures { IfOk result (λ v. IfSome (condition given.entry) (λ c. All (λ s. slice_index v.items s ≡ level_of table.now (name_of c s)) (variables_of c))) }
+{
+    match given {
+        None => Ok(Vec::new(alloc)),
+        Some(net) => first_levels(alloc, table, net),
+    }
 }

@@ -1,12 +1,12 @@
 //! The pairing of two netlists.
-ghost use Rattle.std.specs.Prelude.{◌≡◌, ◌≤◌, ◌⊎◌, ◌↔◌, length, All, IfOk, IfErr, IsTrue, slice_index};
+ghost use Rattle.std.specs.Prelude.{◌≡◌, ◌≤◌, ◌⊎◌, ◌↔◌, length, All, IfOk, IfErr, IfSome, IsTrue, slice_index};
 ghost use Rattle.net_bench.specs.Circuit.{circuit, variables_of};
-ghost use Rattle.net_order.specs.Order.{AreAsMany, AreCounted, IsFit, IsPairing, IsRefused, Paired, max_variables, correspondence, declared, ordered, level_of, name_of, registers_of, second_name};
+ghost use Rattle.net_order.specs.Order.{AreAsMany, AreCounted, IsFit, IsPairing, IsRefused, Paired, max_variables, condition, correspondence, declared, ordered, level_of, name_of, registers_of, second_name};
 
 use crate::correspondence::{Correspondence, correspond};
 use crate::interleave::interleaved_table;
 use crate::kinds::registers_of;
-use crate::levels::{first_levels, second_levels};
+use crate::levels::{first_levels, given_levels, second_levels};
 use crate::listed::listed;
 use crate::names::Names;
 use crate::order::{Match, Order, OrderFault};
@@ -17,12 +17,13 @@ use net_bench::reader::Netlist;
 use std::alloc::{AllocError, Global};
 use std::marker::Model;
 
-/// Which variables two netlists have, at which levels, and which of their outputs and registers are compared.
+/// Which variables two netlists and a condition have, at which levels, and which of the two's outputs and registers are compared.
 #[derive(Drop)]
 pub struct Pairing {
     names: Names,
     first: Vec<u32>,
     second: Vec<u32>,
+    given: Vec<u32>,
     outputs: Correspondence,
     registers: Correspondence,
 }
@@ -37,6 +38,7 @@ impl Model for Pairing {
       names = a.names;
       first = a.first.items;
       second = a.second.items;
+      given = a.given.items;
       outputs = a.outputs;
       registers = a.registers;
     } };
@@ -68,6 +70,16 @@ impl Pairing {
         ensures { result ≡ slice_index self.now.second input }
     {
         self.second
+            .get(input.number() as usize)
+            .copied()
+            .unwrap_or(0)
+    }
+
+    /// The level of an input or register of the condition.
+    pub fn given_level(&self, input: Signal) -> u32
+        ensures { result ≡ slice_index self.now.given input }
+    {
+        self.given
             .get(input.number() as usize)
             .copied()
             .unwrap_or(0)
@@ -140,22 +152,23 @@ fn ordered_table(
     alloc: Global,
     first: &Netlist,
     second: &Netlist,
+    given: Option<&Netlist>,
     how: Match,
     order: &Order,
     variables: NameTable,
 ) -> Result<NameTable, OrderFault>
     requires counted { AreCounted how (circuit first.now) (circuit second.now) }
-    requires all { variables ≡ declared how (circuit first.now) (circuit second.now) }
+    requires all { variables ≡ declared how (circuit first.now) (circuit second.now) (condition given) }
     requires few { length variables ≤ max_variables }
-    ensures ok { IfOk result (λ t. t ≡ ordered how (circuit first.now) (circuit second.now) order.now) }
-    ensures fit { IfOk result (λ t. IsFit how (circuit first.now) (circuit second.now) order.now) }
+    ensures ok { IfOk result (λ t. t ≡ ordered how (circuit first.now) (circuit second.now) (condition given.entry) order.now) }
+    ensures fit { IfOk result (λ t. IsFit how (circuit first.now) (circuit second.now) (condition given.entry) order.now) }
     ensures few { IfOk result (λ t. length t ≤ max_variables) }
-    ensures err { IfErr result (λ f. (f ≡ OrderFault.OutOfMemory) ⊎ IsRefused how (circuit first.now) (circuit second.now) order.now f) }
+    ensures err { IfErr result (λ f. (f ≡ OrderFault.OutOfMemory) ⊎ IsRefused how (circuit first.now) (circuit second.now) (condition given.entry) order.now f) }
 {
     match order {
         Order::Declared => Ok(variables),
-        Order::Depth => depth_table(alloc, first, second, how),
-        Order::Interleave => interleaved_table(alloc, first, second, how, &variables),
+        Order::Depth => depth_table(alloc, first, second, given, how),
+        Order::Interleave => interleaved_table(alloc, first, second, given, how, &variables),
         Order::Listed(list) => listed(alloc, &variables, list),
     }
 }
@@ -165,6 +178,7 @@ fn finish(
     alloc: Global,
     first: &Netlist,
     second: &Netlist,
+    given: Option<&Netlist>,
     how: Match,
     table: NameTable,
 ) -> Result<Pairing, AllocError>
@@ -173,11 +187,13 @@ fn finish(
     ensures names { IfOk result (λ p. p.names ≡ table) }
     ensures first { IfOk result (λ p. All (λ s. slice_index p.first s ≡ level_of table (name_of (circuit first.now) s)) (variables_of (circuit first.now))) }
     ensures second { IfOk result (λ p. All (λ s. slice_index p.second s ≡ level_of table (second_name how (circuit first.now) (circuit second.now) s)) (variables_of (circuit second.now))) }
+    ensures given { IfOk result (λ p. IfSome (condition given.entry) (λ c. All (λ s. slice_index p.given s ≡ level_of table (name_of c s)) (variables_of c))) }
     ensures outputs { IfOk result (λ p. p.outputs ≡ correspondence how (circuit first.now) (circuit second.now) first.now.outputs second.now.outputs) }
     ensures registers { IfOk result (λ p. p.registers ≡ correspondence how (circuit first.now) (circuit second.now) (registers_of (circuit first.now)) (registers_of (circuit second.now))) }
 {
     let first_levels = first_levels(alloc, &table, first)?;
     let second_levels = second_levels(alloc, &table, first, second, how)?;
+    let given_levels = given_levels(alloc, &table, given)?;
     let outputs = correspond(alloc, first, second, how, first.outputs(), second.outputs())?;
     let registers = correspond(
         alloc,
@@ -192,30 +208,33 @@ fn finish(
         names: Names::of(names),
         first: first_levels,
         second: second_levels,
+        given: given_levels,
         outputs,
         registers,
     })
 }
 
-/// Pairs two netlists, their variables in the order that is asked for.
+/// Pairs two netlists, their variables in the order that is asked for. A condition's variables go by their names; those that neither
+/// netlist has stand behind all others, unless a list of names says otherwise.
 pub fn pair(
     alloc: Global,
     first: &Netlist,
     second: &Netlist,
+    given: Option<&Netlist>,
     how: Match,
     order: &Order,
 ) -> Result<Pairing, OrderFault>
     // What is answered is the pairing.
-    ensures paired { IfOk result (λ p. IsPairing how (circuit first.now) (circuit second.now) order.now p) }
+    ensures paired { IfOk result (λ p. IsPairing how (circuit first.now) (circuit second.now) (condition given.entry) order.now p) }
     // What is refused has its cause, and none that comes before it, unless memory ran out.
-    ensures refused { IfErr result (λ f. (f ≡ OrderFault.OutOfMemory) ⊎ IsRefused how (circuit first.now) (circuit second.now) order.now f) }
+    ensures refused { IfErr result (λ f. (f ≡ OrderFault.OutOfMemory) ⊎ IsRefused how (circuit first.now) (circuit second.now) (condition given.entry) order.now f) }
 {
     if !are_counted(first, second, how) {
         return Err(OrderFault::CountsDiffer);
     }
-    match declared_table(alloc, first, second, how) {
-        Ok(variables) => match ordered_table(alloc, first, second, how, order, variables) {
-            Ok(table) => match finish(alloc, first, second, how, table) {
+    match declared_table(alloc, first, second, given, how) {
+        Ok(variables) => match ordered_table(alloc, first, second, given, how, order, variables) {
+            Ok(table) => match finish(alloc, first, second, given, how, table) {
                 Ok(pairing) => Ok(pairing),
                 Err(_) => Err(OrderFault::OutOfMemory),
             },

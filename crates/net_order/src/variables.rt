@@ -1,7 +1,7 @@
 //! The variables of two netlists, as they are declared and as they are met below outputs and next states.
 ghost use Rattle.std.specs.Prelude.{◌≡◌, ◌<◌, ◌≤◌, length, All, IsTrue, OnOk, IfOk, IfErr};
 ghost use Rattle.net_bench.specs.Circuit.{circuit, variables_of};
-ghost use Rattle.net_order.specs.Order.{AreCounted, all_names, both_names, by_depth, declared, is_member, names_of, second_names};
+ghost use Rattle.net_order.specs.Order.{AreCounted, all_names, both_names, by_depth, condition, declared, given_names, is_member, names_of, second_names};
 ghost use Rattle.net_order.specs.Tables.{IsOverflow, of_kind, with_names};
 
 use crate::kinds::{VariableKind, of_kind};
@@ -90,22 +90,41 @@ fn add_kind(
     add_second(alloc, table, first, second, how, of_kind(second, kind))
 }
 
+/// Puts the condition's variables into the table, each where it is not there yet.
+fn add_given(
+    alloc: Global,
+    table: &mut NameTable,
+    given: Option<&Netlist>,
+) -> Result<(), OrderFault>
+    requires { length table.old ≤ MAX_VARIABLES }
+    ensures ok { OnOk result (table.new ≡ with_names table.old (given_names (condition given.entry))) }
+    ensures few { OnOk result (length table.new ≤ MAX_VARIABLES) }
+    ensures err { IfErr result (IsOverflow (with_names table.old (given_names (condition given.entry)))) }
+{
+    match given {
+        None => Ok(()),
+        Some(net) => add_names(alloc, table, net, net.variables()),
+    }
+}
+
 /// Puts all variables into the table, as they are declared, each where it is not there yet.
 pub fn add_all(
     alloc: Global,
     table: &mut NameTable,
     first: &Netlist,
     second: &Netlist,
+    given: Option<&Netlist>,
     how: Match,
 ) -> Result<(), OrderFault>
     requires counted { AreCounted how (circuit first.now) (circuit second.now) }
     requires room { length table.old ≤ MAX_VARIABLES }
-    ensures ok { OnOk result (table.new ≡ with_names table.old (all_names how (circuit first.now) (circuit second.now))) }
+    ensures ok { OnOk result (table.new ≡ with_names table.old (all_names how (circuit first.now) (circuit second.now) (condition given.entry))) }
     ensures few { OnOk result (length table.new ≤ MAX_VARIABLES) }
-    ensures err { IfErr result (IsOverflow (with_names table.old (all_names how (circuit first.now) (circuit second.now)))) }
+    ensures err { IfErr result (IsOverflow (with_names table.old (all_names how (circuit first.now) (circuit second.now) (condition given.entry)))) }
 {
     add_kind(alloc, table, first, second, how, VariableKind::Input)?;
-    add_kind(alloc, table, first, second, how, VariableKind::Register)
+    add_kind(alloc, table, first, second, how, VariableKind::Register)?;
+    add_given(alloc, table, given)
 }
 
 /// The variables in declared order.
@@ -113,15 +132,16 @@ pub fn declared_table(
     alloc: Global,
     first: &Netlist,
     second: &Netlist,
+    given: Option<&Netlist>,
     how: Match,
 ) -> Result<NameTable, OrderFault>
     requires { AreCounted how (circuit first.now) (circuit second.now) }
-    ensures ok { IfOk result (λ t. t ≡ declared how (circuit first.now) (circuit second.now)) }
+    ensures ok { IfOk result (λ t. t ≡ declared how (circuit first.now) (circuit second.now) (condition given.entry)) }
     ensures few { IfOk result (λ t. length t ≤ MAX_VARIABLES) }
-    ensures err { IfErr result (IsOverflow (declared how (circuit first.now) (circuit second.now))) }
+    ensures err { IfErr result (IsOverflow (declared how (circuit first.now) (circuit second.now) (condition given.entry))) }
 {
     let mut table = NameTable::new(alloc);
-    add_all(alloc, &mut table, first, second, how)?;
+    add_all(alloc, &mut table, first, second, given, how)?;
     Ok(table)
 }
 
@@ -130,11 +150,12 @@ pub fn depth_table(
     alloc: Global,
     first: &Netlist,
     second: &Netlist,
+    given: Option<&Netlist>,
     how: Match,
 ) -> Result<NameTable, OrderFault>
     requires counted { AreCounted how (circuit first.now) (circuit second.now) }
-    requires few { length (declared how (circuit first.now) (circuit second.now)) ≤ MAX_VARIABLES }
-    ensures ok { IfOk result (λ t. t ≡ by_depth how (circuit first.now) (circuit second.now)) }
+    requires few { length (declared how (circuit first.now) (circuit second.now) (condition given)) ≤ MAX_VARIABLES }
+    ensures ok { IfOk result (λ t. t ≡ by_depth how (circuit first.now) (circuit second.now) (condition given.entry)) }
     ensures few { IfOk result (λ t. length t ≤ MAX_VARIABLES) }
     ensures err { IfErr result (λ fault. fault ≡ OrderFault.OutOfMemory) }
 {
@@ -143,6 +164,6 @@ pub fn depth_table(
     add_names(alloc, &mut table, first, met_first.as_slice())?;
     let met_second = met(alloc, second)?;
     add_second(alloc, &mut table, first, second, how, met_second.as_slice())?;
-    add_all(alloc, &mut table, first, second, how)?;
+    add_all(alloc, &mut table, first, second, given, how)?;
     Ok(table)
 }

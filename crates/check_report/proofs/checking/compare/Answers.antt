@@ -1,4 +1,4 @@
-use Rattle.std.proofs.Common.{◌∙◌, ◌≡◌, ap, length}
+use Rattle.std.proofs.Common.{None, ◌∙◌, ◌≡◌, ap, length}
 use Rattle.dd_store.specs.Nodes.{Nodes, count_of}
 use Rattle.net_bench.specs.Circuit.{circuit}
 use Rattle.expand_work.specs.declared.fault.WaveFault.TheVariants.{Full}
@@ -12,7 +12,7 @@ verdicts_of-requires g c = record {
   levels = c.in-Ok-build.ensures.keeps.levels ∙ ap (λ (S : Nodes). S.levels) c.in-Ok.ensures ∙ c.len-levels.ensures.value ∙ ap length c.names.ensures.value;
   first = c.in-Ok-build.ensures.first;
   second = c.in-Ok-build.ensures.second;
-  signals = all_signals _ c.args.first.now c.args.second.now _ _ c.inputs.ensures.sound c.inputs-2.ensures.sound c.requires;
+  signals = all_signals _ c.args.first.now c.args.second.now None _ _ c.inputs.ensures.sound c.inputs-2.ensures.sound c.requires;
 }
 
 pub returns-in-Err-clause-full : goal.returns-in-Err-clause-full
@@ -26,4 +26,4 @@ returns-in-Err-clause-full g c = λ e.
     let none : count_of c.in-Ok.store ≡ 0 = ap count_of c.in-Ok.ensures ∙ none_before c.len-levels.result c.args.settings.now.limit T c.build.ensures.sound levels limit in
     let full : c.in-Err.fault ≡ Full = cc in
     exceeds c.args.settings.now.limit a b p T c.in-Err.fault c.build.ensures.sound (levels ∙ c.len-levels.ensures.value ∙ ap length c.names.ensures.value) limit
-    (lean_left a b p c.in-Ok.store T none c.build.ensures.adds) full c.in-Err.ensures.fault
+    (lean_left a b None p c.in-Ok.store T none c.build.ensures.adds) full c.in-Err.ensures.fault

@@ -1,95 +1,101 @@
-use Rattle.std.proofs.Common.{arith, ◌∙◌, ◌≡◌, ◌+◌, length, take, drop, ap, refl}
+use Rattle.std.proofs.Common.{arith, ◌∙◌, ◌≡◌, ◌+◌, ◌<◌, ◌≤◌, length, get_or, take, drop, ap, sym, subst, refl, List, []}
 use Rattle.std.proofs.lemmas.Result.{err_from_is_err_and}
-use Rattle.gate_plan.specs.Building.{input_level}
+use Rattle.std.proofs.lemmas.List.{length-set}
+use Rattle.dd_store.specs.declared.reference.Ref.{Ref}
+use Rattle.reduce_up.specs.Waves.{AnswersEach}
+use Rattle.gate_plan.specs.Building.{Placed, input_level, AreFolded, asked}
 use Rattle.gate_plan.specs.Needing.{IsPlacedValue}
+use Rattle.gate_plan.specs.Plans.{plan_steps}
 use Rattle.gate_plan.proofs.Asked.{wave_unasked, wave_held}
 use Rattle.reduce_up.proofs.Known.{fault_of_all}
 use Rattle.gate_plan.proofs.Counted.{wave_adds, wave_fault}
-use Rattle.gate_plan.proofs.Running.{steps_fit, fold_next, all_entries, all_asked, answers_long, first_answers, second_answers}
+use Rattle.gate_plan.proofs.Running.{steps_fit, fold_next, all_entries, all_asked}
+use Rattle.gate_plan.proofs.Together.{refs_there, there_at, set_left, set_each, answers_long, answers_own, answers_rest}
 use Rattle.gate_plan.proofs.building.build_fold.Goals as goal
 
-pub fold_entries-requires-clause-first : goal.fold_entries-requires-clause-first
-fold_entries-requires-clause-first g c =
-    steps_fit c.args.sides.now.first.net c.requires.first_plan.sound (input_level c.args.sides.now.first) c.args.store.now c.args.built.now.first c.args.built.now.first c.args.rank c.args.fold c.steps-ours.result.now
-    c.requires.first_folded refl c.steps-ours.ensures
-
-pub fold_entries-requires-clause-second : goal.fold_entries-requires-clause-second
-fold_entries-requires-clause-second g c =
-    steps_fit c.args.sides.now.second.net c.requires.second_plan.sound (input_level c.args.sides.now.second) c.args.store.now c.args.built.now.second c.args.built.now.second c.args.rank c.args.fold c.steps-theirs.result.now
-    c.requires.second_folded refl c.steps-theirs.ensures
+pub entries_of-requires-clause-below : goal.entries_of-requires-clause-below
+entries_of-requires-clause-below g c = (
+  c.requires.folded.0,
+  λ k one refs lt at there.
+      steps_fit one.net (c.requires.plans one (k, lt, at)).sound (input_level one) c.args.store.now refs refs c.args.rank c.args.fold (plan_steps one.net one.net.gates c.args.rank c.args.fold)
+      (c.requires.folded.1 k one refs lt at there) refl refl,
+)
 
 pub wave-requires-clause-operands : goal.wave-requires-clause-operands
 wave-requires-clause-operands g c κs within =
-    all_entries c.args.store.now c.args.built.now.first c.args.built.now.second c.steps-ours.result.now c.steps-theirs.result.now c.as_slice.result.now
-    c.requires.first_folded.right.known c.requires.second_folded.right.known (c.as_slice.ensures.value ∙ c.in-Ok.ensures)
-
-pub split_at-requires : goal.split_at-requires
-split_at-requires g c =
-    let n : length c.in_ok-answers.answers.items ≡ length c.steps-ours.result.now + length c.steps-theirs.result.now =
-    answers_long c.args.store.now c.wave.new.store c.args.built.now.first c.args.built.now.second c.steps-ours.result.now c.steps-theirs.result.now c.as_slice.result.now c.in_ok-answers.answers.items (c.as_slice.ensures.value ∙ c.in-Ok.ensures) c.in_ok-answers.ensures.answers in
-    let m : length c.as_slice-2.result.now ≡ length c.in_ok-answers.answers.items = ap length c.as_slice-2.ensures.value in
-    omega arith
-
-pub take_answers-requires-clause-below : goal.take_answers-requires-clause-below
-take_answers-requires-clause-below g c =
-    steps_fit c.args.sides.now.first.net c.requires.first_plan.sound (input_level c.args.sides.now.first) c.args.store.now c.args.built.now.first c.built.inside.first.items c.args.rank c.args.fold c.steps-ours.result.now
-    c.requires.first_folded (ap (λ z. z.first) c.built.view_is) c.steps-ours.ensures
-
-pub take_answers-requires-2-clause-below : goal.take_answers-requires-2-clause-below
-take_answers-requires-2-clause-below g c =
-    steps_fit c.args.sides.now.second.net c.requires.second_plan.sound (input_level c.args.sides.now.second) c.args.store.now c.args.built.now.second c.built.inside.second.items c.args.rank c.args.fold c.steps-theirs.result.now
-    c.requires.second_folded (ap (λ z. z.second) c.built.view_is) c.steps-theirs.ensures
-
-pub take_answers-requires-2-clause-each : goal.take_answers-requires-2-clause-each
-take_answers-requires-2-clause-each g c =
-    let n : length c.in_ok-answers.answers.items ≡ length c.steps-ours.result.now + length c.steps-theirs.result.now =
-    answers_long c.args.store.now c.wave.new.store c.args.built.now.first c.args.built.now.second c.steps-ours.result.now c.steps-theirs.result.now c.as_slice.result.now c.in_ok-answers.answers.items (c.as_slice.ensures.value ∙ c.in-Ok.ensures) c.in_ok-answers.ensures.answers in
-    let m : length c.as_slice-2.result.now ≡ length c.in_ok-answers.answers.items = ap length c.as_slice-2.ensures.value in
-    let k : length c.split_at.result.1.now + length c.steps-ours.result.now ≡ length c.as_slice-2.result.now = c.split_at.ensures.back_len in
-    omega arith
-
-pub returns-clause-first_next : goal.returns-clause-first_next
-returns-clause-first_next g c =
-    fold_next c.args.sides.now.first.net c.requires.first_plan.sound (input_level c.args.sides.now.first) c.args.store.now c.wave.new.store c.args.built.now.first c.built.inside.first.items c.take_answers.new.references.items c.args.rank c.args.fold c.steps-ours.result.now c.split_at.result.0.now
-    c.levels.ensures.sound c.wave.ensures.adds.keeps c.requires.first_folded (ap (λ z. z.first) c.built.view_is) c.steps-ours.ensures
-    (first_answers c.args.store.now c.wave.new.store c.args.built.now.first c.args.built.now.second c.steps-ours.result.now c.steps-theirs.result.now c.as_slice.result.now c.in_ok-answers.answers.items (c.as_slice.ensures.value ∙ c.in-Ok.ensures) c.in_ok-answers.ensures.answers c.split_at.result.0.now (c.split_at.ensures.front ∙ ap (take (length c.steps-ours.result.now)) c.as_slice-2.ensures.value))
-    c.take_answers.ensures
-
-pub returns-clause-second_next : goal.returns-clause-second_next
-returns-clause-second_next g c =
-    fold_next c.args.sides.now.second.net c.requires.second_plan.sound (input_level c.args.sides.now.second) c.args.store.now c.wave.new.store c.args.built.now.second c.built.inside.second.items c.take_answers-2.new.references.items c.args.rank c.args.fold c.steps-theirs.result.now c.split_at.result.1.now
-    c.levels.ensures.sound c.wave.ensures.adds.keeps c.requires.second_folded (ap (λ z. z.second) c.built.view_is) c.steps-theirs.ensures
-    (second_answers c.args.store.now c.wave.new.store c.args.built.now.first c.args.built.now.second c.steps-ours.result.now c.steps-theirs.result.now c.as_slice.result.now c.in_ok-answers.answers.items (c.as_slice.ensures.value ∙ c.in-Ok.ensures) c.in_ok-answers.ensures.answers c.split_at.result.1.now (c.split_at.ensures.back ∙ ap (drop (length c.steps-ours.result.now)) c.as_slice-2.ensures.value))
-    c.take_answers-2.ensures
+    all_entries c.args.sides.now c.args.store.now c.args.built.now c.args.rank c.args.fold c.as_slice.result.now c.requires.folded (c.as_slice.ensures.value ∙ c.in-Ok.ensures)
 
 pub returns-in_err-answers-clause-adds : goal.returns-in_err-answers-clause-adds
 returns-in_err-answers-clause-adds g c =
-    wave_adds c.args.store.now c.wave.new.store c.as_slice.result.now (IsPlacedValue c.args.store.now.levels c.args.sides.now.first c.args.sides.now.second)
-    (all_asked c.args.sides.now.first c.args.sides.now.second c.requires.first_plan.sound c.requires.second_plan.sound c.args.store.now c.args.built.now.first c.args.built.now.second c.args.rank c.args.fold c.steps-ours.result.now c.steps-theirs.result.now c.as_slice.result.now
-    c.requires.first_folded c.requires.second_folded c.steps-ours.ensures c.steps-theirs.ensures (c.as_slice.ensures.value ∙ c.in-Ok.ensures))
-    c.wave.ensures.adds
+    wave_adds c.args.store.now c.wave.new.store c.as_slice.result.now (IsPlacedValue c.args.store.now.levels c.args.sides.now)
+    (all_asked c.args.sides.now c.requires.plans c.args.store.now c.args.built.now c.args.rank c.args.fold c.as_slice.result.now c.requires.folded (c.as_slice.ensures.value ∙ c.in-Ok.ensures)) c.wave.ensures.adds
 
 pub returns-in_err-answers-clause-fault : goal.returns-in_err-answers-clause-fault
 returns-in_err-answers-clause-fault g c =
     let p = err_from_is_err_and c.from_residual.result c.from_residual.ensures.1 in
     rw (p.1, p.2) (
-    wave_fault c.args.store.now c.wave.new.store c.as_slice.result.now (IsPlacedValue c.args.store.now.levels c.args.sides.now.first c.args.sides.now.second)
-    (all_asked c.args.sides.now.first c.args.sides.now.second c.requires.first_plan.sound c.requires.second_plan.sound c.args.store.now c.args.built.now.first c.args.built.now.second c.args.rank c.args.fold c.steps-ours.result.now c.steps-theirs.result.now c.as_slice.result.now
-    c.requires.first_folded c.requires.second_folded c.steps-ours.ensures c.steps-theirs.ensures (c.as_slice.ensures.value ∙ c.in-Ok.ensures))
+    wave_fault c.args.store.now c.wave.new.store c.as_slice.result.now (IsPlacedValue c.args.store.now.levels c.args.sides.now)
+    (all_asked c.args.sides.now c.requires.plans c.args.store.now c.args.built.now c.args.rank c.args.fold c.as_slice.result.now c.requires.folded (c.as_slice.ensures.value ∙ c.in-Ok.ensures))
     c.wave.ensures.adds.keeps _ (fault_of_all c.args.store.now c.wave.new.store c.args.engine.now c.as_slice.result.now _ c.in_err-answers.ensures.fault)
     )
 
+pub steps-steps-requires-clause-plan : goal.steps-steps-requires-clause-plan
+steps-steps-requires-clause-plan g c = c.requires.plans c.index-sides-i.result (c.loop-i.i, omega arith, sym c.index-sides-i.is)
+
+pub split_at-requires : goal.split_at-requires
+split_at-requires g c =
+    let n = c.requires.folded.0 in
+    let low : c.loop-i.i < length c.args.sides.now = omega arith in
+    answers_long c.args.sides.now c.args.built.now c.loop-i.i c.index-sides-i.result (get_or c.args.built.now c.loop-i.i []) c.args.rank c.args.fold low (omega arith) (sym c.index-sides-i.is) (refs_there c.args.built.now c.loop-i.i (omega arith))
+    c.args.store.now c.wave.new.store c.loop-i.rest.now c.loop-i.invariant.answers c.steps-steps.result.now c.steps-steps.ensures
+
+pub take-requires-clause-below : goal.take-requires-clause-below
+take-requires-clause-below g c =
+    let n = c.requires.folded.0 in
+    let m = c.loop-i.invariant.len in
+    let low : c.loop-i.i < length c.args.sides.now = omega arith in
+    let one = c.index-sides-i.result in
+    let refs = get_or c.loop-i.built c.loop-i.i c.index-built-i.result in
+    let there = there_at c.loop-i.built c.args.built.now c.loop-i.i c.index-built-i.result (omega arith) (λ rs. c.loop-i.invariant.left c.loop-i.i rs (omega arith)) in
+    steps_fit one.net (c.requires.plans one (c.loop-i.i, low, sym c.index-sides-i.is)).sound (input_level one) c.args.store.now refs refs c.args.rank c.args.fold c.steps-steps.result.now
+    (c.requires.folded.1 c.loop-i.i one refs low (sym c.index-sides-i.is) there) refl c.steps-steps.ensures
+
+pub loop-i-preserved : goal.loop-i-preserved
+loop-i-preserved g c =
+    let n = c.requires.folded.0 in
+    let m = c.loop-i.invariant.len in
+    let low : c.loop-i.i < length c.args.sides.now = omega arith in
+    let one = c.index-sides-i.result in
+    let S = c.args.store.now in
+    let T = c.wave.new.store in
+    let refs = get_or c.loop-i.built c.loop-i.i c.index-built-i.result in
+    let v = c.take.new.self in
+    let there = there_at c.loop-i.built c.args.built.now c.loop-i.i c.index-built-i.result (omega arith) (λ rs. c.loop-i.invariant.left c.loop-i.i rs (omega arith)) in
+    record {
+      len = length-set c.loop-i.built c.loop-i.i v ∙ c.loop-i.invariant.len;
+      left = set_left c.loop-i.built c.args.built.now c.loop-i.i v c.loop-i.invariant.left;
+      done = set_each (λ o rs. AreFolded o.net (input_level o) T rs c.args.rank (c.args.fold + 1)) c.args.sides.now c.loop-i.built c.loop-i.i one v low (omega arith) (sym c.index-sides-i.is)
+          (fold_next one.net (c.requires.plans one (c.loop-i.i, low, sym c.index-sides-i.is)).sound (input_level one) S T refs refs v c.args.rank c.args.fold c.steps-steps.result.now c.split_at.result.0.now
+          c.levels.ensures.sound c.wave.ensures.adds.keeps (c.requires.folded.1 c.loop-i.i one refs low (sym c.index-sides-i.is) there) refl c.steps-steps.ensures
+          (answers_own c.args.sides.now c.args.built.now c.loop-i.i one refs c.args.rank c.args.fold low (omega arith) (sym c.index-sides-i.is) there S T c.loop-i.rest.now c.loop-i.invariant.answers c.steps-steps.result.now c.steps-steps.ensures
+          c.split_at.result.0.now c.split_at.ensures.front)
+          c.take.ensures)
+          c.loop-i.invariant.done;
+      answers = answers_rest c.args.sides.now c.args.built.now c.loop-i.i one refs c.args.rank c.args.fold low (omega arith) (sym c.index-sides-i.is) there S T c.loop-i.rest.now c.loop-i.invariant.answers c.steps-steps.result.now c.steps-steps.ensures
+          c.split_at.result.1.now c.split_at.ensures.back;
+    }
+
 pub returns-clause-adds : goal.returns-clause-adds
 returns-clause-adds g c =
-    wave_adds c.args.store.now c.wave.new.store c.as_slice.result.now (IsPlacedValue c.args.store.now.levels c.args.sides.now.first c.args.sides.now.second)
-    (all_asked c.args.sides.now.first c.args.sides.now.second c.requires.first_plan.sound c.requires.second_plan.sound c.args.store.now c.args.built.now.first c.args.built.now.second c.args.rank c.args.fold c.steps-ours.result.now c.steps-theirs.result.now c.as_slice.result.now
-    c.requires.first_folded c.requires.second_folded c.steps-ours.ensures c.steps-theirs.ensures (c.as_slice.ensures.value ∙ c.in-Ok.ensures))
-    c.wave.ensures.adds
+    wave_adds c.args.store.now c.wave.new.store c.as_slice.result.now (IsPlacedValue c.args.store.now.levels c.args.sides.now)
+    (all_asked c.args.sides.now c.requires.plans c.args.store.now c.args.built.now c.args.rank c.args.fold c.as_slice.result.now c.requires.folded (c.as_slice.ensures.value ∙ c.in-Ok.ensures)) c.wave.ensures.adds
+
+pub returns-clause-next : goal.returns-clause-next
+returns-clause-next g c = (c.loop-i.invariant.len ∙ c.requires.folded.0, λ k one refs lt at there. c.loop-i.invariant.done k one refs (omega arith) at there)
 
 pub returns-clause-within : goal.returns-clause-within
 returns-clause-within g c =
-    wave_unasked c.args.sides.now.first c.args.sides.now.second c.requires.first_plan.sound c.requires.second_plan.sound c.args.store.now c.wave.new.store c.levels.ensures.sound c.args.built.now.first c.args.built.now.second c.args.rank c.args.fold c.steps-ours.result.now c.steps-theirs.result.now c.as_slice.result.now
-    c.requires.first_folded c.requires.second_folded c.steps-ours.ensures c.steps-theirs.ensures (c.as_slice.ensures.value ∙ c.in-Ok.ensures) c.args.engine.now c.requires.held c.in_ok-answers.ensures.within
+    wave_unasked c.args.sides.now c.requires.plans c.args.store.now c.wave.new.store c.levels.ensures.sound c.args.built.now c.args.rank c.args.fold c.as_slice.result.now c.requires.folded (c.as_slice.ensures.value ∙ c.in-Ok.ensures) c.args.engine.now c.requires.held c.in_ok-answers.ensures.within
 
 pub wave-requires-clause-right : goal.wave-requires-clause-right
 wave-requires-clause-right g c κs within = c.requires.held.right

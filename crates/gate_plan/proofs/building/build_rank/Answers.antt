@@ -1,85 +1,52 @@
-use Rattle.std.proofs.Common.{refl, inr, arith, ◌≡◌, ◌≤◌, max, ℕ, ap, subst}
-use Rattle.std.proofs.lemmas.Result.{err_from_is_err_and}
+use Rattle.std.proofs.Common.{refl, inr, arith, ◌≡◌, ◌≤◌, ℕ}
 use Rattle.gate_plan.specs.Building.{input_level}
 use Rattle.gate_plan.specs.Need.{IsCounted}
 use Rattle.gate_plan.specs.Needing.{IsPlacedValue}
-use Rattle.gate_plan.specs.Asking.{EitherAsksAt}
+use Rattle.gate_plan.specs.Asking.{AnyAsksAt}
+use Rattle.gate_plan.specs.Plans.{plan_copies, plan_folds}
 use Rattle.gate_plan.proofs.Asked.{none_unasked, next_unasked, rank_unasked}
-use Rattle.gate_plan.proofs.Counted.{adds_same, adds_next, fault_next}
-use Rattle.gate_plan.proofs.Running.{copies_fit, copies_next, rank_right}
+use Rattle.gate_plan.proofs.Counted.{adds_same, adds_next}
+use Rattle.gate_plan.proofs.Running.{copies_fit, all_copied, rank_right}
 use Rattle.gate_plan.proofs.building.build_rank.Goals as goal
 
-pub copy_all-requires : goal.copy_all-requires
-copy_all-requires g c =
-    copies_fit c.args.sides.now.first.net c.requires.first_plan.sound (input_level c.args.sides.now.first) c.args.store.now c.args.built.now.first c.built.inside.first.items c.args.rank c.copies.result.now
-    c.requires.first_right (ap (λ z. z.first) c.built.view_is) c.copies.ensures
-
-pub copy_all-requires-2 : goal.copy_all-requires-2
-copy_all-requires-2 g c =
-    copies_fit c.args.sides.now.second.net c.requires.second_plan.sound (input_level c.args.sides.now.second) c.args.store.now c.args.built.now.second c.built.inside.second.items c.args.rank c.copies-2.result.now
-    c.requires.second_right (ap (λ z. z.second) c.built.view_is) c.copies-2.ensures
+pub copy_rank-requires-clause-below : goal.copy_rank-requires-clause-below
+copy_rank-requires-clause-below g c = (
+  c.requires.right.0,
+  λ k one refs lt at there.
+      copies_fit one.net (c.requires.plans one (k, lt, at)).sound (input_level one) c.args.store.now refs refs c.args.rank (plan_copies one.net one.net.gates c.args.rank) (c.requires.right.1 k one refs lt at there) refl refl,
+)
 
 pub loop-fold-init : goal.loop-fold-init
 loop-fold-init g c = record {
   sound = c.levels.ensures.sound;
-  adds = adds_same c.args.store.now c.args.store.now (IsCounted c.args.store.now.levels (IsPlacedValue c.args.store.now.levels c.args.sides.now.first c.args.sides.now.second)) refl;
+  adds = adds_same c.args.store.now c.args.store.now (IsCounted c.args.store.now.levels (IsPlacedValue c.args.store.now.levels c.args.sides.now)) refl;
   held = c.requires.held;
-  within = none_unasked c.args.store.now c.args.store.now (λ j. EitherAsksAt c.args.sides.now.first c.args.sides.now.second c.args.store.now c.args.rank j) (inr refl);
-  first = copies_next c.args.sides.now.first.net c.requires.first_plan.sound (input_level c.args.sides.now.first) c.args.store.now c.args.built.now.first c.built.inside.first.items c.copy_all.new.references.items c.args.rank c.copies.result.now
-      c.requires.first_right (ap (λ z. z.first) c.built.view_is) c.copies.ensures c.copy_all.ensures;
-  second = copies_next c.args.sides.now.second.net c.requires.second_plan.sound (input_level c.args.sides.now.second) c.args.store.now c.args.built.now.second c.built.inside.second.items c.copy_all-2.new.references.items c.args.rank c.copies-2.result.now
-      c.requires.second_right (ap (λ z. z.second) c.built.view_is) c.copies-2.ensures c.copy_all-2.ensures;
+  within = none_unasked c.args.store.now c.args.store.now (λ j. AnyAsksAt c.args.sides.now c.args.store.now c.args.rank j) (inr refl);
+  folded = all_copied c.args.sides.now c.requires.plans c.args.store.now c.args.built.now c.copy_rank.new.built c.args.rank c.requires.right c.copy_rank.ensures;
 }
-
-pub build_fold-requires-clause-first_folded : goal.build_fold-requires-clause-first_folded
-build_fold-requires-clause-first_folded g c lifetimes lives = c.loop-fold.invariant.first
-
-pub build_fold-requires-clause-second_folded : goal.build_fold-requires-clause-second_folded
-build_fold-requires-clause-second_folded g c lifetimes lives = c.loop-fold.invariant.second
 
 pub returns-in_err-build_fold-clause-adds : goal.returns-in_err-build_fold-clause-adds
 returns-in_err-build_fold-clause-adds g c =
-    adds_next c.args.store.now c.loop-fold.store c.build_fold.new.store (λ n. IsPlacedValue n c.args.sides.now.first c.args.sides.now.second) c.loop-fold.invariant.sound c.loop-fold.invariant.adds c.build_fold.ensures.adds
-
-pub returns-in_err-build_fold-clause-fault : goal.returns-in_err-build_fold-clause-fault
-returns-in_err-build_fold-clause-fault g c =
-    let p = err_from_is_err_and c.from_residual.result c.from_residual.ensures.1 in
-    rw (p.1, p.2) (fault_next c.args.store.now c.loop-fold.store c.build_fold.new.store (λ n. IsPlacedValue n c.args.sides.now.first c.args.sides.now.second) _ c.loop-fold.invariant.adds.keeps c.in_err-build_fold.ensures.fault)
+    adds_next c.args.store.now c.loop-fold.store c.build_fold.new.store (λ n. IsPlacedValue n c.args.sides.now) c.loop-fold.invariant.sound c.loop-fold.invariant.adds c.build_fold.ensures.adds
 
 pub loop-fold-preserved : goal.loop-fold-preserved
 loop-fold-preserved g c = record {
   sound = c.build_fold.ensures.sound;
-  adds = adds_next c.args.store.now c.loop-fold.store c.build_fold.new.store (λ n. IsPlacedValue n c.args.sides.now.first c.args.sides.now.second) c.loop-fold.invariant.sound c.loop-fold.invariant.adds c.build_fold.ensures.adds;
+  adds = adds_next c.args.store.now c.loop-fold.store c.build_fold.new.store (λ n. IsPlacedValue n c.args.sides.now) c.loop-fold.invariant.sound c.loop-fold.invariant.adds c.build_fold.ensures.adds;
   held = c.in_ok-build_fold.ensures.held;
-  within = next_unasked c.args.store.now c.loop-fold.store c.build_fold.new.store (λ S j. EitherAsksAt c.args.sides.now.first c.args.sides.now.second S c.args.rank j) c.loop-fold.fold c.loop-fold.invariant.within c.in_ok-build_fold.ensures.within;
-  first = c.in_ok-build_fold.ensures.first_next;
-  second = c.in_ok-build_fold.ensures.second_next;
+  within = next_unasked c.args.store.now c.loop-fold.store c.build_fold.new.store (λ S j. AnyAsksAt c.args.sides.now S c.args.rank j) c.loop-fold.fold c.loop-fold.invariant.within c.in_ok-build_fold.ensures.within;
+  folded = c.in_ok-build_fold.ensures.next;
 }
 
-pub returns-clause-sound : goal.returns-clause-sound
-returns-clause-sound g c = c.loop-fold.invariant.sound
-
-pub returns-clause-adds : goal.returns-clause-adds
-returns-clause-adds g c = c.loop-fold.invariant.adds
+pub returns-clause-next : goal.returns-clause-next
+returns-clause-next g c = (
+  c.loop-fold.invariant.folded.0,
+  λ k one refs lt at there.
+      let most = c.most_folds-fold-end.ensures one (k, lt, at) in
+      let few : plan_folds one.net one.net.gates c.args.rank ≤ c.loop-fold.fold = omega arith in
+      rank_right one.net (c.requires.plans one (k, lt, at)).sound (input_level one) c.loop-fold.store refs c.args.rank c.loop-fold.fold c.requires.rank few (c.loop-fold.invariant.folded.1 k one refs lt at there),
+)
 
 pub returns-clause-within : goal.returns-clause-within
 returns-clause-within g c =
-    let most : c.max-fold-end.result ≡ max c.folds.result c.folds-2.result = c.max-fold-end.ensures in
-    let few : c.folds.result ≤ c.loop-fold.fold = omega arith in
-    let few' : c.folds-2.result ≤ c.loop-fold.fold = omega arith in
-    rank_unasked c.args.sides.now.first c.args.sides.now.second c.args.store.now c.loop-fold.store c.args.rank c.loop-fold.fold
-    (subst (λ (n : ℕ). n ≤ c.loop-fold.fold) c.folds.ensures few) (subst (λ (n : ℕ). n ≤ c.loop-fold.fold) c.folds-2.ensures few') c.loop-fold.invariant.within
-
-pub returns-clause-first_next : goal.returns-clause-first_next
-returns-clause-first_next g c =
-    let most : c.max-fold-end.result ≡ max c.folds.result c.folds-2.result = c.max-fold-end.ensures in
-    let le : c.folds.result ≤ c.loop-fold.fold = omega arith in
-    rank_right c.args.sides.now.first.net c.requires.first_plan.sound (input_level c.args.sides.now.first) c.loop-fold.store c.loop-fold.built.first c.args.rank c.loop-fold.fold
-    c.requires.rank (subst (λ (n : ℕ). n ≤ c.loop-fold.fold) c.folds.ensures le) c.loop-fold.invariant.first
-
-pub returns-clause-second_next : goal.returns-clause-second_next
-returns-clause-second_next g c =
-    let most : c.max-fold-end.result ≡ max c.folds.result c.folds-2.result = c.max-fold-end.ensures in
-    let le : c.folds-2.result ≤ c.loop-fold.fold = omega arith in
-    rank_right c.args.sides.now.second.net c.requires.second_plan.sound (input_level c.args.sides.now.second) c.loop-fold.store c.loop-fold.built.second c.args.rank c.loop-fold.fold
-    c.requires.rank (subst (λ (n : ℕ). n ≤ c.loop-fold.fold) c.folds-2.ensures le) c.loop-fold.invariant.second
+    rank_unasked c.args.sides.now c.args.store.now c.loop-fold.store c.args.rank c.loop-fold.fold (λ one there. let most = c.most_folds-fold-end.ensures one there in omega arith) c.loop-fold.invariant.within

@@ -1,0 +1,249 @@
+//! The netlists that are built together, and the references of their signals.
+ghost use Rattle.std.specs.Prelude.{◌≡◌, ◌++◌, ◌<◌, ◌≤◌, ℕ, Contains, length, IfOk, OnOk, All, slice_index_or};
+ghost use Rattle.net_bench.specs.Circuit.{circuit, variables_of};
+ghost use Rattle.net_order.specs.Order.{condition};
+ghost use Rattle.gate_plan.specs.Plans.{IsPlan, plan_steps, plan_copies, plan_folds};
+ghost use Rattle.gate_plan.specs.Building.{Placed, input_level, AreInputs, ArePlaced, AreCopied, Each, IsCopyBelow, IsStepBelow, answered_all, asked, copied_all};
+
+use crate::folds::{add_entries, copy_all, take_answers};
+use crate::inputs::{Which, input_references};
+use crate::steps::{Copied, Plan, Step};
+use dd_store::Ref;
+use net_bench::reader::Netlist;
+use net_order::pairing::Pairing;
+use req_table::Op;
+use std::alloc::{AllocError, Global};
+use std::marker::Model;
+
+/// A reference for each signal of a netlist.
+#[derive(Drop)]
+pub struct Diagrams {
+    references: Vec<Ref>,
+}
+
+impl Model for Diagrams {
+    ghost use Rattle.std.specs.Prelude.{List};
+    ghost use Rattle.dd_store.specs.declared.reference.Ref.{Ref};
+
+    ghost Value = { List Ref };
+
+    ghost view = { λ d. d.references.items };
+}
+
+impl Diagrams {
+    /// The references by signal.
+    pub fn as_slice(&self) -> &[Ref]
+        ensures { result.now ≡ self.now }
+    {
+        self.references.as_slice()
+    }
+
+    /// Copies operands' references to their gates.
+    fn copy(&mut self, copies: &[Copied])
+        requires { All (IsCopyBelow (length self.old)) copies.now }
+        ensures { self.new ≡ copied_all self.old copies.now }
+    {
+        copy_all(&mut self.references, copies);
+    }
+
+    /// Gives each step's gate the answer of its operation.
+    pub fn take(&mut self, steps: &[Step], answers: &[Ref])
+        requires below { All (IsStepBelow (length self.old)) steps.now }
+        requires each { length answers.now ≡ length steps.now }
+        ensures { self.new ≡ answered_all self.old steps.now answers.now }
+    {
+        take_answers(&mut self.references, steps, answers);
+    }
+}
+
+/// A netlist with the plan of its gates, one of those that are built over the variables of a pairing.
+#[derive(Drop)]
+pub struct Side<'a> {
+    netlist: &'a Netlist,
+    pairing: &'a Pairing,
+    which: Which,
+    plan: Plan,
+}
+
+impl<'a> Model for Side<'a> {
+    ghost use Rattle.gate_plan.specs.Building.{Placed};
+
+    ghost Value = { Placed };
+
+    ghost view = { λ s. record { net = s.netlist.now; which = s.which; pairing = s.pairing.now; plan = s.plan } };
+}
+
+impl<'a> Side<'a> {
+    /// A netlist of a pairing, with the plan of its gates.
+    fn new(
+        alloc: Global,
+        netlist: &'a Netlist,
+        pairing: &'a Pairing,
+        which: Which,
+    ) -> Result<Side<'a>, AllocError>
+        ensures plan { IfOk result (λ side. IsPlan netlist.entry.now side.plan) }
+        ensures is { IfOk result (λ side. side ≡ record { net = netlist.entry.now; which = which; pairing = pairing.entry.now; plan = side.plan }) }
+    {
+        let plan = Plan::new(alloc, netlist)?;
+        Ok(Side {
+            netlist,
+            pairing,
+            which,
+            plan,
+        })
+    }
+
+    /// The last rank.
+    fn ranks(&self) -> usize
+        ensures { result ≡ length self.now.plan }
+    {
+        self.plan.ranks()
+    }
+
+    /// A reference for each signal: the variable of an input or register, and False for each gate.
+    fn inputs(&self, alloc: Global, variables: &[Ref]) -> Result<Vec<Ref>, AllocError>
+        requires { (s : ℕ) → Contains (variables_of (circuit self.now.net)) s → input_level self.now s < length variables.now }
+        ensures { IfOk result (λ v. AreInputs self.now.net (input_level self.now) variables.now v.items) }
+    {
+        input_references(alloc, self.netlist, self.pairing, self.which, variables)
+    }
+
+    /// The copies of a rank, none above the last rank.
+    fn copies(&self, rank: usize) -> &[Copied]
+        requires first { 1 ≤ rank }
+        requires plan { IsPlan self.now.net self.now.plan }
+        ensures { result.now ≡ plan_copies self.now.net self.now.net.gates rank }
+    {
+        if rank <= self.ranks() {
+            self.plan.copies(rank)
+        } else {
+            &[]
+        }
+    }
+
+    /// The number of folds of a rank, 0 above the last rank.
+    fn folds(&self, rank: usize) -> usize
+        requires first { 1 ≤ rank }
+        requires plan { IsPlan self.now.net self.now.plan }
+        ensures { result ≡ plan_folds self.now.net self.now.net.gates rank }
+    {
+        if rank <= self.ranks() {
+            self.plan.folds(rank)
+        } else {
+            0
+        }
+    }
+
+    /// The steps of a rank and a fold number, none past the last fold.
+    pub fn steps(&self, rank: usize, fold: usize) -> &[Step]
+        requires first { 1 ≤ rank }
+        requires plan { IsPlan self.now.net self.now.plan }
+        ensures { result.now ≡ plan_steps self.now.net self.now.net.gates rank fold }
+    {
+        if fold < self.folds(rank) {
+            self.plan.steps(rank, fold)
+        } else {
+            &[]
+        }
+    }
+}
+
+/// The netlists of a pairing, each with the plan of its gates: the first, the second, and the condition where there is one.
+pub fn sides_of<'a>(
+    alloc: Global,
+    first: &'a Netlist,
+    second: &'a Netlist,
+    given: Option<&'a Netlist>,
+    pairing: &'a Pairing,
+) -> Result<Vec<Side<'a>>, AllocError>
+    ensures { IfOk result (λ sides. ArePlaced (circuit first.entry.now) (circuit second.entry.now) (condition given.entry) pairing.entry.now sides.items) }
+{
+    let mut sides = Vec::new(alloc);
+    sides.push(Side::new(alloc, first, pairing, Which::First)?)?;
+    sides.push(Side::new(alloc, second, pairing, Which::Second)?)?;
+    match given {
+        None => {}
+        Some(given) => sides.push(Side::new(alloc, given, pairing, Which::Given)?)?,
+    }
+    Ok(sides)
+}
+
+/// The last rank of all.
+pub fn last_rank(sides: &[Side<'_>]) -> usize
+    ensures { (one : Placed) → Contains sides.now one → length one.plan ≤ result }
+{
+    let mut last = 0;
+    for i in 0..sides.len() {
+        let side = &sides[i];
+        last = side.ranks().max(last);
+    }
+    last
+}
+
+/// The greatest number of folds of a rank.
+pub fn most_folds(sides: &[Side<'_>], rank: usize) -> usize
+    requires first { 1 ≤ rank }
+    requires plans { (one : Placed) → Contains sides.now one → IsPlan one.net one.plan }
+    ensures { (one : Placed) → Contains sides.now one → plan_folds one.net one.net.gates rank ≤ result }
+{
+    let mut most = 0;
+    for i in 0..sides.len() {
+        let side = &sides[i];
+        most = side.folds(rank).max(most);
+    }
+    most
+}
+
+/// The diagrams of the inputs and registers of all netlists.
+pub fn start(
+    alloc: Global,
+    sides: &[Side<'_>],
+    variables: &[Ref],
+) -> Result<Vec<Diagrams>, AllocError>
+    requires { (one : Placed) → Contains sides.now one → (s : ℕ) → Contains (variables_of (circuit one.net)) s → input_level one s < length variables.now }
+    ensures { IfOk result (λ built. Each (λ one refs. AreInputs one.net (input_level one) variables.now refs) sides.now built.items) }
+{
+    let mut built = Vec::new(alloc);
+    for i in 0..sides.len() {
+        let side = &sides[i];
+        let references = side.inputs(alloc, variables)?;
+        built.push(Diagrams { references })?;
+    }
+    Ok(built)
+}
+
+/// The copies of a rank in all netlists.
+pub fn copy_rank(sides: &[Side<'_>], built: &mut [Diagrams], rank: usize)
+    requires first { 1 ≤ rank }
+    requires plans { (one : Placed) → Contains sides.now one → IsPlan one.net one.plan }
+    requires below { Each (λ one refs. All (IsCopyBelow (length refs)) (plan_copies one.net one.net.gates rank)) sides.now built.old }
+    ensures { AreCopied sides.now built.old built.new rank }
+{
+    for i in 0..sides.len() {
+        let side = &sides[i];
+        let diagrams = &mut built[i];
+        diagrams.copy(side.copies(rank));
+    }
+}
+
+/// What the steps of a rank and a fold number ask for, netlist after netlist.
+pub fn entries_of(
+    alloc: Global,
+    sides: &[Side<'_>],
+    built: &[Diagrams],
+    rank: usize,
+    fold: usize,
+) -> Result<Vec<(Op, Ref, Ref)>, AllocError>
+    requires first { 1 ≤ rank }
+    requires plans { (one : Placed) → Contains sides.now one → IsPlan one.net one.plan }
+    requires below { Each (λ one refs. All (IsStepBelow (length refs)) (plan_steps one.net one.net.gates rank fold)) sides.now built.now }
+    ensures { IfOk result (λ entries. entries.items ≡ asked sides.now built.now rank fold) }
+{
+    let mut entries = Vec::new(alloc);
+    for i in 0..sides.len() {
+        let side = &sides[i];
+        let diagrams = &built[i];
+        add_entries(&mut entries, diagrams.as_slice(), side.steps(rank, fold))?;
+    }
+    Ok(entries)
+}
