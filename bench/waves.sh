@@ -11,7 +11,7 @@ top=$(cd "$(dirname "$0")/.." && pwd)
 room=$(mktemp -d)
 trap 'rm -rf "$room"' EXIT
 mkdir -p "$room/crates/wave_bench/src"
-for crate in dd_store req_table wave_core lane_queue level_close expand_work reduce_up; do
+for crate in slot_table dd_store req_table wave_core lane_queue level_close expand_work reduce_up; do
     cp -a "$top/crates/$crate" "$room/crates/"
     grep "^$crate:" "$top/crates.txt" >> "$room/crates.txt"
 done

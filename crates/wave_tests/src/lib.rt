@@ -2,6 +2,8 @@
 #![tactic(auto)]
 
 #[cfg(test)]
+mod memos;
+#[cfg(test)]
 mod plans;
 #[cfg(test)]
 mod waves;

@@ -17,7 +17,7 @@ use std::sync::Wait;
 use std::test::Fail;
 use std::thread::Threads;
 
-static C17: &str =
+pub(crate) static C17: &str =
     "INPUT(1)\nINPUT(2)\nINPUT(3)\nINPUT(6)\nINPUT(7)\nOUTPUT(22)\nOUTPUT(23)\n10 = NAND(1, 3)\n11 = NAND(3, 6)\n16 = NAND(2, 11)\n19 = NAND(11, 7)\n22 = NAND(10, 16)\n23 = NAND(16, 19)\n";
 
 /// Gate 19 reads 6 in place of 7.
@@ -32,7 +32,7 @@ static KINDS: &str =
 /// gate's value so far.
 type Named = (&'static str, Op, Option<&'static str>, &'static str);
 
-fn read<R: Abort>(rt: &R, alloc: Global, text: &str) -> Netlist {
+pub(crate) fn read<R: Abort>(rt: &R, alloc: Global, text: &str) -> Netlist {
     parse_bench(alloc, text.as_bytes()).expect(rt, "a netlist")
 }
 

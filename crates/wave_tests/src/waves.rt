@@ -12,7 +12,7 @@ use expand_work::{Free, Gate, WaveFault};
 use reduce_up::law::closures_are_records;
 use reduce_up::{Results, reduce, wave_one};
 use req_table::requests::{normal, short};
-use req_table::{Key, Op, Records};
+use req_table::{Key, Memo, Op, Records};
 use std::alloc::Global;
 use std::process::Abort;
 use std::sync::Wait;
@@ -78,7 +78,7 @@ impl Gate for Narrow {
 }
 
 /// The choices are none, few, and more than a small wave has events.
-const WAYS: [Way; 11] = [
+pub(crate) const WAYS: [Way; 11] = [
     Way::Alone(&[]),
     Way::Alone(&[0, 1, 2]),
     Way::Alone(&[255; 200]),
@@ -134,7 +134,7 @@ pub(crate) fn entries_of<R: Abort>(
     entries
 }
 
-/// The answers of a wave.
+/// The answers of a wave that knows of no earlier one.
 fn answers_of<R: Threads + Wait + Sync>(
     rt: &R,
     alloc: Global,
@@ -148,12 +148,13 @@ fn answers_of<R: Threads + Wait + Sync>(
     ensures keeps { Keeps store.old store.new }
     ensures known { IfOk result (λ answers. All (Has store.new) answers.items) }
 {
+    let mut memo = Memo::new(alloc, 8)?;
     match way {
-        Way::Alone(choices) => wave_one(rt, alloc, store, entries, workers, choices),
-        Way::Threads => wave(rt, alloc, store, entries, workers, &Free),
+        Way::Alone(choices) => wave_one(rt, alloc, store, &mut memo, entries, workers, choices),
+        Way::Threads => wave(rt, alloc, store, &mut memo, entries, workers, &Free),
         Way::Upto(most) => {
             let gate = Narrow::new(most);
-            wave(rt, alloc, store, entries, workers, &gate)
+            wave(rt, alloc, store, &mut memo, entries, workers, &gate)
         }
     }
 }
@@ -170,7 +171,8 @@ pub(crate) fn run<R: Abort + Threads + Wait + Sync>(
 ) -> Result<(), WaveFault>
     requires known { All (Has store.old) known.old.items }
     requires workers { (0 < workers) × (workers ≤ 16) }
-    ensures { All (Has store.new) known.new.items }
+    ensures known { All (Has store.new) known.new.items }
+    ensures keeps { Keeps store.old store.new }
 {
     let entries = entries_of(rt, alloc, store, known.as_slice(), steps);
     let answers = answers_of(rt, alloc, store, entries.as_slice(), workers, way)?;

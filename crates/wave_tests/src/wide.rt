@@ -2,7 +2,7 @@
 use crate::waves::{Step, Way, entries_of, node, run, start};
 use dd_store::{Ref, Store, Watch};
 use expand_work::{Gate, WaveFault};
-use req_table::Op;
+use req_table::{Memo, Op};
 use std::alloc::Global;
 use std::process::Abort;
 use std::sync::Wait;
@@ -156,7 +156,17 @@ fn told_shards<R: Threads + Wait + Abort + Sync>(
         counts: AtomicU64::new(0),
         elsewhere: AtomicBool::new(false),
     };
-    assert!(rt; wave(rt, alloc, &mut store, entries.as_slice(), 2, &gate).is_ok());
+    let mut memo = Memo::new(alloc, 1)?;
+    let answers = wave(
+        rt,
+        alloc,
+        &mut store,
+        &mut memo,
+        entries.as_slice(),
+        2,
+        &gate,
+    );
+    assert!(rt; answers.is_ok());
     Ok((
         gate.counts.load(Ordering::SeqCst),
         gate.elsewhere.load(Ordering::SeqCst),
@@ -226,7 +236,17 @@ fn four_at_shards(rt: HostRuntime) -> Result<(), Fail> {
         met: AtomicBool::new(false),
         missed: AtomicBool::new(false),
     };
-    assert!(rt; wave(&rt, alloc, &mut store, entries.as_slice(), 1, &gate).is_ok());
+    let mut memo = Memo::new(alloc, 1)?;
+    let answers = wave(
+        &rt,
+        alloc,
+        &mut store,
+        &mut memo,
+        entries.as_slice(),
+        1,
+        &gate,
+    );
+    assert!(rt; answers.is_ok());
     assert!(rt; gate.met.load(Ordering::SeqCst));
     Ok(())
 }

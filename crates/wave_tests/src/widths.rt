@@ -1,6 +1,7 @@
 //! Waves that one engine does at every width, in stores that are large enough and in stores that are not.
 ghost use Rattle.std.specs.Prelude.{All, IfOk};
 ghost use Rattle.dd_store.specs.View.{Has, Keeps};
+ghost use Rattle.req_table.specs.Memos.{IsRight};
 ghost use Rattle.reduce_up.specs.Waves.{IsEntry};
 
 use crate::waves::{Step, Way, entries_of, run, start};
@@ -84,6 +85,8 @@ fn answers_of<R: Threads + Wait + Sync>(
     entries: &[(Op, Ref, Ref)],
 ) -> Result<Vec<Ref>, WaveFault>
     requires operands { All (IsEntry store.old) entries.now }
+    requires right { IsRight store.old engine.old }
+    ensures right { IsRight store.new engine.new }
     ensures known { IfOk result (λ answers. All (Has store.new) answers.items) }
     ensures keeps { Keeps store.old store.new }
 {
@@ -99,7 +102,9 @@ fn run_engine<R: Abort + Threads + Wait + Sync>(
     steps: &[Step],
 ) -> Result<(), WaveFault>
     requires known { All (Has store.old) known.old.items }
-    ensures { All (Has store.new) known.new.items }
+    requires right { IsRight store.old engine.old }
+    ensures known { All (Has store.new) known.new.items }
+    ensures right { IsRight store.new engine.new }
 {
     let entries = entries_of(rt, engine.alloc(), store, known.as_slice(), steps);
     let answers = answers_of(engine, store, entries.as_slice())?;
@@ -119,6 +124,7 @@ fn waves_of<R: Abort + Threads + Wait + Sync>(
     limit: u32,
 ) -> (u64, bool) {
     let alloc = engine.alloc();
+    engine.forget().expect(rt, "memory");
     let mut random = Random { state: seed };
     let mut store = Store::new(alloc, 6, limit as u64).expect(rt, "memory");
     let mut known = start(rt, alloc, &mut store);
@@ -156,7 +162,7 @@ fn widths(rt: HostRuntime) -> Result<(), Fail> {
             most: AtomicU32::new(0),
             told: AtomicU32::new(0),
         };
-        let mut engine = Engine::new(&rt, rt.alloc(), Workers::new(workers), &gate);
+        let mut engine = Engine::new(&rt, rt.alloc(), Workers::new(workers), &gate)?;
         let mut refused = false;
         for seed in 0..12 {
             for limit in [10_000, 40] {

@@ -9,6 +9,6 @@ pub returns-in-Threads-clause-known : goal.returns-in-Threads-clause-known
 returns-in-Threads-clause-known g c =
     if_answers_known c.args.store.now c.wave.new.store c.args.entries.now (λ a. a.items) c.wave.result c.wave.ensures.answers
 
-pub returns-in-Upto-clause-known : goal.returns-in-Upto-clause-known
-returns-in-Upto-clause-known g c =
+pub returns-clause-known : goal.returns-clause-known
+returns-clause-known g c =
     if_answers_known c.args.store.now c.wave-in-Upto.new.store c.args.entries.now (λ a. a.items) c.wave-in-Upto.result c.wave-in-Upto.ensures.answers

@@ -4,8 +4,8 @@ use Rattle.dd_store.specs.View.{Has}
 use Rattle.wave_tests.proofs.Known.{still_known}
 use Rattle.wave_tests.proofs.waves.run.Goals as goal
 
-pub returns : goal.returns
-returns g c =
+pub returns-clause-known : goal.returns-clause-known
+returns-clause-known g c =
     let grown : c.extend_from_slice.new.self.items ≡ c.args.known.now.items ++ c.in_ok-answers.answers.items = search rules in
     subst (All (Has c.answers_of.new.store)) (sym grown)
     (All-append (Has c.answers_of.new.store) c.args.known.now.items c.in_ok-answers.answers.items

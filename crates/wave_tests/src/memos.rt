@@ -1,0 +1,208 @@
+//! Waves that know of earlier ones by a memo.
+ghost use Rattle.std.specs.Prelude.{◌≡◌, ◌≤◌, IfOk};
+ghost use Rattle.dd_store.specs.View.{Has, Keeps};
+ghost use Rattle.req_table.specs.Keys.{IsKey};
+ghost use Rattle.req_table.specs.Memos.{IsRight};
+ghost use Rattle.reduce_up.specs.Waves.{IsEntry};
+
+use crate::plans::{C17, read};
+use crate::waves::{Narrow, WAYS, Way};
+use dd_store::{Ref, Store};
+use expand_work::{Free, WaveFault};
+use gate_plan::build;
+use net_order::order::{Match, Order};
+use net_order::pairing::pair;
+use reduce_up::wave_one;
+use req_table::requests::{child_known, normal, short, split_known};
+use req_table::{Child, Key, Memo, Op};
+use std::alloc::Global;
+use std::process::Abort;
+use std::sync::Wait;
+use std::sync::atomic::Ordering;
+use std::test::Fail;
+use std::thread::Threads;
+use wave_engine::wave;
+
+/// The first two variables of a store.
+fn variables<R: Abort>(rt: &R, store: &mut Store) -> (Ref, Ref)
+    requires { 2 ≤ store.old.levels }
+    ensures first { Has store.new result.0 }
+    ensures second { Has store.new result.1 }
+{
+    let b = store.variable(1).expect(rt, "a variable");
+    let a = store.variable(0).expect(rt, "a variable");
+    (a, b)
+}
+
+/// The answer of a wave to one operation.
+fn ask<R: Threads + Wait + Sync>(
+    rt: &R,
+    alloc: Global,
+    store: &mut Store,
+    memo: &mut Memo,
+    entry: (Op, Ref, Ref),
+    way: Way,
+) -> Result<Ref, WaveFault>
+    requires entry { IsEntry store.old entry }
+    requires right { IsRight store.old memo.old }
+    ensures keeps { Keeps store.old store.new }
+    ensures right { IsRight store.new memo.new }
+    ensures known { IfOk result (Has store.new) }
+{
+    let answers = match way {
+        Way::Alone(choices) => wave_one(rt, alloc, store, memo, &[entry], 2, choices)?,
+        Way::Threads => wave(rt, alloc, store, memo, &[entry], 2, &Free)?,
+        Way::Upto(most) => wave(rt, alloc, store, memo, &[entry], 2, &Narrow::new(most))?,
+    };
+    Ok(answers[0])
+}
+
+/// The request of an operation without a short answer.
+fn request<R: Abort>(rt: &R, store: &Store, op: Op, f: Ref, g: Ref) -> Key
+    requires first { Has store.now f }
+    requires second { Has store.now g }
+    ensures { IsKey store.now result }
+{
+    assert!(rt; short(op, f, g).is_none());
+    normal(op, f, g)
+}
+
+/// The answer of a child that is done.
+fn answer_of(child: Child) -> Option<Ref> {
+    match child {
+        Child::Done(answer) => Some(answer),
+        Child::Ask { .. } => None,
+    }
+}
+
+/// The answer that is held of an operation, as its child has it.
+fn done<R: Abort>(rt: &R, store: &Store, memo: &Memo, op: Op, f: Ref, g: Ref) -> Ref
+    requires first { Has store.now f }
+    requires second { Has store.now g }
+    requires right { IsRight store.now memo.now }
+{
+    answer_of(child_known(store, memo, op, f, g)).expect(rt, "is asked for")
+}
+
+/// Asks twice for one operation, with the operands both ways round.
+fn twice<R: Abort + Threads + Wait + Sync>(rt: &R, alloc: Global, way: Way) -> Result<(), Fail> {
+    let mut store = Store::new(alloc, 2, 100)?;
+    let mut memo = Memo::new(alloc, 8)?;
+    let (a, b) = variables(rt, &mut store);
+    let answer = ask(rt, alloc, &mut store, &mut memo, (Op::And, a, b), way)?;
+    assert_eq!(rt;
+        memo.peek(&request(rt, &store, Op::And, b, a)),
+        Some(answer)
+    );
+    assert_eq!(rt; done(rt, &store, &memo, Op::And, b, a), answer);
+    let again = ask(rt, alloc, &mut store, &mut memo, (Op::And, b, a), way)?;
+    assert_eq!(rt; again, answer);
+    assert_eq!(rt; memo.peek(&request(rt, &store, Op::Or, a, b)), None);
+    assert_eq!(rt; store.count(), 3);
+    Ok(())
+}
+
+#[test]
+fn memo_in_wave(rt: HostRuntime) -> Result<(), Fail> {
+    for way in WAYS {
+        twice(&rt, rt.alloc(), way)?;
+    }
+    Ok(())
+}
+
+/// Forgets an operation, which is then asked for again.
+fn forgotten<R: Abort + Threads + Wait + Sync>(
+    rt: &R,
+    alloc: Global,
+    way: Way,
+) -> Result<(), Fail> {
+    let mut store = Store::new(alloc, 2, 100)?;
+    let mut memo = Memo::new(alloc, 1)?;
+    let (a, b) = variables(rt, &mut store);
+    let both = ask(rt, alloc, &mut store, &mut memo, (Op::And, a, b), way)?;
+    let some = ask(rt, alloc, &mut store, &mut memo, (Op::Or, a, b), way)?;
+    assert_eq!(rt; memo.peek(&request(rt, &store, Op::Or, a, b)), Some(some));
+    assert_eq!(rt; memo.peek(&request(rt, &store, Op::And, a, b)), None);
+    let again = ask(rt, alloc, &mut store, &mut memo, (Op::And, a, b), way)?;
+    assert_eq!(rt; again, both);
+    assert_eq!(rt; store.count(), 4);
+    Ok(())
+}
+
+#[test]
+fn memo_forgets(rt: HostRuntime) -> Result<(), Fail> {
+    for way in WAYS {
+        forgotten(&rt, rt.alloc(), way)?;
+    }
+    Ok(())
+}
+
+/// Asks for an operation that has no room, and then for one that was answered before.
+fn refused<R: Abort + Threads + Wait + Sync>(rt: &R, alloc: Global, way: Way) -> Result<(), Fail> {
+    let mut store = Store::new(alloc, 2, 3)?;
+    let mut memo = Memo::new(alloc, 8)?;
+    let (a, b) = variables(rt, &mut store);
+    let both = ask(rt, alloc, &mut store, &mut memo, (Op::And, a, b), way)?;
+    let full = ask(rt, alloc, &mut store, &mut memo, (Op::Or, a, b), way);
+    assert_eq!(rt; full.err(), Some(WaveFault::Full));
+    assert_eq!(rt; memo.peek(&request(rt, &store, Op::Or, a, b)), None);
+    let again = ask(rt, alloc, &mut store, &mut memo, (Op::And, b, a), way)?;
+    assert_eq!(rt; again, both);
+    Ok(())
+}
+
+// A wave that was refused is not kept. What is held is answered in a full store too.
+#[test]
+fn memo_after_a_refused_wave(rt: HostRuntime) -> Result<(), Fail> {
+    for way in WAYS {
+        refused(&rt, rt.alloc(), way)?;
+    }
+    Ok(())
+}
+
+// Where a is 0, not both of (a or b) and b is not b, which is held; where a is 1 it is not held of b.
+#[test]
+fn known_children(rt: HostRuntime) -> Result<(), Fail> {
+    let alloc = rt.alloc();
+    let mut store = Store::new(alloc, 2, 100)?;
+    let mut memo = Memo::new(alloc, 8)?;
+    let (a, b) = variables(&rt, &mut store);
+    let way = Way::Alone(&[]);
+    let some = ask(&rt, alloc, &mut store, &mut memo, (Op::Or, a, b), way)?;
+    let not_b = ask(&rt, alloc, &mut store, &mut memo, (Op::Nand, b, b), way)?;
+    let record = split_known(&store, &memo, request(&rt, &store, Op::Nand, some, b));
+    assert_eq!(rt; answer_of(record.low), Some(not_b));
+    assert_eq!(rt; answer_of(record.high), None);
+    Ok(())
+}
+
+/// C17 behind buffers, so that each gate has the next rank.
+static BUFFERED: &str =
+    "INPUT(1)\nINPUT(2)\nINPUT(3)\nINPUT(6)\nINPUT(7)\nOUTPUT(22)\nOUTPUT(23)\na = BUFF(1)\nb = BUFF(2)\nc = BUFF(3)\nf = BUFF(6)\ng = BUFF(7)\n10 = NAND(a, c)\n11 = NAND(c, f)\n16 = NAND(b, 11)\n19 = NAND(11, g)\n22 = NAND(10, 16)\n23 = NAND(16, 19)\n";
+
+/// How often a worker comes to a level in the building of two netlists, each request of which is the workers'.
+fn told<R: Abort + Threads + Wait + Sync>(
+    rt: &R,
+    alloc: Global,
+    first: &str,
+    second: &str,
+) -> Result<u32, Fail> {
+    let first = read(rt, alloc, first);
+    let second = read(rt, alloc, second);
+    let pairing = pair(alloc, &first, &second, Match::Name, &Order::Declared)?;
+    let mut store = Store::new(alloc, pairing.names().len() as u16, 100)?;
+    let gate = Narrow::new(0);
+    build(rt, alloc, &mut store, &first, &second, &pairing, 2, &gate)?;
+    assert_eq!(rt; store.count(), 20);
+    Ok(gate.told.load(Ordering::SeqCst))
+}
+
+// What both netlists have at other ranks is asked for once: no level more is come to than where both are one text.
+#[test]
+fn other_ranks(rt: HostRuntime) -> Result<(), Fail> {
+    let same = told(&rt, rt.alloc(), C17, C17)?;
+    assert!(rt; same > 0);
+    assert_eq!(rt; told(&rt, rt.alloc(), C17, BUFFERED)?, same);
+    assert_eq!(rt; told(&rt, rt.alloc(), BUFFERED, C17)?, same);
+    Ok(())
+}
