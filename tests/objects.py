@@ -54,6 +54,8 @@ def settings_of(words):
 
 def fits(value, schema, top):
     """Whether a value is as a schema says, of the words that docs/report.schema.json uses."""
+    if isinstance(value, bool):
+        return False
     while "$ref" in schema:
         schema = top["$defs"][schema["$ref"].rsplit("/", 1)[1]]
     if "oneOf" in schema:
