@@ -132,7 +132,11 @@ fn ask<R: Wait + Abort>(
     assert!(rt; level < store.levels());
     assert!(rt; port.ends(to) == 0);
     let asks = one(rt, alloc, level, key);
-    assert!(rt; lanes.send(rt, port, to, Load::Bundle { from, asks }).is_ok());
+    assert!(rt;
+        lanes
+            .send(rt, port, to, Load::Bundle { from, asks })
+            .is_ok()
+    );
 }
 
 /// Puts the next End on a lane.
