@@ -47,12 +47,16 @@ zero_at (x ∷ xs) (suc k) = zero_at xs k
 new_sent : (i k : ℕ) (l : LanesView) → sent_to (new_port i l.sizes l.lanes) k ≡ []
 new_sent i k l = elim (eqb k i) as (λ b. cond b [] (slice_index_or (map {B = List Item} (λ x. []) l.lanes) k []) ≡ []) [ true ↦ refl | false ↦ none_at l.lanes k ]
 
+-- a new port has sent and taken nothing
+pub fresh_port : (l : LanesView) (i : ℕ) → IsFresh (new_port i l.sizes l.lanes)
+fresh_port l i = ((λ k. new_sent i k l), refl, λ k. zero_at l.lanes k)
+
 pub new_ports : (l : LanesView) (workers : ℕ) (ports : List PortView) → length l.lanes ≡ workers → length ports ≡ workers
     → ((i : ℕ) (d : PortView) → i < workers → slice_index_or ports i d ≡ new_port i l.sizes l.lanes) → AreNew l ports
 new_ports l workers ports wide long is = record {
   long = long ∙ sym wide;
   made = λ i d b. (let e = is i d (subst (λ n. i < n) wide b) in (ap (λ (p : PortView). p.lanes) e, ap (λ (p : PortView). p.sizes) e));
-  fresh = λ i d b. subst IsFresh (sym (is i d (subst (λ n. i < n) wide b))) ((λ k. new_sent i k l), refl, λ k. zero_at l.lanes k);
+  fresh = λ i d b. subst IsFresh (sym (is i d (subst (λ n. i < n) wide b))) (fresh_port l i);
   numbered = λ i d b. ap (λ (p : PortView). p.number) (is i d (subst (λ n. i < n) wide b));
 }
 

@@ -55,7 +55,12 @@ fn send_asks<R: Wait>(
     ensures { OnOk result (SentTo port.old port.new to (map (item_of site.entry.store.now port.old.number) keys.now)
         (bundles (length keys.now))) }
 {
-    let Site { alloc, lanes, store, .. } = site;
+    let Site {
+        alloc,
+        lanes,
+        store,
+        ..
+    } = site;
     if keys.is_empty() {
         return Ok(());
     }

@@ -239,9 +239,9 @@ module _ (workers : ℕ) (sizes : Sizes) (ids : List (SegId Global)) (given port
       λ s sl m. listed (λ q. sent_to q k) [] s port_k sl ∙ sent-other (retired (get_or given s port_k)) k (λ e. m (sym (at_given s sl port_k) ∙ sym e)) ∙ sym (listed (λ q. passed_to q k) [] s port_k sl) in
       let fair : IsFair w p.own = subst (λ (y : ℕ × Sizes). IsFair (scope_of y.0 y.1) p.own) (λ j. ((ap (λ q. length q) (are.1 k port_k lt).0 ∙ length-map ids (λ (q : SegId Global). Some q) ∙ ids_long) j, (are.1 k port_k lt).1 j)) h.fair in (
         subst (λ t. LaneLaw w (sent_from ports k) t (flat (slice_index_or left k []))) (sym taken)
-        (kept-law p h w (flat (slice_index_or left k [])) (passed_from ports k) (sent_from ports k) (subst (λ t. LaneLaw w (passed_from ports k) t (flat (slice_index_or left k []))) popped l.0) (subst (λ m. m < workers) (sym n) lt)
-        (ap (passed_from ports k) n ∙ passed) (ap (sent_from ports k) n ∙ own) (λ s sl m. same s sl (λ e. m (e ∙ sym n)))),
+            (kept-law p h w (flat (slice_index_or left k [])) (passed_from ports k) (sent_from ports k) (subst (λ t. LaneLaw w (passed_from ports k) t (flat (slice_index_or left k []))) popped l.0) (subst (λ m. m < workers) (sym n) lt)
+            (ap (passed_from ports k) n ∙ passed) (ap (sent_from ports k) n ∙ own) (λ s sl m. same s sl (λ e. m (e ∙ sym n)))),
         λ s sl. dite (ℕ_discrete s k)
-        (λ e. subst (λ m. IsFair w (sent_from ports k m)) (sym e) (subst (IsFair w) (sym own) fair))
-        (λ m. subst (IsFair w) (sym (same s sl m)) (l.1 s sl)),
+            (λ e. subst (λ m. IsFair w (sent_from ports k m)) (sym e) (subst (IsFair w) (sym own) fair))
+            (λ m. subst (IsFair w) (sym (same s sl m)) (l.1 s sl)),
       )

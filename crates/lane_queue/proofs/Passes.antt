@@ -78,10 +78,13 @@ begins c lt owned = record {
 }
 
 pub issues_first : (i : ℕ) (c : Terms) → 0 < c.workers → c.owner < c.workers → Forks Holds i blank (issuer c 1) (port c 0 [] [])
-issues_first i c lt owned loads views h at = let items = flat loads in (h.0, ⊎_elim
-    (λ (x : (items ≡ []) × (views ≡ blank ∷ [])). inr (subst (λ (y : List Item × List View). Ruled y.0 y.1) (λ k. (sym x.0 k, sym (first_views i views (issuer c 1) (port c 0 [] []) x.1 at) k)) (begins c lt owned)))
-    (λ (r : Ruled items views). absurd (true≢false (sym (r.begun i blank at))))
-    h.1)
+issues_first i c lt owned loads views h at = let items = flat loads in (
+  h.0,
+  ⊎_elim
+      (λ (x : (items ≡ []) × (views ≡ blank ∷ [])). inr (subst (λ (y : List Item × List View). Ruled y.0 y.1) (λ k. (sym x.0 k, sym (first_views i views (issuer c 1) (port c 0 [] []) x.1 at) k)) (begins c lt owned)))
+      (λ (r : Ruled items views). absurd (true≢false (sym (r.begun i blank at))))
+      h.1,
+)
 
 -- ---- the next port
 pub issue_step : (i : ℕ) (c : Terms) (low : ℕ) (items : List Item) (views : List View) → low < c.workers → (r : Ruled items views) → get_elem? views i ≡ some (issuer c low)

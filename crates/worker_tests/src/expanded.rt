@@ -1,4 +1,4 @@
-//! Waves expanded by threads: their records, how many items were put, and workers that meet at a level.
+//! Waves expanded by threads: their records, how many loads were put, and workers that meet at a level.
 ghost use Rattle.std.specs.Prelude.{◌≡◌, ◌≤◌, ◌<◌, All};
 ghost use Rattle.reduce_up.specs.Waves.{IsEntry};
 ghost use Rattle.req_table.specs.Keys.{IsKey};
@@ -16,7 +16,7 @@ use std::sync::atomic::{AtomicBool, Ordering};
 use std::test::Fail;
 use wave_engine::wave;
 
-/// How many items the ports put together.
+/// How many loads the ports put together.
 fn put_by(ports: &[Port]) -> u128 {
     let mut total: u128 = 0;
     for port in ports {
@@ -64,7 +64,7 @@ fn both_ways(rt: &impl Abort, store: &Store) -> [Key; 2]
     ]
 }
 
-// Two roots of one key make one record, whose owner gets both: 2 Asks, and 4 x 4 x 2 Ends.
+// Two roots of one key make one record, whose owner gets one and keeps its own: 1 bundle, and 4 x 4 x 2 Ends.
 #[test]
 fn merged_roots(rt: HostRuntime) -> Result<(), Fail> {
     let store = store_of(&rt, rt.alloc(), 2);
@@ -85,7 +85,7 @@ fn merged_roots(rt: HostRuntime) -> Result<(), Fail> {
     );
     assert!(rt; records.level(1).is_empty());
     assert!(rt; are_numbered(expanded.ports(), 4));
-    assert_eq!(rt; put_by(expanded.ports()), 34);
+    assert_eq!(rt; put_by(expanded.ports()), 33);
     Ok(())
 }
 
@@ -128,7 +128,7 @@ fn two_entries(rt: &impl Abort, store: &Store) -> [(Op, Ref, Ref); 2]
     ]
 }
 
-// Two workers are at one level at once, and put 2 Asks and 2 x 2 x 4 Ends; and again in a wave.
+// Two workers are at one level at once, keep their root each, and put 2 x 2 x 4 Ends; and again in a wave.
 #[test]
 fn two_at_a_level(rt: HostRuntime) -> Result<(), Fail> {
     let mut store = store_of(&rt, rt.alloc(), 4);
@@ -151,7 +151,7 @@ fn two_at_a_level(rt: HostRuntime) -> Result<(), Fail> {
     assert!(rt; records.level(1).is_empty() && records.level(2).is_empty());
     assert!(rt; is_record(records.level(3), roots[1], Ref::TRUE, Ref::FALSE));
     assert!(rt; are_numbered(expanded.ports(), 2));
-    assert_eq!(rt; put_by(expanded.ports()), 18);
+    assert_eq!(rt; put_by(expanded.ports()), 16);
     let gate = AtFirst(Meeting::of(2));
     let entries = two_entries(&rt, &store);
     let answers = wave(&rt, rt.alloc(), &mut store, &entries, 2, &gate)?;
@@ -203,10 +203,50 @@ fn told_of_closed_levels(rt: HostRuntime) -> Result<(), Fail> {
         early: AtomicBool::new(false),
     };
     let expanded = expand_all(&rt, rt.alloc(), &store, &roots, 2, &gate)?;
-    assert_eq!(rt; put_by(expanded.ports()), 18);
+    assert_eq!(rt; put_by(expanded.ports()), 16);
     assert!(rt; gate.held.load(Ordering::SeqCst));
     assert!(rt; !gate.early.load(Ordering::SeqCst));
     assert!(rt; gate.further.load(Ordering::SeqCst));
+    Ok(())
+}
+
+/// The request so many times.
+fn copies(rt: &impl Abort, alloc: Global, store: &Store, key: Key, count: usize) -> Vec<Key>
+    requires { IsKey store.now key }
+    ensures { All (IsKey store.now) result.items }
+{
+    let _store = store.levels();
+    let mut keys = Vec::new(alloc);
+    for _ in 0..count {
+        keys.push(key).expect(rt, "out of memory");
+    }
+    keys
+}
+
+// Worker 1 puts bundles of 64 and of 1, worker 0 keeps its 65, and there are 2 x 2 x 4 Ends.
+#[test]
+fn many_equal_roots(rt: HostRuntime) -> Result<(), Fail> {
+    let store = store_of(&rt, rt.alloc(), 4);
+    let key = request(&rt, &store, Op::And, 0, 2);
+    let roots = copies(&rt, rt.alloc(), &store, key, 130);
+    let expanded = expand_all(&rt, rt.alloc(), &store, roots.as_slice(), 2, &Free)?;
+    assert_eq!(rt; put_by(expanded.ports()), 18);
+    let records = expanded.records();
+    assert!(rt; is_record(records.level(0), key, Ref::FALSE, variable(&rt, &store, 2)));
+    Ok(())
+}
+
+// Of 16 workers all but the owner end a level with a bundle of each length from 1 to 64, and there are 16 x 16 x 4 Ends.
+#[test]
+fn bundles_of_each_length(rt: HostRuntime) -> Result<(), Fail> {
+    let store = store_of(&rt, rt.alloc(), 4);
+    let key = request(&rt, &store, Op::And, 0, 2);
+    for length in 1..=64 {
+        let roots = copies(&rt, rt.alloc(), &store, key, 16 * length);
+        let expanded = expand_all(&rt, rt.alloc(), &store, roots.as_slice(), 16, &Free)?;
+        assert_eq!(rt; put_by(expanded.ports()), 1039);
+        assert!(rt; expanded.records().level(0).len() == 1);
+    }
     Ok(())
 }
 
@@ -243,12 +283,13 @@ const REACHED: [&[(Op, u16, u16)]; 4] = [
     &[(Op::Nand, 3, 3)],
 ];
 
-// However the threads run, the records are the same, and 5 roots, 2 children and the Ends are put.
+// However the threads run, the records are the same, and the Ends are put, and a bundle for each two different workers
+// of whom one asks the other at a level: 2 of 2 and of 3 workers, and of 16 one for each of 5 roots and 2 children.
 #[test]
 fn any_schedule(rt: HostRuntime) -> Result<(), Fail> {
     let store = store_of(&rt, rt.alloc(), 4);
     let roots = five_roots(&rt, &store);
-    for (workers, runs, put) in [(1, 1, 11), (2, 10, 23), (3, 10, 43), (16, 200, 1031)] {
+    for (workers, runs, put) in [(1, 1, 4), (2, 10, 18), (3, 10, 38), (16, 200, 1031)] {
         for _ in 0..runs {
             let expanded = expand_all(&rt, rt.alloc(), &store, &roots, workers, &Free)?;
             assert_eq!(rt; expanded.records().levels(), 4);

@@ -1,13 +1,13 @@
 //! Lanes on one thread and between threads: what was taken and left is what was put, in its order.
-ghost use Rattle.std.specs.Prelude.{◌≡◌, ◌≤◌, ◌<◌, ◌+◌, All, IfOk, length};
+ghost use Rattle.std.specs.Prelude.{◌≡◌, ◌≤◌, ◌<◌, ◌+◌, [], ◌∷◌, All, IfOk, length};
 ghost use Rattle.dd_store.specs.View.{Has};
 ghost use Rattle.req_table.specs.Sizes.{sizes_of, IsKeyOf};
 ghost use Rattle.lane_queue.specs.PortView.{PortView, IsPortOf};
 
 use dd_store::{Ref, Store};
-use lane_queue::{Lanes, Port, Settled};
+use lane_queue::{Bundle, Lanes, Load, Port, Settled};
 use req_table::requests::{level_of, normal, short};
-use req_table::{Item, Key, Op};
+use req_table::{Key, Op};
 use std::alloc::{AllocError, Global};
 use std::process::Abort;
 use std::sync::Wait;
@@ -15,7 +15,7 @@ use std::test::Fail;
 use std::thread;
 use std::thread::Threads;
 
-/// What an item says, to be compared: its sender, its level, and its key if it asks for one.
+/// What a load says, to be compared: its sender, its level, and its key if it is a bundle of one request.
 #[derive(Clone, Copy, Drop, Debug, PartialEq, Eq)]
 struct Told {
     from: u32,
@@ -23,31 +23,43 @@ struct Told {
     key: Option<Key>,
 }
 
-fn tell(item: Item) -> Told {
-    match item {
-        Item::Ask { from, level, key } => Told {
-            from,
-            level,
-            key: Some(key),
-        },
-        Item::End { from, level } => Told {
-            from,
-            level,
+/// What the load says. A bundle of another length than 1 is told with a level that no store has.
+fn tell(load: &Load) -> Told {
+    match load {
+        Load::Bundle { from, asks } => tell_one(*from, asks.asks()),
+        Load::End { from, level } => Told {
+            from: *from,
+            level: *level,
             key: None,
         },
     }
 }
 
-/// The items of one sender, in their order.
-fn of_sender(alloc: Global, items: &Vec<Item>, sender: u32) -> Result<Vec<Item>, AllocError> {
+/// What a bundle of one request says.
+fn tell_one(from: u32, asks: &[(u16, Key)]) -> Told {
+    if asks.len() == 1 {
+        let (level, key) = asks[0];
+        Told {
+            from,
+            level,
+            key: Some(key),
+        }
+    } else {
+        Told {
+            from,
+            level: u16::MAX,
+            key: None,
+        }
+    }
+}
+
+/// What the loads of one sender say, in their order.
+fn of_sender(alloc: Global, loads: &Vec<Load>, sender: u32) -> Result<Vec<Told>, AllocError> {
     let mut kept = Vec::new(alloc);
-    for item in items {
-        let from = match *item {
-            Item::Ask { from, .. } => from,
-            Item::End { from, .. } => from,
-        };
-        if from == sender {
-            kept.push(*item)?;
+    for load in loads {
+        let told = tell(load);
+        if told.from == sender {
+            kept.push(told)?;
         }
     }
     Ok(kept)
@@ -90,8 +102,25 @@ fn open(alloc: Global, store: &Store, workers: u32) -> Result<(Lanes, Vec<Port>)
     Lanes::new(alloc, store, workers)
 }
 
-/// Puts a request on a lane where the port has put no End yet.
-fn ask<R: Wait + Abort>(rt: &R, store: &Store, lanes: &Lanes, port: &mut Port, to: u32, key: Key)
+/// A bundle of one request.
+fn one(rt: &impl Abort, alloc: Global, level: u16, key: Key) -> Bundle
+    ensures { result ≡ (level, key) ∷ [] }
+{
+    let mut asks = Bundle::new(alloc).expect(rt, "out of memory");
+    asks.add(level, key);
+    asks
+}
+
+/// Puts a bundle of one request on a lane where the port has put no End yet.
+fn ask<R: Wait + Abort>(
+    rt: &R,
+    alloc: Global,
+    store: &Store,
+    lanes: &Lanes,
+    port: &mut Port,
+    to: u32,
+    key: Key,
+)
     requires store { lanes.now.sizes ≡ sizes_of store.now }
     requires port { IsPortOf lanes.now port.old }
     requires key { IsKeyOf (sizes_of store.now) key }
@@ -102,8 +131,12 @@ fn ask<R: Wait + Abort>(rt: &R, store: &Store, lanes: &Lanes, port: &mut Port, t
     assert!(rt; to < lanes.count());
     assert!(rt; level < store.levels());
     assert!(rt; port.ends(to) == 0);
-    let item = Item::Ask { from, level, key };
-    assert!(rt; lanes.send(rt, port, to, item).is_ok());
+    let asks = one(rt, alloc, level, key);
+    assert!(rt;
+        lanes
+            .send(rt, port, to, Load::Bundle { from, asks })
+            .is_ok()
+    );
 }
 
 /// Puts the next End on a lane.
@@ -116,7 +149,7 @@ pub(crate) fn end<R: Wait + Abort>(rt: &R, store: &Store, lanes: &Lanes, port: &
     assert!(rt; to < lanes.count());
     let level = port.ends(to);
     assert!(rt; level < store.levels());
-    assert!(rt; lanes.send(rt, port, to, Item::End { from, level }).is_ok());
+    assert!(rt; lanes.send(rt, port, to, Load::End { from, level }).is_ok());
 }
 
 /// How many Ends the port put on a lane.
@@ -128,33 +161,33 @@ fn ends_on(rt: &impl Abort, lanes: &Lanes, port: &Port, to: u32) -> u16
     port.ends(to)
 }
 
-/// Takes items until so many Ends came.
+/// Takes loads until so many Ends came.
 fn take_until<R: Wait + Abort>(
     rt: &R,
     alloc: Global,
     lanes: &Lanes,
     port: &mut Port,
     ends: usize,
-) -> Vec<Item>
+) -> Vec<Load>
     requires { IsPortOf lanes.now port.old }
     ensures { IsPortOf lanes.now port.new }
 {
-    let mut items = Vec::new(alloc);
+    let mut loads = Vec::new(alloc);
     let mut left = ends;
     for _ in rt.forever() {
         if left == 0 {
             break;
         }
-        let Some(item) = lanes.take(rt, port) else {
+        let Some(load) = lanes.take(rt, port) else {
             thread::yield_now();
             continue;
         };
-        if matches!(item, Item::End { .. }) {
+        if matches!(load, Load::End { .. }) {
             left -= 1;
         }
-        items.push(item).expect(rt, "out of memory");
+        loads.push(load).expect(rt, "out of memory");
     }
-    items
+    loads
 }
 
 /// Settles lanes with all their ports.
@@ -177,19 +210,21 @@ fn what_is_left_is_settled(rt: HostRuntime) -> Result<(), Fail> {
     let (lanes, mut ports) = open(rt.alloc(), &store, 2)?;
     let mut second = ports.pop().expect(&rt, "no second port");
     let mut first = ports.pop().expect(&rt, "no first port");
-    ask(&rt, &store, &lanes, &mut first, 1, key);
+    ask(&rt, rt.alloc(), &store, &lanes, &mut first, 1, key);
     end(&rt, &store, &lanes, &mut first, 1);
     end(&rt, &store, &lanes, &mut second, 1);
     assert_eq!(rt; ends_on(&rt, &lanes, &first, 0), 0);
     assert_eq!(rt; ends_on(&rt, &lanes, &first, 1), 1);
     assert_eq!(rt; first.put(), 2);
-    let taken = lanes.take(&rt, &mut second).map(tell);
+    let Some(taken) = lanes.take(&rt, &mut second) else {
+        return Err(Fail::from("nothing is taken"));
+    };
     let want = Told {
         from: 0,
         level: 0,
         key: Some(key),
     };
-    assert_eq!(rt; taken, Some(want));
+    assert_eq!(rt; tell(&taken), want);
     assert!(rt; lanes.take(&rt, &mut first).is_none());
     let settled = settle(&rt, lanes, vec![in rt.alloc(); first, second]?)?;
     assert!(rt; settled.left[0].is_empty());
@@ -197,7 +232,7 @@ fn what_is_left_is_settled(rt: HostRuntime) -> Result<(), Fail> {
     assert_eq!(rt; left.len(), 2);
     for (place, from) in [(0, 0), (1, 1)] {
         assert_eq!(rt;
-            tell(left[place]),
+            tell(&left[place]),
             Told {
                 from,
                 level: 0,
@@ -208,9 +243,43 @@ fn what_is_left_is_settled(rt: HostRuntime) -> Result<(), Fail> {
     Ok(())
 }
 
+/// Keeps a request where the port has put no End on its own lane, and all of its own was taken.
+fn keep<R: Wait + Abort>(rt: &R, store: &Store, lanes: &Lanes, port: &mut Port, key: Key)
+    requires store { lanes.now.sizes ≡ sizes_of store.now }
+    requires port { IsPortOf lanes.now port.old }
+    requires key { IsKeyOf (sizes_of store.now) key }
+    ensures { IsPortOf lanes.now port.new }
+{
+    let number = port.number();
+    let level = level_of(store, key);
+    assert!(rt; level < store.levels());
+    assert!(rt; port.ends(number) == 0);
+    assert!(rt; lanes.take(rt, port).is_none());
+    port.keep(level, key);
+}
+
+// What a port keeps counts as sent and taken, and as no load, and nothing of it is on the lane.
+#[test]
+fn what_is_kept_is_on_no_lane(rt: HostRuntime) -> Result<(), Fail> {
+    let mut store = Store::new(rt.alloc(), 1, 1)?;
+    let a = variable(&rt, &mut store, 0);
+    let key = request_for(&rt, &store, Op::Nand, a, a);
+    let (lanes, mut ports) = open(rt.alloc(), &store, 1)?;
+    let mut port = ports.pop().expect(&rt, "no port");
+    keep(&rt, &store, &lanes, &mut port, key);
+    keep(&rt, &store, &lanes, &mut port, key);
+    assert_eq!(rt; port.put(), 0);
+    end(&rt, &store, &lanes, &mut port, 0);
+    assert_eq!(rt; port.put(), 1);
+    let settled = settle(&rt, lanes, vec![in rt.alloc(); port]?)?;
+    assert_eq!(rt; settled.left[0].len(), 1);
+    Ok(())
+}
+
 /// Puts 1,000 requests on the lane of the worker 1, of two in turn, and then the first End.
 fn send_in_turn<R: Wait + Abort>(
     rt: &R,
+    alloc: Global,
     store: &Store,
     lanes: &Lanes,
     mut port: Port,
@@ -225,7 +294,7 @@ fn send_in_turn<R: Wait + Abort>(
 {
     for turn in 0..1000 {
         let key = if turn % 2 == 0 { even } else { odd };
-        ask(rt, store, lanes, &mut port, 1, key);
+        ask(rt, alloc, store, lanes, &mut port, 1, key);
     }
     end(rt, store, lanes, &mut port, 1);
     port
@@ -237,7 +306,7 @@ fn take_to_end<R: Wait + Abort>(
     alloc: Global,
     lanes: &Lanes,
     mut port: Port,
-) -> (Port, Vec<Item>)
+) -> (Port, Vec<Load>)
     requires { IsPortOf lanes.now port }
     ensures { IsPortOf lanes.now result.0 }
 {
@@ -270,7 +339,7 @@ fn what_waits_is_taken_at_once(rt: HostRuntime) -> Result<(), Fail> {
     let mut second = ports.pop().expect(&rt, "no second port");
     let first = ports.pop().expect(&rt, "no first port");
     take_at_once(&rt, &lanes, &mut second, 0);
-    let first = send_in_turn(&rt, &store, &lanes, first, even, odd);
+    let first = send_in_turn(&rt, rt.alloc(), &store, &lanes, first, even, odd);
     take_at_once(&rt, &lanes, &mut second, 1001);
     end(&rt, &store, &lanes, &mut second, 1);
     take_at_once(&rt, &lanes, &mut second, 1);
@@ -288,7 +357,7 @@ fn hand_over<R: Threads + Wait + Abort + Sync>(
     second: Port,
     even: Key,
     odd: Key,
-) -> (Port, Port, Vec<Item>)
+) -> (Port, Port, Vec<Load>)
     requires store { lanes.now.sizes ≡ sizes_of store.now }
     requires first { IsPortOf lanes.now first }
     requires second { IsPortOf lanes.now second }
@@ -302,8 +371,8 @@ fn hand_over<R: Threads + Wait + Abort + Sync>(
             requires { (lanes.now.sizes ≡ sizes_of store.now) × IsPortOf lanes.now first
                 × IsKeyOf (sizes_of store.now) even × IsKeyOf (sizes_of store.now) odd }
             ensures { IsPortOf lanes.entry.now result }
-        { send_in_turn(rt, store, lanes, first, even, odd) },
-        move || -> (Port, Vec<Item>)
+        { send_in_turn(rt, alloc, store, lanes, first, even, odd) },
+        move || -> (Port, Vec<Load>)
             requires { IsPortOf lanes.now second }
             ensures { IsPortOf lanes.entry.now result.0 }
         { take_to_end(rt, alloc, lanes, second) },
@@ -338,7 +407,7 @@ fn two_threads_keep_the_order(rt: HostRuntime) -> Result<(), Fail> {
         let key = if place % 2 == 0 { even } else { odd };
         let key = if place < 1000 { Some(key) } else { None };
         assert_eq!(rt;
-            tell(items[place]),
+            tell(&items[place]),
             Told {
                 from: 0,
                 level: 0,
@@ -368,14 +437,21 @@ fn send_to_all<R: Wait + Abort>(
     let mut done = Vec::new(alloc);
     for _ in 0..lanes.count() {
         let mut port = ports.pop().expect(rt, "no port is left");
-        put_on_all(rt, store, lanes, &mut port, key);
+        put_on_all(rt, alloc, store, lanes, &mut port, key);
         done.push(port).expect(rt, "out of memory");
     }
     done
 }
 
 /// Puts a request and the first End on all lanes.
-fn put_on_all<R: Wait + Abort>(rt: &R, store: &Store, lanes: &Lanes, port: &mut Port, key: Key)
+fn put_on_all<R: Wait + Abort>(
+    rt: &R,
+    alloc: Global,
+    store: &Store,
+    lanes: &Lanes,
+    port: &mut Port,
+    key: Key,
+)
     requires store { lanes.now.sizes ≡ sizes_of store.now }
     requires port { IsPortOf lanes.now port.old }
     requires key { IsKeyOf (sizes_of store.now) key }
@@ -383,7 +459,7 @@ fn put_on_all<R: Wait + Abort>(rt: &R, store: &Store, lanes: &Lanes, port: &mut 
 {
     let workers = lanes.count();
     for to in 0..workers {
-        ask(rt, store, lanes, port, to, key);
+        ask(rt, alloc, store, lanes, port, to, key);
         end(rt, store, lanes, port, to);
     }
     assert_eq!(rt; port.put(), 2 * workers as u128);
@@ -415,12 +491,12 @@ fn take_from_all<R: Wait + Abort>(
 }
 
 /// Sees that the request came of this sender, then its first End, and nothing else.
-fn come_in_order(rt: &impl Abort, alloc: Global, items: &Vec<Item>, from: u32, key: Key) {
+fn come_in_order(rt: &impl Abort, alloc: Global, items: &Vec<Load>, from: u32, key: Key) {
     let theirs = of_sender(alloc, items, from).expect(rt, "out of memory");
     assert_eq!(rt; theirs.len(), 2);
     for (place, key) in [(0, Some(key)), (1, None)] {
         assert_eq!(rt;
-            tell(theirs[place]),
+            theirs[place],
             Told {
                 from,
                 level: 0,

@@ -172,7 +172,7 @@ fn one_worker_records_what_it_is_asked_for(rt: HostRuntime) -> Result<(), Fail> 
     assert!(rt; is_row(part.rows.level(0), root, Err((1, child)), Ok(Ref::TRUE)));
     assert!(rt; is_row(part.rows.level(1), child, Ok(Ref::FALSE), Ok(c)));
     assert!(rt; part.rows.level(2).is_empty());
-    assert_eq!(rt; (part.port.number(), part.port.put()), (0, 5));
+    assert_eq!(rt; (part.port.number(), part.port.put()), (0, 3));
     assert!(rt; !stop.load(Ordering::SeqCst));
     Ok(())
 }

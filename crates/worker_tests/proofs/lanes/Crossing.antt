@@ -25,8 +25,8 @@ key_send = key.the_send
 
 -- the thread that sends
 pub sender_send : (ν : _) (ℓ ℓ' ℓ'' : Lifetime) (κ κ' κ'' : Lft) (R : RattleType) → IsSync R
-    → IsSend (TupleAt ν (ShrRef ℓ κ R ∷ ShrRef ℓ' κ' Store.the_row ∷ ShrRef ℓ'' κ'' Lanes.the_row ∷ Port.the_row ∷ Key.the_row ∷ Key.the_row ∷ []))
-sender_send ν ℓ ℓ' ℓ'' κ κ' κ'' R r = search (sendable, crosses, lanes_sync, port_send, store_sync, key_send) depth 30
+    → IsSend (TupleAt ν (ShrRef ℓ κ R ∷ Heap.the_row ∷ ShrRef ℓ' κ' Store.the_row ∷ ShrRef ℓ'' κ'' Lanes.the_row ∷ Port.the_row ∷ Key.the_row ∷ Key.the_row ∷ []))
+sender_send ν ℓ ℓ' ℓ'' κ κ' κ'' R r = search (sendable, crosses, lanes_sync, port_send, store_sync, key_send, heap_send) depth 30
 
 flag_sync : IsSync AtomicBool.the_row
 flag_sync = search (sendable, crosses, frees) depth 30
