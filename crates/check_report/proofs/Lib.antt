@@ -9,3 +9,5 @@ pub mod Pigeons
 pub mod Numbering
 pub mod Excluding
 pub mod Determined
+pub mod Trying
+pub mod Printing

@@ -4,5 +4,6 @@ pub mod Report
 pub mod Comparing
 pub mod Check
 pub mod Limits
+pub mod Best
 pub mod Texts
 pub mod Listing

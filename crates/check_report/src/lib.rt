@@ -1,7 +1,9 @@
 //! Two netlists to the report of their comparison.
 #![tactic(auto)]
 
+mod attempts;
 mod checking;
+mod choice;
 mod compare;
 mod fault;
 pub mod laws;
@@ -15,6 +17,7 @@ mod verdicts;
 mod write;
 
 pub use checking::{check, judge};
+pub use choice::{Attempt, Candidate, Choice};
 pub use fault::CheckFault;
 pub use listing::print_order;
 pub use outcome::{Outcome, Role, Side};

@@ -8,7 +8,7 @@ use Rattle.net_order.specs.declared.order.Match.{Match}
 use Rattle.net_order.specs.declared.order.Match.TheVariants.{Name, Position}
 use Rattle.command_line.specs.declared.options.Options.{Options}
 use Rattle.command_line.specs.declared.options.OrderChoice.{OrderChoice}
-use Rattle.command_line.specs.declared.options.OrderChoice.TheVariants.{Declared, Depth, Interleave, File}
+use Rattle.command_line.specs.declared.options.OrderChoice.TheVariants.{Declared, Depth, Interleave, Best, File}
 use Rattle.command_line.specs.declared.options.Texts.{Texts}
 use Rattle.command_line.specs.declared.options.Texts.TheVariants.{Input, Files, One}
 use Rattle.command_line.specs.Words.{tool_app, AreTexts, AskFor, IsChoice, IsFlag, IsMatching, IsNumberIn}
@@ -59,6 +59,7 @@ as_declared : (choice : OrderChoice) → IsChoice None (Some (codes "declared"))
 as_declared Declared is = refl
 as_declared Depth is = cc
 as_declared Interleave is = cc
+as_declared Best is = cc
 as_declared (File path) is = absurd is
 
 on_input : (texts : Texts) → AreTexts None None texts → texts ≡ Input

@@ -5,7 +5,6 @@ ghost use Rattle.command_line.specs.Defaults.{AreDefaults};
 ghost use Rattle.command_line.specs.Words.{AskFor};
 
 /// No words at all ask for the defaults, and for nothing else.
-#[tactic(auto, using(crate::proofs::Defaulting::defaults))]
 pub fn no_words()
     ensures { (o : Options) → AskFor [] o → AreDefaults o }
 {}
