@@ -15,7 +15,7 @@ import time
 from dataclasses import replace
 
 import kit
-from judging import ORDERS, Case, answer
+from judging import CANDIDATES, ORDERS, Case, answer
 from kit import FEATURES, Tally, run, say
 
 WORDS = ["AND", "NAND", "OR", "NOR", "XOR", "XNOR", "NOT", "BUFF", "BUF"]
@@ -315,10 +315,12 @@ def limits_of(case):
     from judging import Refusal, judged
 
     try:
-        need = judged(case).nodes
+        needs = [judged(case).nodes]
+        if case.order == "best":
+            needs = sorted({judged(replace(case, order=order)).nodes for order in CANDIDATES})
     except Refusal:
         return [None]
-    return [need, need - 1] if need > 1 else [max(need, 1)]
+    return [limit for need in needs for limit in (need, need - 1) if limit >= 1] or [1]
 
 
 def taken_again(program, case, order, place):

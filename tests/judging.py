@@ -132,9 +132,15 @@ def leaves(net, roots, rank=None):
 
 
 # The orders by their words. A new order is one line here, from the paired netlists to a list of names.
-ORDERS = {"declared": Paired.declared, "depth": Paired.by_depth}
+# `best` is one of them.
+ORDERS = {"declared": Paired.declared, "depth": Paired.by_depth, "best": Paired.interleaved}
 if FEATURES["interleave"]:
     ORDERS["interleave"] = Paired.interleaved
+
+
+# The best of these, in this order, is the first whose nodes are within the budget: the cases here are far below the first one, so only
+# the limit counts.
+CANDIDATES = ["interleave", "depth", "declared"]
 
 
 def levels(paired, order):
@@ -330,10 +336,22 @@ def paired_of(case):
     return Paired(*nets, case.match, given), order
 
 
+def judged_best(paired, case):
+    """The first of the candidates that needs no more nodes than the limit; where each needs more, the last."""
+    for order in CANDIDATES:
+        result = judge(paired, order, case.sizes)
+        if case.limit is None or result.nodes <= case.limit:
+            break
+    return result, order
+
+
 def judged(case):
     """What the case must give; a refusal where it must be refused."""
     paired, order = paired_of(case)
-    result = judge(paired, order, case.sizes)
+    if order == "best":
+        result, _ = judged_best(paired, case)
+    else:
+        result = judge(paired, order, case.sizes)
     if case.limit is not None and result.nodes > case.limit:
         raise Refusal("build: more nodes than the limit", 3)
     return result
@@ -343,7 +361,12 @@ def answer(case):
     """The run that the program must make of the case."""
     try:
         if case.print_order:
-            names = levels(*paired_of(case))
+            paired, order = paired_of(case)
+            if order == "best":
+                result, order = judged_best(paired, case)
+                if case.limit is not None and result.nodes > case.limit:
+                    raise Refusal("build: more nodes than the limit", 3)
+            names = levels(paired, order)
             return Run(0, "".join(name + "\n" for name in names).encode(), b"")
         result = judged(case)
     except Refusal as refusal:

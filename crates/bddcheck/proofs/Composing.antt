@@ -6,6 +6,8 @@ use Rattle.std.specs.Io.KnownBytes.{Appends, Keeps}
 use Rattle.std.proofs.lemmas.List.{append_assoc}
 use Rattle.bddcheck.specs.declared.done.Done.{Done}
 use Rattle.check_report.specs.Limits.{AreBeyond}
+use Rattle.check_report.specs.Best.{IsAllowed}
+use Rattle.check_report.specs.declared.choice.Choice.{Choice}
 use Rattle.check_report.specs.Writing.{AppendsFront}
 use Rattle.net_order.specs.declared.order.Order.{Order}
 use Rattle.command_line.specs.declared.options.Options.{Options}
@@ -16,7 +18,7 @@ use Rattle.bddcheck.specs.declared.fault.ToolFault.{ToolFault}
 use Rattle.bddcheck.specs.declared.fault.ToolFault.TheVariants.{OneFile, InputTwice as DashTwice, CannotOpen, InputUnread, InputTooLong, InputUndivided, BadOrder, Check, OutOfMemory}
 use Rattle.bddcheck.specs.Splitting.{IsSplit}
 use Rattle.bddcheck.specs.Opening.{Try, Extends, opened, AreTried}
-use Rattle.bddcheck.specs.Running.{first_paths, second_paths, text_paths, order_paths, paths_of, IsShort, AreTexts, HasTexts, IsOrderOf, IsCompared, HasReported, HasReportedFront, AreFitting, HasFirstFailed, HasSecondFailed, IsWithin, IsBeyond, IsCompareFault, IsToolFault}
+use Rattle.bddcheck.specs.Running.{first_paths, second_paths, text_paths, order_paths, paths_of, IsShort, AreTexts, HasTexts, IsOrderOf, IsCompared, HasReported, HasReportedFront, HasFirstFailed, HasSecondFailed, IsBeyond, IsCompareFault, IsToolFault}
 use Rattle.bddcheck.proofs.Failing.{check_fault}
 
 -- ---- tries
@@ -101,11 +103,7 @@ module _ (told : List ℕ → Option (List ℕ)) (input : Option (List ℕ)) (o 
   whole_front told' e before now has_failed has_stopped h =
       (h.0, h.1, record { one = one; two = two; texts = texts; compared = subst (λ t. IsCompared t one two o h.0 h.1) e h.2 }, h.3)
 
-  pub whole_within : (told' : List ℕ → Option (List ℕ)) → told' ≡ told → (r : Result Done ToolFault) → IfOk r (λ done. (order : Order) × IsOrderOf told' o.order order × AreFitting done one two o order) → IfOk r (IsWithin told input o)
-  whole_within told' e (Ok done) h = (one, two, h.0, texts, subst (λ t. IsOrderOf t o.order h.0) e h.1, h.2)
-  whole_within told' e (Err fault) h = tt
-
-  pub whole_beyond : (told' : List ℕ → Option (List ℕ)) → told' ≡ told → (order : Order) × IsOrderOf told' o.order order × AreBeyond one two o.matching order o.limit → IsBeyond told input o
+  pub whole_beyond : (told' : List ℕ → Option (List ℕ)) → told' ≡ told → (choice : Choice) × IsOrderOf told' o.order choice × ((order : Order) → IsAllowed choice order → AreBeyond one two o.matching order o.limit) → IsBeyond told input o
   whole_beyond told' e h = (one, two, h.0, texts, subst (λ t. IsOrderOf t o.order h.0) e h.1, h.2)
 
   module _ (broken : List ℕ → Type 0) (input_broken first_failed second_failed : Type 0) (first : first_failed → HasFirstFailed broken input_broken o.texts) (second : second_failed → HasSecondFailed broken input_broken o.texts) where
@@ -123,7 +121,7 @@ module _ (told : List ℕ → Option (List ℕ)) (input : Option (List ℕ)) (o 
     whole_fault tries (BadOrder fault) f =
         (f.0, f.1, has_texts told input o.texts one two texts, ap (λ l. opened (text_paths o.texts) ++ l) f.2 ∙ sym (opened_more (text_paths o.texts) (order_paths o.order)), f.3)
     whole_fault tries (Check fault) f =
-        (one, two, f.0, texts, f.1, ap (λ l. opened (text_paths o.texts) ++ l) f.2 ∙ sym (opened_more (text_paths o.texts) (order_paths o.order)), check_fault one two first_failed second_failed (HasFirstFailed broken input_broken o.texts) (HasSecondFailed broken input_broken o.texts) o.matching f.0 first second fault f.3)
+        (one, two, f.0, texts, f.1, ap (λ l. opened (text_paths o.texts) ++ l) f.2 ∙ sym (opened_more (text_paths o.texts) (order_paths o.order)), (f.3.0, f.3.1, check_fault one two first_failed second_failed (HasFirstFailed broken input_broken o.texts) (HasSecondFailed broken input_broken o.texts) o.matching f.3.0 first second fault f.3.2))
 
     pub whole_faults : (told' : List ℕ → Option (List ℕ)) → told' ≡ told → (a b c : Option (List Try)) → Extends a b (opened (text_paths o.texts)) → (r : Result Done ToolFault)
         → IfErr r (λ fault. (tries : List Try) × Extends b c tries × IsCompareFault told' broken one two first_failed second_failed o tries fault)

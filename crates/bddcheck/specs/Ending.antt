@@ -17,7 +17,7 @@ use Rattle.bddcheck.specs.declared.process.NoWords.{NoWords}
 use Rattle.bddcheck.specs.declared.process.NoWords.TheVariants.{OutOfMemory as NoArguments, NoText}
 use Rattle.bddcheck.specs.Faults.{fault_line, fault_status}
 use Rattle.bddcheck.specs.Opening.{Try, Extends, opened}
-use Rattle.bddcheck.specs.Running.{paths_of, HasReported, HasReportedFront, IsWithin, IsBeyond, IsToolFault, StandOnInput}
+use Rattle.bddcheck.specs.Running.{paths_of, HasReported, HasReportedFront, IsBeyond, IsToolFault, StandOnInput}
 
 -- what a device held and holds now, and whether it has failed by now, and whether a write has taken nothing of some bytes
 pub record Written : Type 0 where
@@ -48,8 +48,8 @@ pub record IsReportStatus (outcome : Outcome) (status : ℕ) : Type 0 where
 
 -- the status of what a run has done: 0 for an order that was printed
 abbrev pub IsDoneStatus : Done → (status : ℕ) → Type 0
-IsDoneStatus (Compared outcome) status = IsReportStatus outcome status
-IsDoneStatus OrderPrinted status = status ≡ 0
+IsDoneStatus (Compared outcome tried) status = IsReportStatus outcome status
+IsDoneStatus (OrderPrinted tried) status = status ≡ 0
 
 -- what a run is given and leaves: the files that are told, the tries before and now, the bytes of the input and whether it has failed
 -- now, and what was written to the output and to the error device
@@ -65,7 +65,6 @@ pub record Scene : Type 0 where
 -- What the options ask for of what they name was written, all files were opened, and nothing was said.
 pub record Reports (s : Scene) (o : Options) (done : Done) (status : ℕ) : Type 0 where
   pub report : HasReported s.told s.input o s.output.held s.output.holds done
-  pub within : IsWithin s.told s.input o done
   pub opened_all : Extends s.tried s.tries (opened (paths_of o))
   pub silent : Keeps s.errors.held s.errors.holds
   pub code : IsDoneStatus done status

@@ -10,10 +10,14 @@ use Rattle.net_order.specs.declared.order.OrderFault.TheVariants.{Read as OrderR
 use Rattle.net_order.specs.OrderText.{IsOrderText, IsBadText}
 use Rattle.check_report.specs.Listing.{IsOrderPrinted}
 use Rattle.check_report.specs.Check.{IsChecked, IsCheckFault}
-use Rattle.check_report.specs.Limits.{AreWithin, AreBeyond}
+use Rattle.check_report.specs.declared.fault.CheckFault.{CheckFault}
+use Rattle.check_report.specs.Limits.{AreBeyond}
+use Rattle.check_report.specs.Best.{IsAllowed, IsChosen, IsFound}
+use Rattle.check_report.specs.declared.choice.Choice.{Choice}
+use Rattle.check_report.specs.declared.choice.Choice.TheVariants.{One as Ordered, Best as TheBest}
 use Rattle.command_line.specs.declared.options.Options.{Options}
 use Rattle.command_line.specs.declared.options.OrderChoice.{OrderChoice}
-use Rattle.command_line.specs.declared.options.OrderChoice.TheVariants.{Declared, Depth, Interleave, File}
+use Rattle.command_line.specs.declared.options.OrderChoice.TheVariants.{Declared, Depth, Interleave, Best, File}
 use Rattle.command_line.specs.declared.options.Texts.{Texts}
 use Rattle.command_line.specs.declared.options.Texts.TheVariants.{Input, Files, InputAndFile, FileAndInput, InputTwice, One}
 use Rattle.bddcheck.specs.declared.done.Done.{Done}
@@ -62,6 +66,7 @@ order_paths (File path) = path.now ∷ []
 order_paths Declared = []
 order_paths Depth = []
 order_paths Interleave = []
+order_paths Best = []
 
 -- all files that are opened, in this order
 abbrev pub paths_of : Options → List (List ℕ)
@@ -84,23 +89,27 @@ AreTexts told input (FileAndInput first) one two = IsReadOf (told first.now) one
 AreTexts told input InputTwice one two = ⊥
 AreTexts told input One one two = ⊥
 
--- the order that is asked for; a file of names has been read
-abbrev pub IsOrderOf : (List ℕ → Option (List ℕ)) → OrderChoice → Order → Type 0
-IsOrderOf told Declared order = order ≡ declared
-IsOrderOf told Depth order = order ≡ depth
-IsOrderOf told Interleave order = order ≡ interleave
-IsOrderOf told (File path) order = (names : List (List ℕ)) × (order ≡ Listed names) × IfSome (told path.now) (λ text. IsOrderText text names)
+-- the order that is asked for, or the best; a file of names has been read
+abbrev pub IsOrderOf : (List ℕ → Option (List ℕ)) → OrderChoice → Choice → Type 0
+IsOrderOf told Declared choice = choice ≡ Ordered declared
+IsOrderOf told Depth choice = choice ≡ Ordered depth
+IsOrderOf told Interleave choice = choice ≡ Ordered interleave
+IsOrderOf told Best choice = choice ≡ TheBest
+IsOrderOf told (File path) choice = (names : List (List ℕ)) × (choice ≡ Ordered (Listed names)) × IfSome (told path.now) (λ text. IsOrderText text names)
 
--- the bytes are what the options ask for of these two texts in this order: the report in the form that they ask for, with its counts, or the order itself
-abbrev pub IsMade : (one two : Option (List ℕ)) → Options → Order → Done → (bytes : List ℕ) → Type 0
-IsMade one two o order (Compared outcome) bytes = (o.print_order ≡ false) × IsChecked o.json one two o.matching order o.sizes outcome bytes
-IsMade one two o order OrderPrinted bytes = (o.print_order ≡ true) × IsOrderPrinted one two o.matching order bytes
+-- The bytes are what the options ask for of these two texts in an order of this choice: the report in the form that they ask for, with its counts, or the order
+-- itself. The nodes that are needed in this order are within the limit of the options.
+abbrev pub IsMade : (one two : Option (List ℕ)) → Options → Choice → Done → (bytes : List ℕ) → Type 0
+IsMade one two o choice (Compared outcome tried) bytes =
+    (o.print_order ≡ false) × (order : Order) × IsChecked o.json one two o.matching order o.sizes outcome bytes × IsChosen one two o.matching choice o.limit tried order
+IsMade one two o choice (OrderPrinted tried) bytes =
+    (o.print_order ≡ true) × (order : Order) × IsOrderPrinted one two o.matching order bytes × IsFound one two o.matching choice o.limit tried order
 
 -- the bytes are what the options ask for of these two texts
 pub record IsCompared (told : List ℕ → Option (List ℕ)) (one two : Option (List ℕ)) (o : Options) (done : Done) (bytes : List ℕ) : Type 0 where
-  pub order : Order
-  pub ordered : IsOrderOf told o.order order
-  pub made : IsMade one two o order done bytes
+  pub choice : Choice
+  pub ordered : IsOrderOf told o.order choice
+  pub made : IsMade one two o choice done bytes
 
 -- The bytes are what the options ask for of the texts that they name.
 pub record IsReported (told : List ℕ → Option (List ℕ)) (input : Option (List ℕ)) (o : Options) (done : Done) (bytes : List ℕ) : Type 0 where
@@ -118,22 +127,18 @@ abbrev pub HasReportedFront : (List ℕ → Option (List ℕ)) → Option (List 
 HasReportedFront told input o before now has_failed has_stopped =
     (done : Done) × (bytes : List ℕ) × IsReported told input o done bytes × AppendsFront before now has_failed has_stopped bytes
 
--- the nodes that two texts need in this order are within the limit of the options; where the order alone is printed, there are none
-abbrev pub AreFitting : Done → (one two : Option (List ℕ)) → Options → Order → Type 0
-AreFitting (Compared outcome) one two o order = AreWithin one two o.matching order o.limit
-AreFitting OrderPrinted one two o order = ⊤
-
 -- this holds of the texts and the order that the options name
-abbrev pub AreNamed : (List ℕ → Option (List ℕ)) → Option (List ℕ) → Options → (Option (List ℕ) → Option (List ℕ) → Order → Type 0) → Type 0
-AreNamed told input o P = (one two : Option (List ℕ)) × (order : Order) × AreTexts told input o.texts one two × IsOrderOf told o.order order × P one two order
+abbrev pub AreNamed : (List ℕ → Option (List ℕ)) → Option (List ℕ) → Options → (Option (List ℕ) → Option (List ℕ) → Choice → Type 0) → Type 0
+AreNamed told input o P = (one two : Option (List ℕ)) × (choice : Choice) × AreTexts told input o.texts one two × IsOrderOf told o.order choice × P one two choice
 
--- the nodes that the two texts need are within the limit of the options, where these are compared
-abbrev pub IsWithin : (List ℕ → Option (List ℕ)) → Option (List ℕ) → Options → Done → Type 0
-IsWithin told input o done = AreNamed told input o (λ one two order. AreFitting done one two o order)
-
--- they are not within it
+-- the nodes that the two texts need are not within the limit of the options, in any order that is asked for
 abbrev pub IsBeyond : (List ℕ → Option (List ℕ)) → Option (List ℕ) → Options → Type 0
-IsBeyond told input o = AreNamed told input o (λ one two order. AreBeyond one two o.matching order o.limit)
+IsBeyond told input o = AreNamed told input o (λ one two choice. (order : Order) → IsAllowed choice order → AreBeyond one two o.matching order o.limit)
+
+-- why the check of two texts failed, in an order of this choice
+abbrev pub IsFailedCheck : (one two : Option (List ℕ)) → (first_failed second_failed : Type 0) → Options → Choice → CheckFault → Type 0
+IsFailedCheck one two first_failed second_failed o choice fault =
+    (order : Order) × IsAllowed choice order × IsCheckFault one two first_failed second_failed o.matching order fault
 
 -- both texts are at hand
 abbrev pub HasTexts : Option (List ℕ) → Texts → Type 0
@@ -168,7 +173,7 @@ IsOrderFault told broken choice tries (Check fault) = ⊥
 -- Why two texts have no report: for their order, or by the check. The devices of both texts may have failed.
 abbrev pub IsCompareFault : (List ℕ → Option (List ℕ)) → (broken : List ℕ → Type 0) → (one two : Option (List ℕ)) → (first_failed second_failed : Type 0) → Options → List Try → ToolFault → Type 0
 IsCompareFault told broken one two first_failed second_failed o tries (Check fault) =
-    (order : Order) × IsOrderOf told o.order order × (tries ≡ opened (order_paths o.order)) × IsCheckFault one two first_failed second_failed o.matching order fault
+    (choice : Choice) × IsOrderOf told o.order choice × (tries ≡ opened (order_paths o.order)) × IsFailedCheck one two first_failed second_failed o choice fault
 IsCompareFault told broken one two first_failed second_failed o tries (CannotOpen place) = IsOrderFault told broken o.order tries (CannotOpen place)
 IsCompareFault told broken one two first_failed second_failed o tries (BadOrder fault) = IsOrderFault told broken o.order tries (BadOrder fault)
 IsCompareFault told broken one two first_failed second_failed o tries OutOfMemory = IsOrderFault told broken o.order tries OutOfMemory
@@ -228,6 +233,6 @@ IsToolFault told broken input_broken input o tries InputUndivided = (o.texts ≡
 IsToolFault told broken input_broken input o tries (BadOrder fault) =
     (path : Bor (List ℕ)) × (o.order ≡ File path) × HasTexts input o.texts × (tries ≡ opened (paths_of o)) × IsOrderRefused (told path.now) (broken path.now) fault
 IsToolFault told broken input_broken input o tries (Check fault) =
-    (one two : Option (List ℕ)) × (order : Order) × AreTexts told input o.texts one two × IsOrderOf told o.order order
-    × (tries ≡ opened (paths_of o)) × IsCheckFault one two (HasFirstFailed broken input_broken o.texts) (HasSecondFailed broken input_broken o.texts) o.matching order fault
+    (one two : Option (List ℕ)) × (choice : Choice) × AreTexts told input o.texts one two × IsOrderOf told o.order choice
+    × (tries ≡ opened (paths_of o)) × IsFailedCheck one two (HasFirstFailed broken input_broken o.texts) (HasSecondFailed broken input_broken o.texts) o choice fault
 IsToolFault told broken input_broken input o tries OutOfMemory = AreTried (paths_of o) tries

@@ -1,12 +1,12 @@
 //! What a run has done.
 
-use check_report::Outcome;
+use check_report::{Attempt, Outcome};
 
-/// What was written.
+/// What was written, and the attempt that it comes from where the best order was to be found.
 #[derive(Clone, Copy, Drop, Debug, PartialEq, Eq)]
 pub enum Done {
     /// The report of a comparison.
-    Compared(Outcome),
+    Compared(Outcome, Option<Attempt>),
     /// The order of the variables.
-    OrderPrinted,
+    OrderPrinted(Option<Attempt>),
 }

@@ -3,18 +3,20 @@ ghost use Rattle.std.specs.Prelude.{◌≡◌, ◌≢◌, ◌⊎◌, ℕ, ◌∷
 ghost use Rattle.std.specs.Io.KnownBytes.{Appends};
 ghost use Rattle.check_report.specs.declared.fault.CheckFault.TheVariants.{Wave, Write};
 ghost use Rattle.bddcheck.specs.declared.done.Done.{Done};
+ghost use Rattle.check_report.specs.declared.choice.Choice.{Choice as ChoiceValue};
+ghost use Rattle.check_report.specs.Best.{IsAllowed};
 ghost use Rattle.check_report.specs.Limits.{AreBeyond};
 ghost use Rattle.check_report.specs.Writing.{AppendsFront};
 ghost use Rattle.expand_work.specs.declared.fault.WaveFault.TheVariants.{Full};
 ghost use Rattle.net_order.specs.declared.order.Order.{Order};
 ghost use Rattle.bddcheck.specs.Opening.{Extends, HasFailedAt, Try, opened};
-ghost use Rattle.bddcheck.specs.Running.{order_paths, paths_of, IsShort, IsOrderOf, IsOrderFault, IsCompared, IsCompareFault, IsInputFault, IsToolFault, HasReported, HasReportedFront, AreFitting, IsWithin, IsBeyond, StandOnInput};
+ghost use Rattle.bddcheck.specs.Running.{order_paths, paths_of, IsShort, IsOrderOf, IsOrderFault, IsCompared, IsCompareFault, IsInputFault, IsToolFault, HasReported, HasReportedFront, IsBeyond, StandOnInput};
 
 use crate::done::Done;
 use crate::fault::{Place, ToolFault};
 use crate::folder::{Folder, OpenFault};
 use crate::split::split_input;
-use check_report::{Settings, check, print_order};
+use check_report::{Choice, Settings, check, print_order};
 use command_line::{Options, OrderChoice, Texts};
 use expand_work::Free;
 use net_bench::device::{InMemory, Sink, Source, TextFault, read_text};
@@ -47,19 +49,20 @@ fn order_of<F: Folder>(
     alloc: Global,
     folder: &mut F,
     choice: OrderChoice<'_>,
-) -> Result<Order, ToolFault>
+) -> Result<Choice, ToolFault>
     ensures order { IfOk result (IsOrderOf (F.told folder.old) choice.entry) }
     ensures opened { OnOk result (Extends (F.tries folder.old) (F.tries folder.new) (opened (order_paths choice.entry))) }
     ensures fault { IfErr result (λ fault. (tries : List Try) × Extends (F.tries folder.old) (F.tries folder.new) tries × IsOrderFault (F.told folder.old) (HasFailedAt F.File.origin F.File.has_failed) choice.entry tries fault) }
 {
     match choice {
-        OrderChoice::Declared => Ok(Order::Declared),
-        OrderChoice::Depth => Ok(Order::Depth),
-        OrderChoice::Interleave => Ok(Order::Interleave),
+        OrderChoice::Declared => Ok(Choice::One(Order::Declared)),
+        OrderChoice::Depth => Ok(Choice::One(Order::Depth)),
+        OrderChoice::Interleave => Ok(Choice::One(Order::Interleave)),
+        OrderChoice::Best => Ok(Choice::Best),
         OrderChoice::File(path) => {
             let mut file = open(folder, path, Place::Order)?;
             match read_order(alloc, &mut file) {
-                Ok(names) => Ok(Order::Listed(names)),
+                Ok(names) => Ok(Choice::One(Order::Listed(names))),
                 Err(fault) => Err(ToolFault::BadOrder(fault)),
             }
         }
@@ -78,10 +81,9 @@ fn compare<H: Threads + Wait + Sync, F: Folder, R1: Source, R2: Source, W: Sink>
 ) -> Result<Done, ToolFault>
     ensures report { IfOk result (λ done. (bytes : List ℕ) × IsCompared (F.told folder.old) (R1.remaining first.old) (R2.remaining second.old) options.now done bytes × Appends (W.contents out.old) (W.contents out.new) bytes) }
     ensures opened { OnOk result (Extends (F.tries folder.old) (F.tries folder.new) (opened (order_paths options.now.order))) }
-    ensures within { IfOk result (λ done. (order : Order) × IsOrderOf (F.told folder.old) options.now.order order × AreFitting done (R1.remaining first.old) (R2.remaining second.old) options.now order) }
     ensures fault { IfErr result (λ fault. (tries : List Try) × Extends (F.tries folder.old) (F.tries folder.new) tries ×
         IsCompareFault (F.told folder.old) (HasFailedAt F.File.origin F.File.has_failed) (R1.remaining first.old) (R2.remaining second.old) (IsTrue (R1.has_failed first.new)) (IsTrue (R2.has_failed second.new)) options.now tries fault) }
-    ensures full { result ≡ Err (ToolFault.Check (Wave Full)) → (order : Order) × IsOrderOf (F.told folder.old) options.now.order order × AreBeyond (R1.remaining first.old) (R2.remaining second.old) options.now.matching order options.now.limit }
+    ensures full { result ≡ Err (ToolFault.Check (Wave Full)) → (choice : ChoiceValue) × IsOrderOf (F.told folder.old) options.now.order choice × ((order : Order) → IsAllowed choice order → AreBeyond (R1.remaining first.old) (R2.remaining second.old) options.now.matching order options.now.limit) }
     ensures unwritten { result ≡ Err (ToolFault.Check Write) → (done : Done) × (bytes : List ℕ) × IsCompared (F.told folder.old) (R1.remaining first.old) (R2.remaining second.old) options.now done bytes × AppendsFront (W.contents out.old) (W.contents out.new) (W.has_failed out.new) (W.has_stopped out.new) bytes }
     ensures untouched { OnErr result (result ≢ Err (ToolFault.Check Write) → out.new ≡ out.old) }
     ensures written { OnOk result ((W.has_failed out.new ≡ W.has_failed out.old) × (W.has_stopped out.new ≡ W.has_stopped out.old)) }
@@ -96,13 +98,13 @@ fn compare<H: Threads + Wait + Sync, F: Folder, R1: Source, R2: Source, W: Sink>
         json: options.json,
     };
     if options.print_order {
-        return match print_order(alloc, first, second, &settings, out) {
-            Ok(()) => Ok(Done::OrderPrinted),
+        return match print_order(rt, alloc, first, second, &settings, &Free, out) {
+            Ok(tried) => Ok(Done::OrderPrinted(tried)),
             Err(fault) => Err(ToolFault::Check(fault)),
         };
     }
     match check(rt, alloc, first, second, &settings, &Free, out) {
-        Ok(outcome) => Ok(Done::Compared(outcome)),
+        Ok((outcome, tried)) => Ok(Done::Compared(outcome, tried)),
         Err(fault) => Err(ToolFault::Check(fault)),
     }
 }
@@ -136,8 +138,8 @@ pub fn run_options<H: Threads + Wait + Sync, F: Folder, R: Source, W: Sink>(
     ensures report { IfOk result (HasReported (F.told folder.old) (R.remaining input.old) options.now (W.contents out.old) (W.contents out.new)) }
     // Then each file that the options name was opened, in the stated order, and no other.
     ensures opened { OnOk result (Extends (F.tries folder.old) (F.tries folder.new) (opened (paths_of options.now))) }
-    // The nodes that the texts need are within the limit where there is a report, and Full comes only where they are not.
-    ensures within { IfOk result (IsWithin (F.told folder.old) (R.remaining input.old) options.now) }
+    // The nodes that the texts need are within the limit where there is a report, and Full comes only where they are not, in any order
+    // that is asked for.
     ensures full { result ≡ Err (ToolFault.Check (Wave Full)) → IsBeyond (F.told folder.old) (R.remaining input.old) options.now }
     // A fault has its cause, what comes before it was accepted, and no file was tried beyond it.
     ensures fault { IfErr result (λ fault. (tries : List Try) × Extends (F.tries folder.old) (F.tries folder.new) tries × IsToolFault (F.told folder.old) (HasFailedAt F.File.origin F.File.has_failed) (IsTrue (R.has_failed input.new)) (R.remaining input.old) options.now tries fault) }

@@ -83,8 +83,8 @@ fn status_of_done(done: Done) -> u8
     ensures bound { result ≤ 1 }
 {
     match done {
-        Done::Compared(outcome) => status_of(outcome),
-        Done::OrderPrinted => 0,
+        Done::Compared(outcome, _) => status_of(outcome),
+        Done::OrderPrinted(_) => 0,
     }
 }
 

@@ -10,3 +10,5 @@ pub mod Numbering
 pub mod Excluding
 pub mod Determined
 pub mod Tokens
+pub mod Trying
+pub mod Printing

@@ -4,6 +4,7 @@ pub mod Report
 pub mod Comparing
 pub mod Check
 pub mod Limits
+pub mod Best
 pub mod Texts
 pub mod Listing
 pub mod Json

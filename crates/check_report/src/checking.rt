@@ -1,14 +1,19 @@
 //! From two readers to a report.
-ghost use Rattle.std.specs.Prelude.{None, ◌≡◌, ◌≢◌, ℕ, List, IfOk, IfErr, OnOk, OnErr, IsTrue};
+ghost use Rattle.std.specs.Prelude.{None, ◌≡◌, ◌≢◌, ◌<◌, ◌^◌, ℕ, List, Option, IfOk, IfErr, OnOk, OnErr, IsTrue};
 ghost use Rattle.std.specs.Io.KnownBytes.{Appends};
 ghost use Rattle.net_bench.specs.Circuit.{circuit};
-ghost use Rattle.net_order.specs.Order.{IsPairing};
+ghost use Rattle.net_order.specs.declared.order.Order.{Order as OrderValue};
+ghost use Rattle.gate_plan.specs.Building.{IsPaired};
+ghost use Rattle.check_report.specs.declared.choice.Attempt.{Attempt as AttemptValue};
+ghost use Rattle.check_report.specs.Best.{IsAllowed, IsChosen};
 ghost use Rattle.check_report.specs.declared.outcome.Outcome.{Outcome};
 ghost use Rattle.check_report.specs.Report.{AreVerdicts};
 ghost use Rattle.check_report.specs.Check.{IsChecked, IsJudged, IsCheckFault, IsLate};
-ghost use Rattle.check_report.specs.Limits.{FitsWithin, Exceeds, AreWithin, AreBeyond};
+ghost use Rattle.check_report.specs.Limits.{FitsWithin, Exceeds, AreBeyond};
 ghost use Rattle.check_report.specs.Writing.{AppendsFront};
 
+use crate::attempts::decide;
+use crate::choice::Attempt;
 use crate::compare::{Comparison, verdicts_of};
 use crate::fault::CheckFault;
 use crate::outcome::Outcome;
@@ -21,63 +26,72 @@ use expand_work::{Gate, WaveFault};
 use gate_plan::build;
 use net_bench::device::{Sink, Source};
 use net_bench::reader::{Netlist, read_bench};
-use net_order::pairing::{Pairing, pair};
+use net_order::pairing::Pairing;
 use std::alloc::Global;
 use std::sync::Wait;
 use std::thread::Threads;
 
-/// What a comparison of two netlists that are paired finds.
-fn compare<H: Threads + Wait + Sync, G: Gate>(
-    rt: &H,
-    alloc: Global,
-    first: &Netlist,
-    second: &Netlist,
+/// Two netlists that are to be compared, and how.
+#[derive(Drop)]
+pub struct Task<'a, H> {
+    pub rt: &'a H,
+    pub alloc: Global,
+    pub first: &'a Netlist,
+    pub second: &'a Netlist,
+    pub settings: &'a Settings,
+}
+
+/// What a comparison of two netlists that are paired finds, within so many nodes.
+pub fn compare<H: Threads + Wait + Sync, G: Gate>(
+    task: &Task<'_, H>,
     pairing: Pairing,
-    settings: &Settings,
+    limit: u64,
     gate: &G,
 ) -> Result<Verdicts, CheckFault>
-    requires { IsPairing settings.now.matching (circuit first.now) (circuit second.now) None settings.now.order pairing }
-    ensures ok { IfOk result (λ v. AreVerdicts settings.now.sizes (circuit first.now) (circuit second.now) pairing v) }
+    requires paired { IsPaired (circuit task.now.first.now) (circuit task.now.second.now) None pairing }
+    requires small { limit < 2 ^ 32 }
+    ensures ok { IfOk result (λ v. AreVerdicts task.now.settings.now.sizes (circuit task.now.first.now) (circuit task.now.second.now) pairing v) }
     ensures err { IfErr result IsLate }
-    ensures within { OnOk result (FitsWithin settings.now.limit (circuit first.now) (circuit second.now) pairing) }
-    ensures full { result ≡ Err (CheckFault.Wave WaveFault.Full) → Exceeds settings.now.limit (circuit first.now) (circuit second.now) pairing }
+    ensures within { OnOk result (FitsWithin limit (circuit task.now.first.now) (circuit task.now.second.now) pairing) }
+    ensures full { result ≡ Err (CheckFault.Wave WaveFault.Full) → Exceeds limit (circuit task.now.first.now) (circuit task.now.second.now) pairing }
 {
-    let _ = first.inputs();
-    let _ = second.inputs();
+    let _ = task.first.inputs();
+    let _ = task.second.inputs();
     let levels = pairing.names().len() as u16;
-    let Ok(mut store) = Store::new(alloc, levels, settings.limit) else {
+    let Ok(mut store) = Store::new(task.alloc, levels, limit) else {
         return Err(CheckFault::OutOfMemory);
     };
     let built = match build(
-        rt,
-        alloc,
+        task.rt,
+        task.alloc,
         &mut store,
-        first,
-        second,
+        task.first,
+        task.second,
         None,
         &pairing,
-        settings.workers,
+        task.settings.workers,
         gate,
     ) {
         Ok(built) => built,
         Err(fault) => return Err(CheckFault::Wave(fault)),
     };
     let comparison = Comparison {
-        first,
-        second,
+        first: task.first,
+        second: task.second,
         pairing: &pairing,
         store: &store,
         built: &built,
-        sizes: settings.sizes,
+        sizes: task.settings.sizes,
     };
-    match verdicts_of(alloc, &comparison) {
+    match verdicts_of(task.alloc, &comparison) {
         Ok(verdicts) => Ok(Verdicts::of(pairing, verdicts)),
         Err(_) => Err(CheckFault::OutOfMemory),
     }
 }
 
-/// Reads two netlists, and compares their outputs and the next states of their registers. The gates' diagrams are built by as many threads as the
-/// settings have workers. The answer is never `CheckFault::Write`.
+/// Reads two netlists, and compares their outputs and the next states of their registers, in the order that is asked for, or in the
+/// best; then it says which attempt that was. The gates' diagrams are built by as many threads as the settings have workers. The answer
+/// is never `CheckFault::Write`.
 pub fn judge<H: Threads + Wait + Sync, R1: Source, R2: Source, G: Gate>(
     rt: &H,
     alloc: Global,
@@ -85,15 +99,18 @@ pub fn judge<H: Threads + Wait + Sync, R1: Source, R2: Source, G: Gate>(
     second: &mut R2,
     settings: &Settings,
     gate: &G,
-) -> Result<Verdicts, CheckFault>
-    // The verdicts are those of what was read. In them two outputs, or the next states of two registers, are called equal
-    // exactly where their functions are equal.
-    ensures verdicts { IfOk result (IsJudged (R1.remaining first.old) (R2.remaining second.old) settings.now.matching settings.now.order settings.now.sizes) }
-    // The nodes that the two netlists need are within the limit where there are verdicts, and Full comes only where they are not.
-    ensures within { OnOk result (AreWithin (R1.remaining first.old) (R2.remaining second.old) settings.now.matching settings.now.order settings.now.limit) }
-    ensures full { result ≡ Err (CheckFault.Wave WaveFault.Full) → AreBeyond (R1.remaining first.old) (R2.remaining second.old) settings.now.matching settings.now.order settings.now.limit }
+) -> Result<(Verdicts, Option<Attempt>), CheckFault>
+    // The verdicts are those of what was read, in an order that the settings allow. In them two outputs, or the next states of two
+    // registers, are called equal exactly where their functions are equal. The nodes that the two netlists need in this order are
+    // within the limit, and within the budget of the attempt.
+    ensures verdicts { IfOk result (λ r. (order : OrderValue) × IsJudged (R1.remaining first.old) (R2.remaining second.old) settings.now.matching order settings.now.sizes r.0
+        × IsChosen (R1.remaining first.old) (R2.remaining second.old) settings.now.matching settings.now.order settings.now.limit r.1 order) }
+    // Full comes only where they are not within the limit, in each order that the settings allow.
+    ensures full { result ≡ Err (CheckFault.Wave WaveFault.Full) → (order : OrderValue) → IsAllowed settings.now.order order →
+        AreBeyond (R1.remaining first.old) (R2.remaining second.old) settings.now.matching order settings.now.limit }
     // A fault has its cause, and what comes before it was accepted.
-    ensures fault { IfErr result (IsCheckFault (R1.remaining first.old) (R2.remaining second.old) (IsTrue (R1.has_failed first.new)) (IsTrue (R2.has_failed second.new)) settings.now.matching settings.now.order) }
+    ensures fault { IfErr result (λ fault. (order : OrderValue) × IsAllowed settings.now.order order
+        × IsCheckFault (R1.remaining first.old) (R2.remaining second.old) (IsTrue (R1.has_failed first.new)) (IsTrue (R2.has_failed second.new)) settings.now.matching order fault) }
     ensures unwritten { result ≢ Err CheckFault.Write }
     ensures origins { (R1.origin first.new ≡ R1.origin first.old) × (R2.origin second.new ≡ R2.origin second.old) }
 {
@@ -105,11 +122,14 @@ pub fn judge<H: Threads + Wait + Sync, R1: Source, R2: Source, G: Gate>(
         Ok(net) => net,
         Err(fault) => return Err(CheckFault::Second(fault)),
     };
-    let pairing = match pair(alloc, &one, &two, None, settings.matching, &settings.order) {
-        Ok(pairing) => pairing,
-        Err(fault) => return Err(CheckFault::Order(fault)),
+    let task = Task {
+        rt,
+        alloc,
+        first: &one,
+        second: &two,
+        settings,
     };
-    compare(rt, alloc, &one, &two, pairing, settings, gate)
+    decide(&task, gate)
 }
 
 /// Compares two netlists as `judge` does, and writes the report. Nothing is written before the whole report stands.
@@ -121,29 +141,38 @@ pub fn check<H: Threads + Wait + Sync, R1: Source, R2: Source, G: Gate, W: Sink>
     settings: &Settings,
     gate: &G,
     out: &mut W,
-) -> Result<Outcome, CheckFault>
-    // What was written is the report of what was read, and nothing else. In it two outputs, or the next states of two
-    // registers, are called equal exactly where their functions are equal.
-    ensures report { IfOk result (λ o. (bytes : List ℕ) × IsChecked settings.now.json (R1.remaining first.old) (R2.remaining second.old) settings.now.matching settings.now.order settings.now.sizes o bytes × Appends (W.contents out.old) (W.contents out.new) bytes) }
-    // The nodes that the two netlists need are within the limit where there is a report, and Full comes only where they are not.
-    ensures within { OnOk result (AreWithin (R1.remaining first.old) (R2.remaining second.old) settings.now.matching settings.now.order settings.now.limit) }
-    ensures full { result ≡ Err (CheckFault.Wave WaveFault.Full) → AreBeyond (R1.remaining first.old) (R2.remaining second.old) settings.now.matching settings.now.order settings.now.limit }
+) -> Result<(Outcome, Option<Attempt>), CheckFault>
+    // What was written is the report of what was read, in an order that the settings allow, and nothing else. In it two outputs, or the
+    // next states of two registers, are called equal exactly where their functions are equal. The nodes that the two netlists need in
+    // this order are within the limit, and within the budget of the attempt.
+    ensures report { IfOk result (λ r. (order : OrderValue) × (bytes : List ℕ) × IsChecked settings.now.json (R1.remaining first.old) (R2.remaining second.old) settings.now.matching order settings.now.sizes r.0 bytes
+        × IsChosen (R1.remaining first.old) (R2.remaining second.old) settings.now.matching settings.now.order settings.now.limit r.1 order × Appends (W.contents out.old) (W.contents out.new) bytes) }
+    // Full comes only where they are not within the limit, in each order that the settings allow.
+    ensures full { result ≡ Err (CheckFault.Wave WaveFault.Full) → (order : OrderValue) → IsAllowed settings.now.order order →
+        AreBeyond (R1.remaining first.old) (R2.remaining second.old) settings.now.matching order settings.now.limit }
     // A fault has its cause, and what comes before it was accepted.
-    ensures fault { IfErr result (IsCheckFault (R1.remaining first.old) (R2.remaining second.old) (IsTrue (R1.has_failed first.new)) (IsTrue (R2.has_failed second.new)) settings.now.matching settings.now.order) }
+    ensures fault { IfErr result (λ fault. (order : OrderValue) × IsAllowed settings.now.order order
+        × IsCheckFault (R1.remaining first.old) (R2.remaining second.old) (IsTrue (R1.has_failed first.new)) (IsTrue (R2.has_failed second.new)) settings.now.matching order fault) }
     // Where the writing failed, a front part of the report was written, and the device has failed or taken nothing of the rest.
-    ensures unwritten { result ≡ Err CheckFault.Write → (o : Outcome) × (bytes : List ℕ) × IsChecked settings.now.json (R1.remaining first.old) (R2.remaining second.old) settings.now.matching settings.now.order settings.now.sizes o bytes × AppendsFront (W.contents out.old) (W.contents out.new) (W.has_failed out.new) (W.has_stopped out.new) bytes }
+    ensures unwritten { result ≡ Err CheckFault.Write → (o : Outcome) × (tried : Option AttemptValue) × (order : OrderValue) × (bytes : List ℕ)
+        × IsChecked settings.now.json (R1.remaining first.old) (R2.remaining second.old) settings.now.matching order settings.now.sizes o bytes
+        × IsChosen (R1.remaining first.old) (R2.remaining second.old) settings.now.matching settings.now.order settings.now.limit tried order
+        × AppendsFront (W.contents out.old) (W.contents out.new) (W.has_failed out.new) (W.has_stopped out.new) bytes }
     // At any other fault nothing was written.
     ensures untouched { OnErr result (result ≢ Err CheckFault.Write → out.new ≡ out.old) }
     // A writer that took the report has not failed, and took some bytes at each write.
     ensures written { OnOk result ((W.has_failed out.new ≡ W.has_failed out.old) × (W.has_stopped out.new ≡ W.has_stopped out.old)) }
     ensures origins { (R1.origin first.new ≡ R1.origin first.old) × (R2.origin second.new ≡ R2.origin second.old) }
 {
-    let verdicts = judge(rt, alloc, first, second, settings, gate)?;
-    let Ok(text) = text_of(alloc, settings, &verdicts) else {
+    let (verdicts, tried) = match judge(rt, alloc, first, second, settings, gate) {
+        Ok((verdicts, tried)) => (verdicts, tried),
+        Err(fault) => return Err(fault),
+    };
+    let Ok(text) = text_of(alloc, settings, tried, &verdicts) else {
         return Err(CheckFault::OutOfMemory);
     };
     match write_whole(out, text.as_slice()) {
-        Ok(()) => Ok(verdicts.outcome()),
+        Ok(()) => Ok((verdicts.outcome(), tried)),
         Err(_) => Err(CheckFault::Write),
     }
 }

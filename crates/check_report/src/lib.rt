@@ -2,7 +2,9 @@
 #![tactic(auto)]
 
 mod as_json;
+mod attempts;
 mod checking;
+mod choice;
 mod compare;
 mod fault;
 pub mod laws;
@@ -17,6 +19,7 @@ mod write;
 
 pub use as_json::json_of;
 pub use checking::{check, judge};
+pub use choice::{Attempt, Candidate, Choice};
 pub use fault::CheckFault;
 pub use listing::print_order;
 pub use outcome::{Outcome, Role, Side};

@@ -1,13 +1,15 @@
 //! What a comparison is asked for.
 ghost use Rattle.std.specs.Prelude.{◌≤◌};
 
-use net_order::order::{Match, Order};
+use crate::choice::Choice;
+use net_order::order::Match;
 
 /// How two netlists are compared.
 #[derive(Drop)]
 pub struct Settings {
     pub matching: Match,
-    pub order: Order,
+    /// The order of the variables, or that the best is to be found.
+    pub order: Choice,
     /// The number of worker threads.
     pub workers: u32,
     /// The most nodes that the store may hold.

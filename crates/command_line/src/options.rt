@@ -9,6 +9,8 @@ pub enum OrderChoice<'a> {
     Declared,
     Depth,
     Interleave,
+    /// The best of these three is to be found.
+    Best,
     /// The path of a file with the names.
     File(&'a str),
 }

@@ -133,6 +133,7 @@ fn order_of<'a>(path: Option<&'a str>, word: Option<&str>) -> OrderChoice<'a>
     match word {
         Some("depth") => OrderChoice::Depth,
         Some("interleave") => OrderChoice::Interleave,
+        Some("best") => OrderChoice::Best,
         _ => OrderChoice::Declared,
     }
 }

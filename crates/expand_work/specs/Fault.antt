@@ -1,9 +1,10 @@
 -- What a wave's fault is called in print.
 use Rattle.std.specs.Prelude.{ℕ, List, codes}
 use Rattle.expand_work.specs.declared.fault.WaveFault.{WaveFault}
-use Rattle.expand_work.specs.declared.fault.WaveFault.TheVariants.{OutOfMemory, NoWorker, Full}
+use Rattle.expand_work.specs.declared.fault.WaveFault.TheVariants.{OutOfMemory, NoWorker, Full, TooManyRequests}
 
 abbrev pub wave_fault_text : WaveFault → List ℕ
 wave_fault_text OutOfMemory = codes "out of memory"
 wave_fault_text NoWorker = codes "a worker could not be started"
 wave_fault_text Full = codes "more nodes than the limit"
+wave_fault_text TooManyRequests = codes "more requests than the gate allows"

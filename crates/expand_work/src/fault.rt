@@ -17,6 +17,8 @@ pub enum WaveFault {
     NoWorker,
     /// The store holds, or would hold, more nodes than its limit.
     Full,
+    /// The wave has more requests than its gate allows.
+    TooManyRequests,
 }
 
 impl fmt::Display for WaveFault {
@@ -27,6 +29,7 @@ impl fmt::Display for WaveFault {
             WaveFault::OutOfMemory => write!(f, "out of memory"),
             WaveFault::NoWorker => write!(f, "a worker could not be started"),
             WaveFault::Full => write!(f, "more nodes than the limit"),
+            WaveFault::TooManyRequests => write!(f, "more requests than the gate allows"),
         }
     }
 }

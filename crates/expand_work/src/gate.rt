@@ -10,6 +10,12 @@ pub trait Gate: Watch + Sync {
     fn most_alone(&self, _workers: u32) -> usize {
         0
     }
+
+    /// The most requests that a wave of an engine may have. A wave that is bounded so is the caller's alone, so that no more than
+    /// three times as many are ever held; which waves are refused does not depend on the workers.
+    fn most_requests(&self) -> usize {
+        usize::MAX
+    }
 }
 
 /// Up to so many requests of a level the caller's thread was measured, and was faster than any number of workers.

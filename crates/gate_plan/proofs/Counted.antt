@@ -78,6 +78,7 @@ adds_more S T n Few Values more i = adds_as S T (IsCounted n Few) (IsCounted n V
 pub fault_more : (S : Nodes) (n : ℕ) (Few Values : (List Bool → Bool) → Type 0) → ((f : List Bool → Bool) → Few f → Values f) → (e : WaveFault) → IsBuildFault n Few S e → IsBuildFault n Values S e
 fault_more S n Few Values more wave_faults.OutOfMemory f = tt
 fault_more S n Few Values more wave_faults.NoWorker f = tt
+fault_more S n Few Values more wave_faults.TooManyRequests f = tt
 fault_more S n Few Values more wave_faults.Full (inl over) = inl over
 fault_more S n Few Values more wave_faults.Full (inr full) = inr (full.0, (full.1.0, full.1.1, counted_more n Few Values more full.1.0 full.1.1 full.1.2, full.1.3))
 
@@ -94,6 +95,7 @@ module _ (S T : Nodes) (entries : List Entry) (Values : (List Bool → Bool) →
   pub wave_fault : Keeps S T → (e : WaveFault) → IsWaveFault S entries T e → IsBuildFault S.levels Values T e
   wave_fault kept wave_faults.OutOfMemory f = tt
   wave_fault kept wave_faults.NoWorker f = tt
+  wave_fault kept wave_faults.TooManyRequests f = tt
   wave_fault kept wave_faults.Full (asked, inl over) = inl over
   wave_fault kept wave_faults.Full (asked, inr full) =
       inr (full.0, (full.1.0, full.1.1, wanted_counted full.1.0 full.1.1 full.1.2, λ r h agree. full.1.3 r h (subst (λ n. Agree n (den T r) full.1.1) (sym kept.levels) agree)))

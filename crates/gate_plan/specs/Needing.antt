@@ -51,6 +51,7 @@ IsFullFor n Values S = (S.limit < count_of S) ⊎ ((count_of S ≡ S.limit) × L
 abbrev pub IsBuildFault : ℕ → ((List Bool → Bool) → Type 0) → Nodes → WaveFault → Type 0
 IsBuildFault n Values S wave_faults.OutOfMemory = Unit {0}
 IsBuildFault n Values S wave_faults.NoWorker = Unit {0}
+IsBuildFault n Values S wave_faults.TooManyRequests = Unit {0}
 IsBuildFault n Values S wave_faults.Full = IsFullFor n Values S
 
 -- the store `new` is within its limit, or as it was

@@ -15,7 +15,7 @@ use Rattle.req_table.proofs.Waved.{is_key}
 use Rattle.req_table.specs.contracts.KeyPartialEq.TheImpl.{eq-value}
 use Rattle.std.specs.Map.{lookup}
 use Rattle.expand_work.specs.declared.fault.WaveFault.{WaveFault}
-use Rattle.expand_work.specs.declared.fault.WaveFault.TheVariants.{OutOfMemory, NoWorker, Full}
+use Rattle.expand_work.specs.declared.fault.WaveFault.TheVariants.{OutOfMemory, NoWorker, Full, TooManyRequests}
 use Rattle.reduce_up.specs.Reducing.{AddsDescribed}
 use Rattle.reduce_up.specs.Waves.{Entry, entry_value, IsEntry, AnswersEach, IsWanted, AddsBelow, HasRequest, IsWaveFault}
 use Rattle.reduce_up.specs.Known.{known_entry, unless_known, unknown, missing, woven, AreKept, found_of, IsKeptWave, Seeking, IsSought}
@@ -201,6 +201,7 @@ kept_none m es answers new none kept = by (unknown m es) (unknown_is m es) none 
 pub fault_of_all : (S T : Nodes) (m : Held) (es : List Entry) (e : WaveFault) → IsWaveFault S (unknown m es) T e → IsWaveFault S es T e
 fault_of_all S T m es OutOfMemory f = tt
 fault_of_all S T m es NoWorker f = tt
+fault_of_all S T m es TooManyRequests f = tt
 fault_of_all S T m es Full (asked, why) = (
   (asked.0, (unknown_is m es asked.0 asked.1).0, asked.2),
   elim why [

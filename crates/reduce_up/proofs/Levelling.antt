@@ -4,7 +4,7 @@ use Rattle.std.proofs.Math.Nat.{eq-or-lt_of_le}
 use Rattle.std.proofs.Math.ListN.{get_or-eq_default}
 use Rattle.std.proofs.lemmas.Bool.{cases_lt}
 use Rattle.expand_work.specs.declared.fault.WaveFault.{WaveFault}
-use Rattle.expand_work.specs.declared.fault.WaveFault.TheVariants.{OutOfMemory, NoWorker, Full}
+use Rattle.expand_work.specs.declared.fault.WaveFault.TheVariants.{OutOfMemory, NoWorker, Full, TooManyRequests}
 use Rattle.dd_store.specs.declared.reference.Ref.{Ref}
 use Rattle.req_table.specs.declared.Key.{Key}
 use Rattle.req_table.specs.declared.Child.{Child}
@@ -108,4 +108,5 @@ all_reduced start rows s pairs R d = record { answers = d.answers; done = λ v r
 pub level_fault : (rows : List (List Record)) (v : ℕ) (s : Nodes) (e : WaveFault) → IsRowFault s v (row_at rows v) e → IsReduceFault s rows e
 level_fault rows v s OutOfMemory f = tt
 level_fault rows v s NoWorker f = f
+level_fault rows v s TooManyRequests f = f
 level_fault rows v s Full f = (v, f.0, f.1, f.2)

@@ -12,7 +12,7 @@ use Rattle.dd_store.specs.Nodes.{Nodes, IsSound, IsDiagram, den}
 use Rattle.dd_store.specs.View.{part, Has}
 use Rattle.dd_store.proofs.View.{parts}
 use Rattle.expand_work.specs.declared.fault.WaveFault.{WaveFault}
-use Rattle.expand_work.specs.declared.fault.WaveFault.TheVariants.{OutOfMemory, NoWorker, Full}
+use Rattle.expand_work.specs.declared.fault.WaveFault.TheVariants.{OutOfMemory, NoWorker, Full, TooManyRequests}
 use Rattle.req_table.specs.declared.Key.{Key}
 use Rattle.req_table.specs.declared.Record.{Record}
 use Rattle.req_table.specs.Keys.{IsKey, meaning, level_of, normal_of, wave_of}
@@ -154,6 +154,7 @@ module _ (S : Nodes) (w : IsSound S) (workers : ℕ) (some : 0 < workers) (entri
     pub wave_refused : (e : WaveFault) → IsReduceFault T rows e → IsWaveFault S entries T e
     wave_refused OutOfMemory f = tt
     wave_refused NoWorker f = tt
+    wave_refused TooManyRequests f = tt
     wave_refused Full f =
         let v : ℕ = f.0 in
         let r : Record = f.1 in
@@ -192,4 +193,5 @@ module _ (S : Nodes) (w : IsSound S) (workers : ℕ) (some : 0 < workers) (entri
 pub not_full : (S : Nodes) (entries : List Entry) (T : Nodes) (e : WaveFault) → e ≢ Full → IsWaveFault S entries T e
 not_full S entries T OutOfMemory differ = tt
 not_full S entries T NoWorker differ = tt
+not_full S entries T TooManyRequests differ = tt
 not_full S entries T Full differ = absurd (differ refl)

@@ -62,5 +62,6 @@ pub record AreReduced (rows : List (List Record)) (s : Nodes) (pairs : List (Key
 abbrev pub IsReduceFault : Nodes → List (List Record) → WaveFault → Type 0
 IsReduceFault s rows wave_faults.OutOfMemory = Unit {0}
 IsReduceFault s rows wave_faults.NoWorker = ⊥
+IsReduceFault s rows wave_faults.TooManyRequests = ⊥
 IsReduceFault s rows wave_faults.Full =
     (v : ℕ) × (r : Record) × Contains (row_at rows v) r × ((s.limit < count_of s) ⊎ ((count_of s ≡ s.limit) × LacksAnswer s v r.key))

@@ -110,6 +110,7 @@ IsRecordFault s v k store_faults.Full = (s.limit ≤ count_of s) × LacksAnswer 
 abbrev pub IsRowFault : Nodes → ℕ → List Record → WaveFault → Type 0
 IsRowFault s v row wave_faults.OutOfMemory = Unit {0}
 IsRowFault s v row wave_faults.NoWorker = ⊥
+IsRowFault s v row wave_faults.TooManyRequests = ⊥
 IsRowFault s v row wave_faults.Full =
     (r : Record) × Contains row r × ((s.limit < count_of s) ⊎ ((count_of s ≡ s.limit) × LacksAnswer s v r.key))
 

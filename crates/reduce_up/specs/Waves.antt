@@ -60,6 +60,7 @@ LacksWanted old entries new =
 abbrev pub IsWaveFault : Nodes → List Entry → Nodes → WaveFault → Type 0
 IsWaveFault old entries new wave_faults.OutOfMemory = Unit {0}
 IsWaveFault old entries new wave_faults.NoWorker = Unit {0}
+IsWaveFault old entries new wave_faults.TooManyRequests = Unit {0}
 IsWaveFault old entries new wave_faults.Full =
     HasRequest entries × ((new.limit < count_of new) ⊎ ((count_of new ≡ new.limit) × LacksWanted old entries new))
 

@@ -229,6 +229,7 @@ module _ (S : Nodes) (w : IsSound S) (entries : List Entry) (good : All (IsEntry
     pub over_fault : (f : WaveFault) → IsWaveFault S (front_of (keys_from v T)) U f → IsWaveFault S entries U f
     over_fault wave_faults.OutOfMemory x = tt
     over_fault wave_faults.NoWorker x = tt
+    over_fault wave_faults.TooManyRequests x = tt
     over_fault wave_faults.Full x =
         let a = front_reached x.0.0 x.0.1 in
         (has_request_of S w entries good a.0 a.1 a.2, elim x.1 [ inl o ↦ inl o | inr f ↦ inr (f.0, lacks_through S w entries good U (front_of (keys_from v T)) front_reached f.1) ])

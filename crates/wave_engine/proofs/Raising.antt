@@ -224,6 +224,7 @@ module _ (S : Nodes) (w : IsSound S) (entries : List Entry) (good : All (IsEntry
   pub level_refused : (v : ℕ) (s : Nodes) → Keeps S s → (f : WaveFault) → IsLevelFault s T v f → IsWaveFault S entries s f
   level_refused v s K wave_faults.OutOfMemory x = tt
   level_refused v s K wave_faults.NoWorker x = tt
+  level_refused v s K wave_faults.TooManyRequests x = tt
   level_refused v s K wave_faults.Full x =
       let a : IsAdmitted S entries v x.1 = E.admitted.keys v x.0 x.1 x.2 in
       (has_request v x.1 a, elim x.3 [ inl over ↦ inl over | inr full ↦ inr (full.0, lacks_wanted S w entries good v x.1 s K a full.1) ])

@@ -126,6 +126,7 @@ module _ (S : Nodes) (w : IsSound S) (entries : List Entry) (good : All (IsEntry
   pub fault_back : (s : Nodes) (e : WaveFault) → IsWaveFault U entries s e → IsWaveFault S entries s e
   fault_back s wave_faults.OutOfMemory x = tt
   fault_back s wave_faults.NoWorker x = tt
+  fault_back s wave_faults.TooManyRequests x = tt
   fault_back s wave_faults.Full x = (x.0, elim x.1 [ inl o ↦ inl o | inr f ↦ inr (f.0, (f.1.0, f.1.1, wanted_back f.1.0 f.1.1 f.1.2, f.1.3)) ])
 
   -- what is added in two steps

@@ -55,6 +55,7 @@ pub record IsLevelReduced (start : Nodes) (tables : List (List Key)) (v i : ℕ)
 abbrev pub IsLevelFault : Nodes → List (List Key) → ℕ → WaveFault → Type 0
 IsLevelFault s tables v wave_faults.OutOfMemory = Unit {0}
 IsLevelFault s tables v wave_faults.NoWorker = ⊥
+IsLevelFault s tables v wave_faults.TooManyRequests = ⊥
 IsLevelFault s tables v wave_faults.Full =
     (q : ℕ) × (k : Key) × StandsAt tables v q k × ((s.limit < count_of s) ⊎ ((count_of s ≡ s.limit) × LacksAnswer s v k))
 

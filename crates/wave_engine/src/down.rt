@@ -1,5 +1,5 @@
 //! Expansion, from the first level down: each request's children are placed in the tables of their levels at once.
-ghost use Rattle.std.specs.Prelude.{◌≡◌, ◌<◌, ◌≤◌, ℕ, [], length, IfOk, OnOk, All};
+ghost use Rattle.std.specs.Prelude.{◌≡◌, ◌≢◌, ◌<◌, ◌≤◌, ◌-◌, ◌^◌, ℕ, [], length, Err, IfOk, IfErr, OnOk, All};
 ghost use Rattle.std.specs.List.{AllZip};
 ghost use Rattle.req_table.specs.Keys.{IsChildIn, child as child_spec};
 ghost use Rattle.reduce_up.specs.Waves.{IsEntry};
@@ -9,6 +9,7 @@ ghost use Rattle.wave_engine.specs.Down.{AreAdmitted, IsRowExpanded, AreExpanded
 use crate::lists::{Placed, Row};
 use crate::requests::Requests;
 use dd_store::{Ref, Store};
+use expand_work::WaveFault;
 use req_table::requests::{child, split};
 use req_table::{Child, Op};
 use std::alloc::AllocError;
@@ -82,7 +83,7 @@ fn expand_level(
 }
 
 /// Expands level after level, of those that have requests, and stops before the first with more than so many: all levels
-/// before the one that is answered are expanded.
+/// before the one that is answered are expanded. Where the levels that it comes to have more than `bound` together, it refuses.
 pub(crate) fn expand(
     store: &Store,
     entries: &[(Op, Ref, Ref)],
@@ -90,19 +91,28 @@ pub(crate) fn expand(
     rows: &mut Vec<Row>,
     roots: &[Placed],
     most: usize,
-) -> Result<u16, AllocError>
+    bound: usize,
+) -> Result<u16, WaveFault>
     requires start { AreExpanded store.now entries.now roots.now 0 requests.old rows.old.items }
     ensures bound { IfOk result (λ v. v ≤ store.now.levels) }
     ensures expanded { IfOk result (λ v. AreExpanded store.now entries.now roots.now v requests.new rows.new.items) }
+    ensures refused { IfErr result (λ e. e ≢ WaveFault.Full) }
+    ensures allowed { result ≡ Err WaveFault.TooManyRequests → bound < 2 ^ 64 - 1 }
 {
     let _ = entries.len();
     let _ = roots.len();
     let levels = store.levels();
     let mut level = 0;
+    let mut left = bound;
     while let Some(next) = requests.next_level(level) {
-        if requests.count(next) > most {
+        let count = requests.count(next);
+        if count > left && bound < usize::MAX {
+            return Err(WaveFault::TooManyRequests);
+        }
+        if count > most {
             return Ok(next);
         }
+        left = left.saturating_sub(count);
         expand_level(store, entries, requests, &mut rows[next as usize], next)?;
         level = next + 1;
     }

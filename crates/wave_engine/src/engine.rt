@@ -115,7 +115,8 @@ impl<'a, R: Threads + Wait + Sync, G: Gate> Engine<'a, R, G> {
     /// What has a short answer, or was asked for in an earlier wave and is still held, is answered at once. The requests of all other
     /// operations together are expanded on the caller's thread, down to the first level that has more of them than the gate lets the
     /// caller have; from there on they are the workers', in threads. They are reduced from the last level up. NoWorker is answered
-    /// where a worker's thread could not be started; entries that are all answered at once start none.
+    /// where a worker's thread could not be started; entries that are all answered at once start none. TooManyRequests is answered
+    /// where the requests are more than the gate allows; none of them are reduced then.
     pub fn wave(
         &mut self,
         store: &mut Store,

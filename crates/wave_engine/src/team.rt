@@ -45,11 +45,12 @@ pub(crate) struct Team<'a, R, G> {
 }
 
 impl<'a, R, G: Gate> Team<'a, R, G> {
-    /// The most requests that a level may have before the workers are called in. One worker is called in for a whole wave or never.
+    /// The most requests that a level may have before the workers are called in. One worker is called in for a whole wave or never,
+    /// and none for a wave whose requests are bounded.
     pub(crate) fn most_alone(&self) -> usize {
         let workers = self.workers.count();
         let most = self.gate.most_alone(workers);
-        if workers == 1 && most > 0 {
+        if self.gate.most_requests() < usize::MAX || (workers == 1 && most > 0) {
             usize::MAX
         } else {
             most

@@ -1,5 +1,5 @@
 //! Waves without a memo, and the memory that lasts from wave to wave.
-ghost use Rattle.std.specs.Prelude.{◌≡◌, ◌≤◌, ℕ, length, All, IfOk, IfErr, OnOk};
+ghost use Rattle.std.specs.Prelude.{◌≡◌, ◌≢◌, ◌≤◌, ℕ, length, All, IfOk, IfErr, OnOk};
 ghost use Rattle.std.specs.List.{AllZip};
 ghost use Rattle.dd_store.specs.declared.reference.Ref.{Ref as RefValue};
 ghost use Rattle.dd_store.specs.Nodes.{IsSound};
@@ -60,7 +60,8 @@ fn fit_answers(alloc: Global, answers: &mut Vec<Answers>, levels: u16) -> Result
     Ok(())
 }
 
-/// Places and expands what the entries ask for, down to the first level with more than so many requests.
+/// Places and expands what the entries ask for, down to the first level with more than so many requests. It refuses where they are
+/// more than `bound` in all.
 fn go_down(
     alloc: Global,
     store: &Store,
@@ -68,9 +69,11 @@ fn go_down(
     down: &mut Down,
     answers: &mut Vec<Answers>,
     most: usize,
-) -> Result<u16, AllocError>
+    bound: usize,
+) -> Result<u16, WaveFault>
     requires operands { All (IsEntry store.now) entries.now }
-    ensures { IfOk result (λ v. IsDown store.now entries.now v down.new.requests down.new.rows.items down.new.roots.items answers.new.items) }
+    ensures down { IfOk result (λ v. IsDown store.now entries.now v down.new.requests down.new.rows.items down.new.roots.items answers.new.items) }
+    ensures refused { IfErr result (λ e. e ≢ WaveFault.Full) }
 {
     let levels = store.levels();
     down.requests.restart(alloc, levels)?;
@@ -85,6 +88,7 @@ fn go_down(
         &mut down.rows,
         down.roots.as_slice(),
         most,
+        bound,
     )
 }
 
@@ -141,6 +145,7 @@ impl<'a, R: Threads + Wait + Sync, G: Gate> Workspace<'a, R, G> {
     /// The requests of all operations together are expanded on the caller's thread, down to the first level that has more of them
     /// than the gate lets the caller have; from there on they are the workers', in threads. They are reduced from the last level
     /// up. NoWorker is answered where a worker's thread could not be started; entries that all have short answers start none.
+    /// TooManyRequests is answered where the requests are more than the gate allows; none of them are reduced then.
     pub(crate) fn wave(
         &mut self,
         store: &mut Store,
@@ -157,15 +162,18 @@ impl<'a, R: Threads + Wait + Sync, G: Gate> Workspace<'a, R, G> {
         let _ = store.levels();
         let alloc = self.team.alloc;
         let most = self.team.most_alone();
-        let Ok(from) = go_down(
+        let bound = self.team.gate.most_requests();
+        let from = match go_down(
             alloc,
             store,
             entries,
             &mut self.down,
             &mut self.answers,
             most,
-        ) else {
-            return Err(WaveFault::OutOfMemory);
+            bound,
+        ) {
+            Ok(from) => from,
+            Err(fault) => return Err(fault),
         };
         hand_over(
             &self.team,

@@ -2,7 +2,7 @@
 use super::devices::new_page;
 use super::netlists::{C17, PAIRS13};
 use super::reports::ALL_EQUAL;
-use check_report::{CheckFault, Settings, check};
+use check_report::{CheckFault, Choice, Settings, check};
 use dd_store::Watch;
 use expand_work::Gate;
 use net_bench::device::Through;
@@ -97,7 +97,7 @@ fn report_of<R: Threads + Wait + Sync, G: Gate>(
 ) -> Result<Vec<u8>, CheckFault> {
     let settings = Settings {
         matching: Match::Name,
-        order: Order::Declared,
+        order: Choice::One(Order::Declared),
         workers: 2,
         limit: 67_108_864,
         sizes: false,

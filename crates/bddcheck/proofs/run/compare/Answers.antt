@@ -7,4 +7,4 @@ pub returns-clause-unwritten : goal.returns-clause-unwritten
 returns-clause-unwritten g c = λ e.
     let same : c.in-Err-check.fault ≡ Write = cc in
     let w = c.in-Err-check.ensures.unwritten (ap Err same) in
-    (Compared w.0, w.1, record { order = _; ordered = c.in_ok-order_of.ensures.order; made = (c.if-options.false, w.2) }, w.3)
+    (Compared w.0 w.1, w.3, record { choice = _; ordered = c.in_ok-order_of.ensures.order; made = (c.if-options.false, w.2, w.4, w.5) }, w.6)

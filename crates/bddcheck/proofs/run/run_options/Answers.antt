@@ -3,7 +3,7 @@ use Rattle.command_line.specs.declared.options.Texts.TheVariants.{Files, FileAnd
 use Rattle.bddcheck.specs.Running.{text_paths}
 use Rattle.bddcheck.specs.Opening.{Extends, HasFailedAt, opened}
 use Rattle.bddcheck.proofs.Failing.{failed_at, first_failed, second_failed, never}
-use Rattle.bddcheck.proofs.Composing.{extends_none, input_texts, files_texts, split_parts, split_none, undivided, whole_report, whole_within, whole_beyond, whole_front, whole_faults, both_opened, all_opened, second_unopened, second_unopened_beside, one_opened, file_and_input, input_and_file}
+use Rattle.bddcheck.proofs.Composing.{extends_none, input_texts, files_texts, split_parts, split_none, undivided, whole_report, whole_beyond, whole_front, whole_faults, both_opened, all_opened, second_unopened, second_unopened_beside, one_opened, file_and_input, input_and_file}
 use Rattle.bddcheck.proofs.run.run_options.Goals as goal
 
 pub returns-in_err-second-in-Files-clause-fault : goal.returns-in_err-second-in-Files-clause-fault
@@ -51,23 +51,11 @@ returns-in-Some-clause-unwritten g c is =
     (Some c.new-first.result) (Some c.new-second.result) (search rules) (search rules) c.in_ok-text-in-Input.ensures.text c.in_ok-text-in-Input.ensures.short (split_parts _ _ c.split_input.result c.in-Some.one c.in-Some.two (search rules) (search rules) c.split_input.ensures) in
     whole_front (g.F.Folder.told c.args.folder.now) (g.R.Source.remaining c.args.input.now) c.args.options.now _ _ texts _ refl _ _ _ _ (c.compare-in-Input.ensures.unwritten is)
 
-pub returns-in_ok-second-in-Files-clause-within : goal.returns-in_ok-second-in-Files-clause-within
-returns-in_ok-second-in-Files-clause-within g c =
-    whole_within (g.F.Folder.told c.args.folder.now) (g.R.Source.remaining c.args.input.now) c.args.options.now _ _
-    (files_texts _ _ c.in_ok-first-in-Files.ensures.kept (g.R.Source.remaining c.args.input.now) c.args.options.now c.in-Files.first c.in-Files.second c.in-Files.is _ _ c.in_ok-first-in-Files.ensures.file c.in_ok-second-in-Files.ensures.file)
-    _ (c.in_ok-second-in-Files.ensures.kept ∙ c.in_ok-first-in-Files.ensures.kept) c.compare.result c.compare.ensures.within
-
 pub returns-in_ok-second-in-Files-clause-full : goal.returns-in_ok-second-in-Files-clause-full
 returns-in_ok-second-in-Files-clause-full g c is =
     whole_beyond (g.F.Folder.told c.args.folder.now) (g.R.Source.remaining c.args.input.now) c.args.options.now _ _
     (files_texts _ _ c.in_ok-first-in-Files.ensures.kept (g.R.Source.remaining c.args.input.now) c.args.options.now c.in-Files.first c.in-Files.second c.in-Files.is _ _ c.in_ok-first-in-Files.ensures.file c.in_ok-second-in-Files.ensures.file)
     _ (c.in_ok-second-in-Files.ensures.kept ∙ c.in_ok-first-in-Files.ensures.kept) (c.compare.ensures.full is)
-
-pub returns-in-Some-clause-within : goal.returns-in-Some-clause-within
-returns-in-Some-clause-within g c =
-    let texts = input_texts (g.F.Folder.told c.args.folder.now) (g.R.Source.remaining c.args.input.now) c.args.options.now c.in-Input.is c.in_ok-text-in-Input.text.items c.in-Some.one.now c.in-Some.two.now
-    (Some c.new-first.result) (Some c.new-second.result) (search rules) (search rules) c.in_ok-text-in-Input.ensures.text c.in_ok-text-in-Input.ensures.short (split_parts _ _ c.split_input.result c.in-Some.one c.in-Some.two (search rules) (search rules) c.split_input.ensures) in
-    whole_within (g.F.Folder.told c.args.folder.now) (g.R.Source.remaining c.args.input.now) c.args.options.now _ _ texts _ refl c.compare-in-Input.result c.compare-in-Input.ensures.within
 
 pub returns-in-Some-clause-full : goal.returns-in-Some-clause-full
 returns-in-Some-clause-full g c is =

@@ -21,7 +21,6 @@ returns-in-Ok-run_options-clause-ending g c =
         c.in-Ok-run_options.done,
         record {
           report = c.in-Ok-run_options.ensures.report;
-          within = c.in-Ok-run_options.ensures.within;
           opened_all = c.in-Ok-run_options.ensures.opened;
           silent = keeps_own (g.E.Sink.contents c.args.errors.now);
           code = c.status_of_done.ensures.status;

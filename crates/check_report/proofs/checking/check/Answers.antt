@@ -1,13 +1,20 @@
-use Rattle.std.proofs.Common.{refl, subst}
+use Rattle.std.proofs.Common.{◌∙◌, ap, refl, subst, sym}
+use Rattle.check_report.specs.Json.{form_text}
 use Rattle.check_report.specs.Lines.{counted}
 use Rattle.check_report.specs.Writing.{AppendsFront}
 use Rattle.check_report.proofs.Reporting.{reported}
+use Rattle.check_report.proofs.Trying.{chosen_is}
 use Rattle.check_report.proofs.checking.check.Goals as goal
 
 pub returns-clause-unwritten : goal.returns-clause-unwritten
-returns-clause-unwritten g c = λ _. (
-  counted c.in_ok-verdicts.verdicts.verdicts,
-  c.in-Ok.text.items,
-  reported _ _ _ _ _ _ c.in_ok-verdicts.verdicts _ _ c.in_ok-verdicts.ensures.verdicts refl c.in-Ok.ensures,
-  subst (AppendsFront _ _ _ _) c.as_slice.ensures.value c.in-Err.ensures.err,
-)
+returns-clause-unwritten g c = λ _.
+    let w = c.in-Ok.ensures.verdicts in (
+      counted c.in-Ok.verdicts.verdicts,
+      c.in-Ok.tried,
+      w.0,
+      c.in-Ok-text_of.text.items,
+      reported _ _ _ _ w.0 _ c.in-Ok.verdicts _ _ w.1 refl
+          (c.in-Ok-text_of.ensures ∙ ap (λ o. form_text c.args.settings.now.json c.args.settings.now.matching o c.in-Ok.verdicts) (sym (chosen_is _ _ _ c.args.settings.now.order _ c.in-Ok.tried w.0 w.2))),
+      w.2,
+      subst (AppendsFront _ _ _ _) c.as_slice.ensures.value c.in-Err-write_whole.ensures.err,
+    )

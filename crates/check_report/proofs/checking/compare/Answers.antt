@@ -12,18 +12,18 @@ verdicts_of-requires g c = record {
   levels = c.in-Ok-build.ensures.keeps.levels ∙ ap (λ (S : Nodes). S.levels) c.in-Ok.ensures ∙ c.len-levels.ensures.value ∙ ap length c.names.ensures.value;
   first = c.in-Ok-build.ensures.first;
   second = c.in-Ok-build.ensures.second;
-  signals = all_signals _ c.args.first.now c.args.second.now None _ _ c.inputs.ensures.sound c.inputs-2.ensures.sound c.requires;
+  signals = all_signals _ c.args.task.now.first.now c.args.task.now.second.now None _ _ c.inputs.ensures.sound c.inputs-2.ensures.sound c.requires.paired.2;
 }
 
 pub returns-in-Err-clause-full : goal.returns-in-Err-clause-full
 returns-in-Err-clause-full g c = λ e.
     let T : Nodes = c.build.new.store in
-    let a = circuit c.args.first.now in
-    let b = circuit c.args.second.now in
+    let a = circuit c.args.task.now.first.now in
+    let b = circuit c.args.task.now.second.now in
     let p = c.args.pairing in
     let levels : T.levels ≡ c.len-levels.result = c.build.ensures.keeps.levels ∙ ap (λ (S : Nodes). S.levels) c.in-Ok.ensures in
-    let limit : T.limit ≡ c.args.settings.now.limit = c.build.ensures.keeps.limit ∙ ap (λ (S : Nodes). S.limit) c.in-Ok.ensures in
-    let none : count_of c.in-Ok.store ≡ 0 = ap count_of c.in-Ok.ensures ∙ none_before c.len-levels.result c.args.settings.now.limit T c.build.ensures.sound levels limit in
+    let limit : T.limit ≡ c.args.limit = c.build.ensures.keeps.limit ∙ ap (λ (S : Nodes). S.limit) c.in-Ok.ensures in
+    let none : count_of c.in-Ok.store ≡ 0 = ap count_of c.in-Ok.ensures ∙ none_before c.len-levels.result c.args.limit T c.build.ensures.sound levels limit in
     let full : c.in-Err.fault ≡ Full = cc in
-    exceeds c.args.settings.now.limit a b p T c.in-Err.fault c.build.ensures.sound (levels ∙ c.len-levels.ensures.value ∙ ap length c.names.ensures.value) limit
+    exceeds c.args.limit a b p T c.in-Err.fault c.build.ensures.sound (levels ∙ c.len-levels.ensures.value ∙ ap length c.names.ensures.value) limit
     (lean_left a b None p c.in-Ok.store T none c.build.ensures.adds) full c.in-Err.ensures.fault

@@ -1,16 +1,23 @@
-use Rattle.net_bench.specs.Circuit.{circuit}
 use Rattle.std.proofs.Common.{◌∙◌, ap, Err}
-use Rattle.check_report.proofs.Reporting.{late_answer}
+use Rattle.net_bench.specs.Circuit.{circuit}
+use Rattle.check_report.proofs.Trying.{some_order, none_failed_in}
 use Rattle.check_report.proofs.checking.judge.Goals as goal
 
+pub returns-in-Err-clause-fault : goal.returns-in-Err-clause-fault
+returns-in-Err-clause-fault g c =
+    let o = some_order c.args.settings.now.order in
+    (o.0, o.1, record { cause = c.in-Err.ensures.refused; read = λ e. c.read_bench.ensures.read (c.in-Err.is ∙ ap Err e) })
+
 pub returns-in-Err-read_bench-clause-fault : goal.returns-in-Err-read_bench-clause-fault
-returns-in-Err-read_bench-clause-fault g c = (circuit c.in-Ok.net, c.in-Ok.ensures.accepted, record { cause = c.in-Err-read_bench.ensures.refused; read = λ e. c.read_bench-2.ensures.read (c.in-Err-read_bench.is ∙ ap Err e) })
+returns-in-Err-read_bench-clause-fault g c =
+    let o = some_order c.args.settings.now.order in
+    (o.0, o.1, (circuit c.in-Ok.net, c.in-Ok.ensures.accepted, record { cause = c.in-Err-read_bench.ensures.refused; read = λ e. c.read_bench-2.ensures.read (c.in-Err-read_bench.is ∙ ap Err e) }))
+
+pub returns-clause-verdicts : goal.returns-clause-verdicts
+returns-clause-verdicts g c = c.decide.ensures.chosen _ _ c.in-Ok.ensures.accepted c.in-Ok-read_bench.ensures.accepted
+
+pub returns-clause-full : goal.returns-clause-full
+returns-clause-full g c = c.decide.ensures.full _ _ c.in-Ok.ensures.accepted c.in-Ok-read_bench.ensures.accepted
 
 pub returns-clause-fault : goal.returns-clause-fault
-returns-clause-fault g c =
-    late_answer _ _ _ _ c.args.settings.now.matching c.args.settings.now.order c.compare.result (
-      circuit c.in-Ok.net,
-      circuit c.in-Ok-read_bench.net,
-      c.in-Ok-pair.pairing,
-      record { first = c.in-Ok.ensures.accepted; second = c.in-Ok-read_bench.ensures.accepted; pairing = c.in-Ok-pair.ensures.paired },
-    ) c.compare.ensures.err
+returns-clause-fault g c = none_failed_in _ _ _ _ _ _ c.decide.result (c.decide.ensures.fault _ _ c.in-Ok.ensures.accepted c.in-Ok-read_bench.ensures.accepted)

@@ -16,7 +16,7 @@ reduce-requires-clause-expanded g c =
     let T : List (List Key) = c.go_down.new.down.requests in
     let rows : List (List (Placed × Placed)) = c.go_down.new.down.rows.items in
     let ps : List Placed = c.go_down.new.down.roots.items in
-    let D : IsDown c.args.store.now c.args.entries.now c.in-Ok.from T rows ps c.go_down.new.answers.items = c.in-Ok.ensures in
+    let D : IsDown c.args.store.now c.args.entries.now c.in-Ok.from T rows ps c.go_down.new.answers.items = c.in-Ok.ensures.down in
     let E : AreExpanded c.hand_over.new.store c.args.entries.now ps c.in-Ok.from T rows = expanded_kept c.args.store.now c.levels.ensures.sound c.args.entries.now c.requires.operands c.hand_over.new.store c.hand_over.ensures.adds.keeps ps c.in-Ok.from T rows D.expanded in
     E
 
@@ -28,8 +28,8 @@ pub returns-in-Ok-root_answers-clause-adds : goal.returns-in-Ok-root_answers-cla
 returns-in-Ok-root_answers-clause-adds g c =
     adds_both c.args.store.now c.levels.ensures.sound c.args.entries.now c.requires.operands c.hand_over.new.store c.hand_over.ensures.adds.keeps c.hand_over.ensures.sound c.reduce.new.store c.hand_over.ensures.adds c.reduce.ensures.adds
 
-pub returns-in-Err-clause-adds : goal.returns-in-Err-clause-adds
-returns-in-Err-clause-adds g c =
+pub returns-in-Err-root_answers-clause-adds : goal.returns-in-Err-root_answers-clause-adds
+returns-in-Err-root_answers-clause-adds g c =
     adds_both c.args.store.now c.levels.ensures.sound c.args.entries.now c.requires.operands c.hand_over.new.store c.hand_over.ensures.adds.keeps c.hand_over.ensures.sound c.reduce.new.store c.hand_over.ensures.adds c.reduce.ensures.adds
 
 pub returns-in_err-reduce-clause-fault : goal.returns-in_err-reduce-clause-fault
@@ -43,7 +43,7 @@ root_answers-requires g c =
     let T : List (List Key) = c.go_down.new.down.requests in
     let rows : List (List (Placed × Placed)) = c.go_down.new.down.rows.items in
     let ps : List Placed = c.go_down.new.down.roots.items in
-    let D : IsDown c.args.store.now c.args.entries.now c.in-Ok.from T rows ps c.go_down.new.answers.items = c.in-Ok.ensures in
+    let D : IsDown c.args.store.now c.args.entries.now c.in-Ok.from T rows ps c.go_down.new.answers.items = c.in-Ok.ensures.down in
     let R : AreReducedBelow c.hand_over.new.store c.args.entries.now T 0 c.reduce.new.store c.reduce.new.answers.items = c.in_ok-reduce.ensures.reduced in
     subst (λ (z : List Placed). All (λ p. (r : Ref) × ComesTo c.as_slice-2.result.now p r) z) (sym c.as_slice.ensures.value)
     (subst (λ (z : List (List Ref)). All (λ p. (r : Ref) × ComesTo z p r) ps) (sym c.as_slice-2.ensures.value)
@@ -54,7 +54,7 @@ returns-in-Ok-root_answers-clause-answers g c =
     let T : List (List Key) = c.go_down.new.down.requests in
     let rows : List (List (Placed × Placed)) = c.go_down.new.down.rows.items in
     let ps : List Placed = c.go_down.new.down.roots.items in
-    let D : IsDown c.args.store.now c.args.entries.now c.in-Ok.from T rows ps c.go_down.new.answers.items = c.in-Ok.ensures in
+    let D : IsDown c.args.store.now c.args.entries.now c.in-Ok.from T rows ps c.go_down.new.answers.items = c.in-Ok.ensures.down in
     let R : AreReducedBelow c.hand_over.new.store c.args.entries.now T 0 c.reduce.new.store c.reduce.new.answers.items = c.in_ok-reduce.ensures.reduced in
     let come : AllZip (ComesTo c.reduce.new.answers.items) ps c.in-Ok-root_answers.answers.items =
     subst (λ (z : List Placed). AllZip (ComesTo c.reduce.new.answers.items) z c.in-Ok-root_answers.answers.items) c.as_slice.ensures.value
@@ -69,7 +69,7 @@ returns-in-Ok-root_answers-clause-no_others g c =
     let T : List (List Key) = c.go_down.new.down.requests in
     let rows : List (List (Placed × Placed)) = c.go_down.new.down.rows.items in
     let ps : List Placed = c.go_down.new.down.roots.items in
-    let D : IsDown c.args.store.now c.args.entries.now c.in-Ok.from T rows ps c.go_down.new.answers.items = c.in-Ok.ensures in
+    let D : IsDown c.args.store.now c.args.entries.now c.in-Ok.from T rows ps c.go_down.new.answers.items = c.in-Ok.ensures.down in
     let R : AreReducedBelow c.hand_over.new.store c.args.entries.now T 0 c.reduce.new.store c.reduce.new.answers.items = c.in_ok-reduce.ensures.reduced in
     let come : AllZip (ComesTo c.reduce.new.answers.items) ps c.in-Ok-root_answers.answers.items =
     subst (λ (z : List Placed). AllZip (ComesTo c.reduce.new.answers.items) z c.in-Ok-root_answers.answers.items) c.as_slice.ensures.value
@@ -84,7 +84,7 @@ returns-in-Ok-root_answers-clause-within g c =
     let T : List (List Key) = c.go_down.new.down.requests in
     let rows : List (List (Placed × Placed)) = c.go_down.new.down.rows.items in
     let ps : List Placed = c.go_down.new.down.roots.items in
-    let D : IsDown c.args.store.now c.args.entries.now c.in-Ok.from T rows ps c.go_down.new.answers.items = c.in-Ok.ensures in
+    let D : IsDown c.args.store.now c.args.entries.now c.in-Ok.from T rows ps c.go_down.new.answers.items = c.in-Ok.ensures.down in
     let R : AreReducedBelow c.hand_over.new.store c.args.entries.now T 0 c.reduce.new.store c.reduce.new.answers.items = c.in_ok-reduce.ensures.reduced in
     let first : IsWithinBelow c.args.store.now T c.in-Ok.from c.hand_over.new.store = c.in_ok-hand_over.ensures.within in
     within_both c.args.store.now c.levels.ensures.sound c.args.entries.now c.requires.operands T ps D.expanded.rooted c.in-Ok.from c.hand_over.new.store c.reduce.new.store first R.within

@@ -1,0 +1,19 @@
+use Rattle.std.proofs.Common.{◌≡◌, ap, sym, subst, refl, Err}
+use Rattle.expand_work.specs.declared.fault.WaveFault.TheVariants.{Full}
+use Rattle.check_report.specs.declared.fault.CheckFault.TheVariants.{Wave}
+use Rattle.check_report.specs.Best.{order_of}
+use Rattle.check_report.specs.Limits.{AreBeyond}
+use Rattle.check_report.proofs.attempts.by_best.Goals as goal
+
+pub returns-in-Ok-clause-chosen : goal.returns-in-Ok-clause-chosen
+returns-in-Ok-clause-chosen g c = λ one two ga gb. (order_of c.in-Ok.found.order, c.in-Ok.ensures.judged one two ga gb, c.in-Ok.ensures.chosen one two ga gb)
+
+pub returns-in-Err-clause-full : goal.returns-in-Err-clause-full
+returns-in-Err-clause-full g c = λ one two ga gb e o allowed.
+    let same : c.in-Err.fault ≡ Wave Full = cc in
+    subst (λ k. AreBeyond one two c.args.task.now.settings.now.matching k c.args.task.now.settings.now.limit) (sym allowed.1) (c.in-Err.ensures.full one two ga gb (ap Err same) allowed.0)
+
+pub returns-in-Err-clause-fault : goal.returns-in-Err-clause-fault
+returns-in-Err-clause-fault g c = λ one two ga gb.
+    let w = c.in-Err.ensures.fault one two ga gb in
+    (order_of w.0, (w.0, refl), w.1)

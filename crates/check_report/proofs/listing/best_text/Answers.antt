@@ -1,0 +1,35 @@
+use Rattle.std.proofs.Common.{◌≡◌, ◌∙◌, ap, sym, subst, refl, Err}
+use Rattle.expand_work.specs.declared.fault.WaveFault.TheVariants.{Full}
+use Rattle.net_order.specs.OrderText.{order_text}
+use Rattle.check_report.specs.declared.fault.CheckFault.TheVariants.{Wave}
+use Rattle.check_report.specs.Best.{order_of}
+use Rattle.check_report.specs.Check.{IsCheckFault}
+use Rattle.check_report.specs.Limits.{AreBeyond}
+use Rattle.check_report.proofs.Printing.{printed}
+use Rattle.check_report.proofs.listing.best_text.Goals as goal
+
+pub returns-in-Ok-text_of-clause-text : goal.returns-in-Ok-text_of-clause-text
+returns-in-Ok-text_of-clause-text g c = λ one two ga gb. (
+  order_of c.in-Ok.found.order,
+  printed one two c.args.task.now.settings.now.matching (order_of c.in-Ok.found.order) c.args.task.now.settings.now.sizes c.in-Ok.verdicts c.in-Ok-text_of.text.items (c.in-Ok.ensures.judged one two ga gb)
+      (c.in-Ok-text_of.ensures.text ∙ ap order_text c.variables.ensures),
+  c.in-Ok.ensures.chosen one two ga gb,
+)
+
+pub returns-in-Ok-clause-fault : goal.returns-in-Ok-clause-fault
+returns-in-Ok-clause-fault g c = λ one two ga gb.
+    let j = c.in-Ok.ensures.judged one two ga gb in (
+      order_of c.in-Ok.found.order,
+      (c.in-Ok.found.order, refl),
+      subst (IsCheckFault one two ⊥ ⊥ c.args.task.now.settings.now.matching (order_of c.in-Ok.found.order)) (sym c.in-Err-text_of.ensures.fault) (j.a, j.b, j.p, j.paired),
+    )
+
+pub returns-clause-full : goal.returns-clause-full
+returns-clause-full g c = λ one two ga gb e o allowed.
+    let same : c.in-Err.fault ≡ Wave Full = cc in
+    subst (λ k. AreBeyond one two c.args.task.now.settings.now.matching k c.args.task.now.settings.now.limit) (sym allowed.1) (c.in-Err.ensures.full one two ga gb (ap Err same) allowed.0)
+
+pub returns-clause-fault : goal.returns-clause-fault
+returns-clause-fault g c = λ one two ga gb.
+    let w = c.in-Err.ensures.fault one two ga gb in
+    (order_of w.0, (w.0, refl), w.1)
