@@ -53,6 +53,7 @@ fn text_by<H>(task: &Task<'_, H>, order: &Order) -> Result<Vec<u8>, CheckFault>
         task.alloc,
         task.first,
         task.second,
+        None,
         task.settings.matching,
         order,
     ) {
