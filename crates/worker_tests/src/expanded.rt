@@ -9,7 +9,7 @@ use dd_store::{Ref, Store, Watch};
 use expand_work::{Free, Gate, expand_all};
 use lane_queue::Port;
 use req_table::requests::owner;
-use req_table::{Child, Key, Op, Record};
+use req_table::{Child, Key, Memo, Op, Record};
 use std::alloc::Global;
 use std::process::Abort;
 use std::sync::atomic::{AtomicBool, Ordering};
@@ -154,7 +154,8 @@ fn two_at_a_level(rt: HostRuntime) -> Result<(), Fail> {
     assert_eq!(rt; put_by(expanded.ports()), 16);
     let gate = AtFirst(Meeting::of(2));
     let entries = two_entries(&rt, &store);
-    let answers = wave(&rt, rt.alloc(), &mut store, &entries, 2, &gate)?;
+    let mut memo = Memo::new(rt.alloc(), 2)?;
+    let answers = wave(&rt, rt.alloc(), &mut store, &mut memo, &entries, 2, &gate)?;
     assert!(rt; gate.0.met());
     let both = store.find(0, Ref::FALSE, entries[0].2);
     let not_d = store.find(3, Ref::TRUE, Ref::FALSE);

@@ -10,6 +10,8 @@ mod lanes;
 #[cfg(test)]
 mod meeting;
 #[cfg(test)]
+mod memos;
+#[cfg(test)]
 mod requests;
 #[cfg(test)]
 mod workers;

@@ -1,0 +1,44 @@
+//! Memos by themselves.
+use crate::requests::{request, store_of, variable};
+use dd_store::Ref;
+use req_table::{Memo, Op};
+use std::test::Fail;
+
+// The second pair takes the place of the first.
+#[test]
+fn memo_of_one(rt: HostRuntime) -> Result<(), Fail> {
+    let store = store_of(&rt, rt.alloc(), 2);
+    let both = request(&rt, &store, Op::And, 0, 1);
+    let some = request(&rt, &store, Op::Or, 0, 1);
+    let mut memo = Memo::new(rt.alloc(), 1)?;
+    assert_eq!(rt; memo.peek(&both), None);
+    memo.keep(both, Ref::FALSE);
+    assert_eq!(rt; memo.peek(&both), Some(Ref::FALSE));
+    assert_eq!(rt; memo.peek(&some), None);
+    memo.keep(some, Ref::TRUE);
+    assert_eq!(rt; memo.peek(&both), None);
+    assert_eq!(rt; memo.peek(&some), Some(Ref::TRUE));
+    Ok(())
+}
+
+// What was kept last is forgotten last, whatever was peeked; a pair that is kept again takes its old one's place.
+#[test]
+fn full_memo(rt: HostRuntime) -> Result<(), Fail> {
+    let store = store_of(&rt, rt.alloc(), 2);
+    let a = variable(&rt, &store, 0);
+    let b = variable(&rt, &store, 1);
+    let both = request(&rt, &store, Op::And, 0, 1);
+    let some = request(&rt, &store, Op::Or, 0, 1);
+    let one = request(&rt, &store, Op::Xor, 0, 1);
+    let mut memo = Memo::new(rt.alloc(), 2)?;
+    memo.keep(both, a);
+    memo.keep(some, a);
+    assert_eq!(rt; memo.peek(&both), Some(a));
+    memo.keep(one, a);
+    assert_eq!(rt; (memo.peek(&both), memo.peek(&some)), (None, Some(a)));
+    memo.keep(some, b);
+    memo.keep(both, b);
+    assert_eq!(rt; (memo.peek(&one), memo.peek(&some)), (None, Some(b)));
+    assert_eq!(rt; memo.peek(&both), Some(b));
+    Ok(())
+}
