@@ -166,10 +166,10 @@ class Devices:
         self.check("a folder as standard input", seen, refused("standard input: cannot be read"))
         seen = self.through_shell("<&-")
         self.check("closed standard input", seen, refused("standard input: cannot be read"))
-        seen = self.through_shell("<&-", "-", self.c17)
-        self.check("closed standard input as first", seen, refused("first: cannot be read"))
-        seen = self.through_shell("<&-", self.c17, "-")
-        self.check("closed standard input as second", seen, refused("second: cannot be read"))
+        # The system gives the number of a closed standard input to the file that is opened, which is then read for both.
+        for words in (["-", self.c17], [self.c17, "-"]):
+            seen = self.through_shell("<&-", *words)
+            self.tally.check("closed standard input as a file", seen.status in (1, 2) and b"EQUAL" not in seen.out, seen)
 
     def no_permission(self):
         secret = self.file("secret", C17)
