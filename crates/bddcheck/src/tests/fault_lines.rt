@@ -134,6 +134,11 @@ fn lines_of_faults(rt: HostRuntime) -> Result<(), Fail> {
             3,
         ),
         (
+            ToolFault::Check(CheckFault::Wave(WaveFault::TooManyRequests)),
+            "build: more requests than the gate allows",
+            3,
+        ),
+        (
             ToolFault::Check(CheckFault::Write),
             "report: cannot be written",
             3,

@@ -50,10 +50,13 @@ type Row = (
     &'static str,
 );
 
+static C17_INTERLEAVED: &str = "3\n6\n2\n7\n1\n";
+
 static C17_BY_DEPTH: &str = "1\n3\n2\n6\n7\n";
 
-fn rows() -> [Row; 6] {
+fn rows() -> [Row; 7] {
     [
+        ("--order best", C17, C17B, "", C17_INTERLEAVED),
         ("", C17, C17B, "", "1\n2\n3\n6\n7\n"),
         ("--order depth --sizes", C17, C17B, "", C17_BY_DEPTH),
         (
@@ -98,5 +101,32 @@ fn printed_and_taken(rt: HostRuntime) -> Result<(), Fail> {
     let (status, by_file) = run_of(&rt, rt.alloc(), words, C17, C17B, C17_BY_DEPTH)?;
     assert_eq!(rt; status, 1);
     assert_eq!(rt; by_file.as_slice(), by_depth.as_slice());
+    Ok(())
+}
+
+static BY_INTERLEAVE: &str =
+    "EQUAL 22\nDIFFER 23 at 3=0 6=0 2=0 7=1 1=0 first=1 second=0\n1 equal, 1 different, 0 unmatched\n";
+
+static AS_DECLARED: &str =
+    "EQUAL 22\nDIFFER 23 at 1=0 2=0 3=0 6=0 7=1 first=1 second=0\n1 equal, 1 different, 0 unmatched\n";
+
+// Interleaved this pair needs 25 nodes, by depth 26, and as declared 23.
+#[test]
+fn best_at_limits(rt: HostRuntime) -> Result<(), Fail> {
+    for workers in [1, 2, 3, 16] {
+        for (limit, report, status) in [
+            (65_536, BY_INTERLEAVE, 1),
+            (65_537, BY_INTERLEAVE, 1),
+            (25, BY_INTERLEAVE, 1),
+            (24, AS_DECLARED, 1),
+            (23, AS_DECLARED, 1),
+            (22, "", 3),
+        ] {
+            let line = format!(in rt.alloc(); "--order best --workers {workers} --limit {limit}")?;
+            let (got, out) = run_of(&rt, rt.alloc(), &line, C17, C17B, "")?;
+            assert_eq!(rt; out.as_slice(), report.as_bytes(), "{line}");
+            assert_eq!(rt; got, status, "{line}");
+        }
+    }
     Ok(())
 }
