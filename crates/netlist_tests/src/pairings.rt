@@ -128,6 +128,39 @@ fn ordered(
     Ok(spelled(alloc, pairing.names())?)
 }
 
+// A condition's new variables stand behind all others, inputs before registers, and go by their names also by position.
+#[test]
+fn condition_behind(rt: HostRuntime) -> Result<(), Fail> {
+    let alloc = rt.alloc();
+    let first = netlist(alloc, THROUGH)?;
+    let second = netlist(alloc, BUFFERED)?;
+    let given = netlist(alloc, "q = DFF(a) INPUT(z) INPUT(x) OUTPUT(q)")?;
+    let rows = [
+        (Match::Name, Order::Declared, "a x z q "),
+        (Match::Position, Order::Declared, "a z x q "),
+        (Match::Name, Order::Depth, "a x z q "),
+        (Match::Name, Order::Interleave, "x a z q "),
+    ];
+    for (how, order, names) in &rows {
+        let pairing = pair(alloc, &first, &second, Some(&given), *how, order)?;
+        assert_eq!(rt;
+            spelled(alloc, pairing.names())?.as_slice(),
+            names.as_bytes()
+        );
+    }
+    let pairing = pair(
+        alloc,
+        &first,
+        &second,
+        Some(&given),
+        Match::Name,
+        &Order::Declared,
+    )?;
+    let z = given.find(b"z").ok_or("z")?;
+    assert_eq!(rt; pairing.given_level(z), 2);
+    Ok(())
+}
+
 #[test]
 fn declared_and_depth(rt: HostRuntime) -> Result<(), Fail> {
     let alloc = rt.alloc();
