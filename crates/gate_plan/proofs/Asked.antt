@@ -1,5 +1,5 @@
 -- Where a build leaves a store over its limit, no step of a gate had to be asked for.
-use Rattle.std.proofs.Common.{◌≡◌, ◌≢◌, ℕ, zero, suc, ◌+◌, ◌-◌, ◌<◌, ◌≤◌, ◌⊎◌, inl, inr, Bool, true, false, cond, min, List, [], ◌∷◌, ◌++◌, length, map, get_or, Option, Some, None, sym, ◌∙◌, ap, subst, arith, eq-eqb}
+use Rattle.std.proofs.Common.{◌≡◌, ◌≢◌, ℕ, ◌+◌, ◌-◌, ◌<◌, ◌≤◌, inl, inr, Bool, true, false, cond, min, List, [], length, map, get_or, Option, Some, None, sym, ◌∙◌, ap, subst, arith, eq-eqb}
 use Rattle.std.specs.Prelude.{Contains, slice_index, unwrap_or}
 use Rattle.std.proofs.lemmas.Bool.{ne_eqb}
 use Rattle.dd_store.specs.declared.reference.Ref.{Ref}
@@ -165,11 +165,11 @@ rank_unasked sides S T r n few w = less_unasked S T (AnyAsksIn sides T r) ((j : 
     by (j, (one, c, (g, among, rank, is_asked))) = (
       j,
       (
-        let f : folds_of g ≤ plan_folds one.net one.net.gates r = folds_within one.net r one.net.gates g among rank in
-        let most = few one c in
-        let s = is_asked.step in
-        omega arith
-      ),
+          let f : folds_of g ≤ plan_folds one.net one.net.gates r = folds_within one.net r one.net.gates g among rank in
+          let most = few one c in
+          let s = is_asked.step in
+          omega arith
+          ),
       (one, c, (g, among, rank, is_asked)),
     )
 

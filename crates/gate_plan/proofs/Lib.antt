@@ -1,4 +1,5 @@
 pub mod Asked
+pub mod Conjoined
 pub mod Counted
 pub mod Folding
 pub mod Lists

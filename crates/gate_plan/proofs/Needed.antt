@@ -8,7 +8,7 @@ use Rattle.dd_store.specs.View.{part, Has}
 use Rattle.dd_store.proofs.View.{parts, denotes, same_ref}
 use Rattle.expand_work.specs.declared.fault.WaveFault.{WaveFault}
 use Rattle.net_bench.specs.declared.netlist.GateLine.{GateLine}
-use Rattle.net_bench.specs.Circuit.{Circuit, Net, circuit, IsNet, greatest}
+use Rattle.net_bench.specs.Circuit.{Circuit, Net, circuit, greatest}
 use Rattle.net_order.specs.Order.{Paired}
 use Rattle.reduce_up.specs.Reducing.{AddsDescribed}
 use Rattle.gate_plan.specs.Building.{Placed, Levelled, levelled, levelled_of, ArePlaced, input_level, reference_of, IsDenoted, value_after, AreVariables, AllRight, AreDiagrams}

@@ -1,9 +1,7 @@
 -- One fold of a rank takes each gate's value so far to the next, and the copies and folds of a rank make its gates right.
-use Rattle.std.proofs.Common.{◌≡◌, ◌≢◌, ℕ, zero, suc, ◌+◌, ◌-◌, ◌<◌, ◌≤◌, ◌==◌, ◌&&◌, ◌⊎◌, inl, inr, Bool, true, false, not, cond, min, List, [], ◌∷◌, ◌++◌, length, map, take, drop, get_or, Some, None, refl, sym, ◌∙◌, ap, subst, arith, eq-eqb}
+use Rattle.std.proofs.Common.{◌≡◌, ◌≢◌, ℕ, zero, suc, ◌+◌, ◌-◌, ◌<◌, ◌≤◌, ◌==◌, ◌&&◌, ◌⊎◌, inl, inr, Bool, true, false, not, cond, min, List, [], ◌∷◌, ◌++◌, length, map, get_or, Some, None, refl, sym, ◌∙◌, ap, subst, arith, eq-eqb}
 use Rattle.std.specs.Prelude.{Contains, All, slice_index, unwrap_or}
-use Rattle.std.proofs.lemmas.List.{length-map, length-append, get_or_past}
-use Rattle.std.proofs.lemmas.List.Elements.{Contains-append_cases}
-use Rattle.std.proofs.lemmas.Slice.Zip.{AllZip-long}
+use Rattle.std.proofs.lemmas.List.{length-map, get_or_past}
 use Rattle.std.proofs.lemmas.Bool.{ne_eqb}
 use Rattle.dd_store.specs.declared.reference.Ref.{Ref}
 use Rattle.dd_store.specs.declared.reference.Reference.TheVariants.{False}
@@ -32,7 +30,7 @@ use Rattle.gate_plan.proofs.Lists.{same_number, lt_or_le, at_end, before_end}
 use Rattle.gate_plan.proofs.Ranks.{any_default, above_none, input_rank, operand_lower, some_operand, operand_below, one_gate, rank_top}
 use Rattle.gate_plan.proofs.Picking.{in_picks, has_pick, folds_within, step_is, has_step_of, nand_step, fold_step_of, step_one, step_many, folds_one, folds_many, copy_is, is_copy, among_operands, copies_below, steps_below, all_of}
 use Rattle.gate_plan.proofs.Together.{asked_holds, image, of_map, refs_there}
-use Rattle.gate_plan.proofs.Writing.{IsCopiedTo, IsNotCopied, copied_at, length-copied_all, IsAnsweredTo, IsNoStep, answered_at, length-answered_all, zip_at, zip_length, zip_parts}
+use Rattle.gate_plan.proofs.Writing.{IsCopiedTo, IsNotCopied, copied_at, length-copied_all, IsAnsweredTo, IsNoStep, answered_at, length-answered_all, zip_at, zip_length}
 
 -- ---- operations as functions of bits
 

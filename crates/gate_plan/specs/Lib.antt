@@ -4,3 +4,4 @@ pub mod Folds
 pub mod Need
 pub mod Needing
 pub mod Plans
+pub mod Conjoining

@@ -12,9 +12,7 @@ ghost use Rattle.gate_plan.specs.Plans.{IsPlan};
 ghost use Rattle.gate_plan.specs.Building.{Placed, IsPaired, first_level, second_level, given_level, AreDiagrams, AllRight, AllFolded};
 
 use crate::inputs::make_variables;
-use crate::sides::{
-    Diagrams, Side, copy_rank, entries_of, last_rank, most_folds, sides_of, start,
-};
+use crate::sides::{Diagrams, Side, copy_rank, entries_of, last_rank, most_folds, sides_of, start};
 use dd_store::{Ref, Store};
 use expand_work::{Gate, WaveFault};
 use net_bench::netlist::Signal;

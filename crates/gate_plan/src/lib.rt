@@ -2,10 +2,12 @@
 #![tactic(auto)]
 
 mod building;
+mod conjoining;
 mod folds;
 mod inputs;
 mod sides;
 mod steps;
 
 pub use building::{Built, build};
+pub use conjoining::conjoin;
 pub use steps::{Copied, Plan, Step};

@@ -53,7 +53,7 @@ fn spelled(alloc: Global, names: &Names) -> Result<Vec<u8>, AllocError> {
 /// The netlist paired with itself in the order of the file.
 fn listed(alloc: Global, net: &Netlist, file: &[u8]) -> Result<Pairing, OrderFault> {
     let names = read_order(alloc, &mut Through::new(file))?;
-    pair(alloc, net, net, Match::Name, &Order::Listed(names))
+    pair(alloc, net, net, None, Match::Name, &Order::Listed(names))
 }
 
 /// The names of a pairing in the order of the file.
@@ -124,8 +124,41 @@ fn ordered(
 ) -> Result<Vec<u8>, Fail> {
     let first = netlist(alloc, first)?;
     let second = netlist(alloc, second)?;
-    let pairing = pair(alloc, &first, &second, how, order)?;
+    let pairing = pair(alloc, &first, &second, None, how, order)?;
     Ok(spelled(alloc, pairing.names())?)
+}
+
+// A condition's new variables stand behind all others, inputs before registers, and go by their names also by position.
+#[test]
+fn condition_behind(rt: HostRuntime) -> Result<(), Fail> {
+    let alloc = rt.alloc();
+    let first = netlist(alloc, THROUGH)?;
+    let second = netlist(alloc, BUFFERED)?;
+    let given = netlist(alloc, "q = DFF(a) INPUT(z) INPUT(x) OUTPUT(q)")?;
+    let rows = [
+        (Match::Name, Order::Declared, "a x z q "),
+        (Match::Position, Order::Declared, "a z x q "),
+        (Match::Name, Order::Depth, "a x z q "),
+        (Match::Name, Order::Interleave, "x a z q "),
+    ];
+    for (how, order, names) in &rows {
+        let pairing = pair(alloc, &first, &second, Some(&given), *how, order)?;
+        assert_eq!(rt;
+            spelled(alloc, pairing.names())?.as_slice(),
+            names.as_bytes()
+        );
+    }
+    let pairing = pair(
+        alloc,
+        &first,
+        &second,
+        Some(&given),
+        Match::Name,
+        &Order::Declared,
+    )?;
+    let z = given.find(b"z").ok_or("z")?;
+    assert_eq!(rt; pairing.given_level(z), 2);
+    Ok(())
 }
 
 #[test]
@@ -205,7 +238,7 @@ fn outputs(rt: HostRuntime) -> Result<(), Fail> {
     let alloc = rt.alloc();
     let first = netlist(alloc, C17)?;
     let second = netlist(alloc, C17C)?;
-    let pairing = pair(alloc, &first, &second, Match::Name, &Order::Declared)?;
+    let pairing = pair(alloc, &first, &second, None, Match::Name, &Order::Declared)?;
     let found = first_outputs(&pairing);
     assert_eq!(rt; found.0, pair_named(&first, &second, b"22"));
     assert_eq!(rt; found.1, first.find(b"23"));
@@ -228,7 +261,14 @@ fn first_registers(
 #[test]
 fn paired_registers(rt: HostRuntime) -> Result<(), Fail> {
     let net = netlist(rt.alloc(), TOGGLED)?;
-    let same = pair(rt.alloc(), &net, &net, Match::Name, &Order::Interleave)?;
+    let same = pair(
+        rt.alloc(),
+        &net,
+        &net,
+        None,
+        Match::Name,
+        &Order::Interleave,
+    )?;
     let want = (pair_named(&net, &net, b"q"), None, None);
     assert_eq!(rt; first_registers(&same), want);
     Ok(())
@@ -238,7 +278,14 @@ fn paired_registers(rt: HostRuntime) -> Result<(), Fail> {
 fn lone_registers(rt: HostRuntime) -> Result<(), Fail> {
     let first = netlist(rt.alloc(), TOGGLED)?;
     let second = netlist(rt.alloc(), HELD)?;
-    let other = pair(rt.alloc(), &first, &second, Match::Name, &Order::Declared)?;
+    let other = pair(
+        rt.alloc(),
+        &first,
+        &second,
+        None,
+        Match::Name,
+        &Order::Declared,
+    )?;
     let want = (None, first.find(b"q"), second.find(b"r"));
     assert_eq!(rt; first_registers(&other), want);
     Ok(())
@@ -249,7 +296,15 @@ fn counts_differ(rt: HostRuntime) -> Result<(), Fail> {
     let alloc = rt.alloc();
     let first = netlist(alloc, C17)?;
     let short = netlist(alloc, C17_SHORT)?;
-    let fault = pair(alloc, &first, &short, Match::Position, &Order::Declared).err();
+    let fault = pair(
+        alloc,
+        &first,
+        &short,
+        None,
+        Match::Position,
+        &Order::Declared,
+    )
+    .err();
     assert_eq!(rt; fault, Some(OrderFault::CountsDiffer));
     Ok(())
 }
@@ -268,7 +323,7 @@ fn levels(rt: HostRuntime) -> Result<(), Fail> {
     let first = netlist(alloc, THROUGH)?;
     let second = netlist(alloc, BUFFERED)?;
     for (how, level) in [(Match::Name, 1), (Match::Position, 0)] {
-        let pairing = pair(alloc, &first, &second, how, &Order::Declared)?;
+        let pairing = pair(alloc, &first, &second, None, how, &Order::Declared)?;
         assert_eq!(rt; only_levels(&first, &second, &pairing), Some((0, level)));
         assert_eq!(rt;
             first_outputs(&pairing).0,
@@ -304,7 +359,7 @@ fn most_inputs(rt: HostRuntime) -> Result<(), Fail> {
     for (inputs, fault) in [(4_096, None), (4_097, Some(OrderFault::TooManyInputs))] {
         let net = wide(alloc, inputs)?;
         assert_eq!(rt;
-            pair(alloc, &net, &net, Match::Name, &Order::Depth).err(),
+            pair(alloc, &net, &net, None, Match::Name, &Order::Depth).err(),
             fault
         );
     }
@@ -315,7 +370,7 @@ fn most_inputs(rt: HostRuntime) -> Result<(), Fail> {
 fn deep(rt: HostRuntime) -> Result<(), Fail> {
     let alloc = rt.alloc();
     let net = chain(alloc, 999_999)?;
-    let pairing = pair(alloc, &net, &net, Match::Position, &Order::Depth)?;
+    let pairing = pair(alloc, &net, &net, None, Match::Position, &Order::Depth)?;
     let names = spelled(alloc, pairing.names())?;
     assert_eq!(rt; names.as_slice(), b"a ".as_slice());
     Ok(())

@@ -176,11 +176,11 @@ fn compare_builds<R: Abort + Threads + Wait + Sync>(
     requires some_worker { 1 ≤ workers }
     requires few_workers { workers ≤ 16 }
 {
-    let pairing = pair(alloc, first, second, Match::Name, &Order::Declared)?;
+    let pairing = pair(alloc, first, second, None, Match::Name, &Order::Declared)?;
     let levels = pairing.names().len() as u16;
     let mut store = Store::new(alloc, levels, need)?;
     let built = build(
-        rt, alloc, &mut store, first, second, &pairing, workers, &Free,
+        rt, alloc, &mut store, first, second, None, &pairing, workers, &Free,
     )?;
     assert_eq!(rt; store.count(), need);
     let equal = diagrams(rt, &store, first, second, &pairing, &built, "22");
@@ -189,7 +189,7 @@ fn compare_builds<R: Abort + Threads + Wait + Sync>(
     assert_eq!(rt; other.0 == other.1, same);
     let mut small = Store::new(alloc, levels, need - 1)?;
     let refused = build(
-        rt, alloc, &mut small, first, second, &pairing, workers, &Free,
+        rt, alloc, &mut small, first, second, None, &pairing, workers, &Free,
     );
     assert_eq!(rt; refused.err(), Some(WaveFault::Full));
     Ok(())

@@ -9,6 +9,7 @@ ghost use Rattle.reduce_up.specs.Waves.{IsEntry, IsClosureOf};
 
 use dd_store::{Ref, Store, Watch};
 use expand_work::{Free, Gate, WaveFault};
+use gate_plan::conjoin;
 use reduce_up::law::closures_are_records;
 use reduce_up::{Results, reduce, wave_one};
 use req_table::requests::{normal, short};
@@ -272,6 +273,28 @@ fn wave_entries(rt: HostRuntime) -> Result<(), Fail> {
 }
 
 // Each operation on two variables. They share the complement of b, so nine nodes are just enough.
+// Each reference is taken together with b, by one wave.
+#[test]
+fn conjoined(rt: HostRuntime) -> Result<(), Fail> {
+    for workers in [1, 2, 3, 16] {
+        let mut store = Store::new(rt.alloc(), 2, 4)?;
+        let known = start(&rt, rt.alloc(), &mut store);
+        let b = known_at(&rt, &store, known.as_slice(), B);
+        let answers = conjoin(
+            &rt,
+            rt.alloc(),
+            &mut store,
+            known.as_slice(),
+            b,
+            workers,
+            &Free,
+        )?;
+        let both = node(&rt, &store, 0, Ref::FALSE, b);
+        assert_eq!(rt; answers.as_slice(), [Ref::FALSE, b, both, b].as_slice());
+    }
+    Ok(())
+}
+
 #[test]
 fn limit_of_a_wave(rt: HostRuntime) -> Result<(), Fail> {
     let steps = [

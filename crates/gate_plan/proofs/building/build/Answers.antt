@@ -1,13 +1,11 @@
-use Rattle.std.proofs.Common.{refl, sym, inl, inr, arith, ◌∙◌, ◌≡◌, ◌<◌, ◌≤◌, ◌+◌, ℕ, [], List, length, map, ap, subst, get_or, suc, zero}
-use Rattle.std.specs.Prelude.{Contains}
+use Rattle.std.proofs.Common.{refl, sym, inl, arith, ◌∙◌, ◌≡◌, ◌+◌, [], List, length, ap, subst, get_or}
 use Rattle.std.proofs.lemmas.Result.{err_from_is_err_and}
 use Rattle.dd_store.specs.declared.reference.Ref.{Ref}
-use Rattle.net_bench.specs.Circuit.{circuit, greatest}
+use Rattle.net_bench.specs.Circuit.{circuit}
 use Rattle.net_order.specs.Order.{condition}
-use Rattle.gate_plan.specs.Building.{Placed, ArePlaced, AllRight, AreVariables, first_level, second_level, input_level}
+use Rattle.gate_plan.specs.Building.{ArePlaced, AllRight, AreVariables, first_level, second_level, input_level}
 use Rattle.gate_plan.specs.Folds.{IsVariable}
 use Rattle.gate_plan.specs.Needing.{IsPlacedValue}
-use Rattle.gate_plan.specs.Plans.{rank_of}
 use Rattle.gate_plan.specs.Asking.{AnyAsksIn}
 use Rattle.gate_plan.proofs.Asked.{none_unasked, next_unasked, all_unasked, still_within}
 use Rattle.gate_plan.proofs.Counted.{adds_more, adds_next, fault_next}

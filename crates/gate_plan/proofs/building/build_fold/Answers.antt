@@ -1,9 +1,7 @@
-use Rattle.std.proofs.Common.{arith, ◌∙◌, ◌≡◌, ◌+◌, ◌<◌, ◌≤◌, length, get_or, take, drop, ap, sym, subst, refl, List, []}
+use Rattle.std.proofs.Common.{arith, ◌∙◌, ◌+◌, ◌<◌, length, get_or, sym, refl, []}
 use Rattle.std.proofs.lemmas.Result.{err_from_is_err_and}
 use Rattle.std.proofs.lemmas.List.{length-set}
-use Rattle.dd_store.specs.declared.reference.Ref.{Ref}
-use Rattle.reduce_up.specs.Waves.{AnswersEach}
-use Rattle.gate_plan.specs.Building.{Placed, input_level, AreFolded, asked}
+use Rattle.gate_plan.specs.Building.{input_level, AreFolded}
 use Rattle.gate_plan.specs.Needing.{IsPlacedValue}
 use Rattle.gate_plan.specs.Plans.{plan_steps}
 use Rattle.gate_plan.proofs.Asked.{wave_unasked, wave_held}

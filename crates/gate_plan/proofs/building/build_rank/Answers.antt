@@ -1,4 +1,4 @@
-use Rattle.std.proofs.Common.{refl, inr, arith, ◌≡◌, ◌≤◌, ℕ}
+use Rattle.std.proofs.Common.{refl, inr, arith, ◌≤◌}
 use Rattle.gate_plan.specs.Building.{input_level}
 use Rattle.gate_plan.specs.Need.{IsCounted}
 use Rattle.gate_plan.specs.Needing.{IsPlacedValue}

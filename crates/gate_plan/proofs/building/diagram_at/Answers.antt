@@ -1,4 +1,4 @@
-use Rattle.std.proofs.Common.{◌≡◌, ◌∙◌, ◌<◌, [], ap, sym, subst, get_or, length, ℕ, List, Some, arith}
+use Rattle.std.proofs.Common.{◌≡◌, ◌∙◌, ◌<◌, [], ap, sym, subst, get_or, length, List, Some}
 use Rattle.std.specs.Prelude.{slice_get}
 use Rattle.dd_store.specs.declared.reference.Ref.{Ref}
 use Rattle.gate_plan.proofs.Ranks.{any_default}

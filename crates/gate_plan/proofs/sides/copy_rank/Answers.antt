@@ -1,6 +1,5 @@
-use Rattle.std.proofs.Common.{◌≡◌, ◌∙◌, ◌+◌, ◌<◌, ◌≤◌, [], ap, sym, subst, length, get_or, arith, All, List}
+use Rattle.std.proofs.Common.{◌∙◌, ◌<◌, ap, sym, subst, length, get_or, arith, All}
 use Rattle.std.proofs.lemmas.List.{length-set}
-use Rattle.dd_store.specs.declared.reference.Ref.{Ref}
 use Rattle.gate_plan.specs.Building.{IsCopyBelow, copied_all}
 use Rattle.gate_plan.proofs.Together.{there_at, set_left, set_copied}
 use Rattle.gate_plan.proofs.sides.copy_rank.Goals as goal

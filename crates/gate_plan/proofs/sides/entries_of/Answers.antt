@@ -1,7 +1,6 @@
-use Rattle.std.proofs.Common.{◌≡◌, ◌∙◌, ◌++◌, ◌<◌, ap, sym, subst, length, get_or, map, arith, All, List}
+use Rattle.std.proofs.Common.{◌∙◌, ◌++◌, ◌<◌, ap, sym, subst, length, map, arith, All, List}
 use Rattle.dd_store.specs.declared.reference.Ref.{Ref}
 use Rattle.gate_plan.specs.Building.{IsStepBelow, entry_of}
-use Rattle.gate_plan.specs.Plans.{plan_steps}
 use Rattle.gate_plan.proofs.Together.{entries_next, entries_all}
 use Rattle.gate_plan.proofs.sides.entries_of.Goals as goal
 

@@ -1,4 +1,4 @@
-use Rattle.std.proofs.Common.{◌≡◌, ◌∙◌, ◌++◌, ◌∷◌, [], ap, sym, subst, List, Option, Some, None}
+use Rattle.std.proofs.Common.{◌≡◌, ◌∙◌, ◌++◌, ◌∷◌, [], ap, sym, subst, List, Option}
 use Rattle.net_bench.specs.Circuit.{Circuit, circuit}
 use Rattle.net_order.specs.Order.{condition}
 use Rattle.gate_plan.specs.Building.{Placed, ArePlaced}

@@ -1,0 +1,35 @@
+-- The answers of a wave of conjunctions.
+use Rattle.std.proofs.Common.{◌≡◌, ◌∙◌, ap, sym, ℕ, ◌+◌, ◌<◌, List, [], ◌∷◌, ◌++◌, length, get_or, drop, append_assoc, All}
+use Rattle.std.specs.Prelude.{Contains}
+use Rattle.std.proofs.lemmas.List.{drop_more}
+use Rattle.dd_store.specs.declared.reference.Ref.{Ref}
+use Rattle.dd_store.specs.Nodes.{Nodes}
+use Rattle.dd_store.specs.View.{Has}
+use Rattle.req_table.specs.declared.Op.TheVariants.{And}
+use Rattle.reduce_up.specs.Waves.{Entry, IsEntry, AnswersEach}
+use Rattle.gate_plan.specs.Conjoining.{conjunctions, AreConjoined}
+use Rattle.gate_plan.proofs.Picking.{all_of}
+use Rattle.gate_plan.proofs.Together.{of_map}
+
+pub conjunction_next : (refs : List Ref) (given : Ref) (i : ℕ) (r : Ref) (old new whole : List Entry) → i < length refs → get_or refs i r ≡ r → new ≡ old ++ (And, r, given) ∷ [] →
+    old ++ conjunctions (drop i refs) given ≡ whole → new ++ conjunctions (drop (i + 1) refs) given ≡ whole
+conjunction_next refs given i r old new whole lt here grown done =
+    ap (λ z. z ++ conjunctions (drop (i + 1) refs) given) grown ∙ append_assoc old ((And, r, given) ∷ []) (conjunctions (drop (i + 1) refs) given)
+    ∙ ap (λ z. old ++ z) (sym (ap (λ rs. conjunctions rs given) (drop_more refs i r lt ∙ ap (λ z. z ∷ drop (i + 1) refs) here))) ∙ done
+
+pub conjoined : (S T : Nodes) (given : Ref) (refs answers : List Ref) → AnswersEach S (conjunctions refs given) T answers → AreConjoined S refs given T answers
+conjoined S T given [] [] h = tt
+conjoined S T given [] (a ∷ answers) h = h
+conjoined S T given (r ∷ refs) [] h = h
+conjoined S T given (r ∷ refs) (a ∷ answers) h = (h.0, conjoined S T given refs answers h.1)
+
+of_place : (S : Nodes) (refs : List Ref) → All (Has S) refs → (r : Ref) → Contains refs r → Has S r
+of_place S refs h r (k, lt, at) = rw at at (h k r lt)
+
+pub entries_known : (S : Nodes) (refs : List Ref) (given : Ref) (entries : List Entry) → All (Has S) refs → Has S given → entries ≡ conjunctions refs given → All (IsEntry S) entries
+entries_known S refs given entries h g e =
+    all_of (IsEntry S) entries
+    (λ x among. by x (of_map (λ r. (And, r, given)) refs x (rw e at among)))
+  where
+    by : (x : Entry) → (r : Ref) × Contains refs r × ((And, r, given) ≡ x) → IsEntry S x
+    by x m = rw (← m.2) (of_place S refs h m.0 m.1, g)

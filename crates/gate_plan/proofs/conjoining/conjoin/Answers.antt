@@ -1,0 +1,13 @@
+use Rattle.std.proofs.Common.{◌∙◌, List, subst}
+use Rattle.reduce_up.specs.Waves.{Entry, AnswersEach}
+use Rattle.gate_plan.proofs.Conjoined.{conjoined, entries_known}
+use Rattle.gate_plan.proofs.conjoining.conjoin.Goals as goal
+
+pub wave-requires-clause-operands : goal.wave-requires-clause-operands
+wave-requires-clause-operands g c κs within =
+    entries_known c.args.store.now c.args.references.now c.args.given c.as_slice.result.now c.requires.references c.requires.given (c.as_slice.ensures.value ∙ c.in-Ok.ensures)
+
+pub returns-in-Ok-wave-clause-conjoined : goal.returns-in-Ok-wave-clause-conjoined
+returns-in-Ok-wave-clause-conjoined g c =
+    conjoined c.args.store.now c.wave.new.store c.args.given c.args.references.now c.in-Ok-wave.answers.items
+    (subst (λ (z : List Entry). AnswersEach c.args.store.now z c.wave.new.store c.in-Ok-wave.answers.items) (c.as_slice.ensures.value ∙ c.in-Ok.ensures) c.in-Ok-wave.ensures.answers)

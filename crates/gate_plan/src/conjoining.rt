@@ -1,0 +1,65 @@
+//! Functions where a condition holds.
+ghost use Rattle.std.specs.Prelude.{◌≡◌, ◌++◌, ◌≤◌, IfOk, IfErr, OnOk, All};
+ghost use Rattle.dd_store.specs.Nodes.{IsSound};
+ghost use Rattle.dd_store.specs.View.{Has};
+ghost use Rattle.reduce_up.specs.Reducing.{AddsDescribed};
+ghost use Rattle.reduce_up.specs.Waves.{IsWanted, IsWaveFault, IsWithinLimit};
+ghost use Rattle.gate_plan.specs.Conjoining.{AreConjoined, conjunctions};
+
+use dd_store::{Ref, Store};
+use expand_work::{Gate, WaveFault};
+use req_table::Op;
+use std::alloc::{AllocError, Global};
+use std::sync::Wait;
+use std::thread::Threads;
+use wave_engine::{Engine, Workers};
+
+/// What the wave is asked for.
+fn conjunctions(
+    alloc: Global,
+    references: &[Ref],
+    given: Ref,
+) -> Result<Vec<(Op, Ref, Ref)>, AllocError>
+    ensures { IfOk result (λ entries. entries.items ≡ conjunctions references.now given) }
+{
+    let mut entries = Vec::new(alloc);
+    for reference in references {
+        entries.push((Op::And, *reference, given))?;
+    }
+    Ok(entries)
+}
+
+/// The diagram of each reference and the condition's, by one wave of its own.
+pub fn conjoin<R: Threads + Wait + Sync, G: Gate>(
+    rt: &R,
+    alloc: Global,
+    store: &mut Store,
+    references: &[Ref],
+    given: Ref,
+    workers: u32,
+    gate: &G,
+) -> Result<Vec<Ref>, WaveFault>
+    requires references { All (Has store.old) references.now }
+    requires given { Has store.old given }
+    requires some_worker { 1 ≤ workers }
+    requires few_workers { workers ≤ 16 }
+    ensures sound { IsSound store.new }
+    // Each reference gets the diagram of what it and the condition's denote together.
+    ensures conjoined { IfOk result (λ answers. AreConjoined store.old references.now given store.new answers.items) }
+    // Each node that is added is wanted for one of these functions, also where the wave is refused.
+    ensures adds { AddsDescribed store.old store.new (IsWanted store.old (conjunctions references.now given)) }
+    // A store that is over its limit after the wave is as it was, and nothing had to be asked for.
+    ensures within { OnOk result (IsWithinLimit store.old (conjunctions references.now given) store.new) }
+    // Full is answered only where the store has more nodes than its limit, or as many and lacks one that is wanted.
+    ensures fault { IfErr result (IsWaveFault store.old (conjunctions references.now given) store.new) }
+{
+    let _ = store.levels();
+    let Ok(entries) = conjunctions(alloc, references, given) else {
+        return Err(WaveFault::OutOfMemory);
+    };
+    let mut engine = Engine::new(rt, alloc, Workers::new(workers), gate);
+    match engine.wave(store, entries.as_slice()) {
+        Ok(answers) => Ok(answers),
+        Err(fault) => Err(fault),
+    }
+}
