@@ -2,3 +2,4 @@ pub mod Reducing
 pub mod Levels
 pub mod Waves
 pub mod Sharing
+pub mod Placed
