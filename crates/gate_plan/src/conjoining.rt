@@ -57,7 +57,9 @@ pub fn conjoin<R: Threads + Wait + Sync, G: Gate>(
     let Ok(entries) = conjunctions(alloc, references, given) else {
         return Err(WaveFault::OutOfMemory);
     };
-    let mut engine = Engine::new(rt, alloc, Workers::new(workers), gate);
+    let Ok(mut engine) = Engine::new(rt, alloc, Workers::new(workers), gate) else {
+        return Err(WaveFault::OutOfMemory);
+    };
     match engine.wave(store, entries.as_slice()) {
         Ok(answers) => Ok(answers),
         Err(fault) => Err(fault),

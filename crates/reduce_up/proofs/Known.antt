@@ -17,7 +17,7 @@ use Rattle.std.specs.Map.{lookup}
 use Rattle.expand_work.specs.declared.fault.WaveFault.{WaveFault}
 use Rattle.expand_work.specs.declared.fault.WaveFault.TheVariants.{OutOfMemory, NoWorker, Full, TooManyRequests}
 use Rattle.reduce_up.specs.Reducing.{AddsDescribed}
-use Rattle.reduce_up.specs.Waves.{Entry, entry_value, IsEntry, AnswersEach, IsWanted, AddsBelow, HasRequest, IsWaveFault}
+use Rattle.reduce_up.specs.Waves.{Entry, entry_value, IsEntry, AnswersEach, IsWanted, AddsBelow, HasRequest, IsWaveFault, IsWithinLimit}
 use Rattle.reduce_up.specs.Known.{known_entry, unless_known, unknown, missing, woven, AreKept, found_of, IsKeptWave, Seeking, IsSought}
 use Rattle.reduce_up.proofs.Noting.{nothing, head_in, tail_in, in_cases}
 use Rattle.reduce_up.proofs.Reduction.{kept_meaning, diagram_kept}
@@ -188,6 +188,11 @@ unknown_in m (d ∷ es) e c h =
 -- where nothing is held, each entry without a short answer is a request
 pub request_unknown : (m : Held) (es : List Entry) → m.pairs ≡ [] → HasRequest es → HasRequest (unknown m es)
 request_unknown m es empty (e, c, long) = (e, unknown_in m es e c (ap (or_held m (normal_of e.0 e.1 e.2)) long ∙ ap (λ pairs. lookup (eq-value.it (normal_of e.0 e.1 e.2)) pairs) empty), long)
+
+-- where a memo holds nothing, a wave is within its limit as its entries are
+pub within_all : (S T : Nodes) (m : Held) (es : List Entry) → m.pairs ≡ [] → IsWithinLimit S (unknown m es) T → IsWithinLimit S es T
+within_all S T m es empty (inl le) = inl le
+within_all S T m es empty (inr (none, same)) = inr (λ asked. none (request_unknown m es empty asked), same)
 
 -- a wave without requests leaves the memo as it was
 pub kept_none : (m : Held) (es : List Entry) (answers : List Ref) (new : Held) → (HasRequest (unknown m es) → ⊥) → IsKeptWave m es answers new → new ≡ m

@@ -1,4 +1,5 @@
 pub mod Noting
+pub mod Placing
 pub mod Reduction
 pub mod Levelling
 pub mod Closed

@@ -257,7 +257,7 @@ row_next start before v row i s pairs s' entry r pairs' S R lt at so T adds a n 
   where
     by : (j : ℕ) (d : Record) → (j ≡ i) ⊎ (j < i) → HasAnswer pairs' (slice_index_or row j d).key
     by j d (inl ej) =
-        subst (λ z. HasAnswer pairs' z.key) (at ∙ get_or_default row i entry d lt ∙ ap (λ z. get_or row z d) (sym ej)) (r, n.noted)
+        subst (λ z. HasAnswer pairs' z.key) (at ∙ get_or_default row i entry d lt ∙ ap (λ z. get_or row z d) (sym ej)) n.noted
     by j d (inr lj) = n.more (slice_index_or row j d).key (so.done j d lj)
 
 pub none_past : (start : Nodes) (before : List (Key × Ref)) (v : ℕ) (row : List Record) (i : ℕ) (s : Nodes) (pairs : List (Key × Ref)) → IsRowReduced start before v row i s pairs → IsRowReduced start before v row 0 s pairs

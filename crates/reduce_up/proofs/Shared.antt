@@ -206,7 +206,7 @@ notes_next old row found i mid entry answer new lt at beside n m = record {
   ];
   more = λ k h. m.more k (n.more k h);
   done = λ j d lj. elim (eq-or-lt_of_le (let z : j ≤ i = omega arith in z)) [
-    | inl same ↦ subst (λ z. HasAnswer new z.key) (at d ∙ ap (λ z. get_or row z d) (sym same)) (answer, m.noted)
+    | inl same ↦ subst (λ z. HasAnswer new z.key) (at d ∙ ap (λ z. get_or row z d) (sym same)) m.noted
     | inr below ↦ m.more (slice_index_or row j d).key (n.done j d below)
   ];
 }

@@ -3,3 +3,4 @@ pub mod Levels
 pub mod Waves
 pub mod Sharing
 pub mod Known
+pub mod Placed

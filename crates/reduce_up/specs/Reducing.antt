@@ -56,9 +56,9 @@ AreAnswers s pairs = (k : Key) (r : Ref) → Contains pairs (k, r) → IsAnswer 
 abbrev pub HasAnswer : List (Key × Ref) → Key → Type 0
 HasAnswer pairs k = (r : Ref) × Contains pairs (k, r)
 
--- the key has the answer r in new, and all other pairs are those of old; a key that has an answer keeps one
+-- the key has an answer in new, and each pair of new is one of old or the key with r; a key that has an answer keeps one
 pub record Notes (old : List (Key × Ref)) (k : Key) (r : Ref) (new : List (Key × Ref)) : Type 0 where
-  pub noted : Contains new (k, r)
+  pub noted : HasAnswer new k
   pub only : (l : Key) (a : Ref) → Contains new (l, a) → Contains old (l, a) ⊎ ((l ≡ k) × (a ≡ r))
   pub more : (l : Key) → HasAnswer old l → HasAnswer new l
 

@@ -77,7 +77,6 @@ fn reduce_row(
 /// Notes the diagrams of a row, by several threads where it has many records.
 fn note_row<R: Threads + Sync, H: Watch>(
     rt: &R,
-    alloc: Global,
     store: &mut Store,
     results: &mut Results,
     level: u16,
@@ -95,7 +94,7 @@ fn note_row<R: Threads + Sync, H: Watch>(
     if row.len() < FEWEST_SHARED {
         return reduce_row(store, results, level, row);
     }
-    match share_row(rt, alloc, store, results, level, row, watch) {
+    match share_row(rt, store, results, level, row, watch) {
         Ok(()) => Ok(()),
         Err(fault) => Err(wave_fault(fault)),
     }
@@ -104,7 +103,6 @@ fn note_row<R: Threads + Sync, H: Watch>(
 /// Notes the diagrams of a row, and sees that the store is within its limit where the row has records.
 fn reduce_level<R: Threads + Sync, H: Watch>(
     rt: &R,
-    alloc: Global,
     store: &mut Store,
     results: &mut Results,
     level: u16,
@@ -123,7 +121,7 @@ fn reduce_level<R: Threads + Sync, H: Watch>(
     if row.is_empty() {
         return Ok(());
     }
-    note_row(rt, alloc, store, results, level, row, watch)?;
+    note_row(rt, store, results, level, row, watch)?;
     if store.count() > store.limit() {
         return Err(WaveFault::Full);
     }
@@ -152,15 +150,7 @@ pub fn reduce<R: Threads + Sync, H: Watch>(
     let mut level = store.levels();
     while level > 0 {
         level -= 1;
-        reduce_level(
-            rt,
-            alloc,
-            store,
-            &mut results,
-            level,
-            records.level(level),
-            watch,
-        )?;
+        reduce_level(rt, store, &mut results, level, records.level(level), watch)?;
     }
     Ok(results)
 }

@@ -5,17 +5,16 @@ ghost use Rattle.std.specs.List.{AllZip};
 ghost use Rattle.dd_store.specs.Levels.{list_at};
 ghost use Rattle.dd_store.specs.Nodes.{IsSound, IsThere};
 ghost use Rattle.reduce_up.specs.Reducing.{IsReady, AreAnswers, IsRow, IsRowReduced, IsRowFault, wave_fault};
+ghost use Rattle.reduce_up.specs.Placed.{IsIndexOf};
 ghost use Rattle.reduce_up.specs.Sharing.{IsPairOf, CanStand, IsListed, AreDivided, AddsPairs, HasPair, IsPairsFault, NotesFirst};
 
-use crate::results::Results;
-use dd_store::{Ref, Store, StoreFault, Watch, shard_of};
+use crate::results::{Results, index_of};
+use dd_store::{Ref, SHARDS, Store, StoreFault, Watch, shard_of};
 use rayon::prelude::*;
-use req_table::Record;
+use req_table::{Key, Record};
+use slot_table::SlotTable;
 use std::alloc::{AllocError, Global};
 use std::thread::Threads;
-
-/// The shards of a level.
-const SHARDS: usize = 16;
 
 /// The diagrams of a record's children.
 fn pair_of(results: &Results, entry: Record) -> (Ref, Ref)
@@ -143,7 +142,11 @@ fn references<R: Threads + Sync>(
 }
 
 /// Notes the diagrams of a row, in order.
-fn note_all(results: &mut Results, row: &[Record], answers: &[Ref]) -> Result<(), AllocError>
+pub(crate) fn note_all(
+    results: &mut Results,
+    row: &[Record],
+    answers: &[Ref],
+) -> Result<(), AllocError>
     requires { length answers.now ≡ length row.now }
     ensures left { NotesFirst results.old row.now answers.now 0 results.new }
     ensures whole { OnOk result (NotesFirst results.old row.now answers.now (length row.now) results.new) }
@@ -154,13 +157,37 @@ fn note_all(results: &mut Results, row: &[Record], answers: &[Ref]) -> Result<()
     Ok(())
 }
 
+/// The diagrams of each record's children, and the keys of the row with slots by which they are found: the one by several threads,
+/// and meanwhile the other by one more.
+fn gather<R: Threads + Sync>(
+    rt: &R,
+    alloc: Global,
+    results: &Results,
+    row: &[Record],
+) -> Result<(Vec<(Ref, Ref)>, SlotTable<Key>), AllocError>
+    requires low_ready { All (λ r. IsReady results.now r.low) row.now }
+    requires high_ready { All (λ r. IsReady results.now r.high) row.now }
+    ensures pairs { IfOk result (λ r. AllZip (IsPairOf results.now) row.now r.0.items) }
+    ensures index { IfOk result (λ r. IsIndexOf row.now r.1) }
+{
+    let (keys, pairs) = rayon::join(
+        rt,
+        || index_of(alloc, row),
+        || -> Result<Vec<(Ref, Ref)>, AllocError>
+            requires low_ready { All (λ r. IsReady results.now r.low) row.now }
+            requires high_ready { All (λ r. IsReady results.now r.high) row.now }
+            ensures { IfOk result (λ pairs. AllZip (IsPairOf results.entry.now) row.entry.now pairs.items) }
+        { pairs_of(rt, alloc, results, row) },
+    );
+    Ok((pairs?, keys?))
+}
+
 /// Notes the diagrams of a row, whose records and shards several threads share.
 ///
 /// What no thread could be started for, the caller's thread does. After a refusal some of the nodes may stand, and some diagrams may
 /// be noted.
 pub(crate) fn share_row<R: Threads + Sync, H: Watch>(
     rt: &R,
-    alloc: Global,
     store: &mut Store,
     results: &mut Results,
     level: u16,
@@ -175,14 +202,16 @@ pub(crate) fn share_row<R: Threads + Sync, H: Watch>(
     ensures whole { OnOk result (IsRowReduced store.old results.old level row.now (length row.now) store.new results.new) }
     ensures fault { IfErr result (λ e. IsRowFault store.new level row.now (wave_fault e)) }
 {
-    let Ok(pairs) = pairs_of(rt, alloc, results, row) else {
+    let alloc = results.alloc();
+    let Ok(found) = gather(rt, alloc, results, row) else {
         return Err(StoreFault::OutOfMemory);
     };
+    let (pairs, keys) = found;
     add_pairs(rt, alloc, store, level, pairs.as_slice(), watch)?;
     let Ok(answers) = references(rt, alloc, store, level, pairs.as_slice()) else {
         return Err(StoreFault::OutOfMemory);
     };
-    match note_all(results, row, answers.as_slice()) {
+    match results.put_row(level, row, keys, answers) {
         Ok(()) => Ok(()),
         Err(_) => Err(StoreFault::OutOfMemory),
     }

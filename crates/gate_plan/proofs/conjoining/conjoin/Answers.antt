@@ -1,6 +1,7 @@
 use Rattle.std.proofs.Common.{◌∙◌, List, subst}
 use Rattle.reduce_up.specs.Waves.{Entry, AnswersEach}
 use Rattle.gate_plan.proofs.Conjoined.{conjoined, entries_known}
+use Rattle.reduce_up.proofs.Known.{fault_of_all, within_all}
 use Rattle.gate_plan.proofs.conjoining.conjoin.Goals as goal
 
 pub wave-requires-clause-operands : goal.wave-requires-clause-operands

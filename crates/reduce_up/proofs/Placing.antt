@@ -1,0 +1,247 @@
+-- Diagrams by level: what the levels hold together, and what is found by place.
+use Rattle.std.proofs.Common.{◌≡◌, ℕ, zero, suc, ◌+◌, ◌<◌, ◌≤◌, ◌⊎◌, inl, inr, Bool, true, false, eqb, List, [], ◌∷◌, ◌++◌, length, map, get_or, set, slice_get, Some, None, refl, sym, ◌∙◌, ap, subst, arith, Contains, eqb-true, eq-eqb, get_or-set_same, get_or-set_other, length-append}
+use Rattle.std.specs.Prelude.{Option, MatchOption, IsSome, Result, Ok, Err, OnOk, OnErr, All, min}
+use Rattle.std.specs.declared.alloc.AllocError.{AllocError}
+use Rattle.std.proofs.lemmas.List.{get_or_default, set-get_or, length-map}
+use Rattle.dd_store.specs.declared.reference.Ref.{Ref}
+use Rattle.dd_store.specs.declared.reference.Reference.TheVariants.{False, True, Node}
+use Rattle.dd_store.specs.Graph.{top}
+use Rattle.dd_store.specs.Nodes.{Nodes, IsSound}
+use Rattle.std.proofs.lemmas.List.Elements.{Contains-get_or}
+use Rattle.req_table.specs.declared.Key.{Key}
+use Rattle.req_table.specs.declared.Child.TheVariants.{Done}
+use Rattle.req_table.specs.declared.Record.{Record}
+use Rattle.req_table.specs.Settled.{key_of}
+use Rattle.slot_table.specs.Lists.{IsIn}
+use Rattle.reduce_up.specs.Reducing.{IsKeyAt, IsRow, HasAnswer, Notes}
+use Rattle.reduce_up.specs.Sharing.{NotesFirst}
+use Rattle.reduce_up.specs.Placed.{place_of, paired, joined, ArePlaced}
+use Rattle.reduce_up.proofs.Noting.{nothing, head_in, tail_in, in_cases}
+
+-- ---- members of two lists
+pub in_left : {X : Type 0} (xs ys : List X) (p : X) → Contains xs p → Contains (xs ++ ys) p
+in_left [] ys p c = absurd (nothing p c)
+in_left (x ∷ xs) ys p c = elim (in_cases x p xs c) [ inl e ↦ subst (Contains (x ∷ (xs ++ ys))) e (head_in x (xs ++ ys)) | inr d ↦ tail_in x p (xs ++ ys) (in_left xs ys p d) ]
+
+pub in_right : {X : Type 0} (xs ys : List X) (p : X) → Contains ys p → Contains (xs ++ ys) p
+in_right [] ys p c = c
+in_right (x ∷ xs) ys p c = tail_in x p (xs ++ ys) (in_right xs ys p c)
+
+pub in_either : {X : Type 0} (xs ys : List X) (p : X) → Contains (xs ++ ys) p → Contains xs p ⊎ Contains ys p
+in_either [] ys p c = inr c
+in_either (x ∷ xs) ys p c = elim (in_cases x p (xs ++ ys) c) [
+  | inl e ↦ inl (subst (Contains (x ∷ xs)) e (head_in x xs))
+  | inr d ↦ elim (in_either xs ys p d) [ inl a ↦ inl (tail_in x p xs a) | inr b ↦ inr b ]
+]
+
+-- ---- members of all levels
+pub in_joined : (rows : List (List (Key × Ref))) (p : Key × Ref) → Contains (joined rows) p → (i : ℕ) × (i < length rows) × Contains (get_or rows i []) p
+in_joined [] p c = absurd (nothing p c)
+in_joined (row ∷ rows) p c = elim (in_either row (joined rows) p c) [
+  | inl a ↦ (zero, omega arith, a)
+  | inr b ↦ let (i, l, d) = in_joined rows p b in (suc i, omega (arith, l), d)
+]
+
+pub joined_in : (rows : List (List (Key × Ref))) (i : ℕ) (p : Key × Ref) → Contains (get_or rows i []) p → Contains (joined rows) p
+joined_in [] i p c = absurd (nothing p c)
+joined_in (row ∷ rows) zero p c = in_left row (joined rows) p c
+joined_in (row ∷ rows) (suc i) p c = in_right row (joined rows) p (joined_in rows i p c)
+
+-- an empty row more
+pub joined_more : (rows : List (List (Key × Ref))) → joined (rows ++ [] ∷ []) ≡ joined rows
+joined_more [] = refl
+joined_more (row ∷ rows) = ap (λ l. row ++ l) (joined_more rows)
+
+pub placed_more : (rows : List (List (Key × Ref))) → ArePlaced rows → ArePlaced (rows ++ [] ∷ [])
+placed_more rows h i k r c = h i k r (at rows i c)
+  where
+    at : (rows : List (List (Key × Ref))) (i : ℕ) → Contains {X = Key × Ref} (get_or (rows ++ [] ∷ []) i []) (k, r) → Contains {X = Key × Ref} (get_or rows i []) (k, r)
+    at [] zero c = c
+    at [] (suc i) c = c
+    at (row ∷ rows) zero c = c
+    at (row ∷ rows) (suc i) c = at rows i c
+
+pub placed_none : ArePlaced []
+placed_none i k r c = absurd (nothing {X = Key × Ref} (k, r) c)
+
+-- ---- one row of many is replaced
+module _ (rows : List (List (Key × Ref))) (i : ℕ) (new : List (Key × Ref)) (lt : i < length rows) where
+  -- a pair of the rows after it, by the row that holds it
+  pub after_set : (p : Key × Ref) → Contains (joined (set rows i new)) p → Contains new p ⊎ ((j : ℕ) × (j ≡ i → ⊥) × Contains (get_or rows j []) p)
+  after_set p c =
+      let (j, l, d) = in_joined (set rows i new) p c in
+      elim (eqb j i) as (λ b. eqb j i ≡ b → Contains new p ⊎ ((j : ℕ) × (j ≡ i → ⊥) × Contains (get_or rows j []) p)) [
+        | true ↦ λ t. inl (subst (λ l. Contains l p) (let e = eqb-true j i t in ap (λ n. get_or (set rows i new) n []) e ∙ (rw get_or-set_same)) d)
+        | false ↦ λ t. (
+            let apart : j ≡ i → ⊥ = λ e. (let z = sym t ∙ eq-eqb j i e in cc) in
+            inr (j, apart, subst (λ l. Contains l p) (rw get_or-set_other) d))
+      ] refl
+
+  pub before_set : (p : Key × Ref) → Contains new p → Contains (joined (set rows i new)) p
+  before_set p c = joined_in (set rows i new) i p (subst (λ l. Contains l p) (sym (rw get_or-set_same)) c)
+
+  pub other_set : (j : ℕ) (p : Key × Ref) → (j ≡ i → ⊥) → Contains (get_or rows j []) p → Contains (joined (set rows i new)) p
+  other_set j p apart c = joined_in (set rows i new) j p (subst (λ l. Contains l p) (sym (rw get_or-set_other)) c)
+
+  -- a pair of the rows before it, by whether the row held it
+  pub of_rows : (p : Key × Ref) → Contains (joined rows) p → Contains (get_or rows i []) p ⊎ Contains (joined (set rows i new)) p
+  of_rows p c =
+      let (j, l, d) = in_joined rows p c in
+      elim (eqb j i) as (λ b. eqb j i ≡ b → Contains (get_or rows i []) p ⊎ Contains (joined (set rows i new)) p) [
+        | true ↦ λ t. inl (subst (λ n. Contains (get_or rows n []) p) (eqb-true j i t) d)
+        | false ↦ λ t. inr (other_set j p (λ e. (let z = sym t ∙ eq-eqb j i e in cc)) d)
+      ] refl
+
+  -- what a row notes, all note
+  pub notes_row : (k : Key) (r : Ref) → Notes (get_or rows i []) k r new → Notes (joined rows) k r (joined (set rows i new))
+  notes_row k r n = record {
+    noted = (n.noted.0, before_set (k, n.noted.0) n.noted.1);
+    only = λ l a c. elim (after_set (l, a) c) [
+      | inl d ↦ elim (n.only l a d) [ inl o ↦ inl (joined_in rows i (l, a) o) | inr e ↦ inr e ]
+      | inr (j, apart, d) ↦ inl (joined_in rows j (l, a) d)
+    ];
+    more = λ l h. elim (of_rows (l, h.0) h.1) [ inl d ↦ (let m = n.more l (h.0, d) in (m.0, before_set (l, m.0) m.1)) | inr d ↦ (h.0, d) ];
+  }
+
+  pub placed_set : ArePlaced rows → ((k : Key) (r : Ref) → Contains new (k, r) → place_of k ≡ i) → ArePlaced (set rows i new)
+  placed_set h own j k r c =
+      elim (eqb j i) as (λ b. eqb j i ≡ b → place_of k ≡ j) [
+        | true ↦ λ t. (let e = eqb-true j i t in own k r (subst (λ l. Contains {X = Key × Ref} l (k, r)) (ap (λ n. get_or (set rows i new) n []) e ∙ (rw get_or-set_same)) c) ∙ sym e)
+        | false ↦ λ t. (let apart : j ≡ i → ⊥ = λ e. (let z = sym t ∙ eq-eqb j i e in cc) in h j k r (subst (λ l. Contains {X = Key × Ref} l (k, r)) (rw get_or-set_other) c))
+      ] refl
+
+-- ---- keys with what stands beside them
+pub paired_more : (ks : List Key) (rs : List Ref) (k : Key) (r : Ref) → length ks ≡ length rs → paired (ks ++ k ∷ []) (rs ++ r ∷ []) ≡ paired ks rs ++ (k, r) ∷ []
+paired_more [] [] k r e = refl
+paired_more [] (s ∷ rs) k r e = absurd (omega (arith, e))
+paired_more (l ∷ ks) [] k r e = absurd (omega (arith, e))
+paired_more (l ∷ ks) (s ∷ rs) k r e = ap (λ z. (l, s) ∷ z) (paired_more ks rs k r (omega (arith, e)))
+
+pub paired_at : (ks : List Key) (rs : List Ref) (i : ℕ) (k : Key) (d : Ref) → length ks ≡ length rs → slice_get ks i ≡ Some k → (i < length rs) × Contains {X = Key × Ref} (paired ks rs) (k, get_or rs i d)
+paired_at [] rs i k d e f = absurd (cc)
+paired_at (l ∷ ks) [] i k d e f = absurd (omega (arith, e))
+paired_at (l ∷ ks) (s ∷ rs) zero k d e f = (omega arith, (let same : l ≡ k = cc in subst (λ z. Contains {X = Key × Ref} ((l, s) ∷ paired ks rs) (z, s)) same (head_in {X = Key × Ref} (l, s) (paired ks rs))))
+paired_at (l ∷ ks) (s ∷ rs) (suc i) k d e f = let m = paired_at ks rs i k d (omega (arith, e)) f in let a = m.0 in (omega (arith, a), tail_in {X = Key × Ref} (l, s) (k, get_or rs i d) (paired ks rs) m.1)
+
+-- a pair is a key with what stands at its place
+pub paired_place : (ks : List Key) (rs : List Ref) (k : Key) (r : Ref) → Contains {X = Key × Ref} (paired ks rs) (k, r) → (i : ℕ) × (i < length ks) × (slice_get ks i ≡ Some k) × (get_or rs i r ≡ r)
+paired_place [] rs k r c = absurd (nothing {X = Key × Ref} (k, r) c)
+paired_place (l ∷ ks) [] k r c = absurd (nothing {X = Key × Ref} (k, r) c)
+paired_place (l ∷ ks) (s ∷ rs) k r c = elim (in_cases {X = Key × Ref} (l, s) (k, r) (paired ks rs) c) [
+  | inl e ↦ (zero, omega arith, ap Some (ap (λ q. q.0) e), ap (λ q. q.1) e)
+  | inr d ↦ let (i, lt, f, g) = paired_place ks rs k r d in (suc i, omega (arith, lt), f, g)
+]
+
+-- a key that stands nowhere has no answer
+pub none_paired : (ks : List Key) (rs : List Ref) (k : Key) → (IsIn ks k → ⊥) → HasAnswer (paired ks rs) k → ⊥
+none_paired ks rs k out h = let (i, lt, f, g) = paired_place ks rs k h.0 h.1 in out (i, f)
+
+-- a key that is new is noted
+pub notes_last : (old : List (Key × Ref)) (k : Key) (r : Ref) → Notes old k r (old ++ (k, r) ∷ [])
+notes_last old k r = record {
+  noted = (r, in_right old ((k, r) ∷ []) (k, r) (head_in {X = Key × Ref} (k, r) []));
+  only = λ l a c. elim (in_either old ((k, r) ∷ []) (l, a) c) [
+    | inl o ↦ inl o
+    | inr n ↦ elim (in_cases {X = Key × Ref} (k, r) (l, a) [] n) [ inl e ↦ inr (ap (λ q. q.0) (sym e), ap (λ q. q.1) (sym e)) | inr x ↦ absurd (nothing {X = Key × Ref} (l, a) x) ]
+  ];
+  more = λ l h. (h.0, in_left old ((k, r) ∷ []) (l, h.0) h.1);
+}
+
+-- one that has an answer has been noted
+pub notes_known : (old : List (Key × Ref)) (k : Key) (r : Ref) → HasAnswer old k → Notes old k r old
+notes_known old k r h = record { noted = h; only = λ l a c. inl c; more = λ l i. i }
+
+-- a key that has an answer has it in the row of its place
+pub row_of_key : (rows : List (List (Key × Ref))) → ArePlaced rows → (k : Key) → HasAnswer (joined rows) k → (place_of k < length rows) × HasAnswer (get_or rows (place_of k) []) k
+row_of_key rows placed k h =
+    let (i, l, d) = in_joined rows (k, h.0) h.1 in
+    let e = placed i k h.0 d in
+    (subst (λ n. n < length rows) (sym e) l, (h.0, subst (λ n. Contains {X = Key × Ref} (get_or rows n []) (k, h.0)) (sym e) d))
+
+pub some_found : (found : Option Ref) (row : List (Key × Ref)) (k : Key) → HasAnswer row k → MatchOption found (HasAnswer row k → ⊥) (λ r. Contains {X = Key × Ref} row (k, r)) → IsSome found
+some_found None row k h m = absurd (m h)
+some_found (Some r) row k h m = refl
+
+pub found_in : (found : Option Ref) (row : List (Key × Ref)) (k : Key) (r : Ref) → found ≡ Some r → MatchOption found (HasAnswer row k → ⊥) (λ r. Contains {X = Key × Ref} row (k, r)) → Contains {X = Key × Ref} row (k, r)
+found_in found row k r e m = subst (λ o. MatchOption o (HasAnswer row k → ⊥) (λ r. Contains {X = Key × Ref} row (k, r))) e m
+
+-- a row that was read is the one that stands there
+pub row_read : (rows : List (List (Key × Ref))) (i : ℕ) (row : List (Key × Ref)) → i < length rows → row ≡ get_or rows i row → get_or rows i [] ≡ row
+row_read rows i row lt e = get_or_default rows i [] row lt ∙ sym e
+
+-- a row after an answer was noted in it, or refused
+module _ (rows : List (List (Key × Ref))) (i : ℕ) (old new : List (Key × Ref)) (k : Key) (r : Ref) (lt : i < length rows) (read : old ≡ get_or rows i old) where
+  pub noted_in : (result : Result (Unit {0}) AllocError) → OnOk result (Notes old k r new) → OnOk result (Notes (joined rows) k r (joined (set rows i new)))
+  noted_in (Ok u) n = notes_row rows i new lt k r (subst (λ l. Notes l k r new) (sym (row_read rows i old lt read)) n)
+  noted_in (Err e) n = n
+
+  pub placed_in : (result : Result (Unit {0}) AllocError) → OnOk result (Notes old k r new) → OnErr result (new ≡ old) → ArePlaced rows → place_of k ≡ i → ArePlaced (set rows i new)
+  placed_in (Ok u) n e h at = placed_set rows i new lt h
+      (λ l a c. elim (n.only l a c) [ inl o ↦ h i l a (subst (λ z. Contains {X = Key × Ref} z (l, a)) (sym (row_read rows i old lt read)) o) | inr s ↦ ap place_of s.0 ∙ at ])
+  placed_in (Err x) n e h at = subst ArePlaced (sym (ap (λ z. set rows i z) (e ∙ read) ∙ set-get_or rows i old)) h
+
+-- ---- a row of records takes an empty place
+module _ (rows : List (List (Key × Ref))) (i : ℕ) (row : List Record) (answers : List Ref) (keys : List Key) (lt : i < length rows) (empty : get_or rows i [] ≡ []) (long : length answers ≡ length row) (index : keys ≡ map key_of row) where
+  key_place : (j : ℕ) (k : Key) (d : Record) → slice_get (map key_of row) j ≡ Some k → (get_or row j d).key ≡ k
+  key_place j k d e = by row j e
+    where
+      by : (row : List Record) (j : ℕ) → slice_get (map key_of row) j ≡ Some k → (get_or row j d).key ≡ k
+      by [] j e = absurd (cc)
+      by (x ∷ row) zero e = (let s : x.key ≡ k = cc in s)
+      by (x ∷ row) (suc j) e = by row j e
+
+  key_there : (row : List Record) (j : ℕ) (d : Record) → j < length row → slice_get (map key_of row) j ≡ Some (get_or row j d).key
+  key_there [] j d l = absurd (omega arith)
+  key_there (x ∷ row) zero d l = refl
+  key_there (x ∷ row) (suc j) d l = key_there row j d (omega (arith, l))
+
+  keys_long : length keys ≡ length row
+  keys_long = ap length index ∙ length-map row key_of
+
+  pub row_notes : (n : ℕ) → n ≤ length row → NotesFirst (joined rows) row answers n (joined (set rows i (paired keys answers)))
+  row_notes n le = record {
+    only = λ k a c. elim (after_set rows i (paired keys answers) lt (k, a) c) [
+      | inl d ↦ (
+          let (j, l, f, g) = paired_place keys answers k a d in
+          let f' : slice_get (map key_of row) j ≡ Some k = subst (λ ks. slice_get ks j ≡ Some k) index f in
+          let dr : Record = record { key = k; low = Done a; high = Done a } in
+          inr (j, dr, (let e = keys_long in omega (arith, l, e)), key_place j k dr f', g))
+      | inr (j, apart, d) ↦ inl (joined_in rows j (k, a) d)
+    ];
+    more = λ k h. elim (of_rows rows i (paired keys answers) lt (k, h.0) h.1) [
+      | inl d ↦ absurd (nothing {X = Key × Ref} (k, h.0) (subst (λ l. Contains {X = Key × Ref} l (k, h.0)) empty d))
+      | inr d ↦ (h.0, d)
+    ];
+    done = λ j d l. (
+        let lj : j < length row = omega (arith, l, le) in
+        let at = subst (λ ks. slice_get ks j ≡ Some (get_or row j d).key) (sym index) (key_there row j d lj) in
+        let m = paired_at keys answers j (get_or row j d).key False (keys_long ∙ sym long) at in
+        (get_or answers j False, before_set rows i (paired keys answers) lt ((get_or row j d).key, get_or answers j False) m.1));
+  }
+
+  pub row_placed : ArePlaced rows → All (λ r. place_of r.key ≡ i) row → ArePlaced (set rows i (paired keys answers))
+  row_placed h own = placed_set rows i (paired keys answers) lt h
+      (λ k r c. (
+      let (j, l, f, g) = paired_place keys answers k r c in
+      let f' : slice_get (map key_of row) j ≡ Some k = subst (λ ks. slice_get ks j ≡ Some k) index f in
+      let dr : Record = record { key = k; low = Done r; high = Done r } in
+      let e = keys_long in
+      ap place_of (sym (key_place j k dr f')) ∙ own j dr (omega (arith, l, e))))
+
+-- the level of a key of the store is that of its operands alone
+tops : (n v : ℕ) (f g : Ref) → n ≤ 4096 → v < n → min (top n f) (top n g) ≡ v → min (top 4096 f) (top 4096 g) ≡ v
+tops n v False False s l e = absurd (omega (arith, l, e))
+tops n v False True s l e = absurd (omega (arith, l, e))
+tops n v False (Node b) s l e = omega (arith, s, l, e)
+tops n v True False s l e = absurd (omega (arith, l, e))
+tops n v True True s l e = absurd (omega (arith, l, e))
+tops n v True (Node b) s l e = omega (arith, s, l, e)
+tops n v (Node a) False s l e = omega (arith, s, l, e)
+tops n v (Node a) True s l e = omega (arith, s, l, e)
+tops n v (Node a) (Node b) s l e = e
+
+pub place_at : (S : Nodes) (v : ℕ) (k : Key) → S.levels ≤ 4096 → IsKeyAt S v k → place_of k ≡ v
+place_at S v k small at = tops S.levels v k.f k.g small at.bounded at.level
+
+pub row_at_place : (S : Nodes) (before : List (Key × Ref)) (v : ℕ) (row : List Record) → IsSound S → IsRow S before v row → All (λ r. place_of r.key ≡ v) row
+row_at_place S before v row o h j d l = place_at S v (get_or row j d).key o.few_levels (h.records (get_or row j d) (Contains-get_or row j d l)).key
