@@ -3,7 +3,7 @@ use Rattle.command_line.specs.declared.options.Texts.TheVariants.{Files, FileAnd
 use Rattle.bddcheck.specs.Running.{text_paths}
 use Rattle.bddcheck.specs.Opening.{Extends, HasFailedAt, opened}
 use Rattle.bddcheck.proofs.Failing.{failed_at, first_failed, second_failed, never}
-use Rattle.bddcheck.proofs.Composing.{extends_none, input_texts, files_texts, split_parts, split_none, undivided, whole_report, whole_beyond, whole_front, whole_faults, both_opened, all_opened, second_unopened, second_unopened_beside, one_opened, file_and_input, input_and_file}
+use Rattle.bddcheck.proofs.Composing.{extends_none, input_texts, files_texts, split_parts, split_none, undivided, whole_report, whole_beyond, whole_front, whole_faults, both_opened, all_opened, all_opened_beside, second_unopened, second_unopened_beside, one_opened, file_and_input, input_and_file}
 use Rattle.bddcheck.proofs.run.run_options.Goals as goal
 
 pub returns-in_err-second-in-Files-clause-fault : goal.returns-in_err-second-in-Files-clause-fault
@@ -95,3 +95,11 @@ returns-in_ok-file-in-FileAndInput-clause-fault g c =
     (failed_at g.F.File.Source.origin g.F.File.Source.has_failed c.in-FileAndInput.path.now _ c.compare-in-FileAndInput.new.first c.in_ok-file-in-FileAndInput.ensures.named c.compare-in-FileAndInput.ensures.origins.0 failed))
     (second_failed (HasFailedAt g.F.File.Source.origin g.F.File.Source.has_failed) _ c.args.options.now.texts (FileAndInput c.in-FileAndInput.path) c.in-FileAndInput.is)
     _ c.in_ok-file-in-FileAndInput.ensures.kept _ _ _ (one_opened c.args.options.now c.in-FileAndInput.path.now (ap text_paths c.in-FileAndInput.is) _ _ c.in_ok-file-in-FileAndInput.ensures.tried) c.compare-in-FileAndInput.result c.compare-in-FileAndInput.ensures.fault
+
+pub returns-in_ok-file-in-InputAndFile-clause-opened : goal.returns-in_ok-file-in-InputAndFile-clause-opened
+returns-in_ok-file-in-InputAndFile-clause-opened g c =
+    all_opened_beside c.args.options.now c.in-InputAndFile.path.now (ap text_paths c.in-InputAndFile.is) _ _ _ c.compare-in-InputAndFile.result c.in_ok-file-in-InputAndFile.ensures.tried c.compare-in-InputAndFile.ensures.opened
+
+pub returns-in_ok-file-in-FileAndInput-clause-opened : goal.returns-in_ok-file-in-FileAndInput-clause-opened
+returns-in_ok-file-in-FileAndInput-clause-opened g c =
+    all_opened_beside c.args.options.now c.in-FileAndInput.path.now (ap text_paths c.in-FileAndInput.is) _ _ _ c.compare-in-FileAndInput.result c.in_ok-file-in-FileAndInput.ensures.tried c.compare-in-FileAndInput.ensures.opened
