@@ -195,3 +195,6 @@ returns-clause-within g c =
     all_unasked a b given p sides placed c.args.store.now c.loop-below.store c.loop-below.below
     (λ one there. let ranks = (placed.plans one there).ranks in let last = c.last_rank-below-end.ensures one there in omega arith)
     c.loop-below.invariant.within
+
+pub returns-in_default-new-clause-adds : goal.returns-in_default-new-clause-adds
+returns-in_default-new-clause-adds g c = variables_needed (circuit c.args.first.now) (circuit c.args.second.now) (condition c.args.given) c.args.pairing.now c.args.store.now.levels c.requires.levels c.args.store.now c.make_variables.new.store c.make_variables.ensures.adds

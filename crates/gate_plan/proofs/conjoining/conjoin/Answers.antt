@@ -1,5 +1,5 @@
 use Rattle.std.proofs.Common.{◌∙◌, List, subst}
-use Rattle.reduce_up.specs.Waves.{Entry, AnswersEach}
+use Rattle.reduce_up.specs.Waves.{Entry, AnswersEach, IsWaveFault, IsWithinLimit}
 use Rattle.gate_plan.proofs.Conjoined.{conjoined, entries_known}
 use Rattle.reduce_up.proofs.Known.{fault_of_all, within_all}
 use Rattle.gate_plan.proofs.conjoining.conjoin.Goals as goal
@@ -12,3 +12,13 @@ pub returns-in-Ok-wave-clause-conjoined : goal.returns-in-Ok-wave-clause-conjoin
 returns-in-Ok-wave-clause-conjoined g c =
     conjoined c.args.store.now c.wave.new.store c.args.given c.args.references.now c.in-Ok-wave.answers.items
     (subst (λ (z : List Entry). AnswersEach c.args.store.now z c.wave.new.store c.in-Ok-wave.answers.items) (c.as_slice.ensures.value ∙ c.in-Ok.ensures) c.in-Ok-wave.ensures.answers)
+
+pub returns-in-Ok-wave-clause-within : goal.returns-in-Ok-wave-clause-within
+returns-in-Ok-wave-clause-within g c =
+    subst (λ z. IsWithinLimit c.args.store.now z c.wave.new.store) (c.as_slice.ensures.value ∙ c.in-Ok.ensures)
+    (within_all c.args.store.now c.wave.new.store c.in-Ok-new.engine c.as_slice.result.now c.in-Ok-new.ensures.empty c.in-Ok-wave.ensures.within)
+
+pub returns-clause-fault : goal.returns-clause-fault
+returns-clause-fault g c =
+    subst (λ z. IsWaveFault c.args.store.now z c.wave.new.store c.in-Err.fault) (c.as_slice.ensures.value ∙ c.in-Ok.ensures)
+    (fault_of_all c.args.store.now c.wave.new.store c.in-Ok-new.engine c.as_slice.result.now _ c.in-Err.ensures.fault)
