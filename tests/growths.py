@@ -85,7 +85,7 @@ def main():
     with kit.folder() as place, kit.pool(settings.jobs) as pool:
         library = compiled(place)
         for crate, test in TESTS:
-            program = settings.crates / crate / "out" / f"{crate}_tests"
+            program = settings.crates.resolve() / crate / "out" / f"{crate}_tests"
             if is_newer_than_sources(program, settings.crates):
                 tasks.append((test, pool.submit(try_test, program, test, library, place)))
             else:

@@ -1,17 +1,22 @@
 //! What a refused wave leaves behind.
-ghost use Rattle.std.specs.Prelude.{All};
+ghost use Rattle.std.specs.Prelude.{All, IfOk};
 ghost use Rattle.dd_store.specs.View.{Has};
+ghost use Rattle.req_table.specs.Keys.{IsKey};
+ghost use Rattle.reduce_up.specs.Waves.{IsClosureOf};
 
-use crate::waves::{WAYS, Way, known_at, run, start};
+use crate::waves::{WAYS, Way, known_at, node, only, request, run, start};
 use counter_walk::value;
 use dd_store::{Ref, Store};
-use expand_work::WaveFault;
-use req_table::Op;
+use expand_work::{Free, WaveFault};
+use reduce_up::law::closures_are_records;
+use reduce_up::reduce;
+use req_table::{Key, Op, Records};
 use std::alloc::Global;
 use std::process::Abort;
 use std::sync::Wait;
 use std::test::Fail;
 use std::thread::Threads;
+use wave_core::Core;
 
 // Places in the list of known references: the constants, the variables by level, and the answers.
 const A: usize = 2;
@@ -125,5 +130,36 @@ fn refused_wave(rt: HostRuntime) -> Result<(), Fail> {
     for way in [Way::Alone(&[]), Way::Threads, Way::Upto(0)] {
         again_where_refused(&rt, rt.alloc(), way)?;
     }
+    Ok(())
+}
+
+/// The records of all that the roots ask for, by a core of two workers.
+fn recorded(alloc: Global, store: &Store, roots: &[Key]) -> Result<Records, Fail>
+    requires { All (IsKey store.now) roots.now }
+    ensures { IfOk result (IsClosureOf store.now 2 roots.now) }
+{
+    let mut core = Core::new(alloc, store, 2, roots)?;
+    core.drive(&[])?;
+    Ok(core.into_records()?)
+}
+
+// Two roots of one request. A reduction that is refused leaves the variables as they were.
+#[test]
+fn refused_reduction(rt: HostRuntime) -> Result<(), Fail> {
+    let mut store = Store::new(rt.alloc(), 2, 100)?;
+    let known = start(&rt, rt.alloc(), &mut store);
+    let a = known_at(&rt, &store, known.as_slice(), A);
+    let b = known_at(&rt, &store, known.as_slice(), B);
+    let roots = [
+        request(&rt, &store, known.as_slice(), (Op::And, A, B)),
+        request(&rt, &store, known.as_slice(), (Op::And, B, A)),
+    ];
+    let records = recorded(rt.alloc(), &store, &roots)?;
+    closures_are_records(&store, &roots, &records);
+    let reduced = reduce(&rt, rt.alloc(), &mut store, &records, &Free);
+    two_have_their_values(&rt, &store, a, b);
+    let results = reduced?;
+    let both = node(&rt, &store, 0, Ref::FALSE, b);
+    assert_eq!(rt; only(&rt, &records, &results, 0, roots[0]), both);
     Ok(())
 }

@@ -289,9 +289,6 @@ fn filled(text: &'static str, bytes: usize) -> Tape {
 fn standard_input_limit(rt: HostRuntime) -> Result<(), Fail> {
     for (text, bytes, fault) in [
         ("", 134_221_824, "standard input: no line %%"),
-        ("", 134_221_825, "standard input: too long"),
-        ("x\n%%\n", 134_221_824, "first: line 2: broken statement"),
-        ("x\n%%\n", 134_221_825, "standard input: too long"),
         ("%%\n", 134_221_824, "second: longer than 67108864 bytes"),
         ("%%\n", 134_221_825, "standard input: too long"),
     ] {
