@@ -52,6 +52,7 @@ fn full_then_old<R: Abort + Threads + Wait + Sync>(
     let b = known_at(rt, &store, known.as_slice(), B);
     let answer = run(rt, alloc, &mut store, &mut known, &steps, 2, way);
     assert!(rt; answer == Err(WaveFault::Full));
+    assert!(rt; store.levels() == 2);
     assert!(rt; store.variable(0) == Ok(a));
     two_have_their_values(rt, &store, a, b);
     Ok(())
