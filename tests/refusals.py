@@ -7,7 +7,8 @@ The library refuse.c is compiled by cc and preloaded. Of each row below the N-th
 until a run meets no refusal, or, where there are too many, some N are drawn, by the seed that is printed, in S seconds (180)
 by J processes (2). Wide rows are run within little address space as well, where the system itself refuses. A run must end
 in time, with status 3, nothing written and one line on want of memory or of a worker; or with the very report that it
-gives without refusals.
+gives without refusals. Of a row whose waves call their workers in, each start of the first of these waves is refused in
+every run, and growths while its workers run, where the others have to be told to stop.
 """
 import argparse
 import os
@@ -57,7 +58,6 @@ WAYS = [EACH, GROWTHS_FROM, EACH_START, STARTS_FROM]
 
 
 # Wide enough that a wave calls its workers in, so that a run takes seconds.
-WIDER = "wider products by 2"
 CALLED_IN = 21
 
 
@@ -70,6 +70,8 @@ class Row:
     whole: tuple = ()
     given: bytes = b""
     draws: int = 10
+    # By how many runs its growths are counted.
+    counts: int = 3
 
 
 def rows(place):
@@ -78,7 +80,6 @@ def rows(place):
     order = written(place, "order", lines("7 6 3", "2 1"))
     chain, tree = written(place, "chain", parity("chain", 24)), written(place, "tree", parity("tree", 24))
     one, folded = written(place, "one", products(13)), written(place, "folded", products(13, "chain"))
-    wider = written(place, "wider", products(CALLED_IN))
     for workers in (1, 2, 4):
         yield Row(f"c17 by {workers}", ["--workers", workers, c17, c17b], (EACH, EACH_START, STARTS_FROM))
     yield Row("c17 on standard input", ["--workers", 2, "--sizes"], (), C17 + b"%%\n" + C17B)
@@ -95,7 +96,13 @@ def rows(place):
     for workers in (1, 2, 4):
         yield Row(f"parity by {workers}", ["--workers", workers, chain, tree])
         yield Row(f"products by {workers}", ["--workers", workers, "--sizes", one, folded])
-    yield Row(WIDER, ["--workers", 2, wider, wider], draws=2)
+    yield wide_row(place, 2)
+
+
+def wide_row(place, workers):
+    """Products whose first waves stay on the caller's thread, and whose later ones call so many workers in."""
+    wider = written(place, f"wider{workers}", products(CALLED_IN))
+    return Row(f"wider products by {workers}", ["--workers", workers, wider, wider], draws=2, counts=1)
 
 
 @dataclass
@@ -106,10 +113,11 @@ class Refuser:
     library: str
     place: str
 
-    def run(self, row, what, at=0, since=0):
-        """The run, and how many growths or starts it counted and was refused; nothing where it did not end by itself."""
+    def run(self, row, what, at=0, since=0, after=0):
+        """The run, and how many growths or starts it counted and was refused; nothing where it did not end by itself. Counted is
+        what comes after so many starts."""
         note = os.path.join(self.place, f"note.{os.getpid()}")
-        environment = {"LD_PRELOAD": self.library, "REFUSE": what, "NOTE": note}
+        environment = {"LD_PRELOAD": self.library, "REFUSE": what, "NOTE": note, "AFTER": str(after)}
         environment |= {"AT": str(at)} if at else {"FROM": str(since)}
         seen = run([self.program, *row.words], row.given, HANGS, environment)
         try:
@@ -150,19 +158,20 @@ def fault_of(right, seen, refused):
     return None
 
 
-def try_places(refuser, row, what, mode, places, whole):
-    """Tries these places of a row. Where it is to be tried whole, the last one is behind the last growth or start."""
+def try_places(refuser, row, what, mode, places, whole, after=0):
+    """Tries these places of a row. Where it is to be tried whole, the last one is behind the last growth or start. A run that hangs
+    is the last one."""
     right = refuser.run(row, "")[0]
     figures = Figures()
     for place in places:
-        seen, _, refused = refuser.run(row, what, **{mode: place})
+        seen, _, refused = refuser.run(row, what, **{mode: place}, after=after)
         fault = fault_of(right, seen, refused)
         if fault:
             figures.wrong.append(f"{what} {mode} {place}: {fault}")
         figures.tried += 1
         figures.refused += bool(refused)
         figures.reported += bool(refused) and seen == right
-        if len(figures.wrong) > 5 or (whole and refused == 0):
+        if len(figures.wrong) > 5 or seen.status is None or (whole and refused == 0):
             return figures
     if whole:
         figures.wrong.append("each run met a refusal")
@@ -171,10 +180,11 @@ def try_places(refuser, row, what, mode, places, whole):
 
 def most_counted(refuser, row, what):
     """How many growths or starts a run asks for, at most; schedules differ."""
-    return max(refuser.run(row, what)[1] or 0 for _ in range(3 if row.name != WIDER else 1))
+    return max(refuser.run(row, what)[1] or 0 for _ in range(row.counts))
 
 
 def every_place(most):
+    """The places up to one that no run comes to."""
     return range(1, 2 * most + 100)
 
 
@@ -189,7 +199,7 @@ def whole_tasks(refuser, pool):
     """Each N of the rows that are tried whole."""
     for row in rows(refuser.place):
         for what, mode in row.whole:
-            places = range(1, 2 * most_counted(refuser, row, what) + 100)
+            places = every_place(most_counted(refuser, row, what))
             name = f"{row.name}: each of the {named(what, mode)}"
             yield name, pool.submit(try_places, refuser, row, what, mode, places, True)
 
@@ -214,6 +224,28 @@ def bounded_tasks(refuser, pool):
             yield f"{row.name}: address space from 6 MB to 1 GB", pool.submit(try_bounds, refuser, row)
 
 
+def try_workers(refuser, row, workers, places):
+    """Refuses each start of the first wave that calls its workers in, alone and with all behind it, and these growths behind the last
+    of them. Each of these runs has to meet its refusal."""
+    figures, starts = Figures(), range(1, workers + 1)
+    for mode in ("at", "since"):
+        figures.add(try_places(refuser, row, "s", mode, starts, False))
+    figures.add(try_places(refuser, row, "g", "at", places, False, after=workers))
+    if figures.refused < figures.tried and not figures.wrong:
+        figures.wrong.append(f"{figures.tried - figures.refused} runs met no refusal")
+    return figures
+
+
+def worker_tasks(refuser, pool, rng):
+    """What is refused to the workers whom a wave calls in: a start, or a growth while the others run."""
+    for workers in (2, 4):
+        row = wide_row(refuser.place, workers)
+        most = refuser.run(row, "g", after=workers)[1] or 0
+        places = [1, 2, 3] + [rng.randrange(1, max(2, most // 2)) for _ in range(7)]
+        name = f"{row.name}: each start of a first wave, and growths of its workers"
+        yield name, pool.submit(try_workers, refuser, row, workers, places)
+
+
 def try_bounds(refuser, row):
     right, figures = refuser.run(row, "")[0], Figures()
     bounds = [int(6000 * 1.25**i) for i in range(24)]
@@ -230,8 +262,7 @@ def try_bounds(refuser, row):
 
 def starts_of(refuser, workers):
     """How many threads a wide pair starts with so many workers."""
-    row = next(row for row in rows(refuser.place) if row.name == WIDER)
-    return refuser.run(Row(row.name, ["--workers", workers, *row.words[2:]]), "s")[1]
+    return refuser.run(wide_row(refuser.place, workers), "s")[1]
 
 
 def bound(kib):
@@ -263,6 +294,7 @@ def main():
         results, most = {}, {}
         gather(results, whole_tasks(refuser, pool))
         gather(results, bounded_tasks(refuser, pool))
+        gather(results, worker_tasks(refuser, pool, rng))
         while True:
             gather(results, drawn_tasks(refuser, pool, rng, most))
             is_wrong = any(figures.wrong for figures in results.values())

@@ -4,7 +4,9 @@
  *          or gs both, counted together
  * AT=N     refuses the N-th that is counted (1 is the first; 0 none)
  * FROM=N   refuses the N-th and all that follow
+ * AFTER=S  counts nothing before S threads were started (none where it is missing)
  * NOTE     a file that gets one line when the program ends: how many were counted, and how many refused
+ * MET      a file that is made where something was refused, at once, so that it is there after a crash as well
  *
  * What the C library asks for inside itself counts as well where it calls malloc or calloc, as a start of a
  * thread does. Refused growths answer NULL with ENOMEM, refused starts EAGAIN.
@@ -27,8 +29,8 @@ extern void *__libc_calloc(size_t, size_t);
 extern void *__libc_realloc(void *, size_t);
 extern void *__libc_memalign(size_t, size_t);
 
-static atomic_long counted, refused;
-static long at = 0, from = 0;
+static atomic_long counted, refused, started;
+static long at = 0, from = 0, after = 0;
 static int growths = 0, starts = 0;
 static int (*start)(pthread_t *, const pthread_attr_t *, void *(*)(void *), void *);
 
@@ -42,18 +44,29 @@ __attribute__((constructor)) static void begin(void) {
     start = (int (*)(pthread_t *, const pthread_attr_t *, void *(*)(void *), void *))dlsym(RTLD_NEXT, "pthread_create");
     at = number("AT");
     from = number("FROM");
+    after = number("AFTER");
     starts = what && strchr(what, 's');
     growths = what && strchr(what, 'g');
 }
 
+/* Notes that something was refused. */
+static void note_refusal(void) {
+    const char *path = getenv("MET");
+    int note = path ? open(path, O_WRONLY | O_CREAT, 0644) : -1;
+    if (note >= 0) {
+        close(note);
+    }
+    atomic_fetch_add(&refused, 1);
+}
+
 /* Whether this one is refused. */
 static int is_refused(int counts) {
-    if (!counts) {
+    if (!counts || atomic_load(&started) < after) {
         return 0;
     }
     long place = atomic_fetch_add(&counted, 1) + 1;
     if (place == at || (from && place >= from)) {
-        atomic_fetch_add(&refused, 1);
+        note_refusal();
         return 1;
     }
     return 0;
@@ -113,7 +126,14 @@ void *mmap(void *place, size_t size, int protection, int flags, int file, off_t 
 }
 
 int pthread_create(pthread_t *thread, const pthread_attr_t *how, void *(*body)(void *), void *argument) {
-    return is_refused(starts) ? EAGAIN : start(thread, how, body, argument);
+    if (is_refused(starts)) {
+        return EAGAIN;
+    }
+    int fault = start(thread, how, body, argument);
+    if (!fault) {
+        atomic_fetch_add(&started, 1);
+    }
+    return fault;
 }
 
 static void tell(void) {

@@ -6,6 +6,8 @@ mod memos;
 #[cfg(test)]
 mod plans;
 #[cfg(test)]
+mod refused;
+#[cfg(test)]
 mod waves;
 #[cfg(test)]
 mod wide;

@@ -189,10 +189,12 @@ fn told<R: Abort + Threads + Wait + Sync>(
 ) -> Result<u32, Fail> {
     let first = read(rt, alloc, first);
     let second = read(rt, alloc, second);
-    let pairing = pair(alloc, &first, &second, Match::Name, &Order::Declared)?;
+    let pairing = pair(alloc, &first, &second, None, Match::Name, &Order::Declared)?;
     let mut store = Store::new(alloc, pairing.names().len() as u16, 100)?;
     let gate = Narrow::new(0);
-    build(rt, alloc, &mut store, &first, &second, &pairing, 2, &gate)?;
+    build(
+        rt, alloc, &mut store, &first, &second, None, &pairing, 2, &gate,
+    )?;
     assert_eq!(rt; store.count(), 20);
     Ok(gate.told.load(Ordering::SeqCst))
 }

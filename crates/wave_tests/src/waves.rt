@@ -184,7 +184,7 @@ pub(crate) fn run<R: Abort + Threads + Wait + Sync>(
 }
 
 /// The request of a step, which has no short answer.
-fn request<R: Abort>(rt: &R, store: &Store, known: &[Ref], step: Step) -> Key
+pub(crate) fn request<R: Abort>(rt: &R, store: &Store, known: &[Ref], step: Step) -> Key
     requires { All (Has store.now) known.now }
     ensures { IsKey store.now result }
 {
@@ -212,7 +212,13 @@ fn closure_of<R: Abort>(
 }
 
 /// The diagram of the only record of a level, which has this key.
-fn only<R: Abort>(rt: &R, records: &Records, results: &Results, level: u16, key: Key) -> Ref
+pub(crate) fn only<R: Abort>(
+    rt: &R,
+    records: &Records,
+    results: &Results,
+    level: u16,
+    key: Key,
+) -> Ref
     requires { (v : ℕ) (r : Record) → Contains (row_at records.now v) r → HasAnswer results.now r.key }
 {
     assert!(rt; (level as usize) < records.levels());

@@ -1,0 +1,126 @@
+//! Readers and writers in memory, which fail where they are told to.
+ghost use Rattle.std.specs.Prelude.{◌≡◌, None, Some, false};
+
+use net_bench::device::{Failed, Sink, Source};
+use std::alloc::Global;
+
+/// A reader of a text that gives one byte a read, and fails behind so many reads.
+#[derive(Drop)]
+pub struct Dripping {
+    left: &'static [u8],
+    reads_left: usize,
+    failed: bool,
+}
+
+/// A reader at the beginning of a text, which fails behind so many reads.
+pub fn drip(text: &'static str, good_reads: usize) -> Dripping {
+    Dripping {
+        left: text.as_bytes(),
+        reads_left: good_reads,
+        failed: false,
+    }
+}
+
+impl Source for Dripping {
+    ghost remaining = { λ _. None };
+
+    ghost has_failed = { λ s. s.failed };
+
+    fn read(&mut self, buf: &mut [u8]) -> Result<usize, Failed> {
+        if self.reads_left == 0 {
+            self.failed = true;
+            return Err(Failed);
+        }
+        self.reads_left -= 1;
+        let Some((byte, after)) = self.left.split_first() else {
+            return Ok(0);
+        };
+        let Some(first) = buf.first_mut() else {
+            return Ok(0);
+        };
+        *first = *byte;
+        self.left = after;
+        Ok(1)
+    }
+}
+
+/// A reader that gives blanks without end.
+#[derive(Drop)]
+pub struct Endless;
+
+impl Source for Endless {
+    ghost remaining = { λ _. None };
+
+    ghost has_failed = { λ _. false };
+
+    fn read(&mut self, buf: &mut [u8]) -> Result<usize, Failed> {
+        for byte in buf.iter_mut() {
+            *byte = b' ';
+        }
+        Ok(buf.len())
+    }
+}
+
+/// What a writer does where its room ends.
+#[derive(Clone, Copy, Drop)]
+pub enum End {
+    /// It fails.
+    Fails,
+    /// It takes no byte of what it is handed.
+    TakesNone,
+}
+
+/// A writer that takes a few bytes at once, up to its room. Its flush may fail.
+#[derive(Drop)]
+pub struct Page {
+    pub held: Vec<u8>,
+    room: usize,
+    end: End,
+    flushes: bool,
+    failed: bool,
+    stopped: bool,
+}
+
+/// An empty page.
+pub fn new_page(alloc: Global, room: usize, end: End, flushes: bool) -> Page {
+    Page {
+        held: Vec::new(alloc),
+        room,
+        end,
+        flushes,
+        failed: false,
+        stopped: false,
+    }
+}
+
+impl Sink for Page {
+    ghost contents = { λ s. Some s.held.items };
+
+    ghost has_failed = { λ s. s.failed };
+
+    ghost has_stopped = { λ s. s.stopped };
+
+    fn write(&mut self, bytes: &[u8]) -> Result<usize, Failed> {
+        let count = bytes.len().min(self.room).min(7);
+        if count == 0 && matches!(self.end, End::TakesNone) {
+            if !bytes.is_empty() {
+                self.stopped = true;
+            }
+            return Ok(0);
+        }
+        if count == 0 || self.held.extend_from_slice(&bytes[..count]).is_err() {
+            self.failed = true;
+            return Err(Failed);
+        }
+        self.room -= count;
+        Ok(count)
+    }
+
+    fn flush(&mut self) -> Result<(), Failed> {
+        if !self.flushes {
+            self.failed = true;
+            return Err(Failed);
+        }
+        Ok(())
+    }
+}

@@ -1,0 +1,166 @@
+//! What a refused wave leaves behind.
+ghost use Rattle.std.specs.Prelude.{All, IfOk};
+ghost use Rattle.dd_store.specs.View.{Has};
+ghost use Rattle.req_table.specs.Keys.{IsKey};
+ghost use Rattle.reduce_up.specs.Waves.{IsClosureOf};
+
+use crate::waves::{WAYS, Way, known_at, node, only, request, run, start};
+use counter_walk::value;
+use dd_store::{Ref, Store};
+use expand_work::{Free, WaveFault};
+use reduce_up::law::closures_are_records;
+use reduce_up::reduce;
+use req_table::{Key, Op, Records};
+use std::alloc::Global;
+use std::process::Abort;
+use std::sync::Wait;
+use std::test::Fail;
+use std::thread::Threads;
+use wave_core::Core;
+
+// Places in the list of known references: the constants, the variables by level, and the answers.
+const A: usize = 2;
+
+const B: usize = 3;
+
+const C: usize = 4;
+
+const FIRST_ANSWER: usize = 5;
+
+/// Whether the variables of a store of two levels have their values.
+fn two_have_their_values<R: Abort>(rt: &R, store: &Store, a: Ref, b: Ref)
+    requires first { Has store.now a }
+    requires second { Has store.now b }
+{
+    assert!(rt; store.levels() == 2);
+    for (of_a, of_b) in [(false, false), (false, true), (true, false), (true, true)] {
+        assert_eq!(rt; value(store, a, &[of_a, of_b]), of_a);
+        assert_eq!(rt; value(store, b, &[of_a, of_b]), of_b);
+    }
+}
+
+/// Two variables fill a store but for one node, and a wave that needs two more is refused.
+fn full_then_old<R: Abort + Threads + Wait + Sync>(
+    rt: &R,
+    alloc: Global,
+    way: Way,
+) -> Result<(), Fail> {
+    let steps = [(Op::And, A, B), (Op::Or, A, B)];
+    let mut store = Store::new(alloc, 2, 3)?;
+    let mut known = start(rt, alloc, &mut store);
+    let a = known_at(rt, &store, known.as_slice(), A);
+    let b = known_at(rt, &store, known.as_slice(), B);
+    let answer = run(rt, alloc, &mut store, &mut known, &steps, 2, way);
+    assert!(rt; answer == Err(WaveFault::Full));
+    assert!(rt; store.levels() == 2);
+    assert!(rt; store.variable(0) == Ok(a));
+    two_have_their_values(rt, &store, a, b);
+    Ok(())
+}
+
+#[test]
+fn limit_then_old(rt: HostRuntime) -> Result<(), Fail> {
+    for way in WAYS {
+        full_then_old(&rt, rt.alloc(), way)?;
+    }
+    Ok(())
+}
+
+/// The assignments of three variables.
+const ASSIGNMENTS: [[bool; 3]; 8] = [
+    [false, false, false],
+    [false, false, true],
+    [false, true, false],
+    [false, true, true],
+    [true, false, false],
+    [true, false, true],
+    [true, true, false],
+    [true, true, true],
+];
+
+/// Whether the variables of a store of three levels have their values.
+fn three_have_their_values<R: Abort>(rt: &R, store: &Store, known: &[Ref])
+    requires known { All (Has store.now) known.now }
+{
+    assert!(rt; store.levels() == 3);
+    for bits in ASSIGNMENTS {
+        let [of_a, of_b, of_c] = bits;
+        assert_eq!(rt; value(store, known_at(rt, store, known, A), &bits), of_a);
+        assert_eq!(rt; value(store, known_at(rt, store, known, B), &bits), of_b);
+        assert_eq!(rt; value(store, known_at(rt, store, known, C), &bits), of_c);
+    }
+}
+
+/// Whether a wave has answered the product of a and b, the sum of b and c, and the difference of a and c.
+fn answers_are_right<R: Abort>(rt: &R, store: &Store, known: &[Ref])
+    requires known { All (Has store.now) known.now }
+{
+    assert!(rt; store.levels() == 3);
+    let product = known_at(rt, store, known, FIRST_ANSWER);
+    let sum = known_at(rt, store, known, FIRST_ANSWER + 1);
+    let difference = known_at(rt, store, known, FIRST_ANSWER + 2);
+    for bits in ASSIGNMENTS {
+        let [of_a, of_b, of_c] = bits;
+        assert_eq!(rt; value(store, product, &bits), of_a && of_b);
+        assert_eq!(rt; value(store, sum, &bits), of_b || of_c);
+        assert_eq!(rt; value(store, difference, &bits), of_a != of_c);
+    }
+}
+
+/// A wave of three steps, which is tried a second time where memory or a thread was refused to it.
+fn again_where_refused<R: Abort + Threads + Wait + Sync>(
+    rt: &R,
+    alloc: Global,
+    way: Way,
+) -> Result<(), Fail> {
+    let steps = [(Op::And, A, B), (Op::Or, B, C), (Op::Xor, A, C)];
+    let mut store = Store::new(alloc, 3, 100)?;
+    let mut known = start(rt, alloc, &mut store);
+    if run(rt, alloc, &mut store, &mut known, &steps, 2, way).is_err() {
+        three_have_their_values(rt, &store, known.as_slice());
+        run(rt, alloc, &mut store, &mut known, &steps, 2, way)?;
+    }
+    three_have_their_values(rt, &store, known.as_slice());
+    answers_are_right(rt, &store, known.as_slice());
+    Ok(())
+}
+
+// With ample memory no wave is refused; run with refused growths and starts this shows what a refusal leaves behind.
+#[test]
+fn refused_wave(rt: HostRuntime) -> Result<(), Fail> {
+    for way in [Way::Alone(&[]), Way::Threads, Way::Upto(0)] {
+        again_where_refused(&rt, rt.alloc(), way)?;
+    }
+    Ok(())
+}
+
+/// The records of all that the roots ask for, by a core of two workers.
+fn recorded(alloc: Global, store: &Store, roots: &[Key]) -> Result<Records, Fail>
+    requires { All (IsKey store.now) roots.now }
+    ensures { IfOk result (IsClosureOf store.now 2 roots.now) }
+{
+    let mut core = Core::new(alloc, store, 2, roots)?;
+    core.drive(&[])?;
+    Ok(core.into_records()?)
+}
+
+// Two roots of one request. A reduction that is refused leaves the variables as they were.
+#[test]
+fn refused_reduction(rt: HostRuntime) -> Result<(), Fail> {
+    let mut store = Store::new(rt.alloc(), 2, 100)?;
+    let known = start(&rt, rt.alloc(), &mut store);
+    let a = known_at(&rt, &store, known.as_slice(), A);
+    let b = known_at(&rt, &store, known.as_slice(), B);
+    let roots = [
+        request(&rt, &store, known.as_slice(), (Op::And, A, B)),
+        request(&rt, &store, known.as_slice(), (Op::And, B, A)),
+    ];
+    let records = recorded(rt.alloc(), &store, &roots)?;
+    closures_are_records(&store, &roots, &records);
+    let reduced = reduce(&rt, rt.alloc(), &mut store, &records, &Free);
+    two_have_their_values(&rt, &store, a, b);
+    let results = reduced?;
+    let both = node(&rt, &store, 0, Ref::FALSE, b);
+    assert_eq!(rt; only(&rt, &records, &results, 0, roots[0]), both);
+    Ok(())
+}

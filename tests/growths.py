@@ -1,0 +1,102 @@
+#!/usr/bin/env python3
+"""Refuses growths and starts of threads to library calls, by the built programs of tests.
+
+usage: tests/growths.py FOLDER [--jobs J]
+
+FOLDER is the one of the crates. The library refuse.c is compiled by cc and preloaded to the program that `rt test` leaves
+in the crate's out/. Of each test below the N-th growth or start is refused for N = 1, 2, .. until some runs in a row meet
+no refusal. Each run must end in time: the test has passed, or it has failed with want of memory or of a worker; never an
+assertion, a fault or a hang. Where a program is missing or older than a source, nothing is counted.
+"""
+import argparse
+import os
+import pathlib
+import re
+import sys
+
+import kit
+from kit import Tally, run, say
+from refusals import compiled
+
+# Crates, and their tests by name: a wave, and each of its halves.
+TESTS = [
+    ("worker_tests", "expanded::merged_roots"),
+    ("wave_tests", "refused::refused_reduction"),
+    ("wave_tests", "refused::refused_wave"),
+]
+# How a test says that it was refused something.
+REFUSED = re.compile(rb"\b(error|memory|a variable|a variable is refused|out of memory): (AllocError|OutOfMemory|NoWorker)\b")
+HANGS = 60
+# Schedules differ, so that one run may ask for less than the next.
+IN_A_ROW = 5
+MOST = 5_000
+
+
+def is_newer_than_sources(program, crates):
+    """Whether the program is there, and no source is newer."""
+    if not program.is_file():
+        return False
+    built = program.stat().st_mtime
+    sources = (file for file in crates.glob("*/[!o]*/**/*") if file.is_file())
+    return all(file.stat().st_mtime <= built for file in sources)
+
+
+def run_refused(program, test, library, place, at):
+    """A run with the N-th growth or start refused, and whether it met that."""
+    note = os.path.join(place, f"note.{os.getpid()}")
+    seen = run([program, test], b"", HANGS, {"LD_PRELOAD": library, "REFUSE": "gs", "AT": str(at), "MET": note})
+    has_met = os.path.exists(note)
+    if has_met:
+        os.unlink(note)
+    return seen, has_met
+
+
+def fault_of(seen, has_met):
+    """What is wrong with a run, or None."""
+    said = seen.out + seen.err
+    if seen.status == 0 and b"test result: ok" in said:
+        return None
+    if has_met and seen.status is not None and REFUSED.search(said) and b"assertion failed" not in said:
+        return None
+    return str(seen)
+
+
+def try_test(program, test, library, place):
+    """How many runs of a test there were, how many met a refusal, how many of these passed, and what was wrong."""
+    tried = met = passed = row = 0
+    for at in range(1, MOST):
+        seen, has_met = run_refused(program, test, library, place, at)
+        tried, met, passed = tried + 1, met + has_met, passed + (has_met and seen.status == 0)
+        row = 0 if has_met else row + 1
+        fault = fault_of(seen, has_met)
+        if fault:
+            return tried, met, passed, f"at {at}: {fault}"
+        if row == IN_A_ROW:
+            return tried, met, passed, None
+    return tried, met, passed, "each run met a refusal"
+
+
+def main():
+    parser = argparse.ArgumentParser(usage=__doc__.split("usage: ")[1].split("\n")[0])
+    parser.add_argument("crates", type=pathlib.Path)
+    parser.add_argument("--jobs", type=int, default=2)
+    settings = parser.parse_args()
+    tally, tasks = Tally("growths"), []
+    with kit.folder() as place, kit.pool(settings.jobs) as pool:
+        library = compiled(place)
+        for crate, test in TESTS:
+            program = settings.crates.resolve() / crate / "out" / f"{crate}_tests"
+            if is_newer_than_sources(program, settings.crates):
+                tasks.append((test, pool.submit(try_test, program, test, library, place)))
+            else:
+                say(f"growths: `rt test` in {crate} has left no program of these sources, so nothing was tried with {test}")
+        for test, task in tasks:
+            tried, met, passed, fault = task.result()
+            tally.check(f"{test}: {tried} runs", fault is None and met > 0, fault or "nothing was refused")
+            tally.figures(f"{test}: {tried} runs, {met} met a refusal, {passed} of these passed")
+    tally.end()
+    sys.exit(tally.failed > 0)
+
+
+if __name__ == "__main__":
+    kit.ended(main)
