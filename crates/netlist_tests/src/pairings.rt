@@ -128,36 +128,53 @@ fn ordered(
     Ok(spelled(alloc, pairing.names())?)
 }
 
+/// A condition with two new variables, of which one is a register, and one that a netlist has.
+const BEHIND: &str = "q = DFF(a) INPUT(z) INPUT(x) OUTPUT(q)";
+
+/// The variables of a netlist, against itself, and that condition, by level.
+fn named_with_condition(alloc: Global, text: &str, how: Match) -> Result<Vec<u8>, Fail> {
+    let net = netlist(alloc, text)?;
+    let given = netlist(alloc, BEHIND)?;
+    let pairing = pair(alloc, &net, &net, Some(&given), how, &Order::Depth)?;
+    Ok(spelled(alloc, pairing.names())?)
+}
+
 // A condition's new variables stand behind all others, inputs before registers, and go by their names also by position.
 #[test]
 fn condition_behind(rt: HostRuntime) -> Result<(), Fail> {
-    let alloc = rt.alloc();
-    let first = netlist(alloc, THROUGH)?;
-    let second = netlist(alloc, BUFFERED)?;
-    let given = netlist(alloc, "q = DFF(a) INPUT(z) INPUT(x) OUTPUT(q)")?;
-    let rows = [
-        (Match::Name, Order::Declared, "a x z q "),
-        (Match::Position, Order::Declared, "a z x q "),
-        (Match::Name, Order::Depth, "a x z q "),
-        (Match::Name, Order::Interleave, "x a z q "),
-    ];
-    for (how, order, names) in &rows {
-        let pairing = pair(alloc, &first, &second, Some(&given), *how, order)?;
-        assert_eq!(rt;
-            spelled(alloc, pairing.names())?.as_slice(),
-            names.as_bytes()
-        );
-    }
+    let names = named_with_condition(rt.alloc(), THROUGH, Match::Name)?;
+    assert_eq!(rt; names.as_slice(), b"a z x q ".as_slice());
+    Ok(())
+}
+
+#[test]
+fn condition_by_position(rt: HostRuntime) -> Result<(), Fail> {
+    let names = named_with_condition(rt.alloc(), BUFFERED, Match::Position)?;
+    assert_eq!(rt; names.as_slice(), b"x z q ".as_slice());
+    Ok(())
+}
+
+/// The level of the condition's signal of this name.
+fn level_given(alloc: Global, name: &[u8]) -> Result<Option<u32>, Fail> {
+    let net = netlist(alloc, THROUGH)?;
+    let given = netlist(alloc, BEHIND)?;
     let pairing = pair(
         alloc,
-        &first,
-        &second,
+        &net,
+        &net,
         Some(&given),
         Match::Name,
         &Order::Declared,
     )?;
-    let z = given.find(b"z").ok_or("z")?;
-    assert_eq!(rt; pairing.given_level(z), 2);
+    match given.find(name) {
+        Some(signal) => Ok(Some(pairing.given_level(signal))),
+        None => Ok(None),
+    }
+}
+
+#[test]
+fn levels_given(rt: HostRuntime) -> Result<(), Fail> {
+    assert_eq!(rt; level_given(rt.alloc(), b"z")?, Some(2));
     Ok(())
 }
 

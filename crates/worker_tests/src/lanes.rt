@@ -7,7 +7,7 @@ ghost use Rattle.lane_queue.specs.PortView.{PortView, IsPortOf};
 use dd_store::{Ref, Store};
 use lane_queue::{Bundle, Lanes, Load, Port, Settled};
 use req_table::requests::{level_of, normal, short};
-use req_table::{Key, Op};
+use req_table::{Item, Key, Op};
 use std::alloc::{AllocError, Global};
 use std::process::Abort;
 use std::sync::Wait;
@@ -23,43 +23,61 @@ struct Told {
     key: Option<Key>,
 }
 
-/// What the load says. A bundle of another length than 1 is told with a level that no store has.
+/// What the load says.
 fn tell(load: &Load) -> Told {
-    match load {
-        Load::Bundle { from, asks } => tell_one(*from, asks.asks()),
-        Load::End { from, level } => Told {
-            from: *from,
-            level: *level,
+    tell_item(item_of(load))
+}
+
+/// What the item says.
+fn tell_item(item: Item) -> Told {
+    match item {
+        Item::Ask { from, level, key } => Told {
+            from,
+            level,
+            key: Some(key),
+        },
+        Item::End { from, level } => Told {
+            from,
+            level,
             key: None,
         },
     }
 }
 
-/// What a bundle of one request says.
-fn tell_one(from: u32, asks: &[(u16, Key)]) -> Told {
+/// The item of an End, or of a bundle of one request. A bundle of another length is an End of a level that no store has.
+fn item_of(load: &Load) -> Item {
+    match load {
+        Load::Bundle { from, asks } => only_item(*from, asks.asks()),
+        Load::End { from, level } => Item::End {
+            from: *from,
+            level: *level,
+        },
+    }
+}
+
+fn only_item(from: u32, asks: &[(u16, Key)]) -> Item {
     if asks.len() == 1 {
         let (level, key) = asks[0];
-        Told {
-            from,
-            level,
-            key: Some(key),
-        }
+        Item::Ask { from, level, key }
     } else {
-        Told {
+        Item::End {
             from,
             level: u16::MAX,
-            key: None,
         }
     }
 }
 
-/// What the loads of one sender say, in their order.
-fn of_sender(alloc: Global, loads: &Vec<Load>, sender: u32) -> Result<Vec<Told>, AllocError> {
+/// The items of one sender's loads, in their order.
+fn of_sender(alloc: Global, loads: &Vec<Load>, sender: u32) -> Result<Vec<Item>, AllocError> {
     let mut kept = Vec::new(alloc);
     for load in loads {
-        let told = tell(load);
-        if told.from == sender {
-            kept.push(told)?;
+        let item = item_of(load);
+        let from = match item {
+            Item::Ask { from, .. } => from,
+            Item::End { from, .. } => from,
+        };
+        if from == sender {
+            kept.push(item)?;
         }
     }
     Ok(kept)
@@ -202,6 +220,21 @@ fn settle<R: Wait + Abort>(rt: &R, lanes: Lanes, ports: Vec<Port>) -> Result<Set
     lanes.settle(rt, ports)
 }
 
+/// Settles lanes between two workers.
+fn settle_both<R: Wait + Abort>(
+    rt: &R,
+    alloc: Global,
+    lanes: Lanes,
+    first: Port,
+    second: Port,
+) -> Result<Settled, AllocError>
+    requires first { IsPortOf lanes first }
+    requires second { IsPortOf lanes second }
+    ensures { IfOk result (λ r. length r.left.items ≡ length lanes.lanes) }
+{
+    settle(rt, lanes, vec![in alloc; first, second]?)
+}
+
 #[test]
 fn what_is_left_is_settled(rt: HostRuntime) -> Result<(), Fail> {
     let mut store = Store::new(rt.alloc(), 1, 1)?;
@@ -226,7 +259,7 @@ fn what_is_left_is_settled(rt: HostRuntime) -> Result<(), Fail> {
     };
     assert_eq!(rt; tell(&taken), want);
     assert!(rt; lanes.take(&rt, &mut first).is_none());
-    let settled = settle(&rt, lanes, vec![in rt.alloc(); first, second]?)?;
+    let settled = settle_both(&rt, rt.alloc(), lanes, first, second)?;
     assert!(rt; settled.left[0].is_empty());
     let left = &settled.left[1];
     assert_eq!(rt; left.len(), 2);
@@ -415,7 +448,7 @@ fn two_threads_keep_the_order(rt: HostRuntime) -> Result<(), Fail> {
             }
         );
     }
-    let settled = settle(&rt, lanes, vec![in rt.alloc(); first, second]?)?;
+    let settled = settle_both(&rt, rt.alloc(), lanes, first, second)?;
     assert!(rt; settled.left[0].is_empty() && settled.left[1].is_empty());
     Ok(())
 }
@@ -496,7 +529,7 @@ fn come_in_order(rt: &impl Abort, alloc: Global, items: &Vec<Load>, from: u32, k
     assert_eq!(rt; theirs.len(), 2);
     for (place, key) in [(0, Some(key)), (1, None)] {
         assert_eq!(rt;
-            theirs[place],
+            tell_item(theirs[place]),
             Told {
                 from,
                 level: 0,
