@@ -18,11 +18,9 @@ import kit
 from kit import Tally, run, say
 from refusals import compiled
 
-# Crates, and their tests by name: a wave, and each of its halves.
+# Crates, and their tests by name: the threads' half of a wave.
 TESTS = [
     ("worker_tests", "expanded::merged_roots"),
-    ("wave_tests", "refused::refused_reduction"),
-    ("wave_tests", "refused::refused_wave"),
 ]
 # How a test says that it was refused something.
 REFUSED = re.compile(rb"\b(error|memory|a variable|a variable is refused|out of memory): (AllocError|OutOfMemory|NoWorker)\b")

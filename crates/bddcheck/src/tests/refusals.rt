@@ -275,34 +275,6 @@ fn blank(blanks: usize) -> Tape {
     }
 }
 
-/// A text, and behind it blanks up to so many bytes.
-fn filled(text: &'static str, bytes: usize) -> Tape {
-    Tape {
-        text,
-        blanks: bytes.saturating_sub(text.len()),
-        fails: false,
-    }
-}
-
-// Standard input is read as a whole up to its limit, so that what it holds is judged, and refused as it is from one byte more on.
-#[test]
-fn standard_input_limit(rt: HostRuntime) -> Result<(), Fail> {
-    for (text, bytes, fault) in [
-        ("", 134_221_824, "standard input: no line %%"),
-        ("%%\n", 134_221_824, "second: longer than 67108864 bytes"),
-        ("%%\n", 134_221_825, "standard input: too long"),
-    ] {
-        let want = format!(in rt.alloc(); "bddcheck: {fault}\n")?;
-        let none = tape_of("");
-        let folder = shelf(rt.alloc(), none, none, none);
-        let left = left_by(&rt, "", folder, start(filled(text, bytes)))?;
-        assert_eq!(rt; left.said.as_slice(), want.as_bytes(), "{bytes}");
-        assert_eq!(rt; left.status, 2, "{fault}");
-        assert!(rt; left.written.is_empty(), "{fault}");
-    }
-    Ok(())
-}
-
 #[test]
 fn files_and_inputs_that_are_refused(rt: HostRuntime) -> Result<(), Fail> {
     let good = tape_of(C17);
