@@ -128,8 +128,8 @@ fn ordered(
     Ok(spelled(alloc, pairing.names())?)
 }
 
-/// A condition with two new variables, of which one is a register, and one that a netlist has.
-const BEHIND: &str = "q = DFF(a) INPUT(z) INPUT(x) OUTPUT(q)";
+/// A condition with an input that a netlist has, and behind its inputs a register.
+const BEHIND: &str = "INPUT(z) INPUT(x) INPUT(a) q = DFF(a) OUTPUT(q)";
 
 /// The variables of a netlist, against itself, and that condition, by level.
 fn named_with_condition(alloc: Global, text: &str, how: Match) -> Result<Vec<u8>, Fail> {
@@ -150,7 +150,7 @@ fn condition_behind(rt: HostRuntime) -> Result<(), Fail> {
 #[test]
 fn condition_by_position(rt: HostRuntime) -> Result<(), Fail> {
     let names = named_with_condition(rt.alloc(), BUFFERED, Match::Position)?;
-    assert_eq!(rt; names.as_slice(), b"x z q ".as_slice());
+    assert_eq!(rt; names.as_slice(), b"x z a q ".as_slice());
     Ok(())
 }
 
@@ -174,7 +174,7 @@ fn level_given(alloc: Global, name: &[u8]) -> Result<Option<u32>, Fail> {
 
 #[test]
 fn levels_given(rt: HostRuntime) -> Result<(), Fail> {
-    assert_eq!(rt; level_given(rt.alloc(), b"z")?, Some(2));
+    assert_eq!(rt; level_given(rt.alloc(), b"z")?, Some(1));
     Ok(())
 }
 
