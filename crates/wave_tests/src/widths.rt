@@ -38,6 +38,10 @@ impl Gate for Width {
     fn most_alone(&self, _workers: u32) -> usize {
         self.most.load(Ordering::SeqCst) as usize
     }
+
+    fn most_requests(&self) -> usize {
+        usize::MAX
+    }
 }
 
 /// Numbers that look random, from a seed.
