@@ -5,3 +5,4 @@ pub mod Up
 pub mod Front
 pub mod Words
 pub mod WordLaws
+pub mod Resting

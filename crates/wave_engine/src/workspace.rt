@@ -1,5 +1,5 @@
 //! Waves without a memo, and the memory that lasts from wave to wave.
-ghost use Rattle.std.specs.Prelude.{◌≡◌, ◌≢◌, ◌≤◌, ℕ, length, All, IfOk, IfErr, OnOk};
+ghost use Rattle.std.specs.Prelude.{◌≡◌, ◌≢◌, ◌<◌, ◌≤◌, ◌-◌, ◌^◌, ℕ, length, None, Err, All, IfOk, IfErr, OnOk};
 ghost use Rattle.std.specs.List.{AllZip};
 ghost use Rattle.dd_store.specs.declared.reference.Ref.{Ref as RefValue};
 ghost use Rattle.dd_store.specs.Nodes.{IsSound};
@@ -74,6 +74,7 @@ fn go_down(
     requires operands { All (IsEntry store.now) entries.now }
     ensures down { IfOk result (λ v. IsDown store.now entries.now v down.new.requests down.new.rows.items down.new.roots.items answers.new.items) }
     ensures refused { IfErr result (λ e. e ≢ WaveFault.Full) }
+    ensures allowed { result ≡ Err WaveFault.TooManyRequests → bound < 2 ^ 64 - 1 }
 {
     let levels = store.levels();
     down.requests.restart(alloc, levels)?;
@@ -111,14 +112,16 @@ fn root_answers(
 /// Does waves one after the other. It keeps the memory that they take, and nothing else: no wave knows of an earlier one.
 #[derive(Drop)]
 pub(crate) struct Workspace<'a, R, G> {
-    team: Team<'a, R, G>,
+    pub(crate) team: Team<'a, R, G>,
     down: Down,
     answers: Vec<Answers>,
 }
 
 impl<'a, R: Threads + Wait + Sync, G: Gate> Workspace<'a, R, G> {
     /// A workspace that has done no wave. It takes no memory yet.
-    pub(crate) fn new(rt: &'a R, alloc: Global, workers: Workers, gate: &'a G) -> Self {
+    pub(crate) fn new(rt: &'a R, alloc: Global, workers: Workers, gate: &'a G) -> Self
+        ensures gate { result.team.gate.now ≡ gate.now }
+    {
         Workspace {
             team: Team {
                 rt,
@@ -158,6 +161,8 @@ impl<'a, R: Threads + Wait + Sync, G: Gate> Workspace<'a, R, G> {
         ensures no_others { IfOk result (λ answers. AddsBelow store.old store.new answers.items) }
         ensures within { OnOk result (IsWithinLimit store.old entries.now store.new) }
         ensures fault { IfErr result (λ e. IsWaveFault store.old entries.now store.new e) }
+        ensures unbounded { G.bound self.old.team.gate.now ≡ None → result ≢ Err WaveFault.TooManyRequests }
+        ensures gate { self.new.team.gate ≡ self.old.team.gate }
     {
         let _ = store.levels();
         let alloc = self.team.alloc;
