@@ -22,7 +22,8 @@ pub trait Gate: Watch + Sync {
     fn most_requests(&self) -> usize
         ensures bound { result ≡ most_of (bound self.now) };
 
-    /// Is told before a rank of a build, counted from 0, how many ranks the build has and how many nodes its store has so far.
+    /// Is told of each rank of a build before it is built: its number, from 1 on, how many ranks the build has, and how many nodes the
+    /// store has so far.
     fn at_rank(&self, _rank: u32, _ranks: u32, _nodes: u64) {}
 }
 

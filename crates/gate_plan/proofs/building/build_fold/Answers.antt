@@ -34,7 +34,7 @@ returns-in_err-answers-clause-fault g c =
     rw (p.1, p.2) (
     wave_fault c.args.store.now c.wave.new.store c.as_slice.result.now (IsPlacedValue c.args.store.now.levels c.args.sides.now)
     (all_asked c.args.sides.now c.requires.plans c.args.store.now c.args.built.now c.args.rank c.args.fold c.as_slice.result.now c.requires.folded (c.as_slice.ensures.value ∙ c.in-Ok.ensures))
-    c.wave.ensures.adds.keeps _ (fault_of_all c.args.store.now c.wave.new.store c.args.engine.now c.as_slice.result.now _ c.in_err-answers.ensures.fault)
+    c.wave.ensures.adds.keeps _ (fault_of_all c.args.store.now c.wave.new.store c.args.engine.now.held c.as_slice.result.now _ c.in_err-answers.ensures.fault)
     )
 
 pub steps-steps-requires-clause-plan : goal.steps-steps-requires-clause-plan
@@ -93,11 +93,11 @@ returns-clause-next g c = (c.loop-i.invariant.len ∙ c.requires.folded.0, λ k 
 
 pub returns-clause-within : goal.returns-clause-within
 returns-clause-within g c =
-    wave_unasked c.args.sides.now c.requires.plans c.args.store.now c.wave.new.store c.levels.ensures.sound c.args.built.now c.args.rank c.args.fold c.as_slice.result.now c.requires.folded (c.as_slice.ensures.value ∙ c.in-Ok.ensures) c.args.engine.now c.requires.held c.in_ok-answers.ensures.within
+    wave_unasked c.args.sides.now c.requires.plans c.args.store.now c.wave.new.store c.levels.ensures.sound c.args.built.now c.args.rank c.args.fold c.as_slice.result.now c.requires.folded (c.as_slice.ensures.value ∙ c.in-Ok.ensures) c.args.engine.now.held c.requires.held c.in_ok-answers.ensures.within
 
 pub wave-requires-clause-right : goal.wave-requires-clause-right
 wave-requires-clause-right g c κs within = c.requires.held.right
 
 pub returns-clause-held : goal.returns-clause-held
 returns-clause-held g c =
-    wave_held c.args.store.now c.wave.new.store c.args.engine.now c.as_slice.result.now c.in_ok-answers.answers.items c.wave.new.self c.requires.held c.in_ok-answers.ensures.within c.in_ok-answers.ensures.kept c.wave.ensures.right
+    wave_held c.args.store.now c.wave.new.store c.args.engine.now.held c.as_slice.result.now c.in_ok-answers.answers.items c.wave.new.self.held c.requires.held c.in_ok-answers.ensures.within c.in_ok-answers.ensures.kept c.wave.ensures.right

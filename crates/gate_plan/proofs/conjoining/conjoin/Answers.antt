@@ -16,9 +16,9 @@ returns-in-Ok-wave-clause-conjoined g c =
 pub returns-in-Ok-wave-clause-within : goal.returns-in-Ok-wave-clause-within
 returns-in-Ok-wave-clause-within g c =
     subst (λ z. IsWithinLimit c.args.store.now z c.wave.new.store) (c.as_slice.ensures.value ∙ c.in-Ok.ensures)
-    (within_all c.args.store.now c.wave.new.store c.in-Ok-new.engine c.as_slice.result.now c.in-Ok-new.ensures.empty c.in-Ok-wave.ensures.within)
+    (within_all c.args.store.now c.wave.new.store c.in-Ok-new.engine.held c.as_slice.result.now c.in-Ok-new.ensures.empty c.in-Ok-wave.ensures.within)
 
 pub returns-clause-fault : goal.returns-clause-fault
 returns-clause-fault g c =
     subst (λ z. IsWaveFault c.args.store.now z c.wave.new.store c.in-Err.fault) (c.as_slice.ensures.value ∙ c.in-Ok.ensures)
-    (fault_of_all c.args.store.now c.wave.new.store c.in-Ok-new.engine c.as_slice.result.now _ c.in-Err.ensures.fault)
+    (fault_of_all c.args.store.now c.wave.new.store c.in-Ok-new.engine.held c.as_slice.result.now _ c.in-Err.ensures.fault)
