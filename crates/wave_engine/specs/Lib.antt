@@ -6,3 +6,4 @@ pub mod Front
 pub mod Words
 pub mod WordLaws
 pub mod Resting
+pub mod Bounds

@@ -1,10 +1,11 @@
 //! The engine of waves: what lasts from wave to wave.
-ghost use Rattle.std.specs.Prelude.{◌≡◌, ◌≢◌, [], None, Err, All, IfOk, IfErr, OnOk, OnErr};
+ghost use Rattle.std.specs.Prelude.{◌≡◌, [], Err, All, IfOk, IfErr, OnOk, OnErr};
 ghost use Rattle.dd_store.specs.Nodes.{Nodes, IsSound};
 ghost use Rattle.req_table.specs.Memos.{IsRight};
 ghost use Rattle.reduce_up.specs.Known.{unknown, IsKeptWave};
 ghost use Rattle.reduce_up.specs.Reducing.{AddsDescribed};
 ghost use Rattle.reduce_up.specs.Waves.{IsEntry, AnswersEach, IsWanted, AddsBelow, IsWithinLimit, IsWaveFault};
+ghost use Rattle.wave_engine.specs.Bounds.{ArePast};
 
 use crate::team::Workers;
 use crate::workspace::Workspace;
@@ -53,7 +54,7 @@ impl<'a, R: Threads + Wait + Sync, G: Gate> Runner<'a, R, G> {
         ensures no_others { IfOk result (λ answers. AddsBelow store.old store.new answers.items) }
         ensures within { OnOk result (IsWithinLimit store.old (unknown memo.old entries.now) store.new) }
         ensures fault { IfErr result (λ e. IsWaveFault store.old (unknown memo.old entries.now) store.new e) }
-        ensures unbounded { G.bound self.old.workspace.team.gate.now ≡ None → result ≢ Err WaveFault.TooManyRequests }
+        ensures past { result ≡ Err WaveFault.TooManyRequests → ArePast (G.bound self.old.workspace.team.gate.now) store.old (unknown memo.old entries.now) }
         ensures gate { self.new.workspace.team.gate ≡ self.old.workspace.team.gate }
         ensures kept { IfOk result (λ answers. IsKeptWave memo.old entries.now answers.items memo.new) }
         ensures refused { OnErr result (memo.new ≡ memo.old) }
@@ -136,7 +137,7 @@ impl<'a, R: Threads + Wait + Sync, G: Gate> Engine<'a, R, G> {
         ensures no_others { IfOk result (λ answers. AddsBelow store.old store.new answers.items) }
         ensures within { OnOk result (IsWithinLimit store.old (unknown self.old.held entries.now) store.new) }
         ensures fault { IfErr result (λ e. IsWaveFault store.old (unknown self.old.held entries.now) store.new e) }
-        ensures unbounded { self.old.bound ≡ None → result ≢ Err WaveFault.TooManyRequests }
+        ensures past { result ≡ Err WaveFault.TooManyRequests → ArePast self.old.bound store.old (unknown self.old.held entries.now) }
         ensures kept { IfOk result (λ answers. IsKeptWave self.old.held entries.now answers.items self.new.held) }
         ensures refused { OnErr result (self.new ≡ self.old) }
         ensures right { IsRight store.new self.new.held }

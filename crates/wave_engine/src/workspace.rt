@@ -1,10 +1,11 @@
 //! Waves without a memo, and the memory that lasts from wave to wave.
-ghost use Rattle.std.specs.Prelude.{◌≡◌, ◌≢◌, ◌<◌, ◌≤◌, ◌-◌, ◌^◌, ℕ, length, None, Err, All, IfOk, IfErr, OnOk};
+ghost use Rattle.std.specs.Prelude.{◌≡◌, ◌≢◌, ◌<◌, ◌≤◌, ◌-◌, ◌^◌, ℕ, length, Err, All, IfOk, IfErr, OnOk};
 ghost use Rattle.std.specs.List.{AllZip};
 ghost use Rattle.dd_store.specs.declared.reference.Ref.{Ref as RefValue};
 ghost use Rattle.dd_store.specs.Nodes.{IsSound};
 ghost use Rattle.reduce_up.specs.Reducing.{AddsDescribed};
 ghost use Rattle.reduce_up.specs.Waves.{IsEntry, AnswersEach, IsWanted, AddsBelow, IsWithinLimit, IsWaveFault};
+ghost use Rattle.wave_engine.specs.Bounds.{AreMoreThan, ArePast};
 ghost use Rattle.wave_engine.specs.Down.{IsDown};
 ghost use Rattle.wave_engine.specs.Up.{ComesTo};
 
@@ -74,7 +75,8 @@ fn go_down(
     requires operands { All (IsEntry store.now) entries.now }
     ensures down { IfOk result (λ v. IsDown store.now entries.now v down.new.requests down.new.rows.items down.new.roots.items answers.new.items) }
     ensures refused { IfErr result (λ e. e ≢ WaveFault.Full) }
-    ensures allowed { result ≡ Err WaveFault.TooManyRequests → bound < 2 ^ 64 - 1 }
+    ensures bounded { result ≡ Err WaveFault.TooManyRequests → bound < 2 ^ 64 - 1 }
+    ensures past { result ≡ Err WaveFault.TooManyRequests → AreMoreThan bound store.now entries.now }
 {
     let levels = store.levels();
     down.requests.restart(alloc, levels)?;
@@ -161,7 +163,7 @@ impl<'a, R: Threads + Wait + Sync, G: Gate> Workspace<'a, R, G> {
         ensures no_others { IfOk result (λ answers. AddsBelow store.old store.new answers.items) }
         ensures within { OnOk result (IsWithinLimit store.old entries.now store.new) }
         ensures fault { IfErr result (λ e. IsWaveFault store.old entries.now store.new e) }
-        ensures unbounded { G.bound self.old.team.gate.now ≡ None → result ≢ Err WaveFault.TooManyRequests }
+        ensures past { result ≡ Err WaveFault.TooManyRequests → ArePast (G.bound self.old.team.gate.now) store.old entries.now }
         ensures gate { self.new.team.gate ≡ self.old.team.gate }
     {
         let _ = store.levels();
