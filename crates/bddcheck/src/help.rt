@@ -126,7 +126,8 @@ fn help_in_order(fault: OrderFault) -> &'static str
         OrderFault::NotAPermutation { .. } => "--print-order writes a list that fits",
         OrderFault::TooManyInputs => "compare parts that have fewer inputs",
         OrderFault::OutOfMemory => "more memory, or a smaller netlist",
-        OrderFault::BadName { .. } => "a list has names and blanks alone, as --print-order writes it",
+        OrderFault::BadName { .. } =>
+            "a list has names and blanks alone, as --print-order writes it",
         OrderFault::TooLong => "a text has at most 67108864 bytes",
         OrderFault::Read => "the device failed, or is a folder",
     }
@@ -137,7 +138,8 @@ fn help_by_order(choice: OrderChoice<'_>) -> &'static str
     ensures { result.now ≡ fewer_nodes choice.entry }
 {
     match choice {
-        OrderChoice::Best => "interleave, depth and declared were tried; a list by --order-file may need fewer nodes",
+        OrderChoice::Best =>
+            "interleave, depth and declared were tried; a list by --order-file may need fewer nodes",
         _ => "another order may need fewer nodes: try --order best",
     }
 }
@@ -221,11 +223,7 @@ fn line_at(alloc: Global, spot: Spot<'_>, help: &str) -> Result<String, AllocErr
 }
 
 /// The line that says where a fault stands, and what helps.
-pub fn help_of(
-    alloc: Global,
-    options: &Options<'_>,
-    fault: ToolFault,
-) -> Result<String, AllocError>
+pub fn help_of(alloc: Global, options: &Options<'_>, fault: ToolFault) -> Result<String, AllocError>
     ensures { IfOk result (λ line. string_bytes line ≡ help_text options.now fault) }
 {
     let spot = spot_of(options, fault);

@@ -50,12 +50,7 @@ fn help<E: Sink>(alloc: Global, options: &Options<'_>, fault: ToolFault, errors:
 }
 
 /// Prints the line of a fault of a run, and what helps where more is asked for, and answers the status.
-fn refuse_run<E: Sink>(
-    alloc: Global,
-    options: &Options<'_>,
-    fault: ToolFault,
-    errors: &mut E,
-) -> u8
+fn refuse_run<E: Sink>(alloc: Global, options: &Options<'_>, fault: ToolFault, errors: &mut E) -> u8
     ensures said { IsSaidOf options.now.verbose options.now (record { held = E.contents errors.old; holds = E.contents errors.new; has_failed = E.has_failed errors.new; has_stopped = E.has_stopped errors.new }) fault result }
     ensures bound { result ≤ 3 }
     ensures refused { 2 ≤ result }
