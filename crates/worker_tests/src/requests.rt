@@ -115,7 +115,14 @@ fn children(rt: HostRuntime) -> Result<(), Fail> {
     assert_eq!(rt; key.op(), Op::And);
     assert_eq!(rt; key.f(), a);
     assert_eq!(rt; key.g(), b);
-    assert!(rt; key.view() == Operation { op: Op::And, f: a, g: b });
+    assert!(rt;
+        key.view()
+            == Operation {
+                op: Op::And,
+                f: a,
+                g: b
+            }
+    );
     let both = split(&store, key);
     assert_eq!(rt; both.key, key);
     assert_eq!(rt; tell(both.low), Ok(Ref::FALSE));
