@@ -55,6 +55,16 @@ fn one_home_for_all(rt: HostRuntime) -> Result<(), Fail> {
 }
 
 #[test]
+fn one_home_and_other_tags(rt: HostRuntime) -> Result<(), Fail> {
+    let mut table = SlotTable::new(rt.alloc());
+    fill(&rt, &mut table, 300, 1048576);
+    assert_eq!(rt; table.slots(), 1024);
+    look(&rt, &mut table, 300, 1048576);
+    assert!(rt; table.find(300 * 1048576).is_none());
+    Ok(())
+}
+
+#[test]
 fn cleared_and_filled_again(rt: HostRuntime) -> Result<(), Fail> {
     let mut table = SlotTable::new(rt.alloc());
     fill(&rt, &mut table, 1000, 1);
