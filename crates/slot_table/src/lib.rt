@@ -24,12 +24,14 @@ pub trait Spread: Copy + Eq {
     ghost same: { (x y : Self) → Self.eq x y ≡ true → x ≡ y };
 }
 
-/// A number that spreads what has two words: two multiplications, and the upper half.
+/// A number that spreads what has two words: two multiplications, and the upper half. Between them the halves change
+/// places, so that the upper bits of both words reach the lower bits of the number.
 pub fn mix(first: u64, second: u64) -> u64
     ensures { result ≡ mix_of first second }
 {
     let product = first.wrapping_mul(11400714819323198485);
-    (product ^ second).wrapping_mul(15485907386658061715) >> 32
+    let turned = (product ^ second).rotate_left(32);
+    turned.wrapping_mul(15485907386658061715) >> 32
 }
 
 impl Spread for u64 {

@@ -79,7 +79,7 @@ fn cleared_and_filled_again(rt: HostRuntime) -> Result<(), Fail> {
 
 #[test]
 fn mixed_words(rt: HostRuntime) -> Result<(), Fail> {
-    for (first, second, mixed) in [(0, 0, 0), (1, 2, 4208732463), (2, 1, 1895650868)] {
+    for (first, second, mixed) in [(0, 0, 0), (1, 2, 4193632173), (2, 1, 1518569743)] {
         assert_eq!(rt; mix(first, second), mixed);
         assert_eq!(rt; (first, second).spread(), mixed);
     }
