@@ -109,13 +109,13 @@ partner [] ts s = 0
 partner (x ∷ xs) [] s = 0
 partner (x ∷ xs) (t ∷ ts) s = if x == s then t else partner xs ts s
 
--- The name of a netlist's input or register in a pairing: its own, or by position that of the first netlist, of which input i of both is
+-- The name of an input or register of a netlist c in a pairing: its own, or by position that of its partner in a, as input i of both is
 -- one variable, and so is register i.
 abbrev pub name_by : Match → Circuit → Circuit → ℕ → List ℕ
 name_by Name a c s = name_of c s
 name_by Position a c s = name_of a (partner (variables_of c) (variables_of a) s)
 
--- A netlist of a pairing, and how its variables are matched with those of the one that may name them.
+-- A side of a pairing: a netlist, how its variables are matched, and the netlist that names them by position.
 pub record Sided : Type 0 where
   pub how : Match
   pub namer : Circuit
