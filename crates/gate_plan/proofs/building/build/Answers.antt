@@ -2,8 +2,8 @@ use Rattle.std.proofs.Common.{refl, sym, inl, arith, ◌∙◌, ◌≡◌, ◌+�
 use Rattle.std.proofs.lemmas.Result.{err_from_is_err_and}
 use Rattle.dd_store.specs.declared.reference.Ref.{Ref}
 use Rattle.net_bench.specs.Circuit.{circuit}
-use Rattle.net_order.specs.Order.{condition}
-use Rattle.gate_plan.specs.Building.{ArePlaced, AllRight, AreVariables, first_level, second_level, input_level}
+use Rattle.net_order.specs.Order.{condition, first_level, second_level}
+use Rattle.gate_plan.specs.Building.{ArePlaced, AllRight, AreVariables, input_level}
 use Rattle.gate_plan.specs.Folds.{IsVariable}
 use Rattle.gate_plan.specs.Needing.{IsPlacedValue}
 use Rattle.gate_plan.specs.Asking.{AnyAsksIn}
