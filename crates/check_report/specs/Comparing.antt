@@ -1,5 +1,5 @@
 -- What a comparison has at hand before its verdicts are found, and how far it has come.
-use Rattle.std.specs.Prelude.{◌≡◌, ℕ, ◌+◌, ◌<◌, Bool, List, ◌++◌, length, map, All, IfSome, Option, Some, None, slice_index_or}
+use Rattle.std.specs.Prelude.{◌≡◌, ℕ, ◌+◌, ◌<◌, Bool, List, ◌++◌, length, map, All, IfSome, Option, slice_index_or}
 use Rattle.std.specs.List.{AllZip}
 use Rattle.net_bench.specs.Circuit.{Circuit}
 use Rattle.net_bench.specs.Labels.{IsFunctionOf}
@@ -13,7 +13,7 @@ use Rattle.check_report.specs.declared.outcome.Role.{Role}
 use Rattle.check_report.specs.declared.outcome.Role.TheVariants.{Output}
 use Rattle.check_report.specs.declared.outcome.Subject.{Subject}
 use Rattle.check_report.specs.declared.verdict.Verdict.{Verdict}
-use Rattle.check_report.specs.Conditions.{HoldsWhere, output_of, restricted}
+use Rattle.check_report.specs.Conditions.{HoldsWhere, restricted}
 use Rattle.check_report.specs.Report.{Compared, AreFunctions, IsVerdictOf, subjects}
 
 -- what is compared are signals of the netlists
@@ -28,17 +28,12 @@ pub record AreSignals (a b : Circuit) (p : Paired) : Type 0 where
   pub only_first_next : All (λ s. s < length a.names) p.registers.only_first
   pub only_second_next : All (λ s. s < length b.names) p.registers.only_second
 
--- the store has the diagram of each signal of the condition, and its output is one of them
-pub record IsGivenBuilt (p : Paired) (S : Nodes) (refs : References) (c : Circuit) : Type 0 where
-  pub diagrams : AreDiagrams c (given_level p) S refs.given
-  pub output : output_of c < length c.names
-
 -- the store has the diagram of each signal of the netlists, over the variables of their pairing
 pub record AreBuilt (a b : Circuit) (given : Option Circuit) (p : Paired) (S : Nodes) (refs : References) : Type 0 where
   pub levels : S.levels ≡ length p.names
   pub first : AreDiagrams a (first_level p) S refs.first
   pub second : AreDiagrams b (second_level p) S refs.second
-  pub given : IfSome given (IsGivenBuilt p S refs)
+  pub condition : IfSome given (λ c. AreDiagrams c (given_level p) S refs.given)
   pub signals : AreSignals a b p
 
 -- the subject at this place

@@ -1,5 +1,7 @@
 -- What a condition is: where it holds, and what it is that functions agree or differ there.
-use Rattle.std.specs.Prelude.{◌≡◌, ◌≢◌, ◌&&◌, ℕ, Bool, true, List, length, Option, Some, None, slice_index, IsTrue}
+use Rattle.std.specs.Prelude.{◌≡◌, ◌≢◌, ◌&&◌, ℕ, Bool, true, List, length, Option, Some, None, IfSome, slice_index, IsTrue, ⊤}
+use Rattle.std.specs.Option.{MatchOption-prop}
+use Rattle.std.proofs.Math.Nat.{ℕ_set}
 use Rattle.net_bench.specs.Circuit.{Circuit}
 use Rattle.net_bench.specs.Labels.{IsFunctionOf}
 use Rattle.net_order.specs.Order.{Paired}
@@ -36,3 +38,7 @@ pub record IsLeastWhere (n : ℕ) (holds f g : List Bool → Bool) (x : List Boo
   pub satisfies : IsTrue (holds x)
   pub differ : f x ≢ g x
   pub least : (y : List Bool) → length y ≡ n → Before y x → IsTrue (holds y) → f y ≡ g y
+
+-- that is a fact
+pub one_output-prop : (given : Option Circuit) → IsProp (IfSome given HasOneOutput)
+one_output-prop given = MatchOption-prop given ⊤ HasOneOutput (λ a b i. tt) (λ c. ℕ_set (length c.outputs) 1)

@@ -10,7 +10,7 @@ ghost use Rattle.check_report.specs.Best.{IsAllowed, IsChosen};
 ghost use Rattle.check_report.specs.declared.outcome.Outcome.{Outcome};
 ghost use Rattle.check_report.specs.Report.{AreVerdicts};
 ghost use Rattle.check_report.specs.Check.{IsChecked, IsJudged, IsCheckFault, IsLate};
-ghost use Rattle.check_report.specs.Conditions.{HasOneOutput};
+ghost use Rattle.check_report.specs.Conditions.{HasOneOutput, one_output-prop};
 ghost use Rattle.check_report.specs.Devices.{told_by, HasFailedIn};
 ghost use Rattle.check_report.specs.Limits.{FitsWithin, Exceeds, AreBeyond};
 ghost use Rattle.check_report.specs.Writing.{AppendsFront};
@@ -45,7 +45,7 @@ pub struct Task<'a, H> {
     pub second: &'a Netlist,
     pub given: Option<&'a Netlist>,
     pub settings: &'a Settings,
-    ghost one_output: { IfSome (condition given) HasOneOutput },
+    ghost one_output: { IfSome (condition given) HasOneOutput } by { one_output-prop (condition given) },
 }
 
 /// What a comparison of two netlists that are paired finds, within so many nodes.
@@ -105,13 +105,13 @@ pub fn compare<H: Threads + Wait + Sync, G: Gate>(
 /// Reads two netlists, and a condition where there is one, and compares their outputs and the next states of their registers where it
 /// holds, in the order that is asked for, or in the best; then it says which attempt that was. The gates' diagrams are built by as many threads as the settings have workers. The answer
 /// is never `CheckFault::Write`.
-pub fn judge<H: Threads + Wait + Sync, R1: Source, R2: Source, R3: Source, G: Gate>(
-    rt: &H,
+pub fn judge<'a, H: Threads + Wait + Sync, R1: Source, R2: Source, R3: Source, G: Gate>(
+    rt: &'a H,
     alloc: Global,
     first: &mut R1,
     second: &mut R2,
     given: &mut Option<R3>,
-    settings: &Settings,
+    settings: &'a Settings,
     gate: &G,
 ) -> Result<(Verdicts, Option<Attempt>), CheckFault>
     // The verdicts are those of what was read, in an order that the settings allow. In them two outputs, or the next states of two
@@ -140,25 +140,26 @@ pub fn judge<H: Threads + Wait + Sync, R1: Source, R2: Source, R3: Source, G: Ga
         Ok(net) => net,
         Err(fault) => return Err(fault),
     };
+    let condition = three.as_ref();
     let task = Task {
         rt,
         alloc,
         first: &one,
         second: &two,
-        given: three.as_ref(),
+        given: condition,
         settings,
     };
     decide(&task, gate)
 }
 
 /// Compares two netlists as `judge` does, and writes the report. Nothing is written before the whole report stands.
-pub fn check<H: Threads + Wait + Sync, R1: Source, R2: Source, R3: Source, G: Gate, W: Sink>(
-    rt: &H,
+pub fn check<'a, H: Threads + Wait + Sync, R1: Source, R2: Source, R3: Source, G: Gate, W: Sink>(
+    rt: &'a H,
     alloc: Global,
     first: &mut R1,
     second: &mut R2,
     given: &mut Option<R3>,
-    settings: &Settings,
+    settings: &'a Settings,
     gate: &G,
     out: &mut W,
 ) -> Result<(Outcome, Option<Attempt>), CheckFault>
@@ -184,11 +185,12 @@ pub fn check<H: Threads + Wait + Sync, R1: Source, R2: Source, R3: Source, G: Ga
     ensures written { OnOk result ((W.has_failed out.new ≡ W.has_failed out.old) × (W.has_stopped out.new ≡ W.has_stopped out.old)) }
     ensures origins { (R1.origin first.new ≡ R1.origin first.old) × (R2.origin second.new ≡ R2.origin second.old) × (told_by R3.origin given.new ≡ told_by R3.origin given.old) }
 {
+    let conditional = given.is_some();
     let (verdicts, tried) = match judge(rt, alloc, first, second, given, settings, gate) {
         Ok((verdicts, tried)) => (verdicts, tried),
         Err(fault) => return Err(fault),
     };
-    let Ok(text) = text_of(alloc, settings, tried, given.is_some(), &verdicts) else {
+    let Ok(text) = text_of(alloc, settings, tried, conditional, &verdicts) else {
         return Err(CheckFault::OutOfMemory);
     };
     match write_whole(out, text.as_slice()) {

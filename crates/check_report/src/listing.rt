@@ -129,13 +129,13 @@ fn text_for<H: Threads + Wait + Sync, G: Gate>(
 
 /// Reads two netlists, and writes the names of their variables in level order, one a line, as an order file has them. Nothing is
 /// compared, and nothing built unless the best order is to be found.
-pub fn print_order<H: Threads + Wait + Sync, R1: Source, R2: Source, R3: Source, G: Gate, W: Sink>(
-    rt: &H,
+pub fn print_order<'a, H: Threads + Wait + Sync, R1: Source, R2: Source, R3: Source, G: Gate, W: Sink>(
+    rt: &'a H,
     alloc: Global,
     first: &mut R1,
     second: &mut R2,
     given: &mut Option<R3>,
-    settings: &Settings,
+    settings: &'a Settings,
     gate: &G,
     out: &mut W,
 ) -> Result<Option<Attempt>, CheckFault>
@@ -171,12 +171,13 @@ pub fn print_order<H: Threads + Wait + Sync, R1: Source, R2: Source, R3: Source,
         Ok(net) => net,
         Err(fault) => return Err(fault),
     };
+    let condition = three.as_ref();
     let task = Task {
         rt,
         alloc,
         first: &one,
         second: &two,
-        given: three.as_ref(),
+        given: condition,
         settings,
     };
     let (text, tried) = match text_for(&task, gate) {
