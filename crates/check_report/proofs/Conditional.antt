@@ -170,9 +170,11 @@ module _ (n m k : Net) (p : Paired) (S T : Nodes) (refs : References) (built : A
     answer_denotes c level s r i lt e f =
         let d = answered S T (references refs of) answers given_ref h i lt in (
           d.0,
-          (den S r,
-          subst (λ w. IsFunctionOf c level w s (den S r)) (sym keeps.levels) f,
-          λ x len. d.1 x len ∙ ap (λ z. den S z x && den S given_ref x) e ∙ swapped (den S r x) (den S given_ref x)),
+          (
+            den S r,
+            subst (λ w. IsFunctionOf c level w s (den S r)) (sym keeps.levels) f,
+            λ x len. d.1 x len ∙ ap (λ z. den S z x && den S given_ref x) e ∙ swapped (den S r x) (den S given_ref x),
+          ),
         )
 
     pub shown_conjoined : AreShown (circuit n) (circuit m) (Some (circuit k)) p T of answers
@@ -241,9 +243,12 @@ module _ (n m k : Net) (p : Paired) (S T : Nodes) (refs : References) (built : A
       where
         by : (T.limit < count_of T) ⊎ ((count_of T ≡ T.limit) × LacksWanted S (conjunctions (references refs of) given_ref) T) → (T.limit < count_of T) ⊎ ((count_of T ≡ T.limit) × (HasAllNeeded (circuit n) (circuit m) (Some (circuit k)) p T → ⊥))
         by (inl over) = inl over
-        by (inr (same, (v, f, wanted, lacks))) = inr (same, λ whole.
-            let h : HasNode (length p.names) (part T) (Has T) (den T) v f = whole.present v f (wanted_counted v f wanted) in
-            lacks h.reference h.has (λ x len. h.denotes x (len ∙ adds.keeps.levels ∙ built.levels)))
+        by (inr (same, (v, f, wanted, lacks))) = inr (
+          same,
+          λ whole.
+              let h : HasNode (length p.names) (part T) (Has T) (den T) v f = whole.present v f (wanted_counted v f wanted) in
+              lacks h.reference h.has (λ x len. h.denotes x (len ∙ adds.keeps.levels ∙ built.levels)),
+        )
 
     module _ (net : IsNet n) (net' : IsNet m) (net'' : IsNet k) (answers : List Ref) (shown : AreShown (circuit n) (circuit m) (Some (circuit k)) p T of answers) where
       levels : T.levels ≡ length p.names

@@ -48,5 +48,8 @@ exceeds limit a b given p T e sound levels same lean is fault =
   where
     by : IsFullFor (length p.names) (IsNeededValue a b given p) T → (T.limit < count_of T) ⊎ ((count_of T ≡ T.limit) × (HasAllNeeded a b given p T → ⊥))
     by (inl more) = inl more
-    by (inr full) = inr (full.0, λ whole. not_complete T (length p.names) (IsNeededValue a b given p) full.1
-        (complete_less (length p.names) (IsNeededValue a b given p) (IsNeededIn a b given p) (needed_in a b given p) T whole))
+    by (inr full) = inr (
+      full.0,
+      λ whole. not_complete T (length p.names) (IsNeededValue a b given p) full.1
+          (complete_less (length p.names) (IsNeededValue a b given p) (IsNeededIn a b given p) (needed_in a b given p) T whole),
+    )

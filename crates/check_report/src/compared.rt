@@ -129,11 +129,7 @@ fn add_second(
 }
 
 /// The diagrams of what is compared: the first netlist's of each, then the second's.
-fn references_of(
-    alloc: Global,
-    built: &Built,
-    subjects: &[Subject],
-) -> Result<Vec<Ref>, AllocError>
+fn references_of(alloc: Global, built: &Built, subjects: &[Subject]) -> Result<Vec<Ref>, AllocError>
     requires first { All (λ subject. subject.first < length built.now.first) subjects.now }
     requires second { All (λ subject. subject.second < length built.now.second) subjects.now }
     ensures { IfOk result (λ v. v.items ≡ references built.now subjects.now) }

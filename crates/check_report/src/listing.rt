@@ -129,7 +129,15 @@ fn text_for<H: Threads + Wait + Sync, G: Gate>(
 
 /// Reads two netlists, and writes the names of their variables in level order, one a line, as an order file has them. Nothing is
 /// compared, and nothing built unless the best order is to be found.
-pub fn print_order<'a, H: Threads + Wait + Sync, R1: Source, R2: Source, R3: Source, G: Gate, W: Sink>(
+pub fn print_order<
+    'a,
+    H: Threads + Wait + Sync,
+    R1: Source,
+    R2: Source,
+    R3: Source,
+    G: Gate,
+    W: Sink,
+>(
     rt: &'a H,
     alloc: Global,
     first: &mut R1,

@@ -10,13 +10,19 @@ use Rattle.check_report.proofs.Subjects.{all_signals}
 use Rattle.check_report.proofs.checking.compare.Goals as goal
 
 pub shown_of-requires : goal.shown_of-requires
-shown_of-requires g c = (c.type_bounds.sync-H, (c.type_bounds.sync-G, record {
-  levels = c.in-Ok-build.ensures.keeps.levels ∙ ap (λ (S : Nodes). S.levels) c.in-Ok.ensures ∙ c.len-levels.ensures.value ∙ ap length c.names.ensures.value;
-  first = c.in-Ok-build.ensures.first;
-  second = c.in-Ok-build.ensures.second;
-  condition = c.in-Ok-build.ensures.given;
-  signals = all_signals _ c.args.task.now.first.now c.args.task.now.second.now (condition c.args.task.now.given) _ _ c.inputs.ensures.sound c.inputs-2.ensures.sound c.requires.paired.2;
-}))
+shown_of-requires g c = (
+  c.type_bounds.sync-H,
+  (
+    c.type_bounds.sync-G,
+    record {
+      levels = c.in-Ok-build.ensures.keeps.levels ∙ ap (λ (S : Nodes). S.levels) c.in-Ok.ensures ∙ c.len-levels.ensures.value ∙ ap length c.names.ensures.value;
+      first = c.in-Ok-build.ensures.first;
+      second = c.in-Ok-build.ensures.second;
+      condition = c.in-Ok-build.ensures.given;
+      signals = all_signals _ c.args.task.now.first.now c.args.task.now.second.now (condition c.args.task.now.given) _ _ c.inputs.ensures.sound c.inputs-2.ensures.sound c.requires.paired.2;
+    },
+  ),
+)
 
 pub returns-in-Err-clause-full : goal.returns-in-Err-clause-full
 returns-in-Err-clause-full g c = λ e.

@@ -27,6 +27,8 @@ loop-i-preserved c = λ h.
 
 pub returns : goal.returns
 returns c =
-    let of = c.args.of.now in
-    (c.requires.shown.holds, c.requires.shown.condition,
-      all_added of.sizes c.requires.shown.holds (circuit of.first.now) (circuit of.second.now) of.pairing.now of.subjects.now c.loop-i.i _ c.requires.all c.loop-i-test.false (c.loop-i.invariant c.requires))
+    let of = c.args.of.now in (
+      c.requires.shown.holds,
+      c.requires.shown.condition,
+      all_added of.sizes c.requires.shown.holds (circuit of.first.now) (circuit of.second.now) of.pairing.now of.subjects.now c.loop-i.i _ c.requires.all c.loop-i-test.false (c.loop-i.invariant c.requires),
+    )
