@@ -5,10 +5,9 @@ use Rattle.std.specs.List.{AllZip}
 use Rattle.std.proofs.lemmas.List.{take_more, take_all, drop_more}
 use Rattle.net_bench.specs.Circuit.{Circuit}
 use Rattle.net_bench.specs.Labels.{IsFunctionOf}
-use Rattle.net_order.specs.Order.{Paired, name_of, names_of}
+use Rattle.net_order.specs.Order.{Paired, first_level, second_level, name_of, names_of}
 use Rattle.dd_store.specs.declared.reference.Ref.{Ref}
 use Rattle.dd_store.specs.Nodes.{Nodes}
-use Rattle.gate_plan.specs.Building.{first_level, second_level}
 use Rattle.check_report.specs.declared.outcome.Role.{Role}
 use Rattle.check_report.specs.declared.outcome.Side.{Side}
 use Rattle.check_report.specs.declared.outcome.Side.TheVariants.{First, Second}

@@ -16,11 +16,11 @@ use Rattle.expand_work.specs.declared.fault.WaveFault.{WaveFault}
 use Rattle.expand_work.specs.declared.fault.WaveFault.TheVariants as wave_faults
 use Rattle.net_bench.specs.Circuit.{Circuit, Net, IsNet, circuit}
 use Rattle.net_bench.specs.Labels.{IsFunctionOf}
-use Rattle.net_order.specs.Order.{Paired}
+use Rattle.net_order.specs.Order.{Paired, first_level, second_level}
 use Rattle.req_table.specs.declared.Op.TheVariants.{And}
 use Rattle.reduce_up.specs.Reducing.{AddsDescribed}
 use Rattle.reduce_up.specs.Waves.{entry_value, IsWanted, IsWithinLimit, LacksWanted, IsWaveFault}
-use Rattle.gate_plan.specs.Building.{References, first_level, second_level, reference_of}
+use Rattle.gate_plan.specs.Building.{References, reference_of}
 use Rattle.gate_plan.specs.Conjoining.{conjunctions, AreConjoined}
 use Rattle.gate_plan.specs.Need.{IsCounted, IsLean, IsComplete, HasNode}
 use Rattle.gate_plan.specs.Needing.{IsNeededValue, HasNeed}

@@ -3,12 +3,12 @@ use Rattle.std.specs.Prelude.{◌≡◌, ℕ, ◌+◌, ◌<◌, Bool, List, ◌+
 use Rattle.std.specs.List.{AllZip}
 use Rattle.net_bench.specs.Circuit.{Circuit}
 use Rattle.net_bench.specs.Labels.{IsFunctionOf}
-use Rattle.net_order.specs.Order.{Paired}
+use Rattle.net_order.specs.Order.{Paired, first_level, second_level, given_level}
 use Rattle.dd_store.specs.declared.reference.Ref.{Ref}
 use Rattle.dd_store.specs.Functions.{Agree}
 use Rattle.dd_store.specs.Nodes.{Nodes, den}
 use Rattle.dd_store.specs.View.{Has}
-use Rattle.gate_plan.specs.Building.{References, AreDiagrams, first_level, second_level, given_level, reference_of}
+use Rattle.gate_plan.specs.Building.{References, AreDiagrams, reference_of}
 use Rattle.check_report.specs.declared.outcome.Role.{Role}
 use Rattle.check_report.specs.declared.outcome.Role.TheVariants.{Output}
 use Rattle.check_report.specs.declared.outcome.Subject.{Subject}

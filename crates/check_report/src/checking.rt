@@ -1,5 +1,5 @@
 //! From readers to a report.
-ghost use Rattle.std.specs.Prelude.{◌≡◌, ◌≢◌, ◌<◌, ◌^◌, ℕ, List, Option, IfOk, IfErr, IfSome, OnOk, OnErr, IsTrue};
+ghost use Rattle.std.specs.Prelude.{None, ◌≡◌, ◌≢◌, ◌<◌, ◌^◌, ℕ, List, Option, IfOk, IfErr, IfSome, OnOk, OnErr, IsTrue};
 ghost use Rattle.std.specs.Io.KnownBytes.{Appends};
 ghost use Rattle.net_bench.specs.Circuit.{circuit};
 ghost use Rattle.net_order.specs.declared.order.Order.{Order as OrderValue};
@@ -61,6 +61,7 @@ pub fn compare<H: Threads + Wait + Sync, G: Gate>(
     ensures err { IfErr result IsLate }
     ensures within { OnOk result (FitsWithin limit (circuit task.now.first.now) (circuit task.now.second.now) (condition task.now.given) pairing) }
     ensures full { result ≡ Err (CheckFault.Wave WaveFault.Full) → Exceeds limit (circuit task.now.first.now) (circuit task.now.second.now) (condition task.now.given) pairing }
+    ensures unbounded { G.bound gate.now ≡ None → result ≢ Err (CheckFault.Wave WaveFault.TooManyRequests) }
 {
     let _ = task.first.inputs();
     let _ = task.second.inputs();
@@ -122,6 +123,8 @@ pub fn judge<'a, H: Threads + Wait + Sync, R1: Source, R2: Source, R3: Source, G
     // Full comes only where they are not within the limit, in each order that the settings allow.
     ensures full { result ≡ Err (CheckFault.Wave WaveFault.Full) → (order : OrderValue) → IsAllowed settings.now.order order →
         AreBeyond (R1.remaining first.old) (R2.remaining second.old) (told_by R3.remaining given.old) settings.now.matching order settings.now.limit }
+    // Where the gate sets no bound, no comparison is refused for its requests.
+    ensures unbounded { G.bound gate.now ≡ None → result ≢ Err (CheckFault.Wave WaveFault.TooManyRequests) }
     // A fault has its cause, and what comes before it was accepted.
     ensures fault { IfErr result (λ fault. (order : OrderValue) × IsAllowed settings.now.order order
         × IsCheckFault (R1.remaining first.old) (R2.remaining second.old) (told_by R3.remaining given.old) (IsTrue (R1.has_failed first.new)) (IsTrue (R2.has_failed second.new)) (HasFailedIn R3.has_failed given.new) settings.now.matching order fault) }
@@ -171,6 +174,8 @@ pub fn check<'a, H: Threads + Wait + Sync, R1: Source, R2: Source, R3: Source, G
     // Full comes only where they are not within the limit, in each order that the settings allow.
     ensures full { result ≡ Err (CheckFault.Wave WaveFault.Full) → (order : OrderValue) → IsAllowed settings.now.order order →
         AreBeyond (R1.remaining first.old) (R2.remaining second.old) (told_by R3.remaining given.old) settings.now.matching order settings.now.limit }
+    // Where the gate sets no bound, no comparison is refused for its requests.
+    ensures unbounded { G.bound gate.now ≡ None → result ≢ Err (CheckFault.Wave WaveFault.TooManyRequests) }
     // A fault has its cause, and what comes before it was accepted.
     ensures fault { IfErr result (λ fault. (order : OrderValue) × IsAllowed settings.now.order order
         × IsCheckFault (R1.remaining first.old) (R2.remaining second.old) (told_by R3.remaining given.old) (IsTrue (R1.has_failed first.new)) (IsTrue (R2.has_failed second.new)) (HasFailedIn R3.has_failed given.new) settings.now.matching order fault) }

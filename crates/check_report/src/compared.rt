@@ -1,5 +1,5 @@
 //! What is compared, and its diagrams where the condition holds.
-ghost use Rattle.std.specs.Prelude.{◌≡◌, ◌++◌, ◌<◌, length, map, All, OnOk, IfOk, IfErr};
+ghost use Rattle.std.specs.Prelude.{None, ◌≡◌, ◌≢◌, ◌++◌, ◌<◌, length, map, All, OnOk, IfOk, IfErr};
 ghost use Rattle.net_bench.specs.Circuit.{circuit};
 ghost use Rattle.net_order.specs.Order.{condition};
 ghost use Rattle.dd_store.specs.Nodes.{IsSound};
@@ -157,6 +157,7 @@ pub fn shown_of<H: Threads + Wait + Sync, G: Gate>(
         OnOk result (HasAll (circuit task.now.first.now) (circuit task.now.second.now) (condition task.now.given) pairing.now store.new) }
     ensures full { HasNeed (circuit task.now.first.now) (circuit task.now.second.now) (condition task.now.given) pairing.now store.old →
         result ≡ Err (CheckFault.Wave WaveFault.Full) → IsOver (circuit task.now.first.now) (circuit task.now.second.now) (condition task.now.given) pairing.now store.new }
+    ensures unbounded { G.bound gate.now ≡ None → result ≢ Err (CheckFault.Wave WaveFault.TooManyRequests) }
     ensures err { IfErr result IsLate }
 {
     let _ = store.levels();
