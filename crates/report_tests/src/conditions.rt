@@ -146,8 +146,7 @@ fn given_sizes(rt: HostRuntime) -> Result<(), Fail> {
 
 #[test]
 fn given_new_variable(rt: HostRuntime) -> Result<(), Fail> {
-    let report =
-        "DIFFER o at a=1 b=1 z=0 first=1 second=0\n0 equal, 1 different, 0 unmatched\n";
+    let report = "DIFFER o at a=1 b=1 z=0 first=1 second=0\n0 equal, 1 different, 0 unmatched\n";
     assert!(rt; reports(&rt, OR, XOR, Some(WITH_Z), plainly(), report));
     let apart = "INPUT(u)\nINPUT(v)\nOUTPUT(c)\nc = AND(u, v)\n";
     let report =
@@ -220,7 +219,8 @@ fn given_best_as_json(rt: HostRuntime) -> Result<(), Fail> {
         json: true,
         ..plainly()
     };
-    let report = "{\"match\":\"name\",\"order\":\"interleave\",\"given\":true,\"variables\":[\"a\",\"b\"],\"verdicts\":[{\"verdict\":\"EQUAL\",\"of\":\"output\",\"name\":\"o\"}],\"equal\":1,\"different\":0,\"unmatched\":0}\n";
+    let report =
+        "{\"match\":\"name\",\"order\":\"interleave\",\"given\":true,\"variables\":[\"a\",\"b\"],\"verdicts\":[{\"verdict\":\"EQUAL\",\"of\":\"output\",\"name\":\"o\"}],\"equal\":1,\"different\":0,\"unmatched\":0}\n";
     assert!(rt; reports(&rt, OR, XOR, Some(NAND), asked, report));
     Ok(())
 }
