@@ -36,6 +36,7 @@ static DIFFER: &str = "DIFFER o at a=1 b=1 first=1 second=0\n0 equal, 1 differen
 const AMPLE: usize = 1_000;
 
 /// How two texts are compared.
+#[derive(Drop)]
 struct Asked {
     matching: Match,
     order: Choice,
