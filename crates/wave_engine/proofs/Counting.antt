@@ -1,5 +1,5 @@
 -- How many requests are counted on the way down.
-use Rattle.std.proofs.Common.{◌≡◌, ◌∙◌, ℕ, zero, suc, ◌+◌, ◌<◌, ◌≤◌, ◌⊎◌, inl, inr, List, [], ◌∷◌, ◌++◌, length, slice_get, Some, refl, ap, arith}
+use Rattle.std.proofs.Common.{◌≡◌, ◌∙◌, ℕ, zero, suc, ◌+◌, ◌<◌, ◌≤◌, ◌⊎◌, inl, inr, List, [], ◌∷◌, ◌++◌, length, slice_get, Some, ap, arith}
 use Rattle.std.proofs.lemmas.List.{length-append}
 use Rattle.std.proofs.lemmas.Option.{slice_get-get_or}
 use Rattle.slot_table.specs.Lists.{IsIn, IsOnce}
@@ -11,7 +11,6 @@ use Rattle.reduce_up.specs.Waves.{Entry, requests_of}
 use Rattle.wave_engine.specs.Bounds.{AreMoreThan}
 use Rattle.wave_engine.specs.Down.{AreAdmitted}
 use Rattle.wave_engine.specs.Places.{row}
-use Rattle.wave_engine.proofs.Placing.{stands_none}
 
 -- the requests of the levels before v that were come to, of which there may be `left` more
 pub record IsCounted (s : Nodes) (entries : List Entry) (bound left v : ℕ) : Type 0 where
@@ -34,16 +33,6 @@ once_append a b one two apart i j x e f = by (append_cases a b i x e) (append_ca
     by (inl g) (inr h) = absurd (apart x (i, g) (h.0, h.2))
     by (inr g) (inl h) = absurd (apart x (j, h) (g.0, g.2))
     by (inr g) (inr h) = let s : g.0 ≡ h.0 = two g.0 h.0 x g.2 h.2 in let e = g.1 in let f = h.1 in omega (arith, e, f, s)
-
--- nothing is counted before the first level
-pub none_counted : (s : Nodes) (entries : List Entry) (bound : ℕ) → IsCounted s entries bound bound 0
-none_counted s entries bound = record {
-  requests = [];
-  once = λ i j x e f. absurd (stands_none [] i x refl e);
-  reached = λ k h. absurd (stands_none [] h.0 k refl h.1);
-  above = λ k h. absurd (stands_none [] h.0 k refl h.1);
-  sum = omega arith;
-}
 
 -- Of the requests counted before level v, and those of a level u behind them.
 module _ (s : Nodes) (entries : List Entry) (T : List (List Key)) (admitted : AreAdmitted s entries T) (bound left v : ℕ) (c : IsCounted s entries bound left v) (u : ℕ) (behind : v ≤ u) (own : IsOnce (row T u)) where
