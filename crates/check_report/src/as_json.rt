@@ -256,8 +256,8 @@ fn add_counts(out: &mut Writer, outcome: Outcome) -> Result<(), AllocError>
     add_number(out, "unmatched", outcome.unmatched)
 }
 
-/// What a comparison found as the text of one JSON object, on a line: the settings, that there was a condition, the variables by level, the verdicts as in
-/// the report by lines, and their counts. docs/report.schema.json describes it.
+/// What a comparison found as the text of one JSON object, on a line: the settings, that there was a condition, the variables by level,
+/// the verdicts as in the report by lines, and their counts. docs/report.schema.json describes it.
 pub fn json_of(
     alloc: Global,
     matching: Match,

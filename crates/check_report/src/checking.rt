@@ -104,8 +104,8 @@ pub fn compare<H: Threads + Wait + Sync, G: Gate>(
 }
 
 /// Reads two netlists, and a condition where there is one, and compares their outputs and the next states of their registers where it
-/// holds, in the order that is asked for, or in the best; then it says which attempt that was. The gates' diagrams are built by as many threads as the settings have workers. The answer
-/// is never `CheckFault::Write`.
+/// holds, in the order that is asked for, or in the best; then it says which attempt that was. The gates' diagrams are built by as many
+/// threads as the settings have workers. The answer is never `CheckFault::Write`.
 pub fn judge<'a, H: Threads + Wait + Sync, R1: Source, R2: Source, R3: Source, G: Gate>(
     rt: &'a H,
     alloc: Global,
@@ -116,8 +116,8 @@ pub fn judge<'a, H: Threads + Wait + Sync, R1: Source, R2: Source, R3: Source, G
     gate: &G,
 ) -> Result<(Verdicts, Option<Attempt>), CheckFault>
     // The verdicts are those of what was read, in an order that the settings allow. In them two outputs, or the next states of two
-    // registers, are called equal exactly where their functions are equal. The nodes that the two netlists need in this order are
-    // within the limit, and within the budget of the attempt.
+    // registers, are called equal exactly where their functions agree wherever the condition holds. The nodes that are needed in this
+    // order are within the limit, and within the budget of the attempt.
     ensures verdicts { IfOk result (λ r. (order : OrderValue) × IsJudged (R1.remaining first.old) (R2.remaining second.old) (told_by R3.remaining given.old) settings.now.matching order settings.now.sizes r.0
         × IsChosen (R1.remaining first.old) (R2.remaining second.old) (told_by R3.remaining given.old) settings.now.matching settings.now.order settings.now.limit r.1 order) }
     // Full comes only where they are not within the limit, in each order that the settings allow.
@@ -167,8 +167,8 @@ pub fn check<'a, H: Threads + Wait + Sync, R1: Source, R2: Source, R3: Source, G
     out: &mut W,
 ) -> Result<(Outcome, Option<Attempt>), CheckFault>
     // What was written is the report of what was read, in an order that the settings allow, and nothing else. In it two outputs, or the
-    // next states of two registers, are called equal exactly where their functions are equal. The nodes that the two netlists need in
-    // this order are within the limit, and within the budget of the attempt.
+    // next states of two registers, are called equal exactly where their functions agree wherever the condition holds. The nodes that
+    // are needed in this order are within the limit, and within the budget of the attempt.
     ensures report { IfOk result (λ r. (order : OrderValue) × (bytes : List ℕ) × IsChecked settings.now.json (R1.remaining first.old) (R2.remaining second.old) (told_by R3.remaining given.old) settings.now.matching order settings.now.sizes r.0 bytes
         × IsChosen (R1.remaining first.old) (R2.remaining second.old) (told_by R3.remaining given.old) settings.now.matching settings.now.order settings.now.limit r.1 order × Appends (W.contents out.old) (W.contents out.new) bytes) }
     // Full comes only where they are not within the limit, in each order that the settings allow.

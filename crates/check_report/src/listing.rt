@@ -131,8 +131,8 @@ fn text_for<H: Threads + Wait + Sync, G: Gate>(
     }
 }
 
-/// Reads two netlists, and writes the names of their variables in level order, one a line, as an order file has them. Nothing is
-/// compared, and nothing built unless the best order is to be found.
+/// Reads two netlists, and a condition where there is one, and writes the names of their variables in level order, one a line, as an
+/// order file has them. Nothing is compared, and nothing built unless the best order is to be found.
 pub fn print_order<
     'a,
     H: Threads + Wait + Sync,
