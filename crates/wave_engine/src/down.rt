@@ -97,7 +97,10 @@ pub(crate) fn expand(
     requires start { AreExpanded store.now entries.now roots.now 0 requests.old rows.old.items }
     ensures bound { IfOk result (λ v. v ≤ store.now.levels) }
     ensures expanded { IfOk result (λ v. AreExpanded store.now entries.now roots.now v requests.new rows.new.items) }
+    ensures wide { IfOk result (λ v. v < store.now.levels → most < length (row requests.new v)) }
+    ensures alone { most ≡ 2 ^ 64 - 1 → IfOk result (λ v. v ≡ store.now.levels) }
     ensures refused { IfErr result (λ e. e ≢ WaveFault.Full) }
+    ensures served { IfErr result (λ e. e ≢ WaveFault.NoWorker) }
     ensures bounded { result ≡ Err WaveFault.TooManyRequests → bound < 2 ^ 64 - 1 }
     ensures past { result ≡ Err WaveFault.TooManyRequests → AreMoreThan bound store.now entries.now }
 {

@@ -1,10 +1,11 @@
 //! The engine of waves: what lasts from wave to wave.
-ghost use Rattle.std.specs.Prelude.{◌≡◌, [], Err, All, IfOk, IfErr, OnOk, OnErr};
+ghost use Rattle.std.specs.Prelude.{◌≡◌, ◌≢◌, ◌<◌, ◌-◌, ◌^◌, [], Err, All, IfOk, IfErr, OnOk, OnErr};
 ghost use Rattle.dd_store.specs.Nodes.{Nodes, IsSound};
 ghost use Rattle.req_table.specs.Memos.{IsRight};
 ghost use Rattle.reduce_up.specs.Known.{unknown, IsKeptWave};
 ghost use Rattle.reduce_up.specs.Reducing.{AddsDescribed};
 ghost use Rattle.reduce_up.specs.Waves.{IsEntry, AnswersEach, IsWanted, AddsBelow, IsWithinLimit, IsWaveFault};
+ghost use Rattle.expand_work.specs.Bounds.{most_of};
 ghost use Rattle.wave_engine.specs.Bounds.{ArePast};
 
 use crate::team::Workers;
@@ -55,6 +56,7 @@ impl<'a, R: Threads + Wait + Sync, G: Gate> Runner<'a, R, G> {
         ensures within { OnOk result (IsWithinLimit store.old (unknown memo.old entries.now) store.new) }
         ensures fault { IfErr result (λ e. IsWaveFault store.old (unknown memo.old entries.now) store.new e) }
         ensures past { result ≡ Err WaveFault.TooManyRequests → ArePast (G.bound self.old.workspace.team.gate.now) store.old (unknown memo.old entries.now) }
+        ensures alone { most_of (G.bound self.old.workspace.team.gate.now) < 2 ^ 64 - 1 → result ≢ Err WaveFault.NoWorker }
         ensures gate { self.new.workspace.team.gate ≡ self.old.workspace.team.gate }
         ensures kept { IfOk result (λ answers. IsKeptWave memo.old entries.now answers.items memo.new) }
         ensures refused { OnErr result (memo.new ≡ memo.old) }
@@ -138,6 +140,7 @@ impl<'a, R: Threads + Wait + Sync, G: Gate> Engine<'a, R, G> {
         ensures within { OnOk result (IsWithinLimit store.old (unknown self.old.held entries.now) store.new) }
         ensures fault { IfErr result (λ e. IsWaveFault store.old (unknown self.old.held entries.now) store.new e) }
         ensures past { result ≡ Err WaveFault.TooManyRequests → ArePast self.old.bound store.old (unknown self.old.held entries.now) }
+        ensures alone { most_of self.old.bound < 2 ^ 64 - 1 → result ≢ Err WaveFault.NoWorker }
         ensures kept { IfOk result (λ answers. IsKeptWave self.old.held entries.now answers.items self.new.held) }
         ensures refused { OnErr result (self.new ≡ self.old) }
         ensures right { IsRight store.new self.new.held }

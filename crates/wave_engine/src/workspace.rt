@@ -5,6 +5,7 @@ ghost use Rattle.dd_store.specs.declared.reference.Ref.{Ref as RefValue};
 ghost use Rattle.dd_store.specs.Nodes.{IsSound};
 ghost use Rattle.reduce_up.specs.Reducing.{AddsDescribed};
 ghost use Rattle.reduce_up.specs.Waves.{IsEntry, AnswersEach, IsWanted, AddsBelow, IsWithinLimit, IsWaveFault};
+ghost use Rattle.expand_work.specs.Bounds.{most_of};
 ghost use Rattle.wave_engine.specs.Bounds.{AreMoreThan, ArePast};
 ghost use Rattle.wave_engine.specs.Down.{IsDown};
 ghost use Rattle.wave_engine.specs.Up.{ComesTo};
@@ -74,7 +75,9 @@ fn go_down(
 ) -> Result<u16, WaveFault>
     requires operands { All (IsEntry store.now) entries.now }
     ensures down { IfOk result (λ v. IsDown store.now entries.now v down.new.requests down.new.rows.items down.new.roots.items answers.new.items) }
+    ensures alone { most ≡ 2 ^ 64 - 1 → IfOk result (λ v. v ≡ store.now.levels) }
     ensures refused { IfErr result (λ e. e ≢ WaveFault.Full) }
+    ensures served { IfErr result (λ e. e ≢ WaveFault.NoWorker) }
     ensures bounded { result ≡ Err WaveFault.TooManyRequests → bound < 2 ^ 64 - 1 }
     ensures past { result ≡ Err WaveFault.TooManyRequests → AreMoreThan bound store.now entries.now }
 {
@@ -164,6 +167,7 @@ impl<'a, R: Threads + Wait + Sync, G: Gate> Workspace<'a, R, G> {
         ensures within { OnOk result (IsWithinLimit store.old entries.now store.new) }
         ensures fault { IfErr result (λ e. IsWaveFault store.old entries.now store.new e) }
         ensures past { result ≡ Err WaveFault.TooManyRequests → ArePast (G.bound self.old.team.gate.now) store.old entries.now }
+        ensures alone { most_of (G.bound self.old.team.gate.now) < 2 ^ 64 - 1 → result ≢ Err WaveFault.NoWorker }
         ensures gate { self.new.team.gate ≡ self.old.team.gate }
     {
         let _ = store.levels();
