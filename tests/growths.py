@@ -18,12 +18,19 @@ import kit
 from kit import Tally, run, say
 from refusals import compiled
 
-# Crates, and their tests by name: the threads' half of a wave.
+# Crates, and their tests by name.
 TESTS = [
+    # `expand_all`: one request by four threads, and two requests by two.
     ("worker_tests", "expanded::merged_roots"),
+    ("wave_tests", "refused::refused_expansion"),
+    # `reduce` over one request that two roots ask for.
+    ("wave_tests", "refused::refused_reduction"),
+    # Three operations over three levels: by a core, on the caller's thread and with workers. What was there is found after a refusal,
+    # and the same wave then gives the right diagrams.
+    ("wave_tests", "refused::refused_wave"),
 ]
 # How a test says that it was refused something.
-REFUSED = re.compile(rb"\b(error|memory|a variable|a variable is refused|out of memory): (AllocError|OutOfMemory|NoWorker)\b")
+REFUSED = re.compile(rb"\b(error|memory|a variable|a variable is refused|out of memory): (AllocError|AllocFailed|OutOfMemory|NoWorker)\b")
 HANGS = 60
 # Schedules differ, so that one run may ask for less than the next.
 IN_A_ROW = 5

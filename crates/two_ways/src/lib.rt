@@ -1,9 +1,6 @@
 //! A caller of the store and of waves, to start from: one function built in two ways, and the proof that both are one diagram.
 #![tactic(auto)]
 
-#[cfg(test)]
-mod tests;
-
 ghost use Rattle.std.specs.Prelude.{◌≡◌, Bool, List, IfOk};
 ghost use Rattle.dd_store.specs.declared.reference.Ref.{Ref as RefValue};
 ghost use Rattle.dd_store.specs.Nodes.{IsSound, den, IsDiagram};

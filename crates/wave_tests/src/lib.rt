@@ -10,6 +10,8 @@ mod refused;
 #[cfg(test)]
 mod waves;
 #[cfg(test)]
+mod ways;
+#[cfg(test)]
 mod wide;
 #[cfg(test)]
 mod widths;

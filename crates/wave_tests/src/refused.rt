@@ -7,10 +7,10 @@ ghost use Rattle.reduce_up.specs.Waves.{IsClosureOf};
 use crate::waves::{WAYS, Way, known_at, node, only, request, run, start};
 use counter_walk::value;
 use dd_store::{Ref, Store};
-use expand_work::{Free, WaveFault};
+use expand_work::{Free, WaveFault, expand_all};
 use reduce_up::law::closures_are_records;
 use reduce_up::reduce;
-use req_table::{Key, Op, Records};
+use req_table::{Key, Op, Record, Records};
 use std::alloc::Global;
 use std::process::Abort;
 use std::sync::Wait;
@@ -24,6 +24,8 @@ const A: usize = 2;
 const B: usize = 3;
 
 const C: usize = 4;
+
+const D: usize = 5;
 
 const FIRST_ANSWER: usize = 5;
 
@@ -131,6 +133,29 @@ fn refused_wave(rt: HostRuntime) -> Result<(), Fail> {
     for way in [Way::Alone(&[]), Way::Threads, Way::Upto(0)] {
         again_where_refused(&rt, rt.alloc(), way)?;
     }
+    Ok(())
+}
+
+/// Whether these are one record, of this request.
+fn is_of(records: &[Record], key: Key) -> bool {
+    records.len() == 1 && records[0].key == key
+}
+
+// Two threads with a root each, which make one record each.
+#[test]
+fn refused_expansion(rt: HostRuntime) -> Result<(), Fail> {
+    let mut store = Store::new(rt.alloc(), 4, 100)?;
+    let known = start(&rt, rt.alloc(), &mut store);
+    let roots = [
+        request(&rt, &store, known.as_slice(), (Op::And, A, C)),
+        request(&rt, &store, known.as_slice(), (Op::Nand, D, D)),
+    ];
+    let expanded = expand_all(&rt, rt.alloc(), &store, &roots, 2, &Free)?;
+    let records = expanded.records();
+    assert_eq!(rt; records.levels(), 4);
+    let [first, last] = roots;
+    assert!(rt; is_of(records.level(0), first));
+    assert!(rt; is_of(records.level(3), last));
     Ok(())
 }
 

@@ -1,10 +1,10 @@
-//! A store of two variables.
+//! The example of a caller, over a store of two variables.
 ghost use Rattle.std.specs.Prelude.{◌≡◌, Ok};
 
-use crate::two_ways;
 use dd_store::{Ref, Store, StoreFault};
 use std::process::Abort;
 use std::test::Fail;
+use two_ways::two_ways;
 
 fn ok(rt: &impl Abort, answer: Result<Ref, StoreFault>) -> Ref
     ensures { answer ≡ Ok result }
