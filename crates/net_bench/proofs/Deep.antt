@@ -1,7 +1,7 @@
 -- A walk over gates with a stack: what it has left is marked, or can never be.
-use Rattle.std.proofs.Common.{length-set, map, ◌≡◌, ◌⊎◌, inl, inr, ℕ, zero, suc, ◌+◌, ◌-◌, ◌<◌, ◌≤◌, List, [], ◌∷◌, ◌++◌, Bool, true, false, refl, sym, ap, ◌∙◌, subst, length, take, get_or, arith}
+use Rattle.std.proofs.Common.{length-set, map, ◌≡◌, inl, inr, ℕ, zero, suc, ◌+◌, ◌<◌, ◌≤◌, List, [], ◌∷◌, ◌++◌, Bool, true, false, refl, sym, ap, ◌∙◌, subst, length, take, get_or, arith}
 use Rattle.std.proofs.Math.ListN.{set}
-use Rattle.std.specs.Prelude.{cond, nat_lt, ◌==◌, ◌||◌, ◌&&◌, All, Contains, Some, reverse, slice_get, unwrap_or}
+use Rattle.std.specs.Prelude.{nat_lt, ◌==◌, ◌||◌, All, Some, reverse, slice_get, unwrap_or}
 use Rattle.std.proofs.lemmas.Bool.{cases_lt}
 use Rattle.std.proofs.lemmas.Bool.Decides.{nat_tests}
 use Rattle.std.proofs.lemmas.List.{reverse-append, take_more, take_all, get_or_default, get_or-set_same, get_or-set_other}
@@ -9,9 +9,9 @@ use Rattle.net_bench.specs.declared.netlist.GateLine.{GateLine}
 use Rattle.net_bench.specs.declared.ranks.Waiting.{Waiting}
 use Rattle.net_bench.specs.declared.symbols.Symbol.{Symbol}
 use Rattle.net_bench.specs.Circuit.{Circuit, greatest}
-use Rattle.net_bench.specs.Marks.{all_marked, AreMarks, HasOneGateEach, IsBelow, IsDriven, IsEnded, IsFrame, IsMarked, IsMarking, IsNever, IsSettled, IsUnder, AreWaiting, gate_place, is_waiting, operands_at, out_at, steps_left, unbegun, waiting_steps}
+use Rattle.net_bench.specs.Marks.{all_marked, AreMarks, HasOneGateEach, IsBelow, IsDriven, IsEnded, IsMarking, IsNever, IsSettled, IsUnder, AreWaiting, gate_place, is_waiting, operands_at, out_at, steps_left, unbegun}
 use Rattle.net_bench.proofs.Marks.{both_true, marked_more, small}
-use Rattle.net_bench.proofs.Settled.{below, marked_in}
+use Rattle.net_bench.proofs.Settled.{below}
 
 -- ---- the gate at a place
 

@@ -1,4 +1,4 @@
-use Rattle.std.proofs.Common.{◌≡◌, ℕ, ◌<◌, length, true, false, get_or}
+use Rattle.std.proofs.Common.{◌≡◌, ℕ, ◌<◌, true, false, get_or}
 use Rattle.std.specs.Prelude.{reverse}
 use Rattle.net_bench.specs.Marks.{IsMarking, steps_left}
 use Rattle.net_bench.proofs.ranks.mark_below.Given as goal

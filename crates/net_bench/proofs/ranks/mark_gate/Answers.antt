@@ -1,6 +1,6 @@
-use Rattle.std.proofs.Common.{◌≡◌, ◌<◌, ◌∙◌, ap, sym, arith, get_or, length, map, ◌+◌}
+use Rattle.std.proofs.Common.{◌≡◌, ◌∙◌, ap, arith, get_or, map, ◌+◌}
 use Rattle.net_bench.specs.Circuit.{greatest}
-use Rattle.net_bench.proofs.Deep.{new_small, new_sound, new_marked, old_marked, out_low}
+use Rattle.net_bench.proofs.Deep.{new_small, new_sound, new_marked, old_marked}
 use Rattle.net_bench.proofs.ranks.mark_gate.Goals as goal
 
 pub returns-then-mark_of-ne0-clause-marked : goal.returns-then-mark_of-ne0-clause-marked
