@@ -4,6 +4,7 @@ ghost use Rattle.std.specs.List.{AllZip};
 ghost use Rattle.req_table.specs.Keys.{IsChildIn, child as child_spec};
 ghost use Rattle.reduce_up.specs.Waves.{IsEntry};
 ghost use Rattle.wave_engine.specs.Places.{row, IsPlaced, Admits};
+ghost use Rattle.wave_engine.specs.Bounds.{AreMoreThan};
 ghost use Rattle.wave_engine.specs.Down.{AreAdmitted, IsRowExpanded, AreExpanded};
 
 use crate::lists::{Placed, Row};
@@ -96,8 +97,12 @@ pub(crate) fn expand(
     requires start { AreExpanded store.now entries.now roots.now 0 requests.old rows.old.items }
     ensures bound { IfOk result (λ v. v ≤ store.now.levels) }
     ensures expanded { IfOk result (λ v. AreExpanded store.now entries.now roots.now v requests.new rows.new.items) }
+    ensures wide { IfOk result (λ v. v < store.now.levels → most < length (row requests.new v)) }
+    ensures alone { most ≡ 2 ^ 64 - 1 → IfOk result (λ v. v ≡ store.now.levels) }
     ensures refused { IfErr result (λ e. e ≢ WaveFault.Full) }
-    ensures allowed { result ≡ Err WaveFault.TooManyRequests → bound < 2 ^ 64 - 1 }
+    ensures served { IfErr result (λ e. e ≢ WaveFault.NoWorker) }
+    ensures bounded { result ≡ Err WaveFault.TooManyRequests → bound < 2 ^ 64 - 1 }
+    ensures past { result ≡ Err WaveFault.TooManyRequests → AreMoreThan bound store.now entries.now }
 {
     let _ = entries.len();
     let _ = roots.len();
@@ -106,7 +111,7 @@ pub(crate) fn expand(
     let mut left = bound;
     while let Some(next) = requests.next_level(level) {
         let count = requests.count(next);
-        if count > left && bound < usize::MAX {
+        if bound < usize::MAX && count > left {
             return Err(WaveFault::TooManyRequests);
         }
         if count > most {
