@@ -13,6 +13,7 @@ pub mod Built
 pub mod Refusing
 pub mod Marks
 pub mod Settled
+pub mod Deep
 pub mod Numbers
 pub mod CircuitOf
 pub mod Tables
@@ -24,3 +25,4 @@ pub mod Telling
 pub mod Judged
 pub mod Faultless
 pub mod Accepting
+pub mod Driving

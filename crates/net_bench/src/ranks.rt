@@ -1,10 +1,11 @@
 // The ranks of the signals, or the first gate at which an endless chain of operands starts.
-ghost use Rattle.std.specs.Prelude.{◌≡◌, ◌≢◌, ◌⊎◌, ℕ, ◌+◌, ◌-◌, ◌<◌, ◌≤◌, List, [], map, length, Contains, slice_get, slice_index, slice_index_or, vec_len, All, Some, None, IfOk, IfErr, IfSome, OnOk, IsTrue, true, false};
+ghost use Rattle.std.specs.Prelude.{◌≡◌, ◌≢◌, ◌⊎◌, ℕ, ◌+◌, ◌-◌, ◌<◌, ◌≤◌, [], ◌∷◌, map, length, reverse, Contains, slice_get, slice_index, slice_index_or, All, IfOk, IfErr, OnOk, true, false};
 ghost use Rattle.net_bench.specs.declared.netlist.GateLine.{GateLine};
 ghost use Rattle.net_bench.specs.Circuit.{Circuit, AreRanks, variables_of};
 ghost use Rattle.net_bench.specs.Fault.{FirstEndless};
 ghost use Rattle.net_bench.specs.declared.netlist.BenchFault.TheVariants.{Cycle};
-ghost use Rattle.net_bench.specs.Marks.{gate_place, greatest_mark, unmarked, unmarked_line, AreMarks, HasOneGateEach, IsSettled};
+ghost use Rattle.net_bench.specs.Circuit.{greatest};
+ghost use Rattle.net_bench.specs.Marks.{all_marked, gate_place, operands_at, out_at, steps_left, unmarked, unmarked_line, AreMarks, HasOneGateEach, IsDriven, IsMarking, IsSettled};
 
 use crate::netlist::{BenchFault, GateLine, Role, Signal};
 use crate::symbols::Symbol;
@@ -20,79 +21,41 @@ fn mark_of(marks: &[u32], signal: Signal) -> u32
     }
 }
 
-/// The greatest mark of these signals, where each has one.
-fn greatest_mark(marks: &[u32], signals: &[Signal]) -> Option<u32>
-    ensures value { result ≡ greatest_mark marks.now signals.now }
+/// The greatest mark of these signals, 0 where there are none.
+fn greatest_mark(marks: &[u32], signals: &[Signal]) -> u32
+    ensures { result ≡ greatest (map (slice_index marks.now) signals.now) }
 {
     let mut most = 0;
     let mut rest = signals;
     while let Some((signal, after)) = rest.split_first() {
         let mark = mark_of(marks, *signal);
-        if mark == 0 {
-            return None;
-        }
         if mark > most {
             most = mark;
         }
         rest = after;
     }
-    Some(most)
+    most
 }
 
-/// Marks the gate at this place, where it has no mark and all its operands have one. Answers whether it did.
-#[tactic(auto, using(crate::proofs::Marks::small, crate::proofs::Marks::less, crate::proofs::Marks::marked_more))]
-fn mark_gate(gates: &[GateLine], place: usize, marks: &mut [u32]) -> bool
+/// Marks the gate at this place, all of whose operands have marks, where it has none.
+#[tactic(auto, using(crate::proofs::Marks::small, crate::proofs::Marks::marked_more))]
+fn mark_gate(gates: &[GateLine], place: usize, marks: &mut [u32])
     requires inside { place < length gates.now }
     requires few { length marks.old ≤ 1000000 }
     requires outs { All (λ g. g.out < length marks.old) gates.now }
     requires one_gate { HasOneGateEach gates.now }
     requires sound { AreMarks gates.now marks.old }
+    requires all { all_marked marks.old (operands_at gates.now place) ≡ true }
     ensures sound { AreMarks gates.now marks.new }
     ensures kept { (s : ℕ) → 0 < slice_index marks.old s → slice_index marks.new s ≡ slice_index marks.old s }
-    ensures more { result ≡ true → unmarked marks.new < unmarked marks.old }
-    ensures same { result ≡ false → marks.new ≡ marks.old }
-    ensures settled { result ≡ false → (d : GateLine) → IsSettled marks.old (slice_index_or gates.now place d) }
+    ensures marked { 0 < slice_index marks.new (out_at gates.now place) }
 {
     let gate = &gates[place];
     if mark_of(marks, gate.out) != 0 {
-        return false;
+        return;
     }
-    match greatest_mark(marks, gate.operands.as_slice()) {
-        Some(most) => {
-            marks[gate.out.number() as usize] = most + 1;
-            true
-        }
-        None => false,
-    }
-}
-
-/// Goes over the gates once, in text order. Answers whether a gate got a mark.
-fn sweep(gates: &[GateLine], marks: &mut [u32]) -> bool
-    requires few { length marks.old ≤ 1000000 }
-    requires outs { All (λ g. g.out < length marks.old) gates.now }
-    requires one_gate { HasOneGateEach gates.now }
-    requires sound { AreMarks gates.now marks.old }
-    ensures sound { AreMarks gates.now marks.new }
-    ensures kept { (s : ℕ) → 0 < slice_index marks.old s → slice_index marks.new s ≡ slice_index marks.old s }
-    ensures more { result ≡ true → unmarked marks.new < unmarked marks.old }
-    ensures settled { result ≡ false → All (IsSettled marks.new) gates.now }
-{
-    let mut changed = false;
-    for place in 0..gates.len() {
-        if mark_gate(gates, place, marks) {
-            changed = true;
-        }
-    }
-    changed
-}
-
-/// At most how many steps `mark_deep` takes: linear in the gates and their operands.
-fn steps_for(gates: &[GateLine]) -> usize {
-    let mut steps = gates.len().saturating_mul(4).saturating_add(1);
-    for gate in gates {
-        steps = steps.saturating_add(gate.operands.as_slice().len());
-    }
-    steps
+    let most = greatest_mark(marks, gate.operands.as_slice());
+    marks[gate.out.number() as usize] = most + 1;
 }
 
 /// The place of the signal's gate, where it has one.
@@ -110,96 +73,97 @@ fn gate_of(symbols: &[Symbol], signal: Signal) -> Option<usize>
     }
 }
 
-/// The gate at this place goes on to its next operand, waits for that operand's gate, gets its mark, or is left.
+/// A gate that waits for an operand, and how many of its operands it has passed.
+#[derive(Clone, Copy, Debug)]
+pub struct Waiting {
+    pub place: usize,
+    pub passed: usize,
+}
+
+/// The gate passes its next operand, waits for that operand's gate, gets its mark, or is left: where the operand's gate was begun
+/// before and has no mark, neither will ever have one.
 fn advance(
     gates: &[GateLine],
     symbols: &[Symbol],
-    place: usize,
+    gate: Waiting,
     marks: &mut [u32],
-    started: &mut [bool],
-    passed: &mut [usize],
-    waiting: &mut Vec<usize>,
+    begun: &mut [bool],
+    waiting: &mut Vec<Waiting>,
 ) -> Result<(), AllocError>
-    requires inside { place < length gates.now }
     requires few { length marks.old ≤ 1000000 }
     requires outs { All (λ g. g.out < length marks.old) gates.now }
+    requires operands { All (λ g. All (λ s. s < length marks.old) g.operands) gates.now }
     requires one_gate { HasOneGateEach gates.now }
-    requires sound { AreMarks gates.now marks.old }
-    requires started_len { length started.old ≡ length gates.now }
-    requires passed_len { length passed.old ≡ length gates.now }
-    requires waiting { All (λ p. p < length gates.now) waiting.old.items }
-    ensures sound { AreMarks gates.now marks.new }
-    ensures kept { (s : ℕ) → 0 < slice_index marks.old s → slice_index marks.new s ≡ slice_index marks.old s }
-    ensures waiting { All (λ p. p < length gates.now) waiting.new.items }
+    requires driven { (s : ℕ) → s < length marks.old → slice_index marks.old s ≡ 0 → IsDriven gates.now symbols.now s }
+    requires marking { IsMarking gates.now marks.old begun.old (gate ∷ reverse waiting.old.items) }
+    ensures marking { OnOk result (IsMarking gates.now marks.new begun.new (reverse waiting.new.items)) }
+    ensures kept { OnOk result ((s : ℕ) → 0 < slice_index marks.old s → slice_index marks.new s ≡ slice_index marks.old s) }
+    ensures still { OnOk result ((p : ℕ) → slice_index_or begun.old p false ≡ true → slice_index_or begun.new p false ≡ true) }
+    ensures fewer { OnOk result (steps_left gates.now begun.new (reverse waiting.new.items) < steps_left gates.now begun.old (gate ∷ reverse waiting.old.items)) }
 {
-    let at = passed[place];
-    let Some(operand) = gates[place].operands.as_slice().get(at) else {
-        let _ = mark_gate(gates, place, marks);
+    let Some(operand) = gates[gate.place].operands.as_slice().get(gate.passed) else {
+        mark_gate(gates, gate.place, marks);
         return Ok(());
     };
     if mark_of(marks, *operand) != 0 {
-        passed[place] = at + 1;
-        waiting.push(place)?;
+        waiting.push(Waiting {
+            place: gate.place,
+            passed: gate.passed + 1,
+        })?;
         return Ok(());
     }
     let Some(below) = gate_of(symbols, *operand) else {
         return Ok(());
     };
-    if below >= gates.len() || started[below] {
+    if begun[below] {
         return Ok(());
     }
-    started[below] = true;
-    waiting.push(place)?;
-    waiting.push(below)?;
+    begun[below] = true;
+    waiting.push(gate)?;
+    waiting.push(Waiting {
+        place: below,
+        passed: 0,
+    })?;
     Ok(())
 }
 
-/// Marks gates, each after its operands, from the first gate on, on a stack of gates that wait for an operand.
-/// A gate that meets itself below it is left, and so is each that waits for it.
-fn mark_deep(
+/// Marks the gate at this place, and those below it, each after its operands. A gate from which an endless chain starts gets no mark.
+fn mark_below(
     alloc: Global,
     gates: &[GateLine],
     symbols: &[Symbol],
+    start: usize,
     marks: &mut [u32],
+    begun: &mut [bool],
 ) -> Result<(), AllocError>
+    requires inside { start < length gates.now }
     requires few { length marks.old ≤ 1000000 }
     requires outs { All (λ g. g.out < length marks.old) gates.now }
+    requires operands { All (λ g. All (λ s. s < length marks.old) g.operands) gates.now }
     requires one_gate { HasOneGateEach gates.now }
-    requires sound { AreMarks gates.now marks.old }
-    ensures sound { AreMarks gates.now marks.new }
-    ensures kept { (s : ℕ) → 0 < slice_index marks.old s → slice_index marks.new s ≡ slice_index marks.old s }
+    requires driven { (s : ℕ) → s < length marks.old → slice_index marks.old s ≡ 0 → IsDriven gates.now symbols.now s }
+    requires marking { IsMarking gates.now marks.old begun.old [] }
+    ensures marking { OnOk result (IsMarking gates.now marks.new begun.new []) }
+    ensures kept { OnOk result ((s : ℕ) → 0 < slice_index marks.old s → slice_index marks.new s ≡ slice_index marks.old s) }
+    ensures still { OnOk result ((p : ℕ) → slice_index_or begun.old p false ≡ true → slice_index_or begun.new p false ≡ true) }
+    ensures begun { OnOk result (slice_index_or begun.new start false ≡ true) }
 {
-    let mut started: Vec<bool> = vec![in alloc; false; gates.len()]?;
-    let mut passed: Vec<usize> = vec![in alloc; 0; gates.len()]?;
-    let mut waiting: Vec<usize> = Vec::new(alloc);
-    let mut start = 0;
-    'steps: for _ in 0..steps_for(gates) {
-        match waiting.pop() {
-            None => {
-                if start >= gates.len() {
-                    return Ok(());
-                }
-                if !started[start] {
-                    started[start] = true;
-                    waiting.push(start)?;
-                }
-                start += 1;
-            }
-            Some(place) => advance(
-                gates,
-                symbols,
-                place,
-                marks,
-                started.as_mut_slice(),
-                passed.as_mut_slice(),
-                &mut waiting,
-            )?,
-        }
+    if begun[start] {
+        return Ok(());
+    }
+    begun[start] = true;
+    let mut waiting: Vec<Waiting> = Vec::new(alloc);
+    waiting.push(Waiting {
+        place: start,
+        passed: 0,
+    })?;
+    'steps: while let Some(gate) = waiting.pop() {
+        advance(gates, symbols, gate, marks, begun, &mut waiting)?;
     }
     Ok(())
 }
 
-/// Marks each gate from which no endless chain of operands starts.
+/// Marks each gate from which no endless chain of operands starts: one walk over the gates, on a stack of those that wait.
 fn settle(
     alloc: Global,
     gates: &[GateLine],
@@ -208,14 +172,18 @@ fn settle(
 ) -> Result<(), AllocError>
     requires few { length marks.old ≤ 1000000 }
     requires outs { All (λ g. g.out < length marks.old) gates.now }
+    requires operands { All (λ g. All (λ s. s < length marks.old) g.operands) gates.now }
     requires one_gate { HasOneGateEach gates.now }
+    requires driven { (s : ℕ) → s < length marks.old → slice_index marks.old s ≡ 0 → IsDriven gates.now symbols.now s }
     requires sound { AreMarks gates.now marks.old }
-    ensures sound { AreMarks gates.now marks.new }
-    ensures kept { (s : ℕ) → 0 < slice_index marks.old s → slice_index marks.new s ≡ slice_index marks.old s }
+    ensures sound { OnOk result (AreMarks gates.now marks.new) }
+    ensures kept { OnOk result ((s : ℕ) → 0 < slice_index marks.old s → slice_index marks.new s ≡ slice_index marks.old s) }
     ensures settled { OnOk result (All (IsSettled marks.new) gates.now) }
 {
-    mark_deep(alloc, gates, symbols, marks)?;
-    'sweeps: while sweep(gates, marks) {}
+    let mut begun: Vec<bool> = vec![in alloc; false; gates.len()]?;
+    for place in 0..gates.len() {
+        mark_below(alloc, gates, symbols, place, marks, begun.as_mut_slice())?;
+    }
     Ok(())
 }
 
@@ -289,6 +257,7 @@ pub fn ranks_of(
     requires apart { All (λ i. All (λ g. g.out ≢ i) gates.now) variables.now }
     requires one_gate { HasOneGateEach gates.now }
     requires defined { (s : ℕ) → s < length symbols.now → Contains variables.now s ⊎ ((g : GateLine) × Contains gates.now g × (g.out ≡ s)) }
+    requires driven { (s : ℕ) → s < length symbols.now → Contains variables.now s ⊎ IsDriven gates.now symbols.now s }
     ensures ranks { IfOk result (λ v. (c : Circuit) → length c.names ≡ length symbols.now → variables_of c ≡ variables.now → c.gates ≡ gates.now → AreRanks c v.items) }
     ensures cycle { IfErr result (λ e. (e ≡ BenchFault.OutOfMemory) ⊎ ((line : ℕ) × (e ≡ Cycle line) × ((c : Circuit) → c.gates ≡ gates.now → FirstEndless c line))) }
 {
@@ -321,6 +290,7 @@ fn rank_all(
     requires apart { All (λ i. All (λ g. g.out ≢ i) gates.now) variables.now }
     requires one_gate { HasOneGateEach gates.now }
     requires defined { (s : ℕ) → s < length ranks.old → Contains variables.now s ⊎ ((g : GateLine) × Contains gates.now g × (g.out ≡ s)) }
+    requires driven { (s : ℕ) → s < length ranks.old → Contains variables.now s ⊎ IsDriven gates.now symbols.now s }
     ensures ranks { OnOk result ((c : Circuit) → length c.names ≡ length ranks.old → variables_of c ≡ variables.now → c.gates ≡ gates.now → AreRanks c ranks.new) }
     ensures cycle { IfErr result (λ e. (e ≡ BenchFault.OutOfMemory) ⊎ ((line : ℕ) × (e ≡ Cycle line) × ((c : Circuit) → c.gates ≡ gates.now → FirstEndless c line))) }
 {

@@ -1,11 +1,12 @@
 //! The netlist of a text.
-ghost use Rattle.std.specs.Prelude.{◌≡◌, ◌+◌, ◌<◌, ◌⊎◌, length, IfOk, IfErr, IfSome, IsTrue, slice_index, slice_get, Some, Err};
+ghost use Rattle.std.specs.Prelude.{◌≡◌, ◌+◌, ◌<◌, ◌⊎◌, ℕ, length, Contains, IfOk, IfErr, IfSome, IsTrue, slice_index, slice_get, Some, Err};
 ghost use Rattle.net_bench.specs.Circuit.{circuit, circuit_of, find, variables_of, HasRole, gate_by, gate_of, IsNet, AreRanks};
 ghost use Rattle.net_bench.specs.Fault.{IsRefused, MakesNetlist, max_text};
 ghost use Rattle.net_bench.specs.Devices.{TakesAtMost};
 ghost use Rattle.net_bench.specs.Judge.{statements_in};
 ghost use Rattle.net_bench.specs.Sound.{IsSound, AreDefined, IsLate};
 ghost use Rattle.net_bench.specs.Machine.{Between};
+ghost use Rattle.net_bench.specs.Marks.{IsDriven};
 ghost use Rattle.net_bench.specs.Symbols.{IsTold};
 
 use crate::build::variables_of;
@@ -170,6 +171,7 @@ fn ranks_for(
     requires count { length symbols.now ≡ length (circuit_of (statements_in text.now)).names }
     requires variables { variables.now ≡ variables_of (circuit_of (statements_in text.now)) }
     requires gates { gates.now ≡ (circuit_of (statements_in text.now)).gates }
+    requires driven { (s : ℕ) → s < length symbols.now → Contains variables.now s ⊎ IsDriven gates.now symbols.now s }
     ensures ranks { IfOk result (λ v. AreRanks (circuit_of (statements_in text.now)) v.items) }
     ensures refused { IfErr result (IsLate (statements_in text.now)) }
 {

@@ -1,7 +1,8 @@
 //! Plans of netlists, and the building of two netlists' diagrams.
 ghost use Rattle.std.specs.Prelude.{◌≡◌, ◌<◌, ◌≤◌, length};
 ghost use Rattle.net_bench.specs.Circuit.{circuit};
-ghost use Rattle.gate_plan.specs.Building.{AreDiagrams, first_level, second_level};
+ghost use Rattle.gate_plan.specs.Building.{AreDiagrams};
+ghost use Rattle.net_order.specs.Order.{first_level, second_level};
 
 use dd_store::{Ref, Store};
 use expand_work::{Free, WaveFault};
