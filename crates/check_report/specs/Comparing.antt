@@ -2,10 +2,10 @@
 use Rattle.std.specs.Prelude.{◌≡◌, ℕ, ◌<◌, Bool, List, length, All}
 use Rattle.std.specs.List.{AllZip}
 use Rattle.net_bench.specs.Circuit.{Circuit}
-use Rattle.net_order.specs.Order.{Paired}
+use Rattle.net_order.specs.Order.{Paired, first_level, second_level}
 use Rattle.dd_store.specs.declared.reference.Ref.{Ref}
 use Rattle.dd_store.specs.Nodes.{Nodes, den}
-use Rattle.gate_plan.specs.Building.{References, AreDiagrams, first_level, second_level}
+use Rattle.gate_plan.specs.Building.{References, AreDiagrams}
 use Rattle.check_report.specs.declared.outcome.Role.{Role}
 use Rattle.check_report.specs.declared.outcome.Subject.{Subject}
 use Rattle.check_report.specs.declared.verdict.Verdict.{Verdict}

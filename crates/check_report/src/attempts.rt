@@ -1,5 +1,6 @@
 //! The attempts of a comparison: an order, and the nodes within which it is to stay.
-ghost use Rattle.std.specs.Prelude.{◌≡◌, ◌≢◌, ◌≤◌, ◌<◌, ◌^◌, ◌*◌, ◌⊎◌, ℕ, List, Option, Some, true, false, IfOk, IfErr, OnOk, IsTrue, Err};
+ghost use Rattle.std.specs.Prelude.{min, None, ◌≡◌, ◌≢◌, ◌≤◌, ◌<◌, ◌^◌, ◌*◌, ◌⊎◌, ℕ, List, Option, Some, true, false, IfOk, IfErr, OnOk, IsTrue, Err};
+ghost use Rattle.expand_work.specs.Bounds.{most_of};
 ghost use Rattle.net_bench.specs.Circuit.{circuit};
 ghost use Rattle.check_report.specs.declared.choice.Candidate.{Candidate as CandidateValue};
 ghost use Rattle.net_order.specs.declared.order.Order.{Order as OrderValue};
@@ -38,6 +39,8 @@ impl<'a, G: Gate> Watch for Bounded<'a, G> {
 }
 
 impl<'a, G: Gate> Gate for Bounded<'a, G> {
+    ghost bound = { λ b. Some (min b.most (most_of (G.bound b.gate.now))) };
+
     fn at_level(&self, worker: u32, level: u16) {
         self.gate.at_level(worker, level);
     }
@@ -48,6 +51,10 @@ impl<'a, G: Gate> Gate for Bounded<'a, G> {
 
     fn most_requests(&self) -> usize {
         self.most.min(self.gate.most_requests())
+    }
+
+    fn at_rank(&self, rank: u32, ranks: u32, nodes: u64) {
+        self.gate.at_rank(rank, ranks, nodes);
     }
 }
 
@@ -68,6 +75,7 @@ fn attempt<H: Threads + Wait + Sync, G: Gate>(
     ensures fault { (one two : Option (List ℕ)) → Gives one (circuit task.now.first.now) → Gives two (circuit task.now.second.now) →
         IfErr result (IsCheckFault one two ⊥ ⊥ task.now.settings.now.matching order.now) }
     ensures unwritten { result ≢ Err CheckFault.Write }
+    ensures unbounded { G.bound gate.now ≡ None → result ≢ Err (CheckFault.Wave WaveFault.TooManyRequests) }
 {
     let _ = task.first.inputs();
     let pairing = match pair(
@@ -87,6 +95,7 @@ fn attempt<H: Threads + Wait + Sync, G: Gate>(
 /// Whether the fault of an attempt stays: it was not given up for the nodes that it needs, nor, where its requests are bounded, for these.
 fn is_kept(fault: CheckFault, bounded: bool) -> bool
     ensures kept { result ≡ true → fault ≢ CheckFault.Wave WaveFault.Full }
+    ensures passed { bounded ≡ true → result ≡ true → fault ≢ CheckFault.Wave WaveFault.TooManyRequests }
     ensures full { bounded ≡ false → result ≡ false → fault ≡ CheckFault.Wave WaveFault.Full }
 {
     match fault {
@@ -116,6 +125,7 @@ fn try_candidates<H: Threads + Wait + Sync, G: Gate>(
     ensures fault { (one two : Option (List ℕ)) → Gives one (circuit task.now.first.now) → Gives two (circuit task.now.second.now) →
         IfErr result (λ fault. (c : CandidateValue) × IsCheckFault one two ⊥ ⊥ task.now.settings.now.matching (order_of c) fault) }
     ensures unwritten { result ≢ Err CheckFault.Write }
+    ensures unbounded { G.bound gate.now ≡ None → result ≢ Err (CheckFault.Wave WaveFault.TooManyRequests) }
 {
     match attempt(task, &Order::Interleave, limit, gate) {
         Ok(verdicts) => return Ok((verdicts, Candidate::Interleave)),
@@ -149,6 +159,7 @@ pub fn find_best<H: Threads + Wait + Sync, G: Gate>(
     ensures fault { (one two : Option (List ℕ)) → Gives one (circuit task.now.first.now) → Gives two (circuit task.now.second.now) →
         IfErr result (λ fault. (c : CandidateValue) × IsCheckFault one two ⊥ ⊥ task.now.settings.now.matching (order_of c) fault) }
     ensures unwritten { result ≢ Err CheckFault.Write }
+    ensures unbounded { G.bound gate.now ≡ None → result ≢ Err (CheckFault.Wave WaveFault.TooManyRequests) }
 {
     let limit = task.settings.limit;
     let mut budget = FIRST_BUDGET;
@@ -191,6 +202,7 @@ fn by_order<H: Threads + Wait + Sync, G: Gate>(
     ensures fault { (one two : Option (List ℕ)) → Gives one (circuit task.now.first.now) → Gives two (circuit task.now.second.now) →
         IfErr result (λ fault. (o : OrderValue) × IsAllowed (Choice.One order.now) o × IsCheckFault one two ⊥ ⊥ task.now.settings.now.matching o fault) }
     ensures unwritten { result ≢ Err CheckFault.Write }
+    ensures unbounded { G.bound gate.now ≡ None → result ≢ Err (CheckFault.Wave WaveFault.TooManyRequests) }
 {
     match attempt(task, order, task.settings.limit, gate) {
         Ok(verdicts) => Ok((verdicts, None)),
@@ -211,6 +223,7 @@ fn by_best<H: Threads + Wait + Sync, G: Gate>(
     ensures fault { (one two : Option (List ℕ)) → Gives one (circuit task.now.first.now) → Gives two (circuit task.now.second.now) →
         IfErr result (λ fault. (o : OrderValue) × IsAllowed Choice.Best o × IsCheckFault one two ⊥ ⊥ task.now.settings.now.matching o fault) }
     ensures unwritten { result ≢ Err CheckFault.Write }
+    ensures unbounded { G.bound gate.now ≡ None → result ≢ Err (CheckFault.Wave WaveFault.TooManyRequests) }
 {
     match find_best(task, gate) {
         Ok((verdicts, found)) => Ok((verdicts, Some(found))),
@@ -231,6 +244,7 @@ pub fn decide<H: Threads + Wait + Sync, G: Gate>(
     ensures fault { (one two : Option (List ℕ)) → Gives one (circuit task.now.first.now) → Gives two (circuit task.now.second.now) →
         IfErr result (λ fault. (order : OrderValue) × IsAllowed task.now.settings.now.order order × IsCheckFault one two ⊥ ⊥ task.now.settings.now.matching order fault) }
     ensures unwritten { result ≢ Err CheckFault.Write }
+    ensures unbounded { G.bound gate.now ≡ None → result ≢ Err (CheckFault.Wave WaveFault.TooManyRequests) }
 {
     match &task.settings.order {
         Choice::One(order) => by_order(task, order, gate),

@@ -54,6 +54,7 @@ pub fn compare<H: Threads + Wait + Sync, G: Gate>(
     ensures err { IfErr result IsLate }
     ensures within { OnOk result (FitsWithin limit (circuit task.now.first.now) (circuit task.now.second.now) pairing) }
     ensures full { result ≡ Err (CheckFault.Wave WaveFault.Full) → Exceeds limit (circuit task.now.first.now) (circuit task.now.second.now) pairing }
+    ensures unbounded { G.bound gate.now ≡ None → result ≢ Err (CheckFault.Wave WaveFault.TooManyRequests) }
 {
     let _ = task.first.inputs();
     let _ = task.second.inputs();
@@ -108,6 +109,8 @@ pub fn judge<H: Threads + Wait + Sync, R1: Source, R2: Source, G: Gate>(
     // Full comes only where they are not within the limit, in each order that the settings allow.
     ensures full { result ≡ Err (CheckFault.Wave WaveFault.Full) → (order : OrderValue) → IsAllowed settings.now.order order →
         AreBeyond (R1.remaining first.old) (R2.remaining second.old) settings.now.matching order settings.now.limit }
+    // Where the gate sets no bound, no comparison is refused for its requests.
+    ensures unbounded { G.bound gate.now ≡ None → result ≢ Err (CheckFault.Wave WaveFault.TooManyRequests) }
     // A fault has its cause, and what comes before it was accepted.
     ensures fault { IfErr result (λ fault. (order : OrderValue) × IsAllowed settings.now.order order
         × IsCheckFault (R1.remaining first.old) (R2.remaining second.old) (IsTrue (R1.has_failed first.new)) (IsTrue (R2.has_failed second.new)) settings.now.matching order fault) }
@@ -150,6 +153,8 @@ pub fn check<H: Threads + Wait + Sync, R1: Source, R2: Source, G: Gate, W: Sink>
     // Full comes only where they are not within the limit, in each order that the settings allow.
     ensures full { result ≡ Err (CheckFault.Wave WaveFault.Full) → (order : OrderValue) → IsAllowed settings.now.order order →
         AreBeyond (R1.remaining first.old) (R2.remaining second.old) settings.now.matching order settings.now.limit }
+    // Where the gate sets no bound, no comparison is refused for its requests.
+    ensures unbounded { G.bound gate.now ≡ None → result ≢ Err (CheckFault.Wave WaveFault.TooManyRequests) }
     // A fault has its cause, and what comes before it was accepted.
     ensures fault { IfErr result (λ fault. (order : OrderValue) × IsAllowed settings.now.order order
         × IsCheckFault (R1.remaining first.old) (R2.remaining second.old) (IsTrue (R1.has_failed first.new)) (IsTrue (R2.has_failed second.new)) settings.now.matching order fault) }

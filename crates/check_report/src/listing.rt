@@ -1,7 +1,7 @@
 //! From two readers to the order of their variables.
-ghost use Rattle.std.specs.Prelude.{◌≡◌, ◌≢◌, ℕ, List, Option, IfOk, IfErr, OnOk, OnErr, IsTrue, Err};
+ghost use Rattle.std.specs.Prelude.{None, ◌≡◌, ◌≢◌, ℕ, List, Option, IfOk, IfErr, OnOk, OnErr, IsTrue, Err};
 ghost use Rattle.std.specs.Io.KnownBytes.{Appends};
-ghost use Rattle.expand_work.specs.declared.fault.WaveFault.TheVariants.{Full};
+ghost use Rattle.expand_work.specs.declared.fault.WaveFault.TheVariants.{Full, TooManyRequests};
 ghost use Rattle.net_bench.specs.Circuit.{circuit};
 ghost use Rattle.net_order.specs.declared.order.Order.{Order as OrderValue};
 ghost use Rattle.net_order.specs.OrderText.{order_text};
@@ -47,6 +47,7 @@ fn text_by<H>(task: &Task<'_, H>, order: &Order) -> Result<Vec<u8>, CheckFault>
     ensures fault { (one two : Option (List ℕ)) → Gives one (circuit task.now.first.now) → Gives two (circuit task.now.second.now) →
         IfErr result (IsCheckFault one two ⊥ ⊥ task.now.settings.now.matching order.now) }
     ensures unbuilt { result ≢ Err (CheckFault.Wave Full) }
+    ensures unbounded { result ≢ Err (CheckFault.Wave TooManyRequests) }
     ensures unwritten { result ≢ Err CheckFault.Write }
 {
     match pair(
@@ -73,6 +74,7 @@ fn given_text<H>(
     ensures fault { (one two : Option (List ℕ)) → Gives one (circuit task.now.first.now) → Gives two (circuit task.now.second.now) →
         IfErr result (λ fault. (o : OrderValue) × IsAllowed (Choice.One order.now) o × IsCheckFault one two ⊥ ⊥ task.now.settings.now.matching o fault) }
     ensures unbuilt { result ≢ Err (CheckFault.Wave Full) }
+    ensures unbounded { result ≢ Err (CheckFault.Wave TooManyRequests) }
     ensures unwritten { result ≢ Err CheckFault.Write }
 {
     match text_by(task, order) {
@@ -94,6 +96,7 @@ fn best_text<H: Threads + Wait + Sync, G: Gate>(
     ensures fault { (one two : Option (List ℕ)) → Gives one (circuit task.now.first.now) → Gives two (circuit task.now.second.now) →
         IfErr result (λ fault. (o : OrderValue) × IsAllowed Choice.Best o × IsCheckFault one two ⊥ ⊥ task.now.settings.now.matching o fault) }
     ensures unwritten { result ≢ Err CheckFault.Write }
+    ensures unbounded { G.bound gate.now ≡ None → result ≢ Err (CheckFault.Wave TooManyRequests) }
 {
     match find_best(task, gate) {
         Ok((verdicts, found)) => match text_of(task.alloc, verdicts.variables()) {
@@ -117,6 +120,7 @@ fn text_for<H: Threads + Wait + Sync, G: Gate>(
     ensures fault { (one two : Option (List ℕ)) → Gives one (circuit task.now.first.now) → Gives two (circuit task.now.second.now) →
         IfErr result (λ fault. (order : OrderValue) × IsAllowed task.now.settings.now.order order × IsCheckFault one two ⊥ ⊥ task.now.settings.now.matching order fault) }
     ensures unwritten { result ≢ Err CheckFault.Write }
+    ensures unbounded { G.bound gate.now ≡ None → result ≢ Err (CheckFault.Wave TooManyRequests) }
 {
     match &task.settings.order {
         Choice::One(order) => given_text(task, order),
@@ -141,6 +145,8 @@ pub fn print_order<H: Threads + Wait + Sync, R1: Source, R2: Source, G: Gate, W:
     // Full comes only where the netlists need more nodes than the limit, in each order that the settings allow.
     ensures full { result ≡ Err (CheckFault.Wave Full) → (order : OrderValue) → IsAllowed settings.now.order order →
         AreBeyond (R1.remaining first.old) (R2.remaining second.old) settings.now.matching order settings.now.limit }
+    // Where the gate sets no bound, no attempt is refused for its requests.
+    ensures unbounded { G.bound gate.now ≡ None → result ≢ Err (CheckFault.Wave TooManyRequests) }
     // A fault has its cause, and what comes before it was accepted.
     ensures fault { IfErr result (λ fault. (order : OrderValue) × IsAllowed settings.now.order order
         × IsCheckFault (R1.remaining first.old) (R2.remaining second.old) (IsTrue (R1.has_failed first.new)) (IsTrue (R2.has_failed second.new)) settings.now.matching order fault) }

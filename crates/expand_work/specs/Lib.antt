@@ -5,3 +5,4 @@ pub mod Work
 pub mod Working
 pub mod Team
 pub mod Expanded
+pub mod Bounds

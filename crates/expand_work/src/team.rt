@@ -87,6 +87,7 @@ pub fn run_workers<R: Threads + Wait + Sync, G: Gate>(
     requires roots { All (IsKey store.now) roots.now }
     ensures parts { IfOk result (λ v. AreWorked lanes.now store.now roots.now v.items) }
     ensures fault { IfErr result (λ f. f ≢ WaveFault.Full) }
+    ensures unbounded { IfErr result (λ f. f ≢ WaveFault.TooManyRequests) }
 {
     let stop = AtomicBool::new(false);
     let flag = &stop;
@@ -100,6 +101,7 @@ pub fn run_workers<R: Threads + Wait + Sync, G: Gate>(
             requires roots { All (IsKey store.now) roots.now }
             ensures parts { IfOk result (λ v. AreWorked lanes.entry.now store.entry.now roots.entry.now v.items) }
             ensures fault { IfErr result (λ f. f ≢ WaveFault.Full) }
+            ensures unbounded { IfErr result (λ f. f ≢ WaveFault.TooManyRequests) }
         {
             let count = ports.len();
             let mut children = Vec::with_capacity(alloc, count)?;
