@@ -15,14 +15,15 @@ ghost use Rattle.bddcheck.specs.Running.{IsOpenFault, order_paths, paths_of, IsS
 use crate::done::Done;
 use crate::fault::{Place, ToolFault};
 use crate::folder::{Folder, OpenFault};
+use crate::progress::Progress;
 use crate::split::split_input;
 use check_report::{Choice, Settings, check, print_order};
 use command_line::{Options, OrderChoice, Texts};
-use expand_work::Free;
 use net_bench::device::{InMemory, Sink, Source, TextFault, read_text};
 use net_order::order::Order;
 use net_order::order_file::read_order;
 use std::alloc::Global;
+use std::rt::Clock;
 use std::sync::Wait;
 use std::thread::Threads;
 
@@ -70,7 +71,7 @@ fn order_of<F: Folder>(
 }
 
 /// Compares two texts, or prints the order of their variables. A file of the order is read before them.
-fn compare<H: Threads + Wait + Sync, F: Folder, R1: Source, R2: Source, W: Sink>(
+fn compare<H: Eprint + Clock + Threads + Wait + Sync, F: Folder, R1: Source, R2: Source, W: Sink>(
     rt: &H,
     alloc: Global,
     options: &Options<'_>,
@@ -97,13 +98,14 @@ fn compare<H: Threads + Wait + Sync, F: Folder, R1: Source, R2: Source, W: Sink>
         sizes: options.sizes,
         json: options.json,
     };
+    let progress = Progress::new(rt, options.verbose);
     if options.print_order {
-        return match print_order(rt, alloc, first, second, &settings, &Free, out) {
+        return match print_order(rt, alloc, first, second, &settings, &progress, out) {
             Ok(tried) => Ok(Done::OrderPrinted(tried)),
             Err(fault) => Err(ToolFault::Check(fault)),
         };
     }
-    match check(rt, alloc, first, second, &settings, &Free, out) {
+    match check(rt, alloc, first, second, &settings, &progress, out) {
         Ok((outcome, tried)) => Ok(Done::Compared(outcome, tried)),
         Err(fault) => Err(ToolFault::Check(fault)),
     }
@@ -126,7 +128,7 @@ fn read_input<R: Source>(alloc: Global, input: &mut R) -> Result<Vec<u8>, ToolFa
 
 /// Compares what the options name: two files, a file and the input, or the two texts of the input. FIRST, SECOND and the order's file
 /// are opened in this order; where the input is divided, the order's file is opened behind that.
-pub fn run_options<H: Threads + Wait + Sync, F: Folder, R: Source, W: Sink>(
+pub fn run_options<H: Eprint + Clock + Threads + Wait + Sync, F: Folder, R: Source, W: Sink>(
     rt: &H,
     alloc: Global,
     options: &Options<'_>,
