@@ -2,10 +2,11 @@
 ghost use Rattle.std.specs.Prelude.{min, None, ◌≡◌, ◌≢◌, ◌≤◌, ◌<◌, ◌^◌, ◌*◌, ◌⊎◌, ℕ, List, Option, Some, true, false, IfOk, IfErr, OnOk, IsTrue, Err};
 ghost use Rattle.expand_work.specs.Bounds.{most_of};
 ghost use Rattle.net_bench.specs.Circuit.{circuit};
+ghost use Rattle.net_order.specs.Order.{condition};
 ghost use Rattle.check_report.specs.declared.choice.Candidate.{Candidate as CandidateValue};
 ghost use Rattle.net_order.specs.declared.order.Order.{Order as OrderValue};
 ghost use Rattle.check_report.specs.Best.{AllBefore, IsAllowed, IsBudget, IsChosen, order_of};
-ghost use Rattle.check_report.specs.Check.{Gives, IsJudged, IsCheckFault};
+ghost use Rattle.check_report.specs.Check.{AreGiven, IsJudged, IsCheckFault};
 ghost use Rattle.check_report.specs.Limits.{AreWithin, AreBeyond};
 
 use crate::checking::{Task, compare};
@@ -66,14 +67,14 @@ fn attempt<H: Threads + Wait + Sync, G: Gate>(
     gate: &G,
 ) -> Result<Verdicts, CheckFault>
     requires { limit < 2 ^ 32 }
-    ensures judged { (one two : Option (List ℕ)) → Gives one (circuit task.now.first.now) → Gives two (circuit task.now.second.now) →
-        IfOk result (IsJudged one two task.now.settings.now.matching order.now task.now.settings.now.sizes) }
-    ensures within { (one two : Option (List ℕ)) → Gives one (circuit task.now.first.now) → Gives two (circuit task.now.second.now) →
-        OnOk result (AreWithin one two task.now.settings.now.matching order.now limit) }
-    ensures full { (one two : Option (List ℕ)) → Gives one (circuit task.now.first.now) → Gives two (circuit task.now.second.now) →
-        result ≡ Err (CheckFault.Wave WaveFault.Full) → AreBeyond one two task.now.settings.now.matching order.now limit }
-    ensures fault { (one two : Option (List ℕ)) → Gives one (circuit task.now.first.now) → Gives two (circuit task.now.second.now) →
-        IfErr result (IsCheckFault one two ⊥ ⊥ task.now.settings.now.matching order.now) }
+    ensures judged { (one two : Option (List ℕ)) (three : Option (Option (List ℕ))) → AreGiven one two three (circuit task.now.first.now) (circuit task.now.second.now) (condition task.now.given) →
+        IfOk result (IsJudged one two three task.now.settings.now.matching order.now task.now.settings.now.sizes) }
+    ensures within { (one two : Option (List ℕ)) (three : Option (Option (List ℕ))) → AreGiven one two three (circuit task.now.first.now) (circuit task.now.second.now) (condition task.now.given) →
+        OnOk result (AreWithin one two three task.now.settings.now.matching order.now limit) }
+    ensures full { (one two : Option (List ℕ)) (three : Option (Option (List ℕ))) → AreGiven one two three (circuit task.now.first.now) (circuit task.now.second.now) (condition task.now.given) →
+        result ≡ Err (CheckFault.Wave WaveFault.Full) → AreBeyond one two three task.now.settings.now.matching order.now limit }
+    ensures fault { (one two : Option (List ℕ)) (three : Option (Option (List ℕ))) → AreGiven one two three (circuit task.now.first.now) (circuit task.now.second.now) (condition task.now.given) →
+        IfErr result (IsCheckFault one two three ⊥ ⊥ ⊥ task.now.settings.now.matching order.now) }
     ensures unwritten { result ≢ Err CheckFault.Write }
     ensures unbounded { G.bound gate.now ≡ None → result ≢ Err (CheckFault.Wave WaveFault.TooManyRequests) }
 {
@@ -82,7 +83,7 @@ fn attempt<H: Threads + Wait + Sync, G: Gate>(
         task.alloc,
         task.first,
         task.second,
-        None,
+        task.given,
         task.settings.matching,
         order,
     ) {
@@ -114,16 +115,16 @@ fn try_candidates<H: Threads + Wait + Sync, G: Gate>(
     gate: &G,
 ) -> Result<(Verdicts, Candidate), CheckFault>
     requires { limit < 2 ^ 32 }
-    ensures judged { (one two : Option (List ℕ)) → Gives one (circuit task.now.first.now) → Gives two (circuit task.now.second.now) →
-        IfOk result (λ r. IsJudged one two task.now.settings.now.matching (order_of r.1) task.now.settings.now.sizes r.0) }
-    ensures within { (one two : Option (List ℕ)) → Gives one (circuit task.now.first.now) → Gives two (circuit task.now.second.now) →
-        IfOk result (λ r. AreWithin one two task.now.settings.now.matching (order_of r.1) limit) }
-    ensures before { (one two : Option (List ℕ)) → Gives one (circuit task.now.first.now) → Gives two (circuit task.now.second.now) →
-        bounded ≡ false → IfOk result (λ r. AllBefore r.1 (λ c. AreBeyond one two task.now.settings.now.matching (order_of c) limit)) }
-    ensures full { (one two : Option (List ℕ)) → Gives one (circuit task.now.first.now) → Gives two (circuit task.now.second.now) →
-        bounded ≡ false → result ≡ Err (CheckFault.Wave WaveFault.Full) → (c : CandidateValue) → AreBeyond one two task.now.settings.now.matching (order_of c) limit }
-    ensures fault { (one two : Option (List ℕ)) → Gives one (circuit task.now.first.now) → Gives two (circuit task.now.second.now) →
-        IfErr result (λ fault. (c : CandidateValue) × IsCheckFault one two ⊥ ⊥ task.now.settings.now.matching (order_of c) fault) }
+    ensures judged { (one two : Option (List ℕ)) (three : Option (Option (List ℕ))) → AreGiven one two three (circuit task.now.first.now) (circuit task.now.second.now) (condition task.now.given) →
+        IfOk result (λ r. IsJudged one two three task.now.settings.now.matching (order_of r.1) task.now.settings.now.sizes r.0) }
+    ensures within { (one two : Option (List ℕ)) (three : Option (Option (List ℕ))) → AreGiven one two three (circuit task.now.first.now) (circuit task.now.second.now) (condition task.now.given) →
+        IfOk result (λ r. AreWithin one two three task.now.settings.now.matching (order_of r.1) limit) }
+    ensures before { (one two : Option (List ℕ)) (three : Option (Option (List ℕ))) → AreGiven one two three (circuit task.now.first.now) (circuit task.now.second.now) (condition task.now.given) →
+        bounded ≡ false → IfOk result (λ r. AllBefore r.1 (λ c. AreBeyond one two three task.now.settings.now.matching (order_of c) limit)) }
+    ensures full { (one two : Option (List ℕ)) (three : Option (Option (List ℕ))) → AreGiven one two three (circuit task.now.first.now) (circuit task.now.second.now) (condition task.now.given) →
+        bounded ≡ false → result ≡ Err (CheckFault.Wave WaveFault.Full) → (c : CandidateValue) → AreBeyond one two three task.now.settings.now.matching (order_of c) limit }
+    ensures fault { (one two : Option (List ℕ)) (three : Option (Option (List ℕ))) → AreGiven one two three (circuit task.now.first.now) (circuit task.now.second.now) (condition task.now.given) →
+        IfErr result (λ fault. (c : CandidateValue) × IsCheckFault one two three ⊥ ⊥ ⊥ task.now.settings.now.matching (order_of c) fault) }
     ensures unwritten { result ≢ Err CheckFault.Write }
     ensures unbounded { G.bound gate.now ≡ None → result ≢ Err (CheckFault.Wave WaveFault.TooManyRequests) }
 {
@@ -150,14 +151,14 @@ pub fn find_best<H: Threads + Wait + Sync, G: Gate>(
     task: &Task<'_, H>,
     gate: &G,
 ) -> Result<(Verdicts, Attempt), CheckFault>
-    ensures judged { (one two : Option (List ℕ)) → Gives one (circuit task.now.first.now) → Gives two (circuit task.now.second.now) →
-        IfOk result (λ r. IsJudged one two task.now.settings.now.matching (order_of r.1.order) task.now.settings.now.sizes r.0) }
-    ensures chosen { (one two : Option (List ℕ)) → Gives one (circuit task.now.first.now) → Gives two (circuit task.now.second.now) →
-        IfOk result (λ r. IsChosen one two task.now.settings.now.matching Choice.Best task.now.settings.now.limit (Some r.1) (order_of r.1.order)) }
-    ensures full { (one two : Option (List ℕ)) → Gives one (circuit task.now.first.now) → Gives two (circuit task.now.second.now) →
-        result ≡ Err (CheckFault.Wave WaveFault.Full) → (c : CandidateValue) → AreBeyond one two task.now.settings.now.matching (order_of c) task.now.settings.now.limit }
-    ensures fault { (one two : Option (List ℕ)) → Gives one (circuit task.now.first.now) → Gives two (circuit task.now.second.now) →
-        IfErr result (λ fault. (c : CandidateValue) × IsCheckFault one two ⊥ ⊥ task.now.settings.now.matching (order_of c) fault) }
+    ensures judged { (one two : Option (List ℕ)) (three : Option (Option (List ℕ))) → AreGiven one two three (circuit task.now.first.now) (circuit task.now.second.now) (condition task.now.given) →
+        IfOk result (λ r. IsJudged one two three task.now.settings.now.matching (order_of r.1.order) task.now.settings.now.sizes r.0) }
+    ensures chosen { (one two : Option (List ℕ)) (three : Option (Option (List ℕ))) → AreGiven one two three (circuit task.now.first.now) (circuit task.now.second.now) (condition task.now.given) →
+        IfOk result (λ r. IsChosen one two three task.now.settings.now.matching Choice.Best task.now.settings.now.limit (Some r.1) (order_of r.1.order)) }
+    ensures full { (one two : Option (List ℕ)) (three : Option (Option (List ℕ))) → AreGiven one two three (circuit task.now.first.now) (circuit task.now.second.now) (condition task.now.given) →
+        result ≡ Err (CheckFault.Wave WaveFault.Full) → (c : CandidateValue) → AreBeyond one two three task.now.settings.now.matching (order_of c) task.now.settings.now.limit }
+    ensures fault { (one two : Option (List ℕ)) (three : Option (Option (List ℕ))) → AreGiven one two three (circuit task.now.first.now) (circuit task.now.second.now) (condition task.now.given) →
+        IfErr result (λ fault. (c : CandidateValue) × IsCheckFault one two three ⊥ ⊥ ⊥ task.now.settings.now.matching (order_of c) fault) }
     ensures unwritten { result ≢ Err CheckFault.Write }
     ensures unbounded { G.bound gate.now ≡ None → result ≢ Err (CheckFault.Wave WaveFault.TooManyRequests) }
 {
@@ -194,13 +195,13 @@ fn by_order<H: Threads + Wait + Sync, G: Gate>(
     order: &Order,
     gate: &G,
 ) -> Result<(Verdicts, Option<Attempt>), CheckFault>
-    ensures chosen { (one two : Option (List ℕ)) → Gives one (circuit task.now.first.now) → Gives two (circuit task.now.second.now) →
-        IfOk result (λ r. (o : OrderValue) × IsJudged one two task.now.settings.now.matching o task.now.settings.now.sizes r.0
-        × IsChosen one two task.now.settings.now.matching (Choice.One order.now) task.now.settings.now.limit r.1 o) }
-    ensures full { (one two : Option (List ℕ)) → Gives one (circuit task.now.first.now) → Gives two (circuit task.now.second.now) →
-        result ≡ Err (CheckFault.Wave WaveFault.Full) → (o : OrderValue) → IsAllowed (Choice.One order.now) o → AreBeyond one two task.now.settings.now.matching o task.now.settings.now.limit }
-    ensures fault { (one two : Option (List ℕ)) → Gives one (circuit task.now.first.now) → Gives two (circuit task.now.second.now) →
-        IfErr result (λ fault. (o : OrderValue) × IsAllowed (Choice.One order.now) o × IsCheckFault one two ⊥ ⊥ task.now.settings.now.matching o fault) }
+    ensures chosen { (one two : Option (List ℕ)) (three : Option (Option (List ℕ))) → AreGiven one two three (circuit task.now.first.now) (circuit task.now.second.now) (condition task.now.given) →
+        IfOk result (λ r. (o : OrderValue) × IsJudged one two three task.now.settings.now.matching o task.now.settings.now.sizes r.0
+        × IsChosen one two three task.now.settings.now.matching (Choice.One order.now) task.now.settings.now.limit r.1 o) }
+    ensures full { (one two : Option (List ℕ)) (three : Option (Option (List ℕ))) → AreGiven one two three (circuit task.now.first.now) (circuit task.now.second.now) (condition task.now.given) →
+        result ≡ Err (CheckFault.Wave WaveFault.Full) → (o : OrderValue) → IsAllowed (Choice.One order.now) o → AreBeyond one two three task.now.settings.now.matching o task.now.settings.now.limit }
+    ensures fault { (one two : Option (List ℕ)) (three : Option (Option (List ℕ))) → AreGiven one two three (circuit task.now.first.now) (circuit task.now.second.now) (condition task.now.given) →
+        IfErr result (λ fault. (o : OrderValue) × IsAllowed (Choice.One order.now) o × IsCheckFault one two three ⊥ ⊥ ⊥ task.now.settings.now.matching o fault) }
     ensures unwritten { result ≢ Err CheckFault.Write }
     ensures unbounded { G.bound gate.now ≡ None → result ≢ Err (CheckFault.Wave WaveFault.TooManyRequests) }
 {
@@ -215,13 +216,13 @@ fn by_best<H: Threads + Wait + Sync, G: Gate>(
     task: &Task<'_, H>,
     gate: &G,
 ) -> Result<(Verdicts, Option<Attempt>), CheckFault>
-    ensures chosen { (one two : Option (List ℕ)) → Gives one (circuit task.now.first.now) → Gives two (circuit task.now.second.now) →
-        IfOk result (λ r. (o : OrderValue) × IsJudged one two task.now.settings.now.matching o task.now.settings.now.sizes r.0
-        × IsChosen one two task.now.settings.now.matching Choice.Best task.now.settings.now.limit r.1 o) }
-    ensures full { (one two : Option (List ℕ)) → Gives one (circuit task.now.first.now) → Gives two (circuit task.now.second.now) →
-        result ≡ Err (CheckFault.Wave WaveFault.Full) → (o : OrderValue) → IsAllowed Choice.Best o → AreBeyond one two task.now.settings.now.matching o task.now.settings.now.limit }
-    ensures fault { (one two : Option (List ℕ)) → Gives one (circuit task.now.first.now) → Gives two (circuit task.now.second.now) →
-        IfErr result (λ fault. (o : OrderValue) × IsAllowed Choice.Best o × IsCheckFault one two ⊥ ⊥ task.now.settings.now.matching o fault) }
+    ensures chosen { (one two : Option (List ℕ)) (three : Option (Option (List ℕ))) → AreGiven one two three (circuit task.now.first.now) (circuit task.now.second.now) (condition task.now.given) →
+        IfOk result (λ r. (o : OrderValue) × IsJudged one two three task.now.settings.now.matching o task.now.settings.now.sizes r.0
+        × IsChosen one two three task.now.settings.now.matching Choice.Best task.now.settings.now.limit r.1 o) }
+    ensures full { (one two : Option (List ℕ)) (three : Option (Option (List ℕ))) → AreGiven one two three (circuit task.now.first.now) (circuit task.now.second.now) (condition task.now.given) →
+        result ≡ Err (CheckFault.Wave WaveFault.Full) → (o : OrderValue) → IsAllowed Choice.Best o → AreBeyond one two three task.now.settings.now.matching o task.now.settings.now.limit }
+    ensures fault { (one two : Option (List ℕ)) (three : Option (Option (List ℕ))) → AreGiven one two three (circuit task.now.first.now) (circuit task.now.second.now) (condition task.now.given) →
+        IfErr result (λ fault. (o : OrderValue) × IsAllowed Choice.Best o × IsCheckFault one two three ⊥ ⊥ ⊥ task.now.settings.now.matching o fault) }
     ensures unwritten { result ≢ Err CheckFault.Write }
     ensures unbounded { G.bound gate.now ≡ None → result ≢ Err (CheckFault.Wave WaveFault.TooManyRequests) }
 {
@@ -236,13 +237,13 @@ pub fn decide<H: Threads + Wait + Sync, G: Gate>(
     task: &Task<'_, H>,
     gate: &G,
 ) -> Result<(Verdicts, Option<Attempt>), CheckFault>
-    ensures chosen { (one two : Option (List ℕ)) → Gives one (circuit task.now.first.now) → Gives two (circuit task.now.second.now) →
-        IfOk result (λ r. (order : OrderValue) × IsJudged one two task.now.settings.now.matching order task.now.settings.now.sizes r.0
-        × IsChosen one two task.now.settings.now.matching task.now.settings.now.order task.now.settings.now.limit r.1 order) }
-    ensures full { (one two : Option (List ℕ)) → Gives one (circuit task.now.first.now) → Gives two (circuit task.now.second.now) →
-        result ≡ Err (CheckFault.Wave WaveFault.Full) → (order : OrderValue) → IsAllowed task.now.settings.now.order order → AreBeyond one two task.now.settings.now.matching order task.now.settings.now.limit }
-    ensures fault { (one two : Option (List ℕ)) → Gives one (circuit task.now.first.now) → Gives two (circuit task.now.second.now) →
-        IfErr result (λ fault. (order : OrderValue) × IsAllowed task.now.settings.now.order order × IsCheckFault one two ⊥ ⊥ task.now.settings.now.matching order fault) }
+    ensures chosen { (one two : Option (List ℕ)) (three : Option (Option (List ℕ))) → AreGiven one two three (circuit task.now.first.now) (circuit task.now.second.now) (condition task.now.given) →
+        IfOk result (λ r. (order : OrderValue) × IsJudged one two three task.now.settings.now.matching order task.now.settings.now.sizes r.0
+        × IsChosen one two three task.now.settings.now.matching task.now.settings.now.order task.now.settings.now.limit r.1 order) }
+    ensures full { (one two : Option (List ℕ)) (three : Option (Option (List ℕ))) → AreGiven one two three (circuit task.now.first.now) (circuit task.now.second.now) (condition task.now.given) →
+        result ≡ Err (CheckFault.Wave WaveFault.Full) → (order : OrderValue) → IsAllowed task.now.settings.now.order order → AreBeyond one two three task.now.settings.now.matching order task.now.settings.now.limit }
+    ensures fault { (one two : Option (List ℕ)) (three : Option (Option (List ℕ))) → AreGiven one two three (circuit task.now.first.now) (circuit task.now.second.now) (condition task.now.given) →
+        IfErr result (λ fault. (order : OrderValue) × IsAllowed task.now.settings.now.order order × IsCheckFault one two three ⊥ ⊥ ⊥ task.now.settings.now.matching order fault) }
     ensures unwritten { result ≢ Err CheckFault.Write }
     ensures unbounded { G.bound gate.now ≡ None → result ≢ Err (CheckFault.Wave WaveFault.TooManyRequests) }
 {

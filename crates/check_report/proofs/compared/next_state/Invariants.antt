@@ -1,6 +1,6 @@
 use Rattle.std.proofs.Common.{◌≡◌, drop}
 use Rattle.std.specs.Prelude.{◌==◌, find}
-use Rattle.check_report.proofs.compare.next_state.Given as goal
+use Rattle.check_report.proofs.compared.next_state.Given as goal
 
 -- none of those before has this signal
 abbrev pub invariant-loop-i : goal.invariant-loop-i
