@@ -60,7 +60,13 @@ fn wordless<E: Sink>(alloc: Global, why: NoWords, errors: &mut E) -> u8
 }
 
 /// The status of a run over the arguments and the devices of a process.
-pub fn status_of<H: AllocGlobal + Eprint + Clock + Threads + Wait + Sync, F: Folder, R: Source, W: Sink, E: Sink>(
+pub fn status_of<
+    H: AllocGlobal + Eprint + Clock + Threads + Wait + Sync,
+    F: Folder,
+    R: Source,
+    W: Sink,
+    E: Sink,
+>(
     rt: &H,
     arguments: Result<Vec<String>, NoWords>,
     folder: &mut F,

@@ -72,10 +72,7 @@ fn order_of<F: Folder>(
 }
 
 /// Opens the condition's file, where there is a condition.
-fn open_given<F: Folder>(
-    folder: &mut F,
-    path: Option<&str>,
-) -> Result<Option<F::File>, ToolFault>
+fn open_given<F: Folder>(folder: &mut F, path: Option<&str>) -> Result<Option<F::File>, ToolFault>
     ensures given { IfOk result (λ file. IsGivenOf (F.told folder.old) path.entry (told_by F.File.remaining file)) }
     ensures named { IfOk result (λ file. IsGivenFrom path.entry (told_by F.File.origin file)) }
     ensures opened { OnOk result (Extends (F.tries folder.old) (F.tries folder.new) (opened (given_paths path.entry))) }
@@ -140,12 +137,16 @@ fn compare<H: Eprint + Clock + Threads + Wait + Sync, F: Folder, R1: Source, R2:
     };
     let progress = Progress::new(rt, options.verbose);
     if options.print_order {
-        return match print_order(rt, alloc, first, second, &mut given, &settings, &progress, out) {
+        return match print_order(
+            rt, alloc, first, second, &mut given, &settings, &progress, out,
+        ) {
             Ok(tried) => Ok(Done::OrderPrinted(tried)),
             Err(fault) => Err(ToolFault::Check(fault)),
         };
     }
-    match check(rt, alloc, first, second, &mut given, &settings, &progress, out) {
+    match check(
+        rt, alloc, first, second, &mut given, &settings, &progress, out,
+    ) {
         Ok((outcome, tried)) => Ok(Done::Compared(outcome, tried)),
         Err(fault) => Err(ToolFault::Check(fault)),
     }

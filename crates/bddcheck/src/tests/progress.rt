@@ -52,7 +52,13 @@ fn lines_at(asked: bool, ranks: u32) -> u64 {
 
 #[test]
 fn lines_a_second(rt: HostRuntime) -> Result<(), Fail> {
-    for (asked, ranks, lines) in [(true, 2, 0), (true, 3, 1), (true, 5, 1), (true, 6, 2), (false, 9, 0)] {
+    for (asked, ranks, lines) in [
+        (true, 2, 0),
+        (true, 3, 1),
+        (true, 5, 1),
+        (true, 6, 2),
+        (false, 9, 0),
+    ] {
         assert_eq!(rt; lines_at(asked, ranks), lines);
     }
     let progress = Progress::new(&rt, true);

@@ -35,8 +35,8 @@ pub returns-then-options-clause-fault : goal.returns-then-options-clause-fault
 returns-then-options-clause-fault g c = elim c.match-print_order.branch [
   | in-Ok w ↦ rw w.result-is tt
   | in-Err w ↦ rw w.result-is (checked_fault (g.F.Folder.told c.args.folder.now) (HasFailedAt g.F.File.Source.origin g.F.File.Source.has_failed) (g.R1.Source.remaining c.args.first.now) (g.R2.Source.remaining c.args.second.now)
-    (told_by g.F.File.Source.remaining c.in_ok-given.given) (IsTrue (g.R1.Source.has_failed c.print_order.new.first)) (IsTrue (g.R2.Source.has_failed c.print_order.new.second)) (HasFailedIn g.F.File.Source.has_failed c.print_order.new.given)
-    c.args.options.now c.in_ok-given.order w.in-Err.fault (g.F.Folder.tries c.args.folder.now) (g.F.Folder.tries c.prepare.new.folder) c.in_ok-given.ensures.opened c.in_ok-given.ensures.given c.in_ok-given.ensures.order
-    (given_failed g.F.File.Source.origin g.F.File.Source.has_failed c.args.options.now.given c.in_ok-given.given c.print_order.new.given c.in_ok-given.ensures.named c.print_order.ensures.origins.2)
-    w.in-Err.ensures.fault)
+      (told_by g.F.File.Source.remaining c.in_ok-given.given) (IsTrue (g.R1.Source.has_failed c.print_order.new.first)) (IsTrue (g.R2.Source.has_failed c.print_order.new.second)) (HasFailedIn g.F.File.Source.has_failed c.print_order.new.given)
+      c.args.options.now c.in_ok-given.order w.in-Err.fault (g.F.Folder.tries c.args.folder.now) (g.F.Folder.tries c.prepare.new.folder) c.in_ok-given.ensures.opened c.in_ok-given.ensures.given c.in_ok-given.ensures.order
+      (given_failed g.F.File.Source.origin g.F.File.Source.has_failed c.args.options.now.given c.in_ok-given.given c.print_order.new.given c.in_ok-given.ensures.named c.print_order.ensures.origins.2)
+      w.in-Err.ensures.fault)
 ]
