@@ -13,12 +13,12 @@ use Rattle.net_order.specs.declared.order.Order.{Order}
 use Rattle.command_line.specs.declared.options.Options.{Options}
 use Rattle.command_line.specs.declared.options.Texts.{Texts}
 use Rattle.command_line.specs.declared.options.Texts.TheVariants.{Input, Files, InputAndFile, FileAndInput, InputTwice, One}
-use Rattle.bddcheck.specs.declared.fault.Place.TheVariants.{First, Second, Order as OrderFile}
+use Rattle.bddcheck.specs.declared.fault.Place.TheVariants.{First, Second, Given as GivenFile, Order as OrderFile}
 use Rattle.bddcheck.specs.declared.fault.ToolFault.{ToolFault}
 use Rattle.bddcheck.specs.declared.fault.ToolFault.TheVariants.{OneFile, InputTwice as DashTwice, CannotOpen, InputUnread, InputTooLong, InputUndivided, BadOrder, Check, OutOfMemory}
 use Rattle.bddcheck.specs.Splitting.{IsSplit}
 use Rattle.bddcheck.specs.Opening.{Try, Extends, opened, AreTried}
-use Rattle.bddcheck.specs.Running.{IsOpenFault, first_paths, second_paths, text_paths, order_paths, paths_of, IsShort, AreTexts, HasTexts, IsOrderOf, IsCompared, HasReported, HasReportedFront, HasFirstFailed, HasSecondFailed, IsBeyond, IsCompareFault, IsToolFault}
+use Rattle.bddcheck.specs.Running.{IsOpenFault, first_paths, second_paths, text_paths, order_paths, given_paths, later_paths, paths_of, IsShort, AreTexts, HasTexts, IsGivenOf, IsOrderOf, IsOrderFaultBehind, IsGivenFault, IsLaterFault, IsCompared, HasReported, HasReportedFront, HasFirstFailed, HasSecondFailed, HasGivenFailed, IsBeyond, IsCompareFault, IsToolFault}
 use Rattle.bddcheck.proofs.Failing.{check_fault}
 
 -- ---- tries
@@ -40,6 +40,16 @@ opened_more (p ∷ ps) qs = ap (λ l. (p, true) ∷ l) (opened_more ps qs)
 pub tried_more : (ps qs : List (List ℕ)) (ts : List Try) → AreTried qs ts → AreTried (ps ++ qs) (opened ps ++ ts)
 tried_more [] qs ts t = t
 tried_more (p ∷ ps) qs ts t = (refl, tried_more ps qs ts t)
+
+-- what was tried of some paths alone was tried of these and more
+pub tried_first : (ps qs : List (List ℕ)) (ts : List Try) → AreTried ps ts → AreTried (ps ++ qs) ts
+tried_first ps qs [] t = tt
+tried_first [] qs (t ∷ ts) a = absurd a
+tried_first (p ∷ ps) qs ((asked, true) ∷ ts) a = (a.0, tried_first ps qs ts a.1)
+tried_first (p ∷ ps) qs ((asked, false) ∷ ts) a = a
+
+pub opened_twice : (ps qs : List (List ℕ)) (ts : List Try) → opened ps ++ (opened qs ++ ts) ≡ opened (ps ++ qs) ++ ts
+opened_twice ps qs ts = sym (append_assoc (opened ps) (opened qs) ts) ∙ ap (λ l. l ++ ts) (sym (opened_more ps qs))
 
 pub keeps_own : (a : Option (List ℕ)) → Keeps a a
 keeps_own None = tt
@@ -108,25 +118,52 @@ module _ (told : List ℕ → Option (List ℕ)) (input : Option (List ℕ)) (o 
   whole_front told' e before now has_failed has_stopped h =
       (h.0, h.1, record { one = one; two = two; texts = texts; compared = subst (λ t. IsCompared t one two o h.0 h.1) e h.2 }, h.3)
 
-  pub whole_beyond : (told' : List ℕ → Option (List ℕ)) → told' ≡ told → (choice : Choice) × IsOrderOf told' o.order choice × ((order : Order) → IsAllowed choice order → AreBeyond one two o.matching order o.limit) → IsBeyond told input o
-  whole_beyond told' e h = (one, two, h.0, texts, subst (λ t. IsOrderOf t o.order h.0) e h.1, h.2)
+  pub whole_beyond : (told' : List ℕ → Option (List ℕ)) → told' ≡ told → (given : Option (Option (List ℕ))) × (choice : Choice) × IsGivenOf told' o.given given × IsOrderOf told' o.order choice × ((order : Order) → IsAllowed choice order → AreBeyond one two given o.matching order o.limit) → IsBeyond told input o
+  whole_beyond told' e h = (one, two, h.0, h.1, texts, subst (λ t. IsGivenOf t o.given h.0) e h.2, subst (λ t. IsOrderOf t o.order h.1) e h.3, h.4)
 
   module _ (broken : List ℕ → Type 0) (input_broken first_failed second_failed : Type 0) (first : first_failed → HasFirstFailed broken input_broken o.texts) (second : second_failed → HasSecondFailed broken input_broken o.texts) where
+    -- the files behind those of the texts, with these before them
+    later_fault : (tries : List Try) (fault : ToolFault) → IsLaterFault told broken o tries fault → IsToolFault told broken input_broken input o (opened (text_paths o.texts) ++ tries) fault
+    later_fault tries OneFile (inl f) = absurd f
+    later_fault tries OneFile (inr f) = absurd f.2
+    later_fault tries DashTwice (inl f) = absurd f
+    later_fault tries DashTwice (inr f) = absurd f.2
+    later_fault tries InputUnread (inl f) = absurd f
+    later_fault tries InputUnread (inr f) = absurd f.2
+    later_fault tries InputTooLong (inl f) = absurd f
+    later_fault tries InputTooLong (inr f) = absurd f.2
+    later_fault tries InputUndivided (inl f) = absurd f
+    later_fault tries InputUndivided (inr f) = absurd f.2
+    later_fault tries (Check fault) (inl f) = absurd f
+    later_fault tries (Check fault) (inr f) = absurd f.2
+    later_fault tries (CannotOpen First obstacle) (inl f) = absurd f
+    later_fault tries (CannotOpen First obstacle) (inr f) = absurd f.2
+    later_fault tries (CannotOpen Second obstacle) (inl f) = absurd f
+    later_fault tries (CannotOpen Second obstacle) (inr f) = absurd f.2
+    later_fault tries (CannotOpen GivenFile obstacle) (inl f) =
+        (f.0, f.1, has_texts told input o.texts one two texts, ap (λ l. opened (text_paths o.texts) ++ l) f.2)
+    later_fault tries (CannotOpen GivenFile obstacle) (inr f) = absurd f.2
+    later_fault tries (CannotOpen OrderFile obstacle) (inl f) = absurd f
+    later_fault tries (CannotOpen OrderFile obstacle) (inr f) =
+        (f.2.0, f.2.1, has_texts told input o.texts one two texts, ap (λ l. opened (text_paths o.texts) ++ l) (f.1 ∙ ap (λ l. opened (given_paths o.given) ++ l) f.2.2) ∙ opened_twice (text_paths o.texts) (given_paths o.given) ((f.2.0.now, false) ∷ []))
+    later_fault tries (BadOrder fault) (inl f) = absurd f
+    later_fault tries (BadOrder fault) (inr f) =
+        (f.2.0, f.2.1, has_texts told input o.texts one two texts, ap (λ l. opened (text_paths o.texts) ++ l) (f.1 ∙ ap (λ l. opened (given_paths o.given) ++ l) f.2.2 ∙ sym (opened_more (given_paths o.given) (order_paths o.order))) ∙ sym (opened_more (text_paths o.texts) (later_paths o)), f.2.3)
+    later_fault tries OutOfMemory (inl f) = tried_more (text_paths o.texts) (later_paths o) tries (tried_first (given_paths o.given) (order_paths o.order) tries f)
+    later_fault tries OutOfMemory (inr f) =
+        tried_more (text_paths o.texts) (later_paths o) tries (subst (λ l. AreTried (later_paths o) l) (sym f.1) (tried_more (given_paths o.given) (order_paths o.order) f.0 f.2))
+
     whole_fault : (tries : List Try) (fault : ToolFault) → IsCompareFault told broken one two first_failed second_failed o tries fault → IsToolFault told broken input_broken input o (opened (text_paths o.texts) ++ tries) fault
     whole_fault tries OneFile f = absurd f
     whole_fault tries DashTwice f = absurd f
     whole_fault tries InputUnread f = absurd f
     whole_fault tries InputTooLong f = absurd f
     whole_fault tries InputUndivided f = absurd f
-    whole_fault tries OutOfMemory f = tried_more (text_paths o.texts) (order_paths o.order) tries f
-    whole_fault tries (CannotOpen First obstacle) f = absurd f
-    whole_fault tries (CannotOpen Second obstacle) f = absurd f
-    whole_fault tries (CannotOpen OrderFile obstacle) f =
-        (f.0, f.1, has_texts told input o.texts one two texts, ap (λ l. opened (text_paths o.texts) ++ l) f.2)
-    whole_fault tries (BadOrder fault) f =
-        (f.0, f.1, has_texts told input o.texts one two texts, ap (λ l. opened (text_paths o.texts) ++ l) f.2 ∙ sym (opened_more (text_paths o.texts) (order_paths o.order)), f.3)
+    whole_fault tries OutOfMemory f = later_fault tries OutOfMemory f
+    whole_fault tries (CannotOpen place obstacle) f = later_fault tries (CannotOpen place obstacle) f
+    whole_fault tries (BadOrder fault) f = later_fault tries (BadOrder fault) f
     whole_fault tries (Check fault) f =
-        (one, two, f.0, texts, f.1, ap (λ l. opened (text_paths o.texts) ++ l) f.2 ∙ sym (opened_more (text_paths o.texts) (order_paths o.order)), (f.3.0, f.3.1, check_fault one two first_failed second_failed (HasFirstFailed broken input_broken o.texts) (HasSecondFailed broken input_broken o.texts) o.matching f.3.0 first second fault f.3.2))
+        (one, two, f.0, f.1, texts, f.2, f.3, ap (λ l. opened (text_paths o.texts) ++ l) f.4 ∙ sym (opened_more (text_paths o.texts) (later_paths o)), (f.5.0, f.5.1, check_fault one two f.0 first_failed second_failed (HasGivenFailed broken o.given) (HasFirstFailed broken input_broken o.texts) (HasSecondFailed broken input_broken o.texts) (HasGivenFailed broken o.given) o.matching f.5.0 first second (λ x. x) fault f.5.2))
 
     pub whole_faults : (told' : List ℕ → Option (List ℕ)) → told' ≡ told → (a b c : Option (List Try)) → Extends a b (opened (text_paths o.texts)) → (r : Result Done ToolFault)
         → IfErr r (λ fault. (tries : List Try) × Extends b c tries × IsCompareFault told' broken one two first_failed second_failed o tries fault)
@@ -144,10 +181,10 @@ module _ (o : Options) (first second : Bor (List ℕ)) (files : o.texts ≡ File
   pub both_opened : (a b c : Option (List Try)) → Extends a b ((first.now, true) ∷ []) → Extends b c ((second.now, true) ∷ []) → Extends a c (opened (text_paths o.texts))
   both_opened a b c e f = subst (λ t. Extends a c (opened (text_paths t))) (sym files) (extends_more a b c ((first.now, true) ∷ []) ((second.now, true) ∷ []) e f)
 
-  pub all_opened : (a b c d : Option (List Try)) (r : Result Done ToolFault) → Extends a b ((first.now, true) ∷ []) → Extends b c ((second.now, true) ∷ []) → OnOk r (Extends c d (opened (order_paths o.order)))
+  pub all_opened : (a b c d : Option (List Try)) (r : Result Done ToolFault) → Extends a b ((first.now, true) ∷ []) → Extends b c ((second.now, true) ∷ []) → OnOk r (Extends c d (opened (later_paths o)))
       → OnOk r (Extends a d (opened (paths_of o)))
   all_opened a b c d (Ok done) e f h =
-      subst (λ l. Extends a d l) (sym (opened_more (text_paths o.texts) (order_paths o.order))) (extends_more a c d (opened (text_paths o.texts)) (opened (order_paths o.order)) (both_opened a b c e f) h)
+      subst (λ l. Extends a d l) (sym (opened_more (text_paths o.texts) (later_paths o))) (extends_more a c d (opened (text_paths o.texts)) (opened (later_paths o)) (both_opened a b c e f) h)
   all_opened a b c d (Err fault) e f h = tt
 
   pub second_unopened : (told : List ℕ → Option (List ℕ)) (broken : List ℕ → Type 0) (input_broken : Type 0) (input : Option (List ℕ)) (fault : ToolFault) (a b c : Option (List Try)) → IsOpenFault Second fault
@@ -161,7 +198,7 @@ module _ (o : Options) (first second : Bor (List ℕ)) (files : o.texts ≡ File
     (first.now, true) ∷ (second.now, false) ∷ [],
     extends_more a b c ((first.now, true) ∷ []) ((second.now, false) ∷ []) e f,
     subst (λ x. IsToolFault told broken input_broken input o ((first.now, true) ∷ (second.now, false) ∷ []) x) (sym is)
-        (subst (λ t. AreTried (text_paths t ++ order_paths o.order) ((first.now, true) ∷ (second.now, false) ∷ [])) (sym files) (refl, (refl, refl))),
+        (subst (λ t. AreTried (text_paths t ++ later_paths o) ((first.now, true) ∷ (second.now, false) ∷ [])) (sym files) (refl, (refl, refl))),
   )
 
 -- ---- a first file that is not opened
@@ -174,7 +211,7 @@ first_unopened o path named told broken input_broken input fault a b (inr is) e 
   (path, false) ∷ [],
   e,
   subst (λ x. IsToolFault told broken input_broken input o ((path, false) ∷ []) x) (sym is)
-      (subst (λ ps. AreTried ((ps ++ second_paths o.texts) ++ order_paths o.order) ((path, false) ∷ [])) (sym named) (refl, refl)),
+      (subst (λ ps. AreTried ((ps ++ second_paths o.texts) ++ later_paths o) ((path, false) ∷ [])) (sym named) (refl, refl)),
 )
 
 -- ---- one file beside the input
@@ -183,9 +220,9 @@ module _ (o : Options) (path : List ℕ) (named : text_paths o.texts ≡ path �
   pub one_opened : (a b : Option (List Try)) → Extends a b ((path, true) ∷ []) → Extends a b (opened (text_paths o.texts))
   one_opened a b e = subst (λ ps. Extends a b (opened ps)) (sym named) e
 
-  pub all_opened_beside : (a b c : Option (List Try)) (r : Result Done ToolFault) → Extends a b ((path, true) ∷ []) → OnOk r (Extends b c (opened (order_paths o.order))) → OnOk r (Extends a c (opened (paths_of o)))
+  pub all_opened_beside : (a b c : Option (List Try)) (r : Result Done ToolFault) → Extends a b ((path, true) ∷ []) → OnOk r (Extends b c (opened (later_paths o))) → OnOk r (Extends a c (opened (paths_of o)))
   all_opened_beside a b c (Ok done) e h =
-      subst (λ l. Extends a c l) (sym (opened_more (text_paths o.texts) (order_paths o.order))) (extends_more a b c (opened (text_paths o.texts)) (opened (order_paths o.order)) (one_opened a b e) h)
+      subst (λ l. Extends a c l) (sym (opened_more (text_paths o.texts) (later_paths o))) (extends_more a b c (opened (text_paths o.texts)) (opened (later_paths o)) (one_opened a b e) h)
   all_opened_beside a b c (Err fault) e h = tt
 
 pub second_unopened_beside : (o : Options) (second : Bor (List ℕ)) → o.texts ≡ InputAndFile second → (told : List ℕ → Option (List ℕ)) (broken : List ℕ → Type 0) (input_broken : Type 0) (input : Option (List ℕ)) (fault : ToolFault) (a b : Option (List Try))
@@ -199,5 +236,5 @@ second_unopened_beside o second beside told broken input_broken input fault a b 
   (second.now, false) ∷ [],
   e,
   subst (λ x. IsToolFault told broken input_broken input o ((second.now, false) ∷ []) x) (sym is)
-      (subst (λ t. AreTried (text_paths t ++ order_paths o.order) ((second.now, false) ∷ [])) (sym beside) (refl, refl)),
+      (subst (λ t. AreTried (text_paths t ++ later_paths o) ((second.now, false) ∷ [])) (sym beside) (refl, refl)),
 )

@@ -1,3 +1,4 @@
 pub mod Dividing
 pub mod Composing
 pub mod Failing
+pub mod Preparing

@@ -6,10 +6,10 @@ use Rattle.net_order.specs.declared.order.OrderFault.{OrderFault}
 use Rattle.net_order.specs.declared.order.OrderFault.TheVariants.{CountsDiffer, NotAPermutation, TooManyInputs, OutOfMemory as NoOrderMemory, BadName, TooLong as LongOrder, Read as OrderReadFailed}
 use Rattle.net_order.specs.Fault.{order_fault_text}
 use Rattle.check_report.specs.declared.fault.CheckFault.{CheckFault}
-use Rattle.check_report.specs.declared.fault.CheckFault.TheVariants.{First, Second, Order, Wave, Write, OutOfMemory as NoCheckMemory}
+use Rattle.check_report.specs.declared.fault.CheckFault.TheVariants.{First, Second, Given, GivenOutputs, Order, Wave, Write, OutOfMemory as NoCheckMemory}
 use Rattle.check_report.specs.Texts.{check_fault_text}
 use Rattle.bddcheck.specs.declared.fault.Place.{Place}
-use Rattle.bddcheck.specs.declared.fault.Place.TheVariants.{First as FirstFile, Second as SecondFile, Order as OrderFile}
+use Rattle.bddcheck.specs.declared.fault.Place.TheVariants.{First as FirstFile, Second as SecondFile, Given as GivenFile, Order as OrderFile}
 use Rattle.bddcheck.specs.declared.fault.ToolFault.{ToolFault}
 use Rattle.bddcheck.specs.declared.fault.ToolFault.TheVariants.{OneFile, InputTwice, CannotOpen, InputUnread, InputTooLong, InputUndivided, BadOrder, Check, OutOfMemory}
 
@@ -17,6 +17,7 @@ use Rattle.bddcheck.specs.declared.fault.ToolFault.TheVariants.{OneFile, InputTw
 abbrev pub place_text : Place → List ℕ
 place_text FirstFile = codes "first"
 place_text SecondFile = codes "second"
+place_text GivenFile = codes "given"
 place_text OrderFile = codes "order"
 
 -- the text of a fault, without the program's name before it
@@ -63,6 +64,8 @@ order_status OrderReadFailed = 2
 abbrev pub check_status : CheckFault → ℕ
 check_status (First fault) = text_status fault
 check_status (Second fault) = text_status fault
+check_status (Given fault) = text_status fault
+check_status GivenOutputs = 2
 check_status (Order fault) = order_status fault
 check_status (Wave fault) = 3
 check_status Write = 3

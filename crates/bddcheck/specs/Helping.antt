@@ -1,5 +1,6 @@
 -- What is said behind a fault's line where more is asked for: where the fault stands, and what helps.
 use Rattle.std.specs.Prelude.{ℕ, List, ◌++◌, Option, Some, None, codes, decimal}
+use Rattle.std.specs.Borrow.{Bor}
 use Rattle.net_bench.specs.declared.netlist.BenchFault.{BenchFault}
 use Rattle.net_bench.specs.declared.netlist.BenchFault.TheVariants.{TooLong as LongText, BadByte, BadStatement, UnknownGate, WrongOperands, Redefined, TooMany, Undefined, Cycle, Read as ReadFailed, OutOfMemory as NoTextMemory}
 use Rattle.net_order.specs.declared.order.OrderFault.{OrderFault}
@@ -7,13 +8,13 @@ use Rattle.net_order.specs.declared.order.OrderFault.TheVariants.{CountsDiffer, 
 use Rattle.expand_work.specs.declared.fault.WaveFault.{WaveFault}
 use Rattle.expand_work.specs.declared.fault.WaveFault.TheVariants.{OutOfMemory as NoWaveMemory, NoWorker, Full, TooManyRequests}
 use Rattle.check_report.specs.declared.fault.CheckFault.{CheckFault}
-use Rattle.check_report.specs.declared.fault.CheckFault.TheVariants.{First, Second, Order, Wave, Write, OutOfMemory as NoCheckMemory}
+use Rattle.check_report.specs.declared.fault.CheckFault.TheVariants.{First, Second, Given, GivenOutputs, Order, Wave, Write, OutOfMemory as NoCheckMemory}
 use Rattle.command_line.specs.declared.options.Options.{Options}
 use Rattle.command_line.specs.declared.options.OrderChoice.{OrderChoice}
 use Rattle.command_line.specs.declared.options.OrderChoice.TheVariants.{Declared, Depth, Interleave, Best, File}
 use Rattle.command_line.specs.declared.options.Texts.{Texts}
 use Rattle.command_line.specs.declared.options.Texts.TheVariants.{Input, Files, InputAndFile, FileAndInput, InputTwice, One}
-use Rattle.bddcheck.specs.declared.fault.Place.TheVariants.{First as FirstFile, Second as SecondFile, Order as OrderFile}
+use Rattle.bddcheck.specs.declared.fault.Place.TheVariants.{First as FirstFile, Second as SecondFile, Given as GivenFile, Order as OrderFile}
 use Rattle.bddcheck.specs.declared.fault.ToolFault.{ToolFault}
 use Rattle.bddcheck.specs.declared.fault.ToolFault.TheVariants.{OneFile, InputTwice as DashTwice, CannotOpen, InputUnread, InputTooLong, InputUndivided, BadOrder, Check, OutOfMemory}
 use Rattle.bddcheck.specs.declared.folder.Obstacle.{Obstacle}
@@ -85,24 +86,32 @@ order_spot Depth fault = None
 order_spot Interleave fault = None
 order_spot Best fault = None
 
+-- where the condition is at fault: in the line of a refused text, or as a whole
+abbrev pub given_spot : Option (Bor (List ℕ)) → BenchFault → Where
+given_spot None fault = None
+given_spot (Some path) fault = text_spot path.now fault
+
 -- the place of a fault that stands in a file, or in a text of standard input
-abbrev pub fault_spot : Texts → OrderChoice → ToolFault → Where
-fault_spot texts choice (CannotOpen FirstFile obstacle) = in_text (first_name texts)
-fault_spot texts choice (CannotOpen SecondFile obstacle) = in_text (second_name texts)
-fault_spot texts choice (CannotOpen OrderFile obstacle) = order_spot choice OrderReadFailed
-fault_spot texts choice (BadOrder fault) = order_spot choice fault
-fault_spot texts choice (Check (First fault)) = text_spot (first_name texts) fault
-fault_spot texts choice (Check (Second fault)) = text_spot (second_name texts) fault
-fault_spot texts choice (Check (Order fault)) = order_spot choice fault
-fault_spot texts choice (Check (Wave fault)) = None
-fault_spot texts choice (Check Write) = None
-fault_spot texts choice (Check NoCheckMemory) = None
-fault_spot texts choice OneFile = None
-fault_spot texts choice DashTwice = None
-fault_spot texts choice InputUnread = None
-fault_spot texts choice InputTooLong = None
-fault_spot texts choice InputUndivided = None
-fault_spot texts choice OutOfMemory = None
+abbrev pub fault_spot : Texts → Option (Bor (List ℕ)) → OrderChoice → ToolFault → Where
+fault_spot texts given choice (CannotOpen FirstFile obstacle) = in_text (first_name texts)
+fault_spot texts given choice (CannotOpen SecondFile obstacle) = in_text (second_name texts)
+fault_spot texts given choice (CannotOpen GivenFile obstacle) = given_spot given ReadFailed
+fault_spot texts given choice (CannotOpen OrderFile obstacle) = order_spot choice OrderReadFailed
+fault_spot texts given choice (BadOrder fault) = order_spot choice fault
+fault_spot texts given choice (Check (First fault)) = text_spot (first_name texts) fault
+fault_spot texts given choice (Check (Second fault)) = text_spot (second_name texts) fault
+fault_spot texts given choice (Check (Given fault)) = given_spot given fault
+fault_spot texts given choice (Check GivenOutputs) = given_spot given ReadFailed
+fault_spot texts given choice (Check (Order fault)) = order_spot choice fault
+fault_spot texts given choice (Check (Wave fault)) = None
+fault_spot texts given choice (Check Write) = None
+fault_spot texts given choice (Check NoCheckMemory) = None
+fault_spot texts given choice OneFile = None
+fault_spot texts given choice DashTwice = None
+fault_spot texts given choice InputUnread = None
+fault_spot texts given choice InputTooLong = None
+fault_spot texts given choice InputUndivided = None
+fault_spot texts given choice OutOfMemory = None
 
 -- what helps where a text is refused
 abbrev pub text_help : BenchFault → List ℕ
@@ -155,6 +164,8 @@ opening_help Other = codes "the system refused it"
 abbrev pub check_help : OrderChoice → CheckFault → List ℕ
 check_help choice (First fault) = text_help fault
 check_help choice (Second fault) = text_help fault
+check_help choice (Given fault) = text_help fault
+check_help choice GivenOutputs = codes "a condition is a netlist of one output"
 check_help choice (Order fault) = order_help fault
 check_help choice (Wave fault) = wave_help choice fault
 check_help choice Write = codes "standard output is full, or closed"
@@ -180,4 +191,4 @@ help_line (Some (name, Some line)) help = codes "bddcheck: " ++ (name ++ (codes 
 
 -- the line that is said behind a fault's own
 abbrev pub help_text : Options → ToolFault → List ℕ
-help_text o fault = help_line (fault_spot o.texts o.order fault) (fault_help o.order fault)
+help_text o fault = help_line (fault_spot o.texts o.given o.order fault) (fault_help o.order fault)

@@ -23,7 +23,7 @@ use Rattle.command_line.specs.declared.options.Texts.TheVariants.{Input, Files, 
 use Rattle.bddcheck.specs.declared.done.Done.{Done}
 use Rattle.bddcheck.specs.declared.done.Done.TheVariants.{Compared, OrderPrinted}
 use Rattle.bddcheck.specs.declared.fault.Place.{Place}
-use Rattle.bddcheck.specs.declared.fault.Place.TheVariants.{First, Second, Order as OrderFile}
+use Rattle.bddcheck.specs.declared.fault.Place.TheVariants.{First, Second, Given as GivenFile, Order as OrderFile}
 use Rattle.bddcheck.specs.declared.fault.ToolFault.{ToolFault}
 use Rattle.bddcheck.specs.declared.fault.ToolFault.TheVariants.{OneFile, InputTwice as DashTwice, CannotOpen, InputUnread, InputTooLong, InputUndivided, BadOrder, Check, OutOfMemory}
 use Rattle.bddcheck.specs.declared.folder.Obstacle.{Obstacle}
@@ -73,9 +73,18 @@ order_paths Depth = []
 order_paths Interleave = []
 order_paths Best = []
 
+-- the file that is opened for the condition
+abbrev pub given_paths : Option (Bor (List ℕ)) → List (List ℕ)
+given_paths None = []
+given_paths (Some path) = path.now ∷ []
+
+-- the files that are opened behind those of the texts, in this order
+abbrev pub later_paths : Options → List (List ℕ)
+later_paths o = given_paths o.given ++ order_paths o.order
+
 -- all files that are opened, in this order
 abbrev pub paths_of : Options → List (List ℕ)
-paths_of o = text_paths o.texts ++ order_paths o.order
+paths_of o = text_paths o.texts ++ later_paths o
 
 -- what was told of a file is what is read of it
 abbrev pub IsReadOf : Option (List ℕ) → Option (List ℕ) → Type 0
@@ -94,6 +103,16 @@ AreTexts told input (FileAndInput first) one two = IsReadOf (told first.now) one
 AreTexts told input InputTwice one two = ⊥
 AreTexts told input One one two = ⊥
 
+-- what the device of the condition tells: its file, where there is one
+abbrev pub IsGivenOf : (List ℕ → Option (List ℕ)) → Option (Bor (List ℕ)) → Option (Option (List ℕ)) → Type 0
+IsGivenOf told None given = given ≡ None
+IsGivenOf told (Some path) given = (read : Option (List ℕ)) × (given ≡ Some read) × IsReadOf (told path.now) read
+
+-- the device of the condition tells where it was opened, where it tells that
+abbrev pub IsGivenFrom : Option (Bor (List ℕ)) → Option (Option (List ℕ)) → Type 0
+IsGivenFrom None origin = origin ≡ None
+IsGivenFrom (Some path) origin = (from : Option (List ℕ)) × (origin ≡ Some from) × IfSome from (λ p. p ≡ path.now)
+
 -- the order that is asked for, or the best; a file of names has been read
 abbrev pub IsOrderOf : (List ℕ → Option (List ℕ)) → OrderChoice → Choice → Type 0
 IsOrderOf told Declared choice = choice ≡ Ordered declared
@@ -102,19 +121,21 @@ IsOrderOf told Interleave choice = choice ≡ Ordered interleave
 IsOrderOf told Best choice = choice ≡ TheBest
 IsOrderOf told (File path) choice = (names : List (List ℕ)) × (choice ≡ Ordered (Listed names)) × IfSome (told path.now) (λ text. IsOrderText text names)
 
--- The bytes are what the options ask for of these two texts in an order of this choice: the report in the form that they ask for, with its counts, or the order
+-- The bytes are what the options ask for of these two texts, and the condition's, in an order of this choice: the report in the form that they ask for, with its counts, or the order
 -- itself. The nodes that are needed in this order are within the limit of the options.
-abbrev pub IsMade : (one two : Option (List ℕ)) → Options → Choice → Done → (bytes : List ℕ) → Type 0
-IsMade one two o choice (Compared outcome tried) bytes =
-    (o.print_order ≡ false) × (order : Order) × IsChecked o.json one two o.matching order o.sizes outcome bytes × IsChosen one two o.matching choice o.limit tried order
-IsMade one two o choice (OrderPrinted tried) bytes =
-    (o.print_order ≡ true) × (order : Order) × IsOrderPrinted one two o.matching order bytes × IsFound one two o.matching choice o.limit tried order
+abbrev pub IsMade : (one two : Option (List ℕ)) → (given : Option (Option (List ℕ))) → Options → Choice → Done → (bytes : List ℕ) → Type 0
+IsMade one two given o choice (Compared outcome tried) bytes =
+    (o.print_order ≡ false) × (order : Order) × IsChecked o.json one two given o.matching order o.sizes outcome bytes × IsChosen one two given o.matching choice o.limit tried order
+IsMade one two given o choice (OrderPrinted tried) bytes =
+    (o.print_order ≡ true) × (order : Order) × IsOrderPrinted one two given o.matching order bytes × IsFound one two given o.matching choice o.limit tried order
 
 -- the bytes are what the options ask for of these two texts
 pub record IsCompared (told : List ℕ → Option (List ℕ)) (one two : Option (List ℕ)) (o : Options) (done : Done) (bytes : List ℕ) : Type 0 where
+  pub given : Option (Option (List ℕ))
   pub choice : Choice
+  pub conditioned : IsGivenOf told o.given given
   pub ordered : IsOrderOf told o.order choice
-  pub made : IsMade one two o choice done bytes
+  pub made : IsMade one two given o choice done bytes
 
 -- The bytes are what the options ask for of the texts that they name.
 pub record IsReported (told : List ℕ → Option (List ℕ)) (input : Option (List ℕ)) (o : Options) (done : Done) (bytes : List ℕ) : Type 0 where
@@ -132,18 +153,19 @@ abbrev pub HasReportedFront : (List ℕ → Option (List ℕ)) → Option (List 
 HasReportedFront told input o before now has_failed has_stopped =
     (done : Done) × (bytes : List ℕ) × IsReported told input o done bytes × AppendsFront before now has_failed has_stopped bytes
 
--- this holds of the texts and the order that the options name
-abbrev pub AreNamed : (List ℕ → Option (List ℕ)) → Option (List ℕ) → Options → (Option (List ℕ) → Option (List ℕ) → Choice → Type 0) → Type 0
-AreNamed told input o P = (one two : Option (List ℕ)) × (choice : Choice) × AreTexts told input o.texts one two × IsOrderOf told o.order choice × P one two choice
+-- this holds of the texts, the condition and the order that the options name
+abbrev pub AreNamed : (List ℕ → Option (List ℕ)) → Option (List ℕ) → Options → (Option (List ℕ) → Option (List ℕ) → Option (Option (List ℕ)) → Choice → Type 0) → Type 0
+AreNamed told input o P =
+    (one two : Option (List ℕ)) × (given : Option (Option (List ℕ))) × (choice : Choice) × AreTexts told input o.texts one two × IsGivenOf told o.given given × IsOrderOf told o.order choice × P one two given choice
 
--- the nodes that the two texts need are not within the limit of the options, in any order that is asked for
+-- the nodes that the texts need are not within the limit of the options, in any order that is asked for
 abbrev pub IsBeyond : (List ℕ → Option (List ℕ)) → Option (List ℕ) → Options → Type 0
-IsBeyond told input o = AreNamed told input o (λ one two choice. (order : Order) → IsAllowed choice order → AreBeyond one two o.matching order o.limit)
+IsBeyond told input o = AreNamed told input o (λ one two given choice. (order : Order) → IsAllowed choice order → AreBeyond one two given o.matching order o.limit)
 
 -- why the check of two texts failed, in an order of this choice
-abbrev pub IsFailedCheck : (one two : Option (List ℕ)) → (first_failed second_failed : Type 0) → Options → Choice → CheckFault → Type 0
-IsFailedCheck one two first_failed second_failed o choice fault =
-    (order : Order) × IsAllowed choice order × IsCheckFault one two first_failed second_failed o.matching order fault
+abbrev pub IsFailedCheck : (one two : Option (List ℕ)) → (given : Option (Option (List ℕ))) → (first_failed second_failed given_failed : Type 0) → Options → Choice → CheckFault → Type 0
+IsFailedCheck one two given first_failed second_failed given_failed o choice fault =
+    (order : Order) × IsAllowed choice order × IsCheckFault one two given first_failed second_failed given_failed o.matching order fault
 
 -- both texts are at hand
 abbrev pub HasTexts : Option (List ℕ) → Texts → Type 0
@@ -168,6 +190,7 @@ IsOrderFault told broken choice tries (BadOrder fault) =
 IsOrderFault told broken choice tries OutOfMemory = AreTried (order_paths choice) tries
 IsOrderFault told broken choice tries (CannotOpen First obstacle) = ⊥
 IsOrderFault told broken choice tries (CannotOpen Second obstacle) = ⊥
+IsOrderFault told broken choice tries (CannotOpen GivenFile obstacle) = ⊥
 IsOrderFault told broken choice tries OneFile = ⊥
 IsOrderFault told broken choice tries DashTwice = ⊥
 IsOrderFault told broken choice tries InputUnread = ⊥
@@ -175,13 +198,42 @@ IsOrderFault told broken choice tries InputTooLong = ⊥
 IsOrderFault told broken choice tries InputUndivided = ⊥
 IsOrderFault told broken choice tries (Check fault) = ⊥
 
--- Why two texts have no report: for their order, or by the check. The devices of both texts may have failed.
+-- Why the condition's file was not opened, and whether it was tried.
+abbrev pub IsGivenFault : Option (Bor (List ℕ)) → List Try → ToolFault → Type 0
+IsGivenFault given tries (CannotOpen GivenFile obstacle) = (path : Bor (List ℕ)) × (given ≡ Some path) × (tries ≡ (path.now, false) ∷ [])
+IsGivenFault given tries OutOfMemory = AreTried (given_paths given) tries
+IsGivenFault given tries (CannotOpen First obstacle) = ⊥
+IsGivenFault given tries (CannotOpen Second obstacle) = ⊥
+IsGivenFault given tries (CannotOpen OrderFile obstacle) = ⊥
+IsGivenFault given tries (BadOrder fault) = ⊥
+IsGivenFault given tries OneFile = ⊥
+IsGivenFault given tries DashTwice = ⊥
+IsGivenFault given tries InputUnread = ⊥
+IsGivenFault given tries InputTooLong = ⊥
+IsGivenFault given tries InputUndivided = ⊥
+IsGivenFault given tries (Check fault) = ⊥
+
+-- why the order that is asked for was not had, where the condition's file was opened before
+abbrev pub IsOrderFaultBehind : (List ℕ → Option (List ℕ)) → (broken : List ℕ → Type 0) → Options → List Try → ToolFault → Type 0
+IsOrderFaultBehind told broken o tries fault = (ts : List Try) × (tries ≡ opened (given_paths o.given) ++ ts) × IsOrderFault told broken o.order ts fault
+
+-- Why the files behind those of the texts were not had.
+abbrev pub IsLaterFault : (List ℕ → Option (List ℕ)) → (broken : List ℕ → Type 0) → Options → List Try → ToolFault → Type 0
+IsLaterFault told broken o tries fault = IsGivenFault o.given tries fault ⊎ IsOrderFaultBehind told broken o tries fault
+
+-- the device of the condition has failed: its file
+abbrev pub HasGivenFailed : (broken : List ℕ → Type 0) → Option (Bor (List ℕ)) → Type 0
+HasGivenFailed broken None = ⊥
+HasGivenFailed broken (Some path) = broken path.now
+
+-- Why two texts have no report: for their condition or order, or by the check. The devices of the texts may have failed.
 abbrev pub IsCompareFault : (List ℕ → Option (List ℕ)) → (broken : List ℕ → Type 0) → (one two : Option (List ℕ)) → (first_failed second_failed : Type 0) → Options → List Try → ToolFault → Type 0
 IsCompareFault told broken one two first_failed second_failed o tries (Check fault) =
-    (choice : Choice) × IsOrderOf told o.order choice × (tries ≡ opened (order_paths o.order)) × IsFailedCheck one two first_failed second_failed o choice fault
-IsCompareFault told broken one two first_failed second_failed o tries (CannotOpen place obstacle) = IsOrderFault told broken o.order tries (CannotOpen place obstacle)
-IsCompareFault told broken one two first_failed second_failed o tries (BadOrder fault) = IsOrderFault told broken o.order tries (BadOrder fault)
-IsCompareFault told broken one two first_failed second_failed o tries OutOfMemory = IsOrderFault told broken o.order tries OutOfMemory
+    (given : Option (Option (List ℕ))) × (choice : Choice) × IsGivenOf told o.given given × IsOrderOf told o.order choice × (tries ≡ opened (later_paths o))
+    × IsFailedCheck one two given first_failed second_failed (HasGivenFailed broken o.given) o choice fault
+IsCompareFault told broken one two first_failed second_failed o tries (CannotOpen place obstacle) = IsLaterFault told broken o tries (CannotOpen place obstacle)
+IsCompareFault told broken one two first_failed second_failed o tries (BadOrder fault) = IsLaterFault told broken o tries (BadOrder fault)
+IsCompareFault told broken one two first_failed second_failed o tries OutOfMemory = IsLaterFault told broken o tries OutOfMemory
 IsCompareFault told broken one two first_failed second_failed o tries OneFile = ⊥
 IsCompareFault told broken one two first_failed second_failed o tries DashTwice = ⊥
 IsCompareFault told broken one two first_failed second_failed o tries InputUnread = ⊥
@@ -204,8 +256,10 @@ IsInputFault input InputUndivided = ⊥
 abbrev pub IsUnopened : Option (List ℕ) → Options → List Try → Place → Type 0
 IsUnopened input o tries First = (path : List ℕ) × (first_paths o.texts ≡ path ∷ []) × (tries ≡ (path, false) ∷ [])
 IsUnopened input o tries Second = (path : List ℕ) × (second_paths o.texts ≡ path ∷ []) × (tries ≡ opened (first_paths o.texts) ++ (path, false) ∷ [])
+IsUnopened input o tries GivenFile =
+    (path : Bor (List ℕ)) × (o.given ≡ Some path) × HasTexts input o.texts × (tries ≡ opened (text_paths o.texts) ++ (path.now, false) ∷ [])
 IsUnopened input o tries OrderFile =
-    (path : Bor (List ℕ)) × (o.order ≡ File path) × HasTexts input o.texts × (tries ≡ opened (text_paths o.texts) ++ (path.now, false) ∷ [])
+    (path : Bor (List ℕ)) × (o.order ≡ File path) × HasTexts input o.texts × (tries ≡ opened (text_paths o.texts ++ given_paths o.given) ++ (path.now, false) ∷ [])
 
 -- the device of the first text has failed: its file, or the input where it is the whole text; the parts of a divided input are read
 -- from memory, which cannot fail
@@ -238,6 +292,6 @@ IsToolFault told broken input_broken input o tries InputUndivided = (o.texts ≡
 IsToolFault told broken input_broken input o tries (BadOrder fault) =
     (path : Bor (List ℕ)) × (o.order ≡ File path) × HasTexts input o.texts × (tries ≡ opened (paths_of o)) × IsOrderRefused (told path.now) (broken path.now) fault
 IsToolFault told broken input_broken input o tries (Check fault) =
-    (one two : Option (List ℕ)) × (choice : Choice) × AreTexts told input o.texts one two × IsOrderOf told o.order choice
-    × (tries ≡ opened (paths_of o)) × IsFailedCheck one two (HasFirstFailed broken input_broken o.texts) (HasSecondFailed broken input_broken o.texts) o choice fault
+    (one two : Option (List ℕ)) × (given : Option (Option (List ℕ))) × (choice : Choice) × AreTexts told input o.texts one two × IsGivenOf told o.given given × IsOrderOf told o.order choice
+    × (tries ≡ opened (paths_of o)) × IsFailedCheck one two given (HasFirstFailed broken input_broken o.texts) (HasSecondFailed broken input_broken o.texts) (HasGivenFailed broken o.given) o choice fault
 IsToolFault told broken input_broken input o tries OutOfMemory = AreTried (paths_of o) tries

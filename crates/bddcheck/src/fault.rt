@@ -15,6 +15,7 @@ use thiserror::Error;
 pub enum Place {
     First,
     Second,
+    Given,
     Order,
 }
 
@@ -25,6 +26,7 @@ impl fmt::Display for Place {
         match self {
             Place::First => write!(f, "first"),
             Place::Second => write!(f, "second"),
+            Place::Given => write!(f, "given"),
             Place::Order => write!(f, "order"),
         }
     }
@@ -101,7 +103,10 @@ fn status_of_check(fault: CheckFault) -> u8
     ensures bound { result ≤ 3 }
 {
     match fault {
-        CheckFault::First(fault) | CheckFault::Second(fault) => status_of_text(fault),
+        CheckFault::First(fault) | CheckFault::Second(fault) | CheckFault::Given(fault) => {
+            status_of_text(fault)
+        }
+        CheckFault::GivenOutputs => 2,
         CheckFault::Order(fault) => status_of_order(fault),
         CheckFault::Wave(_) | CheckFault::Write | CheckFault::OutOfMemory => 3,
     }

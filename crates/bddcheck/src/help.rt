@@ -1,6 +1,6 @@
 //! What helps against a fault, and where it stands: the line behind a fault's own.
 ghost use Rattle.std.specs.Prelude.{◌≡◌, IfOk, string_bytes};
-ghost use Rattle.bddcheck.specs.Helping.{first_name, second_name, in_text, on_line, where_of, text_spot, order_spot, fault_spot, text_help, order_help, wave_help, opening_help, fewer_nodes, check_help, fault_help, help_line, help_text};
+ghost use Rattle.bddcheck.specs.Helping.{first_name, second_name, in_text, on_line, where_of, text_spot, order_spot, given_spot, fault_spot, text_help, order_help, wave_help, opening_help, fewer_nodes, check_help, fault_help, help_line, help_text};
 
 use crate::fault::{Place, ToolFault};
 use crate::folder::Obstacle;
@@ -74,13 +74,24 @@ fn spot_in_order<'a>(choice: OrderChoice<'a>, fault: OrderFault) -> Spot<'a>
     }
 }
 
+/// Where the condition is at fault.
+fn spot_in_given<'a>(path: Option<&'a str>, fault: BenchFault) -> Spot<'a>
+    ensures { where_of result ≡ given_spot path.entry fault }
+{
+    match path {
+        Some(path) => spot_in_text(path, fault),
+        None => Spot::Nowhere,
+    }
+}
+
 /// Where a fault stands.
 fn spot_of<'a>(options: &Options<'a>, fault: ToolFault) -> Spot<'a>
-    ensures { where_of result ≡ fault_spot options.now.texts options.now.order fault }
+    ensures { where_of result ≡ fault_spot options.now.texts options.now.given options.now.order fault }
 {
     match fault {
         ToolFault::CannotOpen(Place::First, _) => Spot::Text(name_of_first(options.texts)),
         ToolFault::CannotOpen(Place::Second, _) => Spot::Text(name_of_second(options.texts)),
+        ToolFault::CannotOpen(Place::Given, _) => spot_in_given(options.given, BenchFault::Read),
         ToolFault::CannotOpen(Place::Order, _) => spot_in_order(options.order, OrderFault::Read),
         ToolFault::BadOrder(fault) => spot_in_order(options.order, fault),
         ToolFault::Check(CheckFault::First(fault)) => {
@@ -88,6 +99,10 @@ fn spot_of<'a>(options: &Options<'a>, fault: ToolFault) -> Spot<'a>
         }
         ToolFault::Check(CheckFault::Second(fault)) => {
             spot_in_text(name_of_second(options.texts), fault)
+        }
+        ToolFault::Check(CheckFault::Given(fault)) => spot_in_given(options.given, fault),
+        ToolFault::Check(CheckFault::GivenOutputs) => {
+            spot_in_given(options.given, BenchFault::Read)
         }
         ToolFault::Check(CheckFault::Order(fault)) => spot_in_order(options.order, fault),
         _ => Spot::Nowhere,
@@ -172,7 +187,10 @@ fn help_in_check(choice: OrderChoice<'_>, fault: CheckFault) -> &'static str
     ensures { result.now ≡ check_help choice.entry fault }
 {
     match fault {
-        CheckFault::First(fault) | CheckFault::Second(fault) => help_in_text(fault),
+        CheckFault::First(fault) | CheckFault::Second(fault) | CheckFault::Given(fault) => {
+            help_in_text(fault)
+        }
+        CheckFault::GivenOutputs => "a condition is a netlist of one output",
         CheckFault::Order(fault) => help_in_order(fault),
         CheckFault::Wave(fault) => help_in_building(choice, fault),
         CheckFault::Write => "standard output is full, or closed",

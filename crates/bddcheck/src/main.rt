@@ -6,6 +6,7 @@ mod fault;
 mod folder;
 mod help;
 mod process;
+mod progress;
 mod run;
 mod split;
 #[cfg(test)]

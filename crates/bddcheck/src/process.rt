@@ -9,7 +9,7 @@ use crate::tool::{refuse, run_tool, say};
 use net_bench::device::{Sink, Source};
 use std::alloc::Global;
 use std::io;
-use std::rt::Env;
+use std::rt::{Clock, Env};
 use std::sync::Wait;
 use std::thread::Threads;
 
@@ -60,7 +60,13 @@ fn wordless<E: Sink>(alloc: Global, why: NoWords, errors: &mut E) -> u8
 }
 
 /// The status of a run over the arguments and the devices of a process.
-pub fn status_of<H: AllocGlobal + Threads + Wait + Sync, F: Folder, R: Source, W: Sink, E: Sink>(
+pub fn status_of<
+    H: AllocGlobal + Eprint + Clock + Threads + Wait + Sync,
+    F: Folder,
+    R: Source,
+    W: Sink,
+    E: Sink,
+>(
     rt: &H,
     arguments: Result<Vec<String>, NoWords>,
     folder: &mut F,

@@ -7,5 +7,6 @@ mod netlists;
 mod objects;
 mod orders;
 mod processes;
+mod progress;
 mod refusals;
 mod reports;

@@ -13,6 +13,7 @@ use check_report::{Attempt, Outcome, write_whole};
 use command_line::{Options, Refused, read_options};
 use net_bench::device::{Sink, Source};
 use std::alloc::{AllocError, Global};
+use std::rt::Clock;
 use std::sync::Wait;
 use std::thread::Threads;
 
@@ -148,7 +149,7 @@ fn status_of_done(done: Done) -> u8
 
 /// Runs the program on its words, and answers its status.
 #[tactic(auto, using(crate::proofs::Composing::keeps_own, crate::proofs::Composing::extends_none))]
-pub fn run_tool<H: Threads + Wait + Sync, F: Folder, R: Source, W: Sink, E: Sink>(
+pub fn run_tool<H: Eprint + Clock + Threads + Wait + Sync, F: Folder, R: Source, W: Sink, E: Sink>(
     rt: &H,
     alloc: Global,
     words: &[String],

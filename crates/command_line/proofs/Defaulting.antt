@@ -1,5 +1,5 @@
 -- What clap finds where there are no words.
-use Rattle.std.proofs.Common.{Bool, true, false, ◌≡◌, ◌∙◌, refl, ap, subst, ℕ, [], Option, Some, None, rules}
+use Rattle.std.proofs.Common.{Bool, true, false, ◌≡◌, ◌∙◌, refl, ap, subst, ℕ, List, [], Bor, Option, Some, None, rules}
 use Rattle.std.specs.Prelude.{codes}
 use Rattle.clap.specs.Words.{first_of, one_of, matches_of}
 use Rattle.clap.specs.declared.builder.value_parser.ValueParser.{ValueParser}
@@ -9,7 +9,7 @@ use Rattle.net_order.specs.declared.order.Match.TheVariants.{Name, Position}
 use Rattle.command_line.specs.declared.options.Options.{Options}
 use Rattle.command_line.specs.declared.options.OrderChoice.{OrderChoice}
 use Rattle.command_line.specs.declared.options.OrderChoice.TheVariants.{Declared, Depth, Interleave, Best, File}
-use Rattle.command_line.specs.Words.{tool_app, AreTexts, AskFor, IsChoice, IsFlag, IsForm, IsMatching, IsNumberIn}
+use Rattle.command_line.specs.Words.{tool_app, AreTexts, AskFor, IsChoice, IsFile, IsFlag, IsForm, IsMatching, IsNumberIn}
 use Rattle.command_line.specs.Defaults.{AreDefaults}
 
 module _ (matching order format : Option ValueParser) where
@@ -24,6 +24,10 @@ module _ (matching order format : Option ValueParser) where
   file_found : first_of (codes "order-file") (matches_of (tool_app matching order format) []) ≡ None
   unfolding clap_on_literals
   file_found = refl
+
+  given_found : first_of (codes "given") (matches_of (tool_app matching order format) []) ≡ None
+  unfolding clap_on_literals
+  given_found = refl
 
   workers_found : one_of (codes "workers") (matches_of (tool_app matching order format) []) ≡ Some (codes "4")
   unfolding clap_on_literals
@@ -68,6 +72,10 @@ as_declared Interleave is = cc
 as_declared Best is = cc
 as_declared (File path) is = absurd is
 
+no_file : (path : Option (Bor (List ℕ))) → IsFile None path → path ≡ None
+no_file None is = refl
+no_file (Some path) is = cc
+
 as_text : (json : Bool) → IsForm (Some (codes "text")) json → json ≡ false
 as_text false is = refl
 as_text true is = cc
@@ -88,6 +96,7 @@ defaults o (rows, found, one, are) =
       matching = by_name o.matching (subst (λ w. IsMatching w o.matching) (ap (first_of (codes "match")) e ∙ matching_found m d f) are.matching);
       order = as_declared o.order (subst (λ w. IsChoice w (Some (codes "declared")) o.order) (ap (first_of (codes "order-file")) e ∙ file_found m d f)
           (subst (λ w. IsChoice (first_of (codes "order-file") rows) w o.order) (ap (first_of (codes "order")) e ∙ order_found m d f) are.order));
+      given = no_file o.given (subst (λ w. IsFile w o.given) (ap (first_of (codes "given")) e ∙ given_found m d f) are.given);
       workers = four o.workers (subst (λ w. IsNumberIn 1 16 w o.workers) (ap (one_of (codes "workers")) e ∙ workers_found m d f) are.workers);
       limit = most o.limit (subst (λ w. IsNumberIn 1 4294967295 w o.limit) (ap (one_of (codes "limit")) e ∙ limit_found m d f) are.limit);
       sizes = (subst (λ w. IsFlag w o.sizes) (ap (one_of (codes "sizes")) e ∙ sizes_found m d f) are.sizes).1 refl;

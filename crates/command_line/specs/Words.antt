@@ -1,5 +1,5 @@
 -- What the words of the command line ask for, by clap's matches of the command's arguments.
-use Rattle.std.specs.Prelude.{◌≡◌, ◌≢◌, ◌⊎◌, ℕ, pos, Bool, true, false, List, [], ◌∷◌, map, codes, Option, Some, None, IfSome, ⊤, find, option_and_then, string_bytes}
+use Rattle.std.specs.Prelude.{◌≡◌, ◌≢◌, ◌⊎◌, ℕ, pos, Bool, true, false, List, [], ◌∷◌, map, codes, Option, Some, None, IfSome, ⊤, find, option_and_then, option_map, string_bytes}
 use Rattle.std.specs.Borrow.{Bor}
 use Rattle.std.specs.Str.{bytes_eq}
 use Rattle.std.specs.Str.Parse.{digits_value, without_leading_plus}
@@ -38,6 +38,9 @@ order_rule parser = value_rule (codes "order") (codes "declared" ∷ []) parser
 
 abbrev pub order_file_rule : Rule
 order_file_rule = value_rule (codes "order-file") [] None
+
+abbrev pub given_rule : Rule
+given_rule = value_rule (codes "given") [] None
 
 -- 1 to 16 threads
 abbrev pub workers_rule : Rule
@@ -79,7 +82,7 @@ TakesFormats = TakesOnly (codes "text" ∷ codes "json" ∷ [])
 -- The command with its arguments. The parsers of three lists of words are named apart.
 abbrev pub tool_app : (matching order format : Option ValueParser) → App
 tool_app matching order format =
-    with_rule (with_rule (with_rule (with_rule (with_rule (with_rule (with_rule (with_rule (with_rule (with_rule (with_rule bare_app (match_rule matching)) (order_rule order)) order_file_rule) workers_rule) limit_rule) sizes_rule) print_order_rule) (format_rule format)) verbose_rule) (new_rule (codes "FIRST"))) (new_rule (codes "SECOND"))
+    with_rule (with_rule (with_rule (with_rule (with_rule (with_rule (with_rule (with_rule (with_rule (with_rule (with_rule (with_rule bare_app (match_rule matching)) (order_rule order)) order_file_rule) given_rule) workers_rule) limit_rule) sizes_rule) print_order_rule) (format_rule format)) verbose_rule) (new_rule (codes "FIRST"))) (new_rule (codes "SECOND"))
 
 -- the command has these arguments
 abbrev pub IsTool : App → Type 0
@@ -154,10 +157,15 @@ IsGiven id rows = option_and_then (λ r. r.source) (find (λ r. bytes_eq r.id id
 abbrev pub GiveTwoOrders : List Row → Type 0
 GiveTwoOrders rows = IsGiven (codes "order") rows × IsGiven (codes "order-file") rows
 
+-- the path of a file that is the word, where there is one
+abbrev pub IsFile : Option (List ℕ) → Option (Bor (List ℕ)) → Type 0
+IsFile word path = option_map (λ (p : Bor (List ℕ)). p.now) path ≡ word
+
 -- The options say what was found for the arguments.
 pub record AreOptions (rows : List Row) (o : Options) : Type 0 where
   pub matching : IsMatching (first_of (codes "match") rows) o.matching
   pub order : IsChoice (first_of (codes "order-file") rows) (first_of (codes "order") rows) o.order
+  pub given : IsFile (first_of (codes "given") rows) o.given
   pub workers : IsNumberIn 1 16 (one_of (codes "workers") rows) o.workers
   pub limit : IsNumberIn 1 4294967295 (one_of (codes "limit") rows) o.limit
   pub texts : AreTexts (first_of (codes "FIRST") rows) (first_of (codes "SECOND") rows) o.texts

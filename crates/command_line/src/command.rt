@@ -1,7 +1,7 @@
 //! The command of the program, as clap knows it.
 ghost use Rattle.std.specs.Prelude.{◌≡◌, false, codes, IfOk};
 ghost use Rattle.clap.specs.Words.{app_of, new_rule, rule_of};
-ghost use Rattle.command_line.specs.Words.{TakesMatches, TakesOrders, match_rule, order_rule, order_file_rule, workers_rule, limit_rule, sizes_rule, print_order_rule, TakesFormats, format_rule, verbose_rule, bare_app, IsTool};
+ghost use Rattle.command_line.specs.Words.{TakesMatches, TakesOrders, match_rule, order_rule, order_file_rule, given_rule, workers_rule, limit_rule, sizes_rule, print_order_rule, TakesFormats, format_rule, verbose_rule, bare_app, IsTool};
 
 use clap::{Arg, ArgAction, Command, value_parser};
 use std::alloc::{AllocError, Global};
@@ -63,6 +63,16 @@ fn order_file<'a>(alloc: Global) -> Arg<'a>
         .long("order-file")
         .value_name("F")
         .help("Order the variables as a file lists their names; not with --order")
+}
+
+fn given<'a>(alloc: Global) -> Arg<'a>
+    ensures rule { rule_of result ≡ given_rule }
+    ensures local { result.global ≡ false }
+{
+    Arg::new(alloc, "given")
+        .long("given")
+        .value_name("FILE")
+        .help("Compare outputs and next states only where the one output of this netlist is 1")
 }
 
 fn workers<'a>(alloc: Global) -> Arg<'a>
@@ -171,13 +181,14 @@ pub fn command<'a>(alloc: Global) -> Result<Command<'a>, AllocError>
         .arg(matching(alloc))?
         .arg(order(alloc))?
         .arg(order_file(alloc))?
-        .arg(workers(alloc))?;
+        .arg(given(alloc))?;
     let command = command
+        .arg(workers(alloc))?
         .arg(limit(alloc))?
         .arg(sizes(alloc))?
-        .arg(print_order(alloc))?
-        .arg(format(alloc))?;
+        .arg(print_order(alloc))?;
     let command = command
+        .arg(format(alloc))?
         .arg(verbose(alloc))?
         .arg(first(alloc))?
         .arg(second(alloc))?;

@@ -37,6 +37,8 @@ pub enum Texts<'a> {
 pub struct Options<'a> {
     pub matching: Match,
     pub order: OrderChoice<'a>,
+    /// The path of the condition's file, where there is a condition.
+    pub given: Option<&'a str>,
     pub workers: u32,
     pub limit: u64,
     pub sizes: bool,

@@ -190,6 +190,7 @@ fn options_of<'a>(matches: &ArgMatches<'a>) -> Options<'a>
     Options {
         matching: matching_of(matches.get_str("match")),
         order: order_of(matches.get_str("order-file"), matches.get_str("order")),
+        given: matches.get_str("given"),
         workers: workers_of(matches),
         limit: limit_of(matches),
         sizes: matches.get_flag("sizes"),

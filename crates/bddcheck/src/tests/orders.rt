@@ -5,12 +5,13 @@ use super::reports::words_of;
 use crate::tool::run_tool;
 use net_bench::device::Through;
 use std::alloc::{AllocError, Global};
+use std::rt::Clock;
 use std::sync::Wait;
 use std::test::Fail;
 use std::thread::Threads;
 
 /// What a run with these words over two files, and one with names, writes, and its status.
-fn run_of<R: Threads + Wait + Sync>(
+fn run_of<R: Eprint + Clock + Threads + Wait + Sync>(
     rt: &R,
     alloc: Global,
     options: &str,

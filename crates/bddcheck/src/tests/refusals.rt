@@ -6,6 +6,7 @@ use crate::folder::Disk;
 use crate::tool::run_tool;
 use net_bench::device::Through;
 use std::alloc::Global;
+use std::rt::Clock;
 use std::sync::Wait;
 use std::test::Fail;
 use std::thread::Threads;
@@ -30,7 +31,7 @@ struct Left {
 }
 
 /// A run of the words over a folder and an input, with an output of much room.
-fn left_by<R: AllocGlobal + Threads + Wait + Sync>(
+fn left_by<R: AllocGlobal + Eprint + Clock + Threads + Wait + Sync>(
     rt: &R,
     line: &str,
     mut folder: Shelf,
@@ -381,16 +382,6 @@ fn files_and_inputs_that_are_refused(rt: HostRuntime) -> Result<(), Fail> {
             "",
         ),
         (
-            "--order-file none",
-            bad,
-            bad,
-            bad,
-            blank(134_221_825),
-            2,
-            "standard input: too long",
-            "",
-        ),
-        (
             "first second",
             failing(C17),
             bad,
@@ -463,6 +454,34 @@ fn files_and_inputs_that_are_refused(rt: HostRuntime) -> Result<(), Fail> {
     Ok(())
 }
 
+/// An empty text, and one of so many blanks.
+fn divided(blanks: usize) -> Tape {
+    Tape {
+        text: "%%\n",
+        blanks,
+        fails: false,
+    }
+}
+
+// At its limit the input is taken, and its second text is too long; with one byte more it is refused as a whole.
+#[test]
+fn standard_input_limit(rt: HostRuntime) -> Result<(), Fail> {
+    let good = tape_of(C17);
+    let table = [
+        (134_221_821, "second: longer than 67108864 bytes"),
+        (134_221_822, "standard input: too long"),
+    ];
+    for (blanks, fault) in table {
+        let want = format!(in rt.alloc(); "bddcheck: {fault}\n")?;
+        let folder = shelf(rt.alloc(), good, good, good);
+        let left = left_by(&rt, "", folder, start(divided(blanks)))?;
+        assert_eq!(rt; left.said.as_slice(), want.as_bytes());
+        assert_eq!(rt; left.status, 2, "{fault}");
+        assert!(rt; left.written.is_empty(), "{fault}");
+    }
+    Ok(())
+}
+
 #[test]
 fn more_variables_than_levels(rt: HostRuntime) -> Result<(), Fail> {
     let mut text = String::new(rt.alloc());
@@ -502,7 +521,7 @@ fn more_variables_than_levels(rt: HostRuntime) -> Result<(), Fail> {
 }
 
 /// A run on two equal netlists, or on the words alone, over an output and an error device.
-fn status_over<R: AllocGlobal + Threads + Wait + Sync>(
+fn status_over<R: AllocGlobal + Eprint + Clock + Threads + Wait + Sync>(
     rt: &R,
     line: &str,
     out: &mut Page,
