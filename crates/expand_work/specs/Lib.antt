@@ -2,6 +2,8 @@ pub mod Parts
 pub mod Fault
 pub mod Worked
 pub mod Work
+pub mod Noted
 pub mod Working
 pub mod Team
 pub mod Expanded
+pub mod Gathered

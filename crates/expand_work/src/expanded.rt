@@ -76,7 +76,7 @@ pub fn expand_all<R: Threads + Wait + Sync, G: Gate>(
     let levels = store.levels();
     let (lanes, ports) = Lanes::new(alloc, store, workers)?;
     let parts = run_workers(rt, alloc, &lanes, ports, store, roots, gate)?;
-    let (ports, rows) = split_parts(alloc, parts)?;
+    let (ports, rows, _) = split_parts(alloc, parts)?;
     let records = merge_rows(alloc, rows.as_slice(), levels)?;
     let settled = lanes.settle(rt, ports)?;
     Ok(Expanded {

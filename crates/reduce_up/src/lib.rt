@@ -2,10 +2,12 @@
 #![tactic(auto)]
 
 pub mod law;
+mod answers;
 mod levels;
 mod parallel;
 mod results;
 mod seeking;
+mod team;
 mod waves;
 
 pub use levels::reduce;
