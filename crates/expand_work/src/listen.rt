@@ -19,6 +19,13 @@ use std::alloc::AllocError;
 use std::sync::Wait;
 use std::sync::atomic::Ordering;
 
+/// What a worker knows by sender: how many levels it has ended, and where the requests were put that were taken of it.
+#[derive(Drop)]
+pub struct Senders {
+    pub clock: Clock,
+    pub noted: Noted,
+}
+
 // Admits the requests of a sender's bundle to their levels' tables, and notes their places.
 fn admit_all(
     tables: &mut Tables,
@@ -75,26 +82,25 @@ fn take_one<R: Wait>(
     rt: &R,
     lanes: &Lanes,
     port: &mut Port,
-    clock: &mut Clock,
+    senders: &mut Senders,
     tables: &mut Tables,
-    noted: &mut Noted,
 ) -> Result<bool, WorkFault>
     requires port { IsPortOf lanes.now port.old }
-    requires heard { IsHeard (lanes_scope lanes.now) port.old.taken clock.old tables.old }
-    requires noted { IsNoted (length lanes.now.lanes) port.old.taken tables.old noted.old }
+    requires heard { IsHeard (lanes_scope lanes.now) port.old.taken senders.old.clock tables.old }
+    requires noted { IsNoted (length lanes.now.lanes) port.old.taken tables.old senders.old.noted }
     ensures same { OnOk result (port.new ≡ record port.old { popped = port.new.popped; taken = port.new.taken }) }
-    ensures heard { OnOk result (IsHeard (lanes_scope lanes.now) port.new.taken clock.new tables.new) }
+    ensures heard { OnOk result (IsHeard (lanes_scope lanes.now) port.new.taken senders.new.clock tables.new) }
     ensures stays { OnOk result
         (StaysClosed (lanes_scope lanes.now) port.old.taken port.new.taken tables.old tables.new) }
-    ensures noted { OnOk result (IsNoted (length lanes.now.lanes) port.new.taken tables.new noted.new) }
+    ensures noted { OnOk result (IsNoted (length lanes.now.lanes) port.new.taken tables.new senders.new.noted) }
 {
     let Some(load) = lanes.take(rt, port) else {
         return Ok(false);
     };
     match load {
-        Load::End { from, level } => clock.note(from, level),
+        Load::End { from, level } => senders.clock.note(from, level),
         Load::Bundle { from, asks } => {
-            admit_all(tables, noted, from, asks.asks())?;
+            admit_all(tables, &mut senders.noted, from, asks.asks())?;
         }
     }
     Ok(true)
@@ -105,28 +111,27 @@ pub fn take_until_closed<R: Wait>(
     rt: &R,
     site: Site<'_>,
     port: &mut Port,
-    clock: &mut Clock,
+    senders: &mut Senders,
     tables: &mut Tables,
-    noted: &mut Noted,
     level: u16,
 ) -> Result<(), WorkFault>
     requires port { IsPortOf site.lanes.now port.old }
-    requires heard { IsHeard (lanes_scope site.lanes.now) port.old.taken clock.old tables.old }
-    requires noted { IsNoted (length site.lanes.now.lanes) port.old.taken tables.old noted.old }
+    requires heard { IsHeard (lanes_scope site.lanes.now) port.old.taken senders.old.clock tables.old }
+    requires noted { IsNoted (length site.lanes.now.lanes) port.old.taken tables.old senders.old.noted }
     ensures same { OnOk result (port.new ≡ record port.old { popped = port.new.popped; taken = port.new.taken }) }
-    ensures heard { OnOk result (IsHeard (lanes_scope site.entry.lanes.now) port.new.taken clock.new tables.new) }
+    ensures heard { OnOk result (IsHeard (lanes_scope site.entry.lanes.now) port.new.taken senders.new.clock tables.new) }
     ensures stays { OnOk result
         (StaysClosed (lanes_scope site.entry.lanes.now) port.old.taken port.new.taken tables.old tables.new) }
-    ensures noted { OnOk result (IsNoted (length site.entry.lanes.now.lanes) port.new.taken tables.new noted.new) }
+    ensures noted { OnOk result (IsNoted (length site.entry.lanes.now.lanes) port.new.taken tables.new senders.new.noted) }
     ensures closed { OnOk result (IsClosed (lanes_scope site.entry.lanes.now) level port.new.taken) }
 {
     let Site { lanes, stop, .. } = site;
     let backoff = Backoff::new();
     for turn in rt.forever() {
-        if clock.closed(level) {
+        if senders.clock.closed(level) {
             return Ok(());
         }
-        if take_one(rt, lanes, port, clock, tables, noted)? {
+        if take_one(rt, lanes, port, senders, tables)? {
             backoff.reset();
         } else {
             if stop.load(Ordering::SeqCst) {

@@ -141,6 +141,11 @@ impl Tables {
     }
 }
 
+// What a record takes in its row, and a request in a bundle.
+const _: () = prove!(size_of::<Record>() == 64);
+
+const _: () = prove!(size_of::<(u16, Key)>() == 24);
+
 /// The records of the levels so far.
 #[derive(Drop)]
 pub struct Rows {

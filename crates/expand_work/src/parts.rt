@@ -6,7 +6,7 @@ ghost use Rattle.expand_work.specs.Gathered.{AreParts, noted_of};
 
 use crate::lists::Noted;
 use crate::merge::split_parts;
-use crate::team::run_workers;
+use crate::team::{Wave, run_workers};
 use crate::{Gate, WaveFault};
 use dd_store::Store;
 use lane_queue::Lanes;
@@ -68,7 +68,13 @@ pub fn expand_parts<R: Threads + Wait + Sync, G: Gate>(
 {
     let _ = store.levels();
     let (lanes, ports) = Lanes::new(alloc, store, workers)?;
-    let parts = run_workers(rt, alloc, &lanes, ports, store, roots, gate)?;
+    let wave = Wave {
+        alloc,
+        lanes: &lanes,
+        store,
+        roots,
+    };
+    let parts = run_workers(rt, wave, ports, gate)?;
     let (ports, rows, noted) = split_parts(alloc, parts)?;
     let _ = lanes.settle(rt, ports)?;
     Ok(Parts { rows, noted })

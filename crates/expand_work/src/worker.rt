@@ -7,7 +7,7 @@ ghost use Rattle.expand_work.specs.Working.{IsWorking};
 ghost use Rattle.expand_work.specs.Worked.{IsFresh, IsWorked};
 
 use crate::expand::{deal_roots, expand_row};
-use crate::listen::{keep_own, take_until_closed};
+use crate::listen::{Senders, keep_own, take_until_closed};
 use crate::lists::{KeyLists, Noted, Rows, Tables};
 use crate::say::{send_due, send_ends};
 use crate::site::Site;
@@ -48,7 +48,7 @@ fn do_level<R: Wait, G: Gate>(
 {
     let Worker {
         mut port,
-        mut clock,
+        clock,
         mut tables,
         mut noted,
         mut rows,
@@ -65,15 +65,8 @@ fn do_level<R: Wait, G: Gate>(
         due.list(own),
     )?;
     send_ends(rt, site.lanes, &mut port, level)?;
-    take_until_closed(
-        rt,
-        site,
-        &mut port,
-        &mut clock,
-        &mut tables,
-        &mut noted,
-        level,
-    )?;
+    let mut senders = Senders { clock, noted };
+    take_until_closed(rt, site, &mut port, &mut senders, &mut tables, level)?;
     gate.at_level(own, level);
     let workers = site.lanes.count();
     let Ok((row, due)) = expand_row(site.alloc, site.store, tables.keys(level), workers) else {
@@ -82,6 +75,7 @@ fn do_level<R: Wait, G: Gate>(
     let Ok(_) = rows.push(row) else {
         return Err(WorkFault::OutOfMemory);
     };
+    let Senders { clock, noted } = senders;
     Ok(Worker {
         port,
         clock,

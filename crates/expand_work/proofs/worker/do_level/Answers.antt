@@ -21,7 +21,7 @@ send_ends-requires-clause-ended g c = ended_before c.args.site.lanes.now c.args.
 pub expand_row-requires-clause-keys : goal.expand_row-requires-clause-keys
 expand_row-requires-clause-keys g c =
     subst (All (IsKey c.args.site.store.now)) (sym c.keys.ensures)
-    (keys_held c.args.site.lanes.now c.args.site.store.now c.args.level c.take_until_closed.new.port.taken c.take_until_closed.new.clock c.take_until_closed.new.tables c.requires.working.sizes c.requires.level c.in_ok-take_until_closed.ensures.heard)
+    (keys_held c.args.site.lanes.now c.args.site.store.now c.args.level c.take_until_closed.new.port.taken c.take_until_closed.new.senders.clock c.take_until_closed.new.tables c.requires.working.sizes c.requires.level c.in_ok-take_until_closed.ensures.heard)
 
 pub returns : goal.returns
 returns g c =
@@ -29,8 +29,8 @@ returns g c =
     let keys = c.in-Ok.ensures.keys ∙ c.keys.ensures in
     let kept = subst (λ ks. HasKept c.send_due.new.port c.keep_own.new.port (map (item_of c.args.site.store.now c.send_due.new.port.number) ks)) c.list.ensures c.in_ok-keep_own.ensures.kept in
     let owed = subst (λ n. (k : ℕ) → k < n → at c.in-Ok.due k ≡ filter (owned_by n k) (asked_by c.in-Ok.row.items)) c.count-workers.ensures.count c.in-Ok.ensures.due in (
-      level_next c.args.site.lanes.now c.args.site.store.now c.args.site.roots.now c.args.level c.args.worker c.requires.working c.send_due.new.port c.in_ok-send_due.ensures c.number-own.result c.number-own.ensures.number c.keep_own.new.port kept c.send_ends.new.port c.take_until_closed.new.port c.take_until_closed.new.clock c.keep_own.new.tables c.take_until_closed.new.tables c.in-Ok.row.items c.in-Ok.due c.push.new.self c.requires.level c.in_ok-keep_own.ensures.stays c.in_ok-send_ends.ensures take.same take.heard take.stays take.closed keys c.in-Ok.ensures.split (c.in-Ok.ensures.long ∙ c.count-workers.ensures.count) owed c.in-Ok-push.ensures c.take_until_closed.new.noted take.noted,
-      number_same c.args.site.lanes.now c.args.site.store.now c.args.site.roots.now c.args.level c.args.worker c.requires.working c.send_due.new.port c.in_ok-send_due.ensures c.number-own.result c.number-own.ensures.number c.keep_own.new.port kept c.send_ends.new.port c.take_until_closed.new.port c.take_until_closed.new.clock c.keep_own.new.tables c.take_until_closed.new.tables c.in-Ok.row.items c.in-Ok.due c.push.new.self c.requires.level c.in_ok-keep_own.ensures.stays c.in_ok-send_ends.ensures take.same take.heard take.stays take.closed keys c.in-Ok.ensures.split (c.in-Ok.ensures.long ∙ c.count-workers.ensures.count) owed c.in-Ok-push.ensures c.take_until_closed.new.noted take.noted,
+      level_next c.args.site.lanes.now c.args.site.store.now c.args.site.roots.now c.args.level c.args.worker c.requires.working c.send_due.new.port c.in_ok-send_due.ensures c.number-own.result c.number-own.ensures.number c.keep_own.new.port kept c.send_ends.new.port c.take_until_closed.new.port c.take_until_closed.new.senders.clock c.keep_own.new.tables c.take_until_closed.new.tables c.in-Ok.row.items c.in-Ok.due c.push.new.self c.requires.level c.in_ok-keep_own.ensures.stays c.in_ok-send_ends.ensures take.same take.heard take.stays take.closed keys c.in-Ok.ensures.split (c.in-Ok.ensures.long ∙ c.count-workers.ensures.count) owed c.in-Ok-push.ensures c.take_until_closed.new.senders.noted take.noted,
+      number_same c.args.site.lanes.now c.args.site.store.now c.args.site.roots.now c.args.level c.args.worker c.requires.working c.send_due.new.port c.in_ok-send_due.ensures c.number-own.result c.number-own.ensures.number c.keep_own.new.port kept c.send_ends.new.port c.take_until_closed.new.port c.take_until_closed.new.senders.clock c.keep_own.new.tables c.take_until_closed.new.tables c.in-Ok.row.items c.in-Ok.due c.push.new.self c.requires.level c.in_ok-keep_own.ensures.stays c.in_ok-send_ends.ensures take.same take.heard take.stays take.closed keys c.in-Ok.ensures.split (c.in-Ok.ensures.long ∙ c.count-workers.ensures.count) owed c.in-Ok-push.ensures c.take_until_closed.new.senders.noted take.noted,
     )
 
 pub keep_own-requires-clause-noted : goal.keep_own-requires-clause-noted
