@@ -84,7 +84,7 @@ count_at (x ∷ xs) (suc k) d b = count_at xs k d (omega (arith, b))
 
 -- ---- records by level that are the same level by level
 module _ (w : Wave) (rows records : ℕ → List Record) (same : (v : ℕ) → v < w.levels → records v ≡ rows v) where
-  closure_same : (roots : List Key) → IsClosure w roots rows → IsClosure w roots records
+  pub closure_same : (roots : List Key) → IsClosure w roots rows → IsClosure w roots records
   closure_same roots c = record {
     split = λ v vb. subst (All (IsSplit w)) (sym (same v vb)) (c.split v vb);
     placed = λ v vb. subst (All (λ (r : Record). w.level r.key ≡ v)) (sym (same v vb)) (c.placed v vb);

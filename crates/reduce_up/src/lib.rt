@@ -6,6 +6,7 @@ mod answers;
 mod levels;
 mod parallel;
 mod results;
+mod roots;
 mod seeking;
 mod team;
 mod waves;
