@@ -55,9 +55,15 @@ class Devices:
         self.check("closed errors, a fault", seen, Run(2, b"", b""))
         seen = self.through_shell("2>&-", self.c17, self.c17b)
         self.check("closed errors, a report", seen, Run(1, C17_DIFFERS, b""))
-        with open("/dev/full", "wb") as full:
-            seen = self.run(self.c17, self.place / "none", stderr=full)
-        self.check("errors on a full disk", seen, Run(2, b"", b""))
+        for words in ([], ["--verbose"]):
+            with open("/dev/full", "wb") as full:
+                seen = self.run(*words, self.c17, self.place / "none", stderr=full)
+            self.check("errors on a full disk", seen, Run(2, b"", b""))
+            with open("/dev/full", "wb") as full:
+                seen = self.run(*words, "--order", "best", self.c17, self.c17, stderr=full)
+            self.check("a report, errors on a full disk", seen, Run(0, C17_EQUAL, b""))
+        seen = self.through_shell("2>&-", "--verbose", "--order", "best", self.c17, self.c17)
+        self.check("closed errors, an attempt", seen, Run(0, C17_EQUAL, b""))
 
     def through_shell(self, closing, *words):
         """With a stream closed by the shell. What is still open is given back."""
@@ -155,6 +161,9 @@ class Devices:
         loop = self.place / "loop"
         loop.symlink_to(loop)
         self.check("a link to itself", self.run(loop, self.c17), refused("first: cannot be opened"))
+        seen = self.run("--verbose", loop, self.c17)
+        told = lines("bddcheck: first: cannot be opened", f"bddcheck: {loop}: a loop of links")
+        self.check("a link to itself, and what stands in the way", seen, Run(2, b"", told))
         with open("/dev/null", "rb") as null:
             child = subprocess.run([self.program], stdin=null, capture_output=True)
         seen = Run(child.returncode, child.stdout, child.stderr)
@@ -182,6 +191,9 @@ class Devices:
             os.chmod(program, 0o755)
             words[0], more = program, {"user": 65534, "group": 65534, "cwd": "/"}
         self.check("no permission", run(words, **more), refused("first: cannot be opened"))
+        words.insert(1, "--verbose")
+        told = lines("bddcheck: first: cannot be opened", f"bddcheck: {secret}: permission denied")
+        self.check("no permission, and what stands in the way", run(words, **more), Run(2, b"", told))
 
     def fifo(self, name, text, bytes_at_once):
         """The path of a fifo that gives so many bytes at each read."""

@@ -11,7 +11,7 @@ _bddcheck() {
     --order-file) mapfile -t COMPREPLY < <(compgen -f -- "$word") ;;
     *)
         case $word in
-        -*) mapfile -t COMPREPLY < <(compgen -W '--match --order --order-file --workers --limit --sizes --print-order --format --help --version' -- "$word") ;;
+        -*) mapfile -t COMPREPLY < <(compgen -W '--match --order --order-file --workers --limit --sizes --print-order --format --verbose --help --version' -- "$word") ;;
         *) mapfile -t COMPREPLY < <(compgen -f -- "$word") ;;
         esac
         ;;

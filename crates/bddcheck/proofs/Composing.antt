@@ -18,7 +18,7 @@ use Rattle.bddcheck.specs.declared.fault.ToolFault.{ToolFault}
 use Rattle.bddcheck.specs.declared.fault.ToolFault.TheVariants.{OneFile, InputTwice as DashTwice, CannotOpen, InputUnread, InputTooLong, InputUndivided, BadOrder, Check, OutOfMemory}
 use Rattle.bddcheck.specs.Splitting.{IsSplit}
 use Rattle.bddcheck.specs.Opening.{Try, Extends, opened, AreTried}
-use Rattle.bddcheck.specs.Running.{first_paths, second_paths, text_paths, order_paths, paths_of, IsShort, AreTexts, HasTexts, IsOrderOf, IsCompared, HasReported, HasReportedFront, HasFirstFailed, HasSecondFailed, IsBeyond, IsCompareFault, IsToolFault}
+use Rattle.bddcheck.specs.Running.{IsOpenFault, first_paths, second_paths, text_paths, order_paths, paths_of, IsShort, AreTexts, HasTexts, IsOrderOf, IsCompared, HasReported, HasReportedFront, HasFirstFailed, HasSecondFailed, IsBeyond, IsCompareFault, IsToolFault}
 use Rattle.bddcheck.proofs.Failing.{check_fault}
 
 -- ---- tries
@@ -44,6 +44,11 @@ tried_more (p ∷ ps) qs ts t = (refl, tried_more ps qs ts t)
 pub keeps_own : (a : Option (List ℕ)) → Keeps a a
 keeps_own None = tt
 keeps_own (Some xs) = refl
+
+-- either more is asked for, or it is not
+pub asked_or : {A B : Type 0} (verbose : Bool) → (verbose ≡ true → A) → (verbose ≡ false → B) → A ⊎ B
+asked_or true f g = inl (f refl)
+asked_or false f g = inr (g refl)
 
 -- ---- the two texts
 
@@ -114,9 +119,9 @@ module _ (told : List ℕ → Option (List ℕ)) (input : Option (List ℕ)) (o 
     whole_fault tries InputTooLong f = absurd f
     whole_fault tries InputUndivided f = absurd f
     whole_fault tries OutOfMemory f = tried_more (text_paths o.texts) (order_paths o.order) tries f
-    whole_fault tries (CannotOpen First) f = absurd f
-    whole_fault tries (CannotOpen Second) f = absurd f
-    whole_fault tries (CannotOpen OrderFile) f =
+    whole_fault tries (CannotOpen First obstacle) f = absurd f
+    whole_fault tries (CannotOpen Second obstacle) f = absurd f
+    whole_fault tries (CannotOpen OrderFile obstacle) f =
         (f.0, f.1, has_texts told input o.texts one two texts, ap (λ l. opened (text_paths o.texts) ++ l) f.2)
     whole_fault tries (BadOrder fault) f =
         (f.0, f.1, has_texts told input o.texts one two texts, ap (λ l. opened (text_paths o.texts) ++ l) f.2 ∙ sym (opened_more (text_paths o.texts) (order_paths o.order)), f.3)
@@ -145,9 +150,9 @@ module _ (o : Options) (first second : Bor (List ℕ)) (files : o.texts ≡ File
       subst (λ l. Extends a d l) (sym (opened_more (text_paths o.texts) (order_paths o.order))) (extends_more a c d (opened (text_paths o.texts)) (opened (order_paths o.order)) (both_opened a b c e f) h)
   all_opened a b c d (Err fault) e f h = tt
 
-  pub second_unopened : (told : List ℕ → Option (List ℕ)) (broken : List ℕ → Type 0) (input_broken : Type 0) (input : Option (List ℕ)) (fault : ToolFault) (a b c : Option (List Try)) → (fault ≡ CannotOpen Second) ⊎ (fault ≡ OutOfMemory)
+  pub second_unopened : (told : List ℕ → Option (List ℕ)) (broken : List ℕ → Type 0) (input_broken : Type 0) (input : Option (List ℕ)) (fault : ToolFault) (a b c : Option (List Try)) → IsOpenFault Second fault
       → Extends a b ((first.now, true) ∷ []) → Extends b c ((second.now, false) ∷ []) → (tries : List Try) × Extends a c tries × IsToolFault told broken input_broken input o tries fault
-  second_unopened told broken input_broken input fault a b c (inl is) e f = (
+  second_unopened told broken input_broken input fault a b c (inl (obstacle, is)) e f = (
     (first.now, true) ∷ (second.now, false) ∷ [],
     extends_more a b c ((first.now, true) ∷ []) ((second.now, false) ∷ []) e f,
     subst (λ x. IsToolFault told broken input_broken input o ((first.now, true) ∷ (second.now, false) ∷ []) x) (sym is) (second.now, ap second_paths files, sym (ap (λ t. opened (first_paths t) ++ (second.now, false) ∷ []) files)),
@@ -162,8 +167,8 @@ module _ (o : Options) (first second : Bor (List ℕ)) (files : o.texts ≡ File
 -- ---- a first file that is not opened
 
 pub first_unopened : (o : Options) (path : List ℕ) → first_paths o.texts ≡ path ∷ [] → (told : List ℕ → Option (List ℕ)) (broken : List ℕ → Type 0) (input_broken : Type 0) (input : Option (List ℕ)) (fault : ToolFault) (a b : Option (List Try))
-    → (fault ≡ CannotOpen First) ⊎ (fault ≡ OutOfMemory) → Extends a b ((path, false) ∷ []) → (tries : List Try) × Extends a b tries × IsToolFault told broken input_broken input o tries fault
-first_unopened o path named told broken input_broken input fault a b (inl is) e =
+    → IsOpenFault First fault → Extends a b ((path, false) ∷ []) → (tries : List Try) × Extends a b tries × IsToolFault told broken input_broken input o tries fault
+first_unopened o path named told broken input_broken input fault a b (inl (obstacle, is)) e =
     ((path, false) ∷ [], e, subst (λ x. IsToolFault told broken input_broken input o ((path, false) ∷ []) x) (sym is) (path, named, refl))
 first_unopened o path named told broken input_broken input fault a b (inr is) e = (
   (path, false) ∷ [],
@@ -184,8 +189,8 @@ module _ (o : Options) (path : List ℕ) (named : text_paths o.texts ≡ path �
   all_opened_beside a b c (Err fault) e h = tt
 
 pub second_unopened_beside : (o : Options) (second : Bor (List ℕ)) → o.texts ≡ InputAndFile second → (told : List ℕ → Option (List ℕ)) (broken : List ℕ → Type 0) (input_broken : Type 0) (input : Option (List ℕ)) (fault : ToolFault) (a b : Option (List Try))
-    → (fault ≡ CannotOpen Second) ⊎ (fault ≡ OutOfMemory) → Extends a b ((second.now, false) ∷ []) → (tries : List Try) × Extends a b tries × IsToolFault told broken input_broken input o tries fault
-second_unopened_beside o second beside told broken input_broken input fault a b (inl is) e = (
+    → IsOpenFault Second fault → Extends a b ((second.now, false) ∷ []) → (tries : List Try) × Extends a b tries × IsToolFault told broken input_broken input o tries fault
+second_unopened_beside o second beside told broken input_broken input fault a b (inl (obstacle, is)) e = (
   (second.now, false) ∷ [],
   e,
   subst (λ x. IsToolFault told broken input_broken input o ((second.now, false) ∷ []) x) (sym is) (second.now, ap second_paths beside, sym (ap (λ t. opened (first_paths t) ++ (second.now, false) ∷ []) beside)),

@@ -1,7 +1,9 @@
 -- How a run ends: what it has written, what it says, and its status.
-use Rattle.std.specs.Prelude.{◌≡◌, ◌≢◌, ◌≤◌, ◌⊎◌, ◌↔◌, ℕ, Bool, List, Option, IsTrue, string_bytes, codes}
+use Rattle.std.specs.Prelude.{◌≡◌, ◌≢◌, ◌≤◌, ◌⊎◌, ◌↔◌, ℕ, Bool, true, false, List, ◌++◌, Option, Some, None, IsTrue, string_bytes, codes, decimal}
 use Rattle.std.specs.Io.KnownBytes.{Appends, Keeps}
 use Rattle.check_report.specs.declared.outcome.Outcome.{Outcome}
+use Rattle.check_report.specs.declared.choice.Attempt.{Attempt}
+use Rattle.check_report.specs.Best.{candidate_text}
 use Rattle.check_report.specs.declared.fault.CheckFault.TheVariants.{Wave, Write}
 use Rattle.check_report.specs.Writing.{AppendsFront}
 use Rattle.command_line.specs.declared.options.Options.{Options}
@@ -16,6 +18,7 @@ use Rattle.bddcheck.specs.declared.fault.ToolFault.TheVariants.{Check, InputUnre
 use Rattle.bddcheck.specs.declared.process.NoWords.{NoWords}
 use Rattle.bddcheck.specs.declared.process.NoWords.TheVariants.{OutOfMemory as NoArguments, NoText}
 use Rattle.bddcheck.specs.Faults.{fault_line, fault_status}
+use Rattle.bddcheck.specs.Helping.{help_text}
 use Rattle.bddcheck.specs.Opening.{Try, Extends, opened}
 use Rattle.bddcheck.specs.Running.{paths_of, HasReported, HasReportedFront, IsBeyond, IsToolFault, StandOnInput}
 
@@ -41,6 +44,48 @@ pub record IsSaid (w : Written) (fault : ToolFault) (status : ℕ) : Type 0 wher
   pub line : Says w (fault_line said)
   pub code : status ≡ fault_status said
 
+-- a device has taken this text, or a front part of it for a cause; or nothing, where there was no memory for it
+abbrev pub MaySay : Written → List ℕ → Type 0
+MaySay w text = Says w text ⊎ Keeps w.held w.holds
+
+-- what a device holds between two texts, and whether it has failed or stopped by then
+pub record Between : Type 0 where
+  pub holds : Option (List ℕ)
+  pub has_failed : Bool
+  pub has_stopped : Bool
+
+-- what was written until then
+abbrev pub until : Written → Between → Written
+until w b = record { held = w.held; holds = b.holds; has_failed = b.has_failed; has_stopped = b.has_stopped }
+
+-- what was written from then on
+abbrev pub from : Written → Between → Written
+from w b = record { held = b.holds; holds = w.holds; has_failed = w.has_failed; has_stopped = w.has_stopped }
+
+-- what is said of a fault of a run: its line, and behind it, where more is asked for, what helps
+abbrev pub IsSaidOf : (verbose : Bool) → Options → Written → ToolFault → (status : ℕ) → Type 0
+IsSaidOf false o w fault status = IsSaid w fault status
+IsSaidOf true o w fault status = (b : Between) × IsSaid (until w b) fault status × MaySay (from w b) (help_text o fault)
+
+-- the line that names an attempt
+abbrev pub attempt_line : Attempt → List ℕ
+attempt_line t = codes "bddcheck: order " ++ candidate_text t.order ++ codes ", budget " ++ decimal t.budget ++ codes "\n"
+
+-- what is said of the attempt that a run ended with, where the best order was to be found
+abbrev pub IsAttemptSaid : Option Attempt → Written → Type 0
+IsAttemptSaid None w = Keeps w.held w.holds
+IsAttemptSaid (Some t) w = MaySay w (attempt_line t)
+
+-- what is said of a run that has done this: nothing, or its attempt where more is asked for
+abbrev pub IsDoneSaid : (verbose : Bool) → Done → Written → Type 0
+IsDoneSaid false done w = Keeps w.held w.holds
+IsDoneSaid true (Compared outcome tried) w = IsAttemptSaid tried w
+IsDoneSaid true (OrderPrinted tried) w = IsAttemptSaid tried w
+
+-- the words ask for more on standard error than faults
+abbrev pub AskForMore : List (List ℕ) → Type 0
+AskForMore words = (o : Options) × AskFor words o × (o.verbose ≡ true)
+
 -- the status of a report: 0 where all outputs and next states are paired and equal, else 1
 pub record IsReportStatus (outcome : Outcome) (status : ℕ) : Type 0 where
   pub bound : status ≤ 1
@@ -62,11 +107,11 @@ pub record Scene : Type 0 where
   pub output : Written
   pub errors : Written
 
--- What the options ask for of what they name was written, all files were opened, and nothing was said.
+-- What the options ask for of what they name was written, and all files were opened. Nothing was said without `--verbose`.
 pub record Reports (s : Scene) (o : Options) (done : Done) (status : ℕ) : Type 0 where
   pub report : HasReported s.told s.input o s.output.held s.output.holds done
   pub opened_all : Extends s.tried s.tries (opened (paths_of o))
-  pub silent : Keeps s.errors.held s.errors.holds
+  pub said : IsDoneSaid o.verbose done s.errors
   pub code : IsDoneStatus done status
 
 -- There is a fault: its line was said, and nothing was written but for a front part of the report where the writing failed.
@@ -76,7 +121,7 @@ pub record Refuses (broken : List ℕ → Type 0) (s : Scene) (o : Options) (fau
   pub cause : IsToolFault s.told broken (IsTrue s.input_failed) s.input o tries fault
   pub unread : fault ≡ InputUnread → IsTrue s.input_failed
   pub full : fault ≡ Check (Wave Full) → IsBeyond s.told s.input o
-  pub line : IsSaid s.errors fault status
+  pub line : IsSaidOf o.verbose o s.errors fault status
   pub front : fault ≡ Check Write → HasReportedFront s.told s.input o s.output.held s.output.holds s.output.has_failed s.output.has_stopped
   pub nothing : fault ≢ Check Write → Keeps s.output.held s.output.holds
 

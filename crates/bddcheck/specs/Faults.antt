@@ -23,7 +23,7 @@ place_text OrderFile = codes "order"
 abbrev pub tool_fault_text : ToolFault → List ℕ
 tool_fault_text OneFile = codes "give two files or none"
 tool_fault_text InputTwice = codes "standard input: given twice"
-tool_fault_text (CannotOpen place) = place_text place ++ codes ": cannot be opened"
+tool_fault_text (CannotOpen place obstacle) = place_text place ++ codes ": cannot be opened"
 tool_fault_text InputUnread = codes "standard input: cannot be read"
 tool_fault_text InputTooLong = codes "standard input: too long"
 tool_fault_text InputUndivided = codes "standard input: no line %%"
@@ -72,7 +72,7 @@ check_status NoCheckMemory = 3
 abbrev pub fault_status : ToolFault → ℕ
 fault_status OneFile = 2
 fault_status InputTwice = 2
-fault_status (CannotOpen place) = 2
+fault_status (CannotOpen place obstacle) = 2
 fault_status InputUnread = 2
 fault_status InputTooLong = 2
 fault_status InputUndivided = 2

@@ -1,5 +1,6 @@
 pub mod Splitting
 pub mod Faults
+pub mod Helping
 pub mod Opening
 pub mod Running
 pub mod Ending

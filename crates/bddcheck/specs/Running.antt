@@ -26,8 +26,13 @@ use Rattle.bddcheck.specs.declared.fault.Place.{Place}
 use Rattle.bddcheck.specs.declared.fault.Place.TheVariants.{First, Second, Order as OrderFile}
 use Rattle.bddcheck.specs.declared.fault.ToolFault.{ToolFault}
 use Rattle.bddcheck.specs.declared.fault.ToolFault.TheVariants.{OneFile, InputTwice as DashTwice, CannotOpen, InputUnread, InputTooLong, InputUndivided, BadOrder, Check, OutOfMemory}
+use Rattle.bddcheck.specs.declared.folder.Obstacle.{Obstacle}
 use Rattle.bddcheck.specs.Splitting.{IsSplit}
 use Rattle.bddcheck.specs.Opening.{Try, opened, AreTried}
+
+-- a file at this place was not opened
+abbrev pub IsOpenFault : Place → ToolFault → Type 0
+IsOpenFault place fault = ((obstacle : Obstacle) × (fault ≡ CannotOpen place obstacle)) ⊎ (fault ≡ OutOfMemory)
 
 -- the file that is opened for the first text
 abbrev pub first_paths : Texts → List (List ℕ)
@@ -157,12 +162,12 @@ pub record IsOrderRefused (told : Option (List ℕ)) (has_failed : Type 0) (faul
 -- Why the order that is asked for was not had, and which files were tried for it. `broken` says of a path that a file that was
 -- opened there has failed.
 abbrev pub IsOrderFault : (List ℕ → Option (List ℕ)) → (broken : List ℕ → Type 0) → OrderChoice → List Try → ToolFault → Type 0
-IsOrderFault told broken choice tries (CannotOpen OrderFile) = (path : Bor (List ℕ)) × (choice ≡ File path) × (tries ≡ (path.now, false) ∷ [])
+IsOrderFault told broken choice tries (CannotOpen OrderFile obstacle) = (path : Bor (List ℕ)) × (choice ≡ File path) × (tries ≡ (path.now, false) ∷ [])
 IsOrderFault told broken choice tries (BadOrder fault) =
     (path : Bor (List ℕ)) × (choice ≡ File path) × (tries ≡ opened (order_paths choice)) × IsOrderRefused (told path.now) (broken path.now) fault
 IsOrderFault told broken choice tries OutOfMemory = AreTried (order_paths choice) tries
-IsOrderFault told broken choice tries (CannotOpen First) = ⊥
-IsOrderFault told broken choice tries (CannotOpen Second) = ⊥
+IsOrderFault told broken choice tries (CannotOpen First obstacle) = ⊥
+IsOrderFault told broken choice tries (CannotOpen Second obstacle) = ⊥
 IsOrderFault told broken choice tries OneFile = ⊥
 IsOrderFault told broken choice tries DashTwice = ⊥
 IsOrderFault told broken choice tries InputUnread = ⊥
@@ -174,7 +179,7 @@ IsOrderFault told broken choice tries (Check fault) = ⊥
 abbrev pub IsCompareFault : (List ℕ → Option (List ℕ)) → (broken : List ℕ → Type 0) → (one two : Option (List ℕ)) → (first_failed second_failed : Type 0) → Options → List Try → ToolFault → Type 0
 IsCompareFault told broken one two first_failed second_failed o tries (Check fault) =
     (choice : Choice) × IsOrderOf told o.order choice × (tries ≡ opened (order_paths o.order)) × IsFailedCheck one two first_failed second_failed o choice fault
-IsCompareFault told broken one two first_failed second_failed o tries (CannotOpen place) = IsOrderFault told broken o.order tries (CannotOpen place)
+IsCompareFault told broken one two first_failed second_failed o tries (CannotOpen place obstacle) = IsOrderFault told broken o.order tries (CannotOpen place obstacle)
 IsCompareFault told broken one two first_failed second_failed o tries (BadOrder fault) = IsOrderFault told broken o.order tries (BadOrder fault)
 IsCompareFault told broken one two first_failed second_failed o tries OutOfMemory = IsOrderFault told broken o.order tries OutOfMemory
 IsCompareFault told broken one two first_failed second_failed o tries OneFile = ⊥
@@ -189,7 +194,7 @@ IsInputFault input InputTooLong = IfSome input (λ text. 134221824 < length text
 IsInputFault input InputUnread = ⊤
 IsInputFault input OutOfMemory = ⊤
 IsInputFault input (Check fault) = ⊥
-IsInputFault input (CannotOpen place) = ⊥
+IsInputFault input (CannotOpen place obstacle) = ⊥
 IsInputFault input (BadOrder fault) = ⊥
 IsInputFault input OneFile = ⊥
 IsInputFault input DashTwice = ⊥
@@ -226,7 +231,7 @@ HasSecondFailed broken input_broken One = ⊥
 abbrev pub IsToolFault : (List ℕ → Option (List ℕ)) → (broken : List ℕ → Type 0) → (input_broken : Type 0) → Option (List ℕ) → Options → List Try → ToolFault → Type 0
 IsToolFault told broken input_broken input o tries OneFile = (o.texts ≡ One) × (tries ≡ [])
 IsToolFault told broken input_broken input o tries DashTwice = (o.texts ≡ InputTwice) × (tries ≡ [])
-IsToolFault told broken input_broken input o tries (CannotOpen place) = IsUnopened input o tries place
+IsToolFault told broken input_broken input o tries (CannotOpen place obstacle) = IsUnopened input o tries place
 IsToolFault told broken input_broken input o tries InputUnread = (o.texts ≡ Input) × (tries ≡ [])
 IsToolFault told broken input_broken input o tries InputTooLong = (o.texts ≡ Input) × (tries ≡ []) × IfSome input (λ text. 134221824 < length text)
 IsToolFault told broken input_broken input o tries InputUndivided = (o.texts ≡ Input) × (tries ≡ []) × IfSome input (λ text. IsShort text × IsSplit text None)

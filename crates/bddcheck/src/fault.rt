@@ -2,6 +2,7 @@
 ghost use Rattle.std.specs.Prelude.{◌≡◌, ◌≤◌, Some, IfOk, string_bytes};
 ghost use Rattle.bddcheck.specs.Faults.{place_text, tool_fault_text, fault_line, text_status, order_status, check_status, fault_status};
 
+use crate::folder::Obstacle;
 use check_report::CheckFault;
 use net_bench::netlist::BenchFault;
 use net_order::order::OrderFault;
@@ -36,7 +37,7 @@ pub enum ToolFault {
     OneFile,
     /// Standard input was named as both files.
     InputTwice,
-    CannotOpen(Place),
+    CannotOpen(Place, Obstacle),
     InputUnread,
     InputTooLong,
     /// Standard input has no line that divides it.
@@ -54,7 +55,7 @@ impl fmt::Display for ToolFault {
         match self {
             ToolFault::OneFile => write!(f, "give two files or none"),
             ToolFault::InputTwice => write!(f, "standard input: given twice"),
-            ToolFault::CannotOpen(place) => write!(f, "{place}: cannot be opened"),
+            ToolFault::CannotOpen(place, _) => write!(f, "{place}: cannot be opened"),
             ToolFault::InputUnread => write!(f, "standard input: cannot be read"),
             ToolFault::InputTooLong => write!(f, "standard input: too long"),
             ToolFault::InputUndivided => write!(f, "standard input: no line %%"),

@@ -6,11 +6,22 @@ use net_bench::device::{Source, Through};
 use std::rt::Files;
 use std::{fs, io};
 
+/// What stands in the way of an opening.
+#[derive(Clone, Copy, Drop, Debug, PartialEq, Eq)]
+pub enum Obstacle {
+    Missing,
+    Forbidden,
+    /// A part of the path is a file.
+    NoFolder,
+    /// Links lead back to one another.
+    Links,
+    Other,
+}
+
 /// Why a file was not opened.
 #[derive(Clone, Copy, Drop, Debug, PartialEq, Eq)]
 pub enum OpenFault {
-    /// There is no such file, or it may not be read.
-    Refused,
+    Refused(Obstacle),
     /// A growth was refused.
     OutOfMemory,
 }
@@ -31,6 +42,25 @@ pub trait Folder {
         ensures fresh { IfOk result (λ file. Self.File.has_failed file ≡ false) }
         ensures named { IfOk result (λ file. IfSome (Self.File.origin file) (λ from. from ≡ path.now)) }
         ensures kept { told self.new ≡ told self.old };
+}
+
+/// Why the system opens no file.
+fn fault_of(kind: io::ErrorKind) -> OpenFault {
+    if kind == io::ErrorKind::OutOfMemory {
+        return OpenFault::OutOfMemory;
+    }
+    let obstacle = if kind == io::ErrorKind::NotFound {
+        Obstacle::Missing
+    } else if kind == io::ErrorKind::PermissionDenied {
+        Obstacle::Forbidden
+    } else if kind == io::ErrorKind::NotADirectory {
+        Obstacle::NoFolder
+    } else if kind == io::ErrorKind::FilesystemLoop {
+        Obstacle::Links
+    } else {
+        Obstacle::Other
+    };
+    OpenFault::Refused(obstacle)
 }
 
 /// The file system of a runtime, which tells nothing.
@@ -58,13 +88,7 @@ impl<'a, H: Files> Folder for Disk<'a, H> {
     fn open(&mut self, path: &str) -> Result<Through<H::File>, OpenFault> {
         match fs::open(self.rt, path) {
             Ok(file) => Ok(Through::new(file)),
-            Err(error) => {
-                if error.kind() == io::ErrorKind::OutOfMemory {
-                    Err(OpenFault::OutOfMemory)
-                } else {
-                    Err(OpenFault::Refused)
-                }
-            }
+            Err(error) => Err(fault_of(error.kind())),
         }
     }
 }

@@ -4,6 +4,7 @@
 mod done;
 mod fault;
 mod folder;
+mod help;
 mod process;
 mod run;
 mod split;

@@ -1,6 +1,6 @@
 //! A run over the arguments, the files and the devices of a process.
-ghost use Rattle.std.specs.Prelude.{◌≡◌, ◌≤◌, MatchResult, drop, map, string_bytes};
-ghost use Rattle.bddcheck.specs.Ending.{Written, Scene, IsRun, IsWordless};
+ghost use Rattle.std.specs.Prelude.{◌≡◌, ◌≤◌, ◌⊎◌, IsOkAnd, MatchResult, drop, map, string_bytes};
+ghost use Rattle.bddcheck.specs.Ending.{Written, Scene, AskForMore, IsRun, IsWordless};
 ghost use Rattle.bddcheck.specs.Opening.{HasFailedAt};
 
 use crate::fault::ToolFault;
@@ -81,9 +81,9 @@ pub fn status_of<H: AllocGlobal + Threads + Wait + Sync, F: Folder, R: Source, W
         (λ all. IsRun (HasFailedAt F.File.origin F.File.has_failed) scene (folder.new ≡ folder.old) (input.new ≡ input.old) (map string_bytes (drop 1 all.items)) result)
         (λ why. IsWordless scene.errors why result × (out.new ≡ out.old) × (folder.new ≡ folder.old) × (input.new ≡ input.old)) }
     ensures bound { result ≤ 3 }
-    // Status 2 says that nothing was written, statuses 0 and 1 that nothing was said.
+    // Status 2 says that nothing was written, statuses 0 and 1 that nothing was said, unless more is asked for.
     ensures untouched { result ≡ 2 → out.new ≡ out.old }
-    ensures silent { result ≤ 1 → errors.new ≡ errors.old }
+    ensures silent { IsOkAnd arguments (λ all. AskForMore (map string_bytes (drop 1 all.items))) ⊎ (result ≤ 1 → errors.new ≡ errors.old) }
 {
     match arguments {
         Ok(words) => run_tool(

@@ -10,7 +10,7 @@ ghost use Rattle.check_report.specs.Writing.{AppendsFront};
 ghost use Rattle.expand_work.specs.declared.fault.WaveFault.TheVariants.{Full};
 ghost use Rattle.net_order.specs.declared.order.Order.{Order};
 ghost use Rattle.bddcheck.specs.Opening.{Extends, HasFailedAt, Try, opened};
-ghost use Rattle.bddcheck.specs.Running.{order_paths, paths_of, IsShort, IsOrderOf, IsOrderFault, IsCompared, IsCompareFault, IsInputFault, IsToolFault, HasReported, HasReportedFront, IsBeyond, StandOnInput};
+ghost use Rattle.bddcheck.specs.Running.{IsOpenFault, order_paths, paths_of, IsShort, IsOrderOf, IsOrderFault, IsCompared, IsCompareFault, IsInputFault, IsToolFault, HasReported, HasReportedFront, IsBeyond, StandOnInput};
 
 use crate::done::Done;
 use crate::fault::{Place, ToolFault};
@@ -35,11 +35,11 @@ fn open<F: Folder>(folder: &mut F, path: &str, place: Place) -> Result<F::File, 
     ensures file { IfOk result (λ file. IfSome (F.told folder.old path.now) (λ text. F.File.remaining file ≡ Some text)) }
     ensures named { IfOk result (λ file. IfSome (F.File.origin file) (λ from. from ≡ path.now)) }
     ensures kept { F.told folder.new ≡ F.told folder.old }
-    ensures fault { IfErr result (λ fault. (fault ≡ ToolFault.CannotOpen place) ⊎ (fault ≡ ToolFault.OutOfMemory)) }
+    ensures fault { IfErr result (λ fault. IsOpenFault place fault) }
 {
     match folder.open(path) {
         Ok(file) => Ok(file),
-        Err(OpenFault::Refused) => Err(ToolFault::CannotOpen(place)),
+        Err(OpenFault::Refused(obstacle)) => Err(ToolFault::CannotOpen(place, obstacle)),
         Err(OpenFault::OutOfMemory) => Err(ToolFault::OutOfMemory),
     }
 }

@@ -1,16 +1,18 @@
 //! A run of the program: its words, its folder and its devices to a status.
-ghost use Rattle.std.specs.Prelude.{◌≡◌, ◌≤◌, map, string_bytes};
-ghost use Rattle.bddcheck.specs.Ending.{Written, Says, IsSaid, IsReportStatus, IsDoneStatus, Scene, IsRun, IsWordEnd};
+ghost use Rattle.std.specs.Prelude.{◌≡◌, ◌≤◌, ◌⊎◌, false, IfOk, map, string_bytes};
+ghost use Rattle.bddcheck.specs.Ending.{Written, Says, IsSaid, MaySay, IsSaidOf, attempt_line, IsAttemptSaid, IsDoneSaid, AskForMore, IsReportStatus, IsDoneStatus, Scene, IsRun, IsWordEnd};
+ghost use Rattle.bddcheck.specs.Helping.{help_text};
 ghost use Rattle.bddcheck.specs.Opening.{HasFailedAt};
 
 use crate::done::Done;
 use crate::fault::{ToolFault, line_of, status_of_fault};
 use crate::folder::Folder;
+use crate::help::help_of;
 use crate::run::run_options;
-use check_report::{Outcome, write_whole};
-use command_line::{Refused, read_options};
+use check_report::{Attempt, Outcome, write_whole};
+use command_line::{Options, Refused, read_options};
 use net_bench::device::{Sink, Source};
-use std::alloc::Global;
+use std::alloc::{AllocError, Global};
 use std::sync::Wait;
 use std::thread::Threads;
 
@@ -35,6 +37,62 @@ pub fn refuse<E: Sink>(alloc: Global, fault: ToolFault, errors: &mut E) -> u8
             say(errors, b"bddcheck: out of memory\n");
             status_of_fault(ToolFault::OutOfMemory)
         }
+    }
+}
+
+/// Says what helps against a fault, where there is memory for it.
+fn help<E: Sink>(alloc: Global, options: &Options<'_>, fault: ToolFault, errors: &mut E)
+    ensures { MaySay (record { held = E.contents errors.old; holds = E.contents errors.new; has_failed = E.has_failed errors.new; has_stopped = E.has_stopped errors.new }) (help_text options.now fault) }
+{
+    if let Ok(line) = help_of(alloc, options, fault) {
+        say(errors, line.as_bytes());
+    }
+}
+
+/// Prints the line of a fault of a run, and what helps where more is asked for, and answers the status.
+fn refuse_run<E: Sink>(alloc: Global, options: &Options<'_>, fault: ToolFault, errors: &mut E) -> u8
+    ensures said { IsSaidOf options.now.verbose options.now (record { held = E.contents errors.old; holds = E.contents errors.new; has_failed = E.has_failed errors.new; has_stopped = E.has_stopped errors.new }) fault result }
+    ensures bound { result ≤ 3 }
+    ensures refused { 2 ≤ result }
+{
+    let status = refuse(alloc, fault, errors);
+    if options.verbose {
+        help(alloc, options, fault, errors);
+    }
+    status
+}
+
+/// The line that names an attempt.
+fn line_of_attempt(alloc: Global, attempt: Attempt) -> Result<String, AllocError>
+    ensures { IfOk result (λ line. string_bytes line ≡ attempt_line attempt) }
+{
+    let order = attempt.order;
+    let budget = attempt.budget;
+    format!(in alloc; "bddcheck: order {order}, budget {budget}\n")
+}
+
+/// Says which attempt a run ended with, where there is one, and memory for its line.
+fn tell_attempt<E: Sink>(alloc: Global, tried: Option<Attempt>, errors: &mut E)
+    ensures { IsAttemptSaid tried (record { held = E.contents errors.old; holds = E.contents errors.new; has_failed = E.has_failed errors.new; has_stopped = E.has_stopped errors.new }) }
+{
+    let Some(attempt) = tried else {
+        return;
+    };
+    if let Ok(line) = line_of_attempt(alloc, attempt) {
+        say(errors, line.as_bytes());
+    }
+}
+
+/// Says what a run has done, where more is asked for.
+fn tell<E: Sink>(alloc: Global, verbose: bool, done: Done, errors: &mut E)
+    ensures said { IsDoneSaid verbose done (record { held = E.contents errors.old; holds = E.contents errors.new; has_failed = E.has_failed errors.new; has_stopped = E.has_stopped errors.new }) }
+    ensures silent { verbose ≡ false → errors.new ≡ errors.old }
+{
+    if !verbose {
+        return;
+    }
+    match done {
+        Done::Compared(_, tried) | Done::OrderPrinted(tried) => tell_attempt(alloc, tried, errors),
     }
 }
 
@@ -100,7 +158,7 @@ pub fn run_tool<H: Threads + Wait + Sync, F: Folder, R: Source, W: Sink, E: Sink
     errors: &mut E,
 ) -> u8
     // The words ask for options, and then the run ends with their report, or their order, and status 0 or 1, or with the line and the status of a
-    // fault that has its cause, and the input is read only where a text stands on it; or they are refused for a cause, no file is
+    // fault that has its cause, behind which stands what helps where more is asked for, and the input is read only where a text stands on it; or they are refused for a cause, no file is
     // opened, nothing is read, and help, a mistake or want of memory is told.
     ensures ending { let scene : Scene = record {
       told = F.told folder.old;
@@ -112,16 +170,19 @@ pub fn run_tool<H: Threads + Wait + Sync, F: Folder, R: Source, W: Sink, E: Sink
       errors = record { held = E.contents errors.old; holds = E.contents errors.new; has_failed = E.has_failed errors.new; has_stopped = E.has_stopped errors.new };
     } in IsRun (HasFailedAt F.File.origin F.File.has_failed) scene (folder.new ≡ folder.old) (input.new ≡ input.old) (map string_bytes words.now) result }
     ensures bound { result ≤ 3 }
-    // Status 2 says that nothing was written, statuses 0 and 1 that nothing was said.
+    // Status 2 says that nothing was written, statuses 0 and 1 that nothing was said, unless more is asked for.
     ensures untouched { result ≡ 2 → out.new ≡ out.old }
-    ensures silent { result ≤ 1 → errors.new ≡ errors.old }
+    ensures silent { AskForMore (map string_bytes words.now) ⊎ (result ≤ 1 → errors.new ≡ errors.old) }
 {
     let options = match read_options(alloc, words) {
         Ok(options) => options,
         Err(refused) => return refuse_words(alloc, &refused, out, errors),
     };
     match run_options(rt, alloc, &options, folder, input, out) {
-        Ok(done) => status_of_done(done),
-        Err(fault) => refuse(alloc, fault, errors),
+        Ok(done) => {
+            tell(alloc, options.verbose, done, errors);
+            status_of_done(done)
+        }
+        Err(fault) => refuse_run(alloc, &options, fault, errors),
     }
 }

@@ -1,16 +1,13 @@
 -- How verdicts are added one by one, and their lines.
-use Rattle.std.proofs.Common.{◌≡◌, ◌∙◌, ap, sym, refl, subst, ℕ, ◌+◌, ◌<◌, ◌≤◌, Bool, List, [], ◌∷◌, ◌++◌, map, length, get_or, take, drop, append_assoc, Some}
+use Rattle.std.proofs.Common.{◌≡◌, ◌∙◌, ap, sym, refl, subst, ℕ, ◌+◌, ◌<◌, ◌≤◌, Bool, List, [], ◌∷◌, ◌++◌, map, length, get_or, take, drop, append_assoc, Option, Some}
 use Rattle.std.specs.Prelude.{slice_get, slice_index, All, ◌↔◌}
 use Rattle.std.specs.List.{AllZip}
 use Rattle.std.proofs.lemmas.List.{take_more, take_all, drop_more}
-use Rattle.std.proofs.lemmas.List.Elements.{All-get_or}
 use Rattle.net_bench.specs.Circuit.{Circuit}
 use Rattle.net_bench.specs.Labels.{IsFunctionOf}
-use Rattle.net_order.specs.Order.{Paired, name_of, names_of}
-use Rattle.dd_store.specs.Functions.{Agree}
+use Rattle.net_order.specs.Order.{Paired, first_level, second_level, name_of, names_of}
 use Rattle.dd_store.specs.declared.reference.Ref.{Ref}
-use Rattle.dd_store.specs.Nodes.{Nodes, den}
-use Rattle.gate_plan.specs.Building.{References, reference_of}
+use Rattle.dd_store.specs.Nodes.{Nodes}
 use Rattle.check_report.specs.declared.outcome.Role.{Role}
 use Rattle.check_report.specs.declared.outcome.Side.{Side}
 use Rattle.check_report.specs.declared.outcome.Side.TheVariants.{First, Second}
@@ -19,9 +16,12 @@ use Rattle.check_report.specs.declared.verdict.Verdict.{Verdict}
 use Rattle.check_report.specs.declared.verdict.Verdict.TheVariants.{Lone}
 use Rattle.check_report.specs.Lines.{line_text, lines_text}
 use Rattle.check_report.specs.Report.{Compared, AreFunctions, IsVerdictOf, CallsEqual, AreVerdicts, lone_side, subjects}
-use Rattle.check_report.specs.Comparing.{AreSignals, AreBuilt, HaveVerdicts, IsInside, compared_of}
+use Rattle.check_report.specs.Conditions.{everywhere, AgreeWhere}
+use Rattle.check_report.specs.Comparing.{AreSignals, IsInside, HaveVerdicts, HaveAllVerdicts, DenotesWhere, subject_at, compared_of}
 use Rattle.check_report.proofs.Wording.{there}
+use Rattle.gate_plan.proofs.Ranks.{any_default}
 use Rattle.check_report.proofs.Calling.{exact}
+use Rattle.check_report.proofs.Restricting.{verdict_where}
 
 -- ---- lists
 
@@ -51,58 +51,66 @@ lines_next names vs i v text more whole lt here done added =
 
 -- ---- the verdicts of what is compared
 
-module _ (sizes : Bool) (a b : Circuit) (p : Paired) where
-  pub start : HaveVerdicts sizes a b p [] []
+module _ (sizes : Bool) (holds : List Bool → Bool) (a b : Circuit) (p : Paired) where
+  pub start : HaveVerdicts sizes holds a b p [] []
   start = record { compared = []; functions = tt; are_verdicts = tt }
 
-  -- the functions of two signals, by their diagrams
-  pub functions_of : (S : Nodes) (refs : References) → AreBuilt a b p S refs → (subject : Subject) → IsInside a b subject → (role : Role) (name : List ℕ) (first second : Ref) → role ≡ subject.role → name ≡ name_of a subject.named →
-      first ≡ reference_of refs.first subject.first → second ≡ reference_of refs.second subject.second → AreFunctions a b p subject (compared_of S role name first second)
-  functions_of S refs built subject inside role name first second er e ef es = record {
-    role = er;
-    name = e;
-    first = subst (λ r. IsFunctionOf a (slice_index p.first) (length p.names) subject.first (den S r)) (sym ef)
-        (subst (λ n. IsFunctionOf a (slice_index p.first) n subject.first (den S (reference_of refs.first subject.first))) built.levels (built.first.functions subject.first inside.1));
-    second = subst (λ r. IsFunctionOf b (slice_index p.second) (length p.names) subject.second (den S r)) (sym es)
-        (subst (λ n. IsFunctionOf b (slice_index p.second) n subject.second (den S (reference_of refs.second subject.second))) built.levels (built.second.functions subject.second inside.2));
-  }
-
-  -- what is compared are signals
-  pub subject_known : (all : List Subject) (i : ℕ) (subject : Subject) → all ≡ subjects a b p → i < length all → get_or all i subject ≡ subject → AreSignals a b p → IsInside a b subject
-  subject_known all i subject e lt here signals =
-      subst (IsInside a b) here (All-get_or (IsInside a b) all i subject lt (subst (All (IsInside a b)) (sym e) signals.compared))
-
   pub next : (n : ℕ) (all : List Subject) (i : ℕ) (subject : Subject) (c : Compared) (v : Verdict) (verdicts more : List Verdict) → n ≡ length p.names → i < length all → get_or all i subject ≡ subject →
-      HaveVerdicts sizes a b p (take i all) verdicts → AreFunctions a b p subject c → IsVerdictOf n sizes c v → more ≡ verdicts ++ v ∷ [] → HaveVerdicts sizes a b p (take (i + 1) all) more
+      HaveVerdicts sizes holds a b p (take i all) verdicts → AreFunctions a b p subject c → IsVerdictOf n sizes holds c v → more ≡ verdicts ++ v ∷ [] → HaveVerdicts sizes holds a b p (take (i + 1) all) more
   next n all i subject c v verdicts more levels lt here h functions is grown =
       let e : take (i + 1) all ≡ take i all ++ subject ∷ [] = take_more all i subject lt ∙ ap (λ z. take i all ++ z ∷ []) here in
       record {
         compared = h.compared ++ c ∷ [];
         functions = subst (λ us. AllZip (AreFunctions a b p) us (h.compared ++ c ∷ [])) (sym e) (zip_push (AreFunctions a b p) (take i all) h.compared subject c h.functions functions);
-        are_verdicts = subst (AllZip (IsVerdictOf (length p.names) sizes) (h.compared ++ c ∷ [])) (sym grown)
-            (zip_push (IsVerdictOf (length p.names) sizes) h.compared verdicts c v h.are_verdicts (subst (λ m. IsVerdictOf m sizes c v) levels is));
+        are_verdicts = subst (AllZip (IsVerdictOf (length p.names) sizes holds) (h.compared ++ c ∷ [])) (sym grown)
+            (zip_push (IsVerdictOf (length p.names) sizes holds) h.compared verdicts c v h.are_verdicts (subst (λ m. IsVerdictOf m sizes holds c v) levels is));
       }
 
   -- all have their verdicts
   pub all_added : (all : List Subject) (i : ℕ) (verdicts : List Verdict) → all ≡ subjects a b p → length all ≤ i →
-      HaveVerdicts sizes a b p (take i all) verdicts → HaveVerdicts sizes a b p (subjects a b p) verdicts
-  all_added all i verdicts e le h = subst (λ us. HaveVerdicts sizes a b p us verdicts) (take_all i all le ∙ e) h
+      HaveVerdicts sizes holds a b p (take i all) verdicts → HaveVerdicts sizes holds a b p (subjects a b p) verdicts
+  all_added all i verdicts e le h = subst (λ us. HaveVerdicts sizes holds a b p us verdicts) (take_all i all le ∙ e) h
 
-  -- with the verdicts of what has no partner behind them
-  pub whole : (of_pairs one two : List Verdict) → HaveVerdicts sizes a b p (subjects a b p) of_pairs →
-      one ≡ of_pairs ++ lone_side First a p.outputs.only_first p.registers.only_first →
-      two ≡ one ++ lone_side Second b p.outputs.only_second p.registers.only_second →
-      AreVerdicts sizes a b p (record { variables = p.names; verdicts = two })
-  whole of_pairs one two h e f = record {
-    variables = refl;
-    compared = h.compared;
-    functions = h.functions;
-    of_pairs = of_pairs;
-    are_verdicts = h.are_verdicts;
-    called_equal = zip_map (IsVerdictOf (length p.names) sizes) (λ c v. CallsEqual v ↔ Agree (length p.names) c.first c.second) (exact (length p.names) sizes) h.compared of_pairs h.are_verdicts;
-    all = f ∙ ap (λ z. z ++ lone_side Second b p.outputs.only_second p.registers.only_second) e
-        ∙ append_assoc of_pairs (lone_side First a p.outputs.only_first p.registers.only_first) (lone_side Second b p.outputs.only_second p.registers.only_second);
-  }
+  -- one more verdict, by the references of its subject
+  pub next_shown : (S : Nodes) (all : List Subject) (i : ℕ) (role : Role) (name : List ℕ) (one two r q : Ref) (v : Verdict) (verdicts more : List Verdict) → S.levels ≡ length p.names → i < length all →
+      role ≡ (subject_at all i).role → name ≡ name_of a (subject_at all i).named → one ≡ r → two ≡ q →
+      DenotesWhere holds a (first_level p) S (subject_at all i).first r → DenotesWhere holds b (second_level p) S (subject_at all i).second q →
+      HaveVerdicts sizes holds a b p (take i all) verdicts → IsVerdictOf S.levels sizes everywhere (compared_of S role name one two) v → more ≡ verdicts ++ v ∷ [] → HaveVerdicts sizes holds a b p (take (i + 1) all) more
+  next_shown S all i role name one two r q v verdicts more levels lt er en eo et first second h is grown =
+      let subject = subject_at all i in
+      let c : Compared = record { role = subject.role; name = name_of a subject.named; first = first.1.0; second = second.1.0 } in
+      let e : compared_of S role name one two ≡ compared_of S subject.role (name_of a subject.named) r q = λ j. compared_of S (er j) (en j) (eo j) (et j) in
+      let plain : IsVerdictOf S.levels sizes everywhere (compared_of S subject.role (name_of a subject.named) r q) v = subst (λ z. IsVerdictOf S.levels sizes everywhere z v) e is in
+      next S.levels all i subject c v verdicts more levels lt (any_default all i subject _ lt) h
+      (record {
+        role = refl;
+        name = refl;
+        first = subst (λ n. IsFunctionOf a (slice_index p.first) n subject.first first.1.0) levels first.1.1;
+        second = subst (λ n. IsFunctionOf b (slice_index p.second) n subject.second second.1.0) levels second.1.1;
+      })
+      (verdict_where S.levels sizes holds (compared_of S subject.role (name_of a subject.named) r q) first.1.0 second.1.0 first.1.2 second.1.2 v plain) grown
+
+-- what is compared has names
+pub all_named : (a b : Circuit) (p : Paired) (all : List Subject) → all ≡ subjects a b p → AreSignals a b p → All (λ subject. subject.named < length a.names) all
+all_named a b p all e signals = λ i d lt. (subst (All (IsInside a b)) (sym e) signals.compared i d lt).0
+
+-- with the verdicts of what has no partner behind them
+pub whole : (sizes : Bool) (a b : Circuit) (given : Option Circuit) (p : Paired) (of_pairs one two : List Verdict) → HaveAllVerdicts sizes a b given p of_pairs →
+    one ≡ of_pairs ++ lone_side First a p.outputs.only_first p.registers.only_first →
+    two ≡ one ++ lone_side Second b p.outputs.only_second p.registers.only_second →
+    AreVerdicts sizes a b given p (record { variables = p.names; verdicts = two })
+whole sizes a b given p of_pairs one two (holds, is, h) e f = record {
+  variables = refl;
+  holds = holds;
+  condition = is;
+  compared = h.compared;
+  functions = h.functions;
+  of_pairs = of_pairs;
+  are_verdicts = h.are_verdicts;
+  called_equal = zip_map (IsVerdictOf (length p.names) sizes holds) (λ c v. CallsEqual v ↔ AgreeWhere (length p.names) holds c.first c.second) (exact (length p.names) sizes holds) h.compared of_pairs h.are_verdicts;
+  all = f ∙ ap (λ z. z ++ lone_side Second b p.outputs.only_second p.registers.only_second) e
+      ∙ append_assoc of_pairs (lone_side First a p.outputs.only_first p.registers.only_first) (lone_side Second b p.outputs.only_second p.registers.only_second);
+}
 
 -- ---- the verdicts of what has no partner
 

@@ -1,10 +1,9 @@
 -- The definition of the report determines it: the counts and the bytes.
 use Rattle.std.proofs.Common.{◌≡◌, ◌∙◌, ℕ, suc, ◌<◌, ◌⊎◌, inl, inr, Bool, true, false, List, [], ◌∷◌, ◌++◌, length, Option, Some, None, refl, sym, ap, subst, arith, slice_index}
-use Rattle.std.specs.Prelude.{All}
+use Rattle.std.specs.Prelude.{◌&&◌, All, IfSome, option_map}
 use Rattle.std.specs.List.{AllZip}
-use Rattle.dd_store.specs.Functions.{Agree, Before, IsLeastDifference}
+use Rattle.dd_store.specs.Functions.{Agree, Before}
 use Rattle.dd_store.specs.Functions.Before.{first, later}
-use Rattle.dd_store.specs.Size.{HasSize}
 use Rattle.dd_store.proofs.OneSize.{HasSize-one}
 use Rattle.net_bench.specs.Circuit.{Circuit, Net, IsNet, circuit, variables_of}
 use Rattle.net_bench.specs.Labels.{IsLabelling, IsFunctionOf, bit_of}
@@ -19,7 +18,9 @@ use Rattle.check_report.specs.Lines.{Found, counted}
 use Rattle.check_report.specs.Report.{Compared, IsSizeShown, AreSizesShown, IsVerdictOf, AreFunctions, AreVerdicts, lone_verdicts, subjects, IsReport}
 use Rattle.check_report.specs.Report.IsVerdictOf.{where_equal, where_different}
 use Rattle.check_report.specs.declared.outcome.Subject.{Subject}
+use Rattle.check_report.specs.Conditions.{HasOneOutput, HoldsWhere, output_of, restricted, AgreeWhere, IsLeastWhere}
 use Rattle.check_report.specs.Comparing.{IsInside}
+use Rattle.check_report.proofs.Restricting.{size_as}
 use Rattle.check_report.proofs.Subjects.{subjects_inside}
 
 -- ---- the least difference
@@ -38,18 +39,15 @@ either (true ∷ x) (false ∷ y) e = inr (inr first)
 either (false ∷ x) (false ∷ y) e = behind false x y (either x y (omega arith))
 either (true ∷ x) (true ∷ y) e = behind true x y (either x y (omega arith))
 
-one_difference : (n : ℕ) (f g f' g' : List Bool → Bool) (x y : List Bool) → Agree n f f' → Agree n g g' → IsLeastDifference n f g x → IsLeastDifference n f' g' y → x ≡ y
-one_difference n f g f' g' x y same other d e = by (either x y (d.bits ∙ sym e.bits))
+one_difference : (n : ℕ) (holds holds' f g f' g' : List Bool → Bool) (x y : List Bool) → Agree n holds holds' → Agree n f f' → Agree n g g' → IsLeastWhere n holds f g x → IsLeastWhere n holds' f' g' y → x ≡ y
+one_difference n holds holds' f g f' g' x y there same other d e = by (either x y (d.bits ∙ sym e.bits))
   where
     by : (x ≡ y) ⊎ (Before x y ⊎ Before y x) → x ≡ y
     by (inl is) = is
-    by (inr (inl l)) = absurd (d.differ (same x d.bits ∙ e.least x d.bits l ∙ sym (other x d.bits)))
-    by (inr (inr l)) = absurd (e.differ (sym (same y e.bits) ∙ d.least y e.bits l ∙ other y e.bits))
+    by (inr (inl l)) = absurd (d.differ (same x d.bits ∙ e.least x d.bits l (sym (there x d.bits) ∙ d.satisfies) ∙ sym (other x d.bits)))
+    by (inr (inr l)) = absurd (e.differ (sym (same y e.bits) ∙ d.least y e.bits l (there y e.bits ∙ e.satisfies) ∙ other y e.bits))
 
 -- ---- sizes
-
-size_as : (n : ℕ) (f g : List Bool → Bool) (k : ℕ) → Agree n f g → HasSize n f k → HasSize n g k
-size_as n f g k same s = (s.0, s.1, record { reduced = s.2.reduced; there = s.2.there; value = λ x len. s.2.value x len ∙ same x len }, s.3)
 
 one_size : (sizes : Bool) (n : ℕ) (f g : List Bool → Bool) (shown more : Option ℕ) → Agree n f g → IsSizeShown sizes n f shown → IsSizeShown sizes n g more → shown ≡ more
 one_size false n f g shown more same s t = s ∙ sym t
@@ -64,32 +62,46 @@ two_sizes true n f g f' g' shown more same other s t =
 
 -- ---- verdicts
 
-CallsBoth : (n : ℕ) (sizes : Bool) → Compared → Verdict → Type 0
-CallsBoth n sizes c l = (shown : Option ℕ) × Agree n c.first c.second × IsSizeShown sizes n c.first shown × (l ≡ Equal c.role c.name shown)
+CallsBoth : (n : ℕ) (sizes : Bool) (holds : List Bool → Bool) → Compared → Verdict → Type 0
+CallsBoth n sizes holds c l = (shown : Option ℕ) × AgreeWhere n holds c.first c.second × IsSizeShown sizes n (restricted holds c.first) shown × (l ≡ Equal c.role c.name shown)
 
-TellsApart : (n : ℕ) (sizes : Bool) → Compared → Verdict → Type 0
-TellsApart n sizes c l =
-    (x : List Bool) × (shown : Option (ℕ × ℕ)) × IsLeastDifference n c.first c.second x × AreSizesShown sizes n c.first c.second shown × (l ≡ Differs c.role c.name x (c.first x) (c.second x) shown)
+TellsApart : (n : ℕ) (sizes : Bool) (holds : List Bool → Bool) → Compared → Verdict → Type 0
+TellsApart n sizes holds c l =
+    (x : List Bool) × (shown : Option (ℕ × ℕ)) × IsLeastWhere n holds c.first c.second x × AreSizesShown sizes n (restricted holds c.first) (restricted holds c.second) shown
+    × (l ≡ Differs c.role c.name x (c.first x) (c.second x) shown)
 
-kind_of : (n : ℕ) (sizes : Bool) (c : Compared) (l : Verdict) → IsVerdictOf n sizes c l → CallsBoth n sizes c l ⊎ TellsApart n sizes c l
+kind_of : (n : ℕ) (sizes : Bool) (holds : List Bool → Bool) (c : Compared) (l : Verdict) → IsVerdictOf n sizes holds c l → CallsBoth n sizes holds c l ⊎ TellsApart n sizes holds c l
 unfolding CallsBoth TellsApart
-kind_of n sizes c l (where_equal {shown = shown} agree size) = inl (shown, agree, size, refl)
-kind_of n sizes c l (where_different {x = x} {shown = shown} least size) = inr (x, shown, least, size, refl)
+kind_of n sizes holds c l (where_equal {shown = shown} agree size) = inl (shown, agree, size, refl)
+kind_of n sizes holds c l (where_different {x = x} {shown = shown} least size) = inr (x, shown, least, size, refl)
 
-one_verdict : (n : ℕ) (sizes : Bool) (c d : Compared) → c.role ≡ d.role → c.name ≡ d.name → Agree n c.first d.first → Agree n c.second d.second → (l m : Verdict) → IsVerdictOf n sizes c l → IsVerdictOf n sizes d m → l ≡ m
+-- restrictions of functions that agree
+agree_restricted : (n : ℕ) (holds holds' f f' : List Bool → Bool) → Agree n holds holds' → Agree n f f' → Agree n (restricted holds f) (restricted holds' f')
+agree_restricted n holds holds' f f' there same x len = ap (λ z. z && f x) (there x len) ∙ ap (λ z. holds' x && z) (same x len)
+
+one_verdict : (n : ℕ) (sizes : Bool) (holds holds' : List Bool → Bool) (c d : Compared) → c.role ≡ d.role → c.name ≡ d.name → Agree n holds holds' → Agree n c.first d.first → Agree n c.second d.second →
+    (l m : Verdict) → IsVerdictOf n sizes holds c l → IsVerdictOf n sizes holds' d m → l ≡ m
 unfolding CallsBoth TellsApart
-one_verdict n sizes c d role name same other l m h k = by (kind_of n sizes c l h) (kind_of n sizes d m k)
+one_verdict n sizes holds holds' c d role name there same other l m h k = by (kind_of n sizes holds c l h) (kind_of n sizes holds' d m k)
   where
-    by : CallsBoth n sizes c l ⊎ TellsApart n sizes c l → CallsBoth n sizes d m ⊎ TellsApart n sizes d m → l ≡ m
+    first_restricted : Agree n (restricted holds c.first) (restricted holds' d.first)
+    first_restricted = agree_restricted n holds holds' c.first d.first there same
+
+    second_restricted : Agree n (restricted holds c.second) (restricted holds' d.second)
+    second_restricted = agree_restricted n holds holds' c.second d.second there other
+
+    by : CallsBoth n sizes holds c l ⊎ TellsApart n sizes holds c l → CallsBoth n sizes holds' d m ⊎ TellsApart n sizes holds' d m → l ≡ m
     by (inl s) (inl t) =
-        s.3 ∙ ap (λ w. Equal w c.name s.0) role ∙ ap (λ w. Equal d.role w s.0) name ∙ ap (λ z. Equal d.role d.name z) (one_size sizes n c.first d.first s.0 t.0 same s.2 t.2) ∙ sym t.3
+        s.3 ∙ ap (λ w. Equal w c.name s.0) role ∙ ap (λ w. Equal d.role w s.0) name
+        ∙ ap (λ z. Equal d.role d.name z) (one_size sizes n (restricted holds c.first) (restricted holds' d.first) s.0 t.0 first_restricted s.2 t.2) ∙ sym t.3
     by (inl s) (inr t) =
-        absurd (t.2.differ (sym (same t.0 t.2.bits) ∙ s.1 t.0 t.2.bits ∙ other t.0 t.2.bits))
+        absurd (t.2.differ (sym (same t.0 t.2.bits) ∙ s.1 t.0 t.2.bits (there t.0 t.2.bits ∙ t.2.satisfies) ∙ other t.0 t.2.bits))
     by (inr s) (inl t) =
-        absurd (s.2.differ (same s.0 s.2.bits ∙ t.1 s.0 s.2.bits ∙ sym (other s.0 s.2.bits)))
+        absurd (s.2.differ (same s.0 s.2.bits ∙ t.1 s.0 s.2.bits (sym (there s.0 s.2.bits) ∙ s.2.satisfies) ∙ sym (other s.0 s.2.bits)))
     by (inr s) (inr t) =
-        let x : s.0 ≡ t.0 = one_difference n c.first c.second d.first d.second s.0 t.0 same other s.2 t.2 in
-        let shown : s.1 ≡ t.1 = two_sizes sizes n c.first c.second d.first d.second s.1 t.1 same other s.3 t.3 in
+        let x : s.0 ≡ t.0 = one_difference n holds holds' c.first c.second d.first d.second s.0 t.0 there same other s.2 t.2 in
+        let shown : s.1 ≡ t.1 =
+        two_sizes sizes n (restricted holds c.first) (restricted holds c.second) (restricted holds' d.first) (restricted holds' d.second) s.1 t.1 first_restricted second_restricted s.3 t.3 in
         let one : c.first s.0 ≡ d.first t.0 = same s.0 s.2.bits ∙ ap d.first x in
         let two : c.second s.0 ≡ d.second t.0 = other s.0 s.2.bits ∙ ap d.second x in
         let e = s.4 in
@@ -105,7 +117,7 @@ labelling_as c level more x bits same l = record {
   gates = l.gates;
 }
 
-one_function : (net : Net) → IsNet net → (level more : ℕ → ℕ) → All (λ s. level s ≡ more s) (variables_of (circuit net)) → (n s : ℕ) → s < length net.names → (f g : List Bool → Bool)
+pub one_function : (net : Net) → IsNet net → (level more : ℕ → ℕ) → All (λ s. level s ≡ more s) (variables_of (circuit net)) → (n s : ℕ) → s < length net.names → (f g : List Bool → Bool)
     → IsFunctionOf (circuit net) level n s f → IsFunctionOf (circuit net) more n s g → Agree n f g
 one_function net sound level more same n s lt f g h k = λ x len.
     let a = h x len in
@@ -116,10 +128,10 @@ one_function net sound level more same n s lt f g h k = λ x len.
 
 module _ (n : ℕ) (sizes : Bool) (one two : Net) (sound : IsNet one) (sound' : IsNet two) (p q : Paired) (size : length p.names ≡ n) (size' : length q.names ≡ n)
     (first_same : All (λ s. slice_index p.first s ≡ slice_index q.first s) (variables_of (circuit one)))
-    (second_same : All (λ s. slice_index p.second s ≡ slice_index q.second s) (variables_of (circuit two))) where
+    (second_same : All (λ s. slice_index p.second s ≡ slice_index q.second s) (variables_of (circuit two))) (holds holds' : List Bool → Bool) (there : Agree n holds holds') where
   one_list : (all : List Subject) (cs ds : List Compared) (ls ms : List Verdict) → All (IsInside (circuit one) (circuit two)) all
       → AllZip (AreFunctions (circuit one) (circuit two) p) all cs → AllZip (AreFunctions (circuit one) (circuit two) q) all ds
-      → AllZip (IsVerdictOf n sizes) cs ls → AllZip (IsVerdictOf n sizes) ds ms → ls ≡ ms
+      → AllZip (IsVerdictOf n sizes holds) cs ls → AllZip (IsVerdictOf n sizes holds') ds ms → ls ≡ ms
   one_list [] [] [] [] [] inside a b h k = refl
   one_list [] [] [] (l ∷ ls) ms inside a b h k = absurd h
   one_list [] [] [] [] (m ∷ ms) inside a b h k = absurd k
@@ -137,23 +149,47 @@ module _ (n : ℕ) (sizes : Bool) (one two : Net) (sound : IsNet one) (sound' : 
       let other : Agree n c.second d.second =
       one_function two sound' (slice_index p.second) (slice_index q.second) second_same n w.second low.2 c.second d.second
       (subst (λ z. IsFunctionOf (circuit two) (slice_index p.second) z w.second c.second) size a.0.second) (subst (λ z. IsFunctionOf (circuit two) (slice_index q.second) z w.second d.second) size' b.0.second) in
-      let e : l ≡ m = one_verdict n sizes c d (a.0.role ∙ sym b.0.role) (a.0.name ∙ sym b.0.name) same other l m h.0 k.0 in
+      let e : l ≡ m = one_verdict n sizes holds holds' c d (a.0.role ∙ sym b.0.role) (a.0.name ∙ sym b.0.name) there same other l m h.0 k.0 in
       let r : ls ≡ ms = one_list ws cs ds ls ms (λ i v lt. inside (suc i) v (omega arith)) a.1 b.1 h.1 k.1 in
       cc
 
+-- the condition's output is one of its signals
+pub output_inside : (net : Net) → IsNet net → HasOneOutput (circuit net) → output_of (circuit net) < length net.names
+output_inside net sound one = sound.outputs 0 0 (omega (arith, one))
+
+-- two pairings give the condition's variables the same levels
+conditional_same : (how : Match) (a b : Circuit) (given : Option Net) (order : Order) (p q : Paired) → IsPairing how a b (option_map circuit given) order p → IsPairing how a b (option_map circuit given) order q →
+    (net : Net) → given ≡ Some net → All (λ s. slice_index p.given s ≡ slice_index q.given s) (variables_of (circuit net))
+conditional_same how a b None order p q h k net e = cc
+conditional_same how a b (Some other) order p q h k net e =
+    subst (λ (z : Net). All (λ s. slice_index p.given s ≡ slice_index q.given s) (variables_of (circuit z))) (some_is other net e) (λ i d lt. h.conditional i d lt ∙ sym (k.conditional i d lt))
+  where
+    some_is : (x y : Net) → ◌≡◌ {A = Option Net} (Some x) (Some y) → x ≡ y
+    some_is x y f = cc
+
+-- a condition holds at the same assignments
+one_condition : (given : Option Net) → IfSome given (λ net. IsNet net × HasOneOutput (circuit net)) → (p q : Paired) → length p.names ≡ length q.names →
+    ((net : Net) → given ≡ Some net → All (λ s. slice_index p.given s ≡ slice_index q.given s) (variables_of (circuit net))) → (holds holds' : List Bool → Bool) →
+    HoldsWhere (option_map circuit given) p holds → HoldsWhere (option_map circuit given) q holds' → Agree (length q.names) holds holds'
+one_condition None sound p q size same holds holds' h k = λ x len. ap (λ f. f x) (h ∙ sym k)
+one_condition (Some net) sound p q size same holds holds' h k =
+    one_function net sound.0 (slice_index p.given) (slice_index q.given) (same net refl) (length q.names) (output_of (circuit net)) (output_inside net sound.0 sound.1) holds holds'
+    (subst (λ z. IsFunctionOf (circuit net) (slice_index p.given) z (output_of (circuit net)) holds) size h) k
+
 -- what two comparisons of two netlists in one order find is the same
-pub one_found : (one two : Net) → IsNet one → IsNet two → (how : Match) (order : Order) (p q : Paired) → IsPairing how (circuit one) (circuit two) None order p → IsPairing how (circuit one) (circuit two) None order q
-    → (sizes : Bool) (found more : Found) → AreVerdicts sizes (circuit one) (circuit two) p found → AreVerdicts sizes (circuit one) (circuit two) q more → found ≡ more
-one_found one two sound sound' how order p q h k sizes found more r t =
+pub one_found : (one two : Net) (given : Option Net) → IsNet one → IsNet two → IfSome given (λ net. IsNet net × HasOneOutput (circuit net)) → (how : Match) (order : Order) (p q : Paired) → IsPairing how (circuit one) (circuit two) (option_map circuit given) order p → IsPairing how (circuit one) (circuit two) (option_map circuit given) order q
+    → (sizes : Bool) (found more : Found) → AreVerdicts sizes (circuit one) (circuit two) (option_map circuit given) p found → AreVerdicts sizes (circuit one) (circuit two) (option_map circuit given) q more → found ≡ more
+one_found one two given sound sound' sound_given how order p q h k sizes found more r t =
     let names : p.names ≡ q.names = h.names ∙ sym k.names in
     let outputs : p.outputs ≡ q.outputs = h.outputs ∙ sym k.outputs in
     let registers : p.registers ≡ q.registers = h.registers ∙ sym k.registers in
     let all_same : subjects (circuit one) (circuit two) p ≡ subjects (circuit one) (circuit two) q = cc in
     let size : length p.names ≡ length q.names = ap length names in
-    let inside = subjects_inside how one two None order q sound sound' k in
+    let inside = subjects_inside how one two (option_map circuit given) order q sound sound' k in
     let of_pairs : r.of_pairs ≡ t.of_pairs =
-    one_list (length q.names) sizes one two sound sound' p q size refl (λ i d lt. h.first i d lt ∙ sym (k.first i d lt)) (λ i d lt. h.second i d lt ∙ sym (k.second i d lt)) (subjects (circuit one) (circuit two) q) r.compared t.compared r.of_pairs t.of_pairs
-    inside (subst (λ ws. AllZip (AreFunctions (circuit one) (circuit two) p) ws r.compared) all_same r.functions) t.functions (subst (λ n. AllZip (IsVerdictOf n sizes) r.compared r.of_pairs) size r.are_verdicts) t.are_verdicts in
+    one_list (length q.names) sizes one two sound sound' p q size refl (λ i d lt. h.first i d lt ∙ sym (k.first i d lt)) (λ i d lt. h.second i d lt ∙ sym (k.second i d lt))
+    r.holds t.holds (one_condition given sound_given p q size (λ net e i d lt. conditional_same how (circuit one) (circuit two) given order p q h k net e i d lt) r.holds t.holds r.condition t.condition) (subjects (circuit one) (circuit two) q) r.compared t.compared r.of_pairs t.of_pairs
+    inside (subst (λ ws. AllZip (AreFunctions (circuit one) (circuit two) p) ws r.compared) all_same r.functions) t.functions (subst (λ n. AllZip (IsVerdictOf n sizes r.holds) r.compared r.of_pairs) size r.are_verdicts) t.are_verdicts in
     let lone : lone_verdicts (circuit one) (circuit two) p ≡ lone_verdicts (circuit one) (circuit two) q = cc in
     let variables : found.variables ≡ more.variables = r.variables ∙ names ∙ sym t.variables in
     let verdicts : found.verdicts ≡ more.verdicts =
@@ -161,9 +197,9 @@ one_found one two sound sound' how order p q h k sizes found more r t =
     λ i. record { variables = variables i; verdicts = verdicts i }
 
 -- two reports of two netlists in one order have the same counts and the same bytes
-pub one_report : (one two : Net) → IsNet one → IsNet two → (how : Match) (order : Order) (p q : Paired) → IsPairing how (circuit one) (circuit two) None order p → IsPairing how (circuit one) (circuit two) None order q
-    → (form : Found → List ℕ) (sizes : Bool) (o more : Outcome) (bytes text : List ℕ) → IsReport form sizes (circuit one) (circuit two) p o bytes → IsReport form sizes (circuit one) (circuit two) q more text
+pub one_report : (one two : Net) (given : Option Net) → IsNet one → IsNet two → IfSome given (λ net. IsNet net × HasOneOutput (circuit net)) → (how : Match) (order : Order) (p q : Paired) → IsPairing how (circuit one) (circuit two) (option_map circuit given) order p → IsPairing how (circuit one) (circuit two) (option_map circuit given) order q
+    → (form : Found → List ℕ) (sizes : Bool) (o more : Outcome) (bytes text : List ℕ) → IsReport form sizes (circuit one) (circuit two) (option_map circuit given) p o bytes → IsReport form sizes (circuit one) (circuit two) (option_map circuit given) q more text
     → (o ≡ more) × (bytes ≡ text)
-one_report one two sound sound' how order p q h k form sizes o more bytes text r t =
-    let found : r.found ≡ t.found = one_found one two sound sound' how order p q h k sizes r.found t.found r.verdicts t.verdicts in
+one_report one two given sound sound' sound_given how order p q h k form sizes o more bytes text r t =
+    let found : r.found ≡ t.found = one_found one two given sound sound' sound_given how order p q h k sizes r.found t.found r.verdicts t.verdicts in
     (r.counts ∙ ap (λ (f : Found). counted f.verdicts) found ∙ sym t.counts, r.text ∙ ap form found ∙ sym t.text)

@@ -1,5 +1,5 @@
 -- Where the needed nodes are within a limit, no store of needed nodes is beyond it.
-use Rattle.std.proofs.Common.{None, ◌≡◌, ◌∙◌, ◌≢◌, ℕ, ◌<◌, ◌≤◌, ◌⊎◌, inl, inr, Bool, List, [], ◌∷◌, length, refl, sym, ap, subst, arith}
+use Rattle.std.proofs.Common.{Option, ◌≡◌, ◌∙◌, ◌≢◌, ℕ, ◌<◌, ◌≤◌, ◌⊎◌, inl, inr, Bool, List, [], ◌∷◌, length, refl, sym, ap, subst, arith}
 use Rattle.dd_store.specs.declared.reference.Ref.{Ref}
 use Rattle.dd_store.specs.Functions.{Agree}
 use Rattle.dd_store.specs.Nodes.{Nodes, den, IsSound, count_of}
@@ -12,8 +12,7 @@ use Rattle.dd_store.proofs.View.{of_part, same_ref}
 use Rattle.net_bench.specs.Circuit.{Circuit}
 use Rattle.net_order.specs.Order.{Paired}
 use Rattle.gate_plan.specs.Need.{IsLean, IsComplete, HasNode}
-use Rattle.gate_plan.specs.Needing.{IsNeededValue, IsCompleteFor}
-use Rattle.check_report.specs.Limits.{FitsWithin, Exceeds}
+use Rattle.check_report.specs.Limits.{IsNeededIn, HasAllNeeded, FitsWithin, Exceeds}
 use Rattle.check_report.proofs.Pigeons.{Among, without, pigeons}
 use Rattle.check_report.proofs.Numbering.{refs_of, length-all_refs, distinct_all, has_each, is_node}
 
@@ -118,21 +117,21 @@ module _ (n : ℕ) (Values : (List Bool → Bool) → Type 0) (S T : Nodes) (sou
           absurd (omega arith)
 
 -- the nodes that two netlists need are within a limit, or not
-pub one_of_both : (limit : ℕ) (a b : Circuit) (p : Paired) → FitsWithin limit a b p → Exceeds limit a b p → ⊥
-one_of_both limit a b p f e = by e.over
+pub one_of_both : (limit : ℕ) (a b : Circuit) (given : Option Circuit) (p : Paired) → FitsWithin limit a b given p → Exceeds limit a b given p → ⊥
+one_of_both limit a b given p f e = by e.over
   where
     few : count_of e.store ≤ count_of f.store
     few =
-        let le = no_longer (length p.names) (IsNeededValue a b None p) e.store f.store e.sound f.sound e.levels f.levels e.lean f.complete in
+        let le = no_longer (length p.names) (IsNeededIn a b given p) e.store f.store e.sound f.sound e.levels f.levels e.lean f.complete in
         let s = length-all_refs 0 e.store.shards in
         let t = length-all_refs 0 f.store.shards in
         omega arith
 
-    by : (limit < count_of e.store) ⊎ ((count_of e.store ≡ limit) × (IsCompleteFor a b None p e.store → ⊥)) → ⊥
+    by : (limit < count_of e.store) ⊎ ((count_of e.store ≡ limit) × (HasAllNeeded a b given p e.store → ⊥)) → ⊥
     by (inl over) = let le = few in let within = f.within in omega arith
     by (inr full) =
         let within = f.within in
         let same = full.0 in
         let s = length-all_refs 0 e.store.shards in
         let t = length-all_refs 0 f.store.shards in
-        full.1 (all_there (length p.names) (IsNeededValue a b None p) e.store f.store e.sound f.sound e.levels f.levels e.lean f.complete (omega arith))
+        full.1 (all_there (length p.names) (IsNeededIn a b given p) e.store f.store e.sound f.sound e.levels f.levels e.lean f.complete (omega arith))

@@ -4,6 +4,8 @@ pub mod Subjects
 pub mod Adding
 pub mod Reporting
 pub mod Calling
+pub mod Restricting
+pub mod Conditional
 pub mod Limiting
 pub mod Pigeons
 pub mod Numbering

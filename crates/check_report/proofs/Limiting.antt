@@ -1,14 +1,15 @@
 -- What the store of a build says of the limit.
-use Rattle.std.proofs.Common.{None, ◌≡◌, ℕ, ◌<◌, ◌≤◌, ◌⊎◌, inl, inr, length, sym, subst, arith, ◌^◌}
+use Rattle.std.proofs.Common.{Option, ◌≡◌, ℕ, ◌<◌, ◌≤◌, ◌⊎◌, inl, inr, length, sym, subst, arith, ◌^◌}
 use Rattle.dd_store.specs.Nodes.{Nodes, IsSound, count_of, empty_nodes}
 use Rattle.dd_store.proofs.Storing.{IsKept-empty}
 use Rattle.expand_work.specs.declared.fault.WaveFault.{WaveFault}
 use Rattle.expand_work.specs.declared.fault.WaveFault.TheVariants.{Full}
 use Rattle.net_bench.specs.Circuit.{Circuit}
 use Rattle.net_order.specs.Order.{Paired}
-use Rattle.gate_plan.specs.Needing.{IsNeededValue, IsLeanFor, IsCompleteFor, HasNeed, IsFullFor, IsBuildFault}
+use Rattle.gate_plan.specs.Needing.{IsNeededValue, IsLeanFor, IsFullFor, IsBuildFault}
 use Rattle.gate_plan.proofs.Counted.{not_complete}
-use Rattle.check_report.specs.Limits.{FitsWithin, Exceeds}
+use Rattle.check_report.specs.Limits.{IsNeededIn, HasAllNeeded, HasAll, IsOver, FitsWithin, Exceeds}
+use Rattle.check_report.proofs.Conditional.{lean_more, complete_less, needed_in}
 
 -- a store that grew from one without nodes tells that it had none
 pub none_before : (n limit : ℕ) (T : Nodes) → IsSound T → T.levels ≡ n → T.limit ≡ limit → count_of (empty_nodes n limit) ≡ 0
@@ -17,8 +18,8 @@ none_before n limit T sound levels same =
     let small : limit < 2 ^ 32 = subst (λ m. m < 2 ^ 32) same sound.small_limit in
     sym (IsKept-empty n limit few small).counted
 
-pub fits : (limit : ℕ) (a b : Circuit) (p : Paired) (T : Nodes) → IsSound T → T.levels ≡ length p.names → T.limit ≡ limit → HasNeed a b None p T → FitsWithin limit a b p
-fits limit a b p T sound levels same need = record {
+pub fits : (limit : ℕ) (a b : Circuit) (given : Option Circuit) (p : Paired) (T : Nodes) → IsSound T → T.levels ≡ length p.names → T.limit ≡ limit → HasAll a b given p T → FitsWithin limit a b given p
+fits limit a b given p T sound levels same need = record {
   store = T;
   sound = sound;
   levels = levels;
@@ -27,10 +28,28 @@ fits limit a b p T sound levels same need = record {
   within = subst (λ m. count_of T ≤ m) same need.within;
 }
 
-pub exceeds : (limit : ℕ) (a b : Circuit) (p : Paired) (T : Nodes) (e : WaveFault) → IsSound T → T.levels ≡ length p.names → T.limit ≡ limit → IsLeanFor a b None p T →
-    e ≡ Full → IsBuildFault (length p.names) (IsNeededValue a b None p) T e → Exceeds limit a b p
-exceeds limit a b p T e sound levels same lean is fault = record { store = T; sound = sound; levels = levels; lean = lean; over = by (subst (IsBuildFault (length p.names) (IsNeededValue a b None p) T) is fault) }
+pub over : (limit : ℕ) (a b : Circuit) (given : Option Circuit) (p : Paired) (T : Nodes) → IsSound T → T.levels ≡ length p.names → T.limit ≡ limit → IsOver a b given p T → Exceeds limit a b given p
+over limit a b given p T sound levels same o = record {
+  store = T;
+  sound = sound;
+  levels = levels;
+  lean = o.lean;
+  over = subst (λ m. (m < count_of T) ⊎ ((count_of T ≡ m) × (HasAllNeeded a b given p T → ⊥))) same o.over;
+}
+
+-- a build that was refused has needed nodes alone, and so has the comparison
+pub exceeds : (limit : ℕ) (a b : Circuit) (given : Option Circuit) (p : Paired) (T : Nodes) (e : WaveFault) → IsSound T → T.levels ≡ length p.names → T.limit ≡ limit → IsLeanFor a b given p T →
+    e ≡ Full → IsBuildFault (length p.names) (IsNeededValue a b given p) T e → Exceeds limit a b given p
+exceeds limit a b given p T e sound levels same lean is fault =
+    over limit a b given p T sound levels same (record {
+      lean = lean_more (length p.names) (IsNeededValue a b given p) (IsNeededIn a b given p) (needed_in a b given p) T lean;
+      over = by (subst (IsBuildFault (length p.names) (IsNeededValue a b given p) T) is fault);
+    })
   where
-    by : IsFullFor (length p.names) (IsNeededValue a b None p) T → (limit < count_of T) ⊎ ((count_of T ≡ limit) × (IsCompleteFor a b None p T → ⊥))
-    by (inl over) = inl (omega arith)
-    by (inr full) = inr ((let k = full.0 in omega arith), not_complete T (length p.names) (IsNeededValue a b None p) full.1)
+    by : IsFullFor (length p.names) (IsNeededValue a b given p) T → (T.limit < count_of T) ⊎ ((count_of T ≡ T.limit) × (HasAllNeeded a b given p T → ⊥))
+    by (inl more) = inl more
+    by (inr full) = inr (
+      full.0,
+      λ whole. not_complete T (length p.names) (IsNeededValue a b given p) full.1
+          (complete_less (length p.names) (IsNeededValue a b given p) (IsNeededIn a b given p) (needed_in a b given p) T whole),
+    )

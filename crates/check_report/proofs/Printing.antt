@@ -11,11 +11,11 @@ use Rattle.check_report.specs.Check.{IsJudged}
 use Rattle.check_report.specs.Lines.{Found}
 use Rattle.check_report.specs.Listing.{IsOrderPrinted}
 
-pub printed : (one two : Option (List ℕ)) (how : Match) (order : Order) (sizes : Bool) (found : Found) (bytes : List ℕ) → IsJudged one two how order sizes found → bytes ≡ order_text found.variables → IsOrderPrinted one two how order bytes
-printed one two how order sizes found bytes j e = record { a = j.a; b = j.b; p = j.p; paired = j.paired; text = e ∙ ap order_text j.verdicts.variables }
+pub printed : (one two : Option (List ℕ)) (three : Option (Option (List ℕ))) (how : Match) (order : Order) (sizes : Bool) (found : Found) (bytes : List ℕ) → IsJudged one two three how order sizes found → bytes ≡ order_text found.variables → IsOrderPrinted one two three how order bytes
+printed one two three how order sizes found bytes j e = record { a = j.a; b = j.b; c = j.c; p = j.p; paired = j.paired; text = e ∙ ap order_text j.verdicts.variables }
 
 -- an order that was found is allowed
-pub found_allowed : (one two : Option (List ℕ)) (how : Match) (choice : Choice) (limit : ℕ) (tried : Option Attempt) (order : Order) → IsFound one two how choice limit tried order → IsAllowed choice order
-found_allowed one two how (One o) limit tried order f = f.1
-found_allowed one two how Best limit None order f = absurd f
-found_allowed one two how Best limit (Some t) order f = (t.order, f.0)
+pub found_allowed : (one two : Option (List ℕ)) (three : Option (Option (List ℕ))) (how : Match) (choice : Choice) (limit : ℕ) (tried : Option Attempt) (order : Order) → IsFound one two three how choice limit tried order → IsAllowed choice order
+found_allowed one two three how (One o) limit tried order f = f.1
+found_allowed one two three how Best limit None order f = absurd f
+found_allowed one two three how Best limit (Some t) order f = (t.order, f.0)

@@ -31,15 +31,15 @@ AllBefore Declared P = P Interleave × P Depth
 abbrev pub IsBudget : (limit budget : ℕ) → Type 0
 IsBudget limit budget = ((k : ℕ) × (budget ≡ 65536 * 4 ^ k) × (budget < limit)) ⊎ (budget ≡ limit)
 
--- The attempt that a comparison of what two devices gave ends with: its order is allowed, and the needed nodes are within its budget.
+-- The attempt that a comparison of what the devices gave ends with: its order is allowed, and the needed nodes are within its budget.
 -- An attempt within the limit itself comes only where the candidates before it need more.
-abbrev pub IsChosen : (one two : Option (List ℕ)) → Match → Choice → (limit : ℕ) → Option Attempt → Order → Type 0
-IsChosen one two how (One o) limit None order = (order ≡ o) × AreWithin one two how order limit
-IsChosen one two how (One o) limit (Some t) order = ⊥
-IsChosen one two how Best limit None order = ⊥
-IsChosen one two how Best limit (Some t) order =
-    (order ≡ order_of t.order) × IsBudget limit t.budget × AreWithin one two how order t.budget
-    × (t.budget ≡ limit → AllBefore t.order (λ c. AreBeyond one two how (order_of c) limit))
+abbrev pub IsChosen : (one two : Option (List ℕ)) → Option (Option (List ℕ)) → Match → Choice → (limit : ℕ) → Option Attempt → Order → Type 0
+IsChosen one two given how (One o) limit None order = (order ≡ o) × AreWithin one two given how order limit
+IsChosen one two given how (One o) limit (Some t) order = ⊥
+IsChosen one two given how Best limit None order = ⊥
+IsChosen one two given how Best limit (Some t) order =
+    (order ≡ order_of t.order) × IsBudget limit t.budget × AreWithin one two given how order t.budget
+    × (t.budget ≡ limit → AllBefore t.order (λ c. AreBeyond one two given how (order_of c) limit))
 
 -- the order of the attempt that a comparison ended with, or the one that was given
 abbrev pub tried_order : Choice → Option Attempt → Order
@@ -48,9 +48,9 @@ tried_order Best (Some t) = order_of t.order
 tried_order Best None = orders.Declared
 
 -- The same where the order alone is wanted: nothing is built for an order that is given.
-abbrev pub IsFound : (one two : Option (List ℕ)) → Match → Choice → (limit : ℕ) → Option Attempt → Order → Type 0
-IsFound one two how (One o) limit tried order = (tried ≡ None) × (order ≡ o)
-IsFound one two how Best limit tried order = IsChosen one two how Best limit tried order
+abbrev pub IsFound : (one two : Option (List ℕ)) → Option (Option (List ℕ)) → Match → Choice → (limit : ℕ) → Option Attempt → Order → Type 0
+IsFound one two given how (One o) limit tried order = (tried ≡ None) × (order ≡ o)
+IsFound one two given how Best limit tried order = IsChosen one two given how Best limit tried order
 
 -- what a candidate is called in print
 abbrev pub candidate_text : Candidate → List ℕ

@@ -1,14 +1,19 @@
 -- What a comparison has at hand before its verdicts are found, and how far it has come.
-use Rattle.std.specs.Prelude.{◌≡◌, ℕ, ◌<◌, Bool, List, length, All}
+use Rattle.std.specs.Prelude.{◌≡◌, ℕ, ◌+◌, ◌<◌, Bool, List, ◌++◌, length, map, All, IfSome, Option, slice_index_or}
 use Rattle.std.specs.List.{AllZip}
 use Rattle.net_bench.specs.Circuit.{Circuit}
-use Rattle.net_order.specs.Order.{Paired}
+use Rattle.net_bench.specs.Labels.{IsFunctionOf}
+use Rattle.net_order.specs.Order.{Paired, first_level, second_level, given_level}
 use Rattle.dd_store.specs.declared.reference.Ref.{Ref}
+use Rattle.dd_store.specs.Functions.{Agree}
 use Rattle.dd_store.specs.Nodes.{Nodes, den}
-use Rattle.gate_plan.specs.Building.{References, AreDiagrams, first_level, second_level}
+use Rattle.dd_store.specs.View.{Has}
+use Rattle.gate_plan.specs.Building.{References, AreDiagrams, reference_of}
 use Rattle.check_report.specs.declared.outcome.Role.{Role}
+use Rattle.check_report.specs.declared.outcome.Role.TheVariants.{Output}
 use Rattle.check_report.specs.declared.outcome.Subject.{Subject}
 use Rattle.check_report.specs.declared.verdict.Verdict.{Verdict}
+use Rattle.check_report.specs.Conditions.{HoldsWhere, restricted}
 use Rattle.check_report.specs.Report.{Compared, AreFunctions, IsVerdictOf, subjects}
 
 -- what is compared are signals of the netlists
@@ -23,18 +28,50 @@ pub record AreSignals (a b : Circuit) (p : Paired) : Type 0 where
   pub only_first_next : All (λ s. s < length a.names) p.registers.only_first
   pub only_second_next : All (λ s. s < length b.names) p.registers.only_second
 
--- the store has the diagram of each signal of both netlists, over the variables of their pairing
-pub record AreBuilt (a b : Circuit) (p : Paired) (S : Nodes) (refs : References) : Type 0 where
+-- the store has the diagram of each signal of the netlists, over the variables of their pairing
+pub record AreBuilt (a b : Circuit) (given : Option Circuit) (p : Paired) (S : Nodes) (refs : References) : Type 0 where
   pub levels : S.levels ≡ length p.names
   pub first : AreDiagrams a (first_level p) S refs.first
   pub second : AreDiagrams b (second_level p) S refs.second
+  pub condition : IfSome given (λ c. AreDiagrams c (given_level p) S refs.given)
   pub signals : AreSignals a b p
 
+-- the subject at this place
+abbrev pub subject_at : List Subject → ℕ → Subject
+subject_at of i = slice_index_or of i (record { role = Output; named = 0; first = 0; second = 0 })
+
+-- the references of what is compared: the first netlist's of each, then the second's
+abbrev pub references : References → List Subject → List Ref
+references refs of = map (λ subject. reference_of refs.first subject.first) of ++ map (λ subject. reference_of refs.second subject.second) of
+
+-- r denotes the function of a signal where the condition holds
+abbrev pub DenotesWhere : (List Bool → Bool) → Circuit → (ℕ → ℕ) → Nodes → ℕ → Ref → Type 0
+DenotesWhere holds c level S s r = Has S r × ((whole : List Bool → Bool) × IsFunctionOf c level S.levels s whole × Agree S.levels (den S r) (restricted holds whole))
+
+-- the references of what is compared denote its functions where the condition holds
+pub record AreShown (a b : Circuit) (given : Option Circuit) (p : Paired) (S : Nodes) (of : List Subject) (refs : List Ref) : Type 0 where
+  pub holds : List Bool → Bool
+  pub condition : HoldsWhere given p holds
+  pub each : length refs ≡ length of + length of
+  pub first : (i : ℕ) → i < length of → DenotesWhere holds a (first_level p) S (subject_at of i).first (reference_of refs i)
+  pub second : (i : ℕ) → i < length of → DenotesWhere holds b (second_level p) S (subject_at of i).second (reference_of refs (length of + i))
+
+-- this is compared, and these are the references of a store for it
+pub record AreCompared (a b : Circuit) (given : Option Circuit) (p : Paired) (S : Nodes) (of : List Subject) (refs : List Ref) : Type 0 where
+  pub levels : S.levels ≡ length p.names
+  pub signals : AreSignals a b p
+  pub all : of ≡ subjects a b p
+  pub shown : AreShown a b given p S of refs
+
 -- these are the verdicts of what is compared
-pub record HaveVerdicts (sizes : Bool) (a b : Circuit) (p : Paired) (of : List Subject) (verdicts : List Verdict) : Type 0 where
+pub record HaveVerdicts (sizes : Bool) (holds : List Bool → Bool) (a b : Circuit) (p : Paired) (of : List Subject) (verdicts : List Verdict) : Type 0 where
   pub compared : List Compared
   pub functions : AllZip (AreFunctions a b p) of compared
-  pub are_verdicts : AllZip (IsVerdictOf (length p.names) sizes) compared verdicts
+  pub are_verdicts : AllZip (IsVerdictOf (length p.names) sizes holds) compared verdicts
+
+-- the verdicts of all that is compared, for the condition
+abbrev pub HaveAllVerdicts : Bool → Circuit → Circuit → Option Circuit → Paired → List Verdict → Type 0
+HaveAllVerdicts sizes a b given p verdicts = (holds : List Bool → Bool) × HoldsWhere given p holds × HaveVerdicts sizes holds a b p (subjects a b p) verdicts
 
 -- two functions of this role and name, whose diagrams these are
 abbrev pub compared_of : Nodes → Role → List ℕ → Ref → Ref → Compared

@@ -2,7 +2,7 @@
 use Rattle.std.specs.Prelude.{◌≡◌, ℕ, Bool, true, false, List, [], ◌∷◌, ◌++◌, Option, Some, None, Result, OnOk, codes, decimal, if◌then◌else◌}
 use Rattle.std.specs.Str.{is_utf8}
 use Rattle.json.specs.Print.{print}
-use Rattle.json.specs.Token.{Token, begin_object, end_object, begin_array, end_array, key, string, number}
+use Rattle.json.specs.Token.{Token, begin_object, end_object, begin_array, end_array, key, string, number, boolean}
 use Rattle.json.specs.Written.{Written}
 use Rattle.net_order.specs.declared.order.Match.{Match}
 use Rattle.net_order.specs.declared.order.Match.TheVariants.{Name, Position}
@@ -97,20 +97,25 @@ counts_tokens o =
 abbrev pub array_tokens : List ℕ → List Token → List Token
 array_tokens name items = key name ∷ begin_array ∷ (items ++ end_array ∷ [])
 
+-- that there was a condition, where there was one
+abbrev pub given_tokens : Bool → List Token
+given_tokens true = key (codes "given") ∷ boolean true ∷ []
+given_tokens false = []
+
 -- the whole object: the settings, the variables, the verdicts, the counts
-abbrev pub report_tokens : Match → Order → Found → List Token
-report_tokens how order found =
-    begin_object ∷ (settings_tokens how order ++ (array_tokens (codes "variables") (names_tokens found.variables)
-    ++ (array_tokens (codes "verdicts") (verdicts_tokens found.variables found.verdicts) ++ (counts_tokens (counted found.verdicts) ++ end_object ∷ []))))
+abbrev pub report_tokens : Match → Order → (given : Bool) → Found → List Token
+report_tokens how order given found =
+    begin_object ∷ (settings_tokens how order ++ (given_tokens given ++ (array_tokens (codes "variables") (names_tokens found.variables)
+    ++ (array_tokens (codes "verdicts") (verdicts_tokens found.variables found.verdicts) ++ (counts_tokens (counted found.verdicts) ++ end_object ∷ [])))))
 
 -- its text, on one line
-abbrev pub json_text : Match → Order → Found → List ℕ
-json_text how order found = print (report_tokens how order found) ++ 10 ∷ []
+abbrev pub json_text : Match → Order → (given : Bool) → Found → List ℕ
+json_text how order given found = print (report_tokens how order given found) ++ 10 ∷ []
 
--- the bytes of a report in the form that is asked for: as JSON, or as lines
-abbrev pub form_text : (json : Bool) → Match → Order → Found → List ℕ
-form_text true how order = json_text how order
-form_text false how order = report_text
+-- the bytes of a report in the form that is asked for: as JSON, which tells of a condition, or as lines
+abbrev pub form_text : (json : Bool) → Match → Order → (given : Bool) → Found → List ℕ
+form_text true how order given = json_text how order given
+form_text false how order given = report_text
 
 -- a writer has taken these tokens, where it has taken all
 abbrev pub Adds : {E : Type 0} → Result (Unit {0}) E → (old new : Written) → List Token → Type 0

@@ -1,5 +1,7 @@
 pub mod Writing
 pub mod Lines
+pub mod Devices
+pub mod Conditions
 pub mod Report
 pub mod Comparing
 pub mod Check

@@ -8,9 +8,10 @@ use Rattle.net_order.specs.OrderText.{order_text}
 use Rattle.check_report.specs.Check.{ArePaired}
 
 -- The bytes are the order file of the variables of what the devices gave, from level 0 on.
-pub record IsOrderPrinted (one two : Option (List ℕ)) (how : Match) (order : Order) (bytes : List ℕ) : Type 0 where
+pub record IsOrderPrinted (one two : Option (List ℕ)) (given : Option (Option (List ℕ))) (how : Match) (order : Order) (bytes : List ℕ) : Type 0 where
   pub a : Circuit
   pub b : Circuit
+  pub c : Option Circuit
   pub p : Paired
-  pub paired : ArePaired one two how order a b p
+  pub paired : ArePaired one two given how order a b c p
   pub text : bytes ≡ order_text p.names

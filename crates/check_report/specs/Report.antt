@@ -1,10 +1,9 @@
--- The report of two netlists. It knows functions and their sizes alone: no diagrams, no references and no numbers of nodes.
+-- The report of two netlists, with a condition or without. It knows functions and their sizes alone: no diagrams, no references and no numbers of nodes.
 use Rattle.std.specs.Prelude.{◌≡◌, ℕ, Bool, true, false, List, ◌++◌, ◌==◌, map, find, length, Option, Some, None, slice_index, ◌↔◌}
 use Rattle.std.specs.List.{AllZip}
 use Rattle.net_bench.specs.Circuit.{Circuit}
 use Rattle.net_bench.specs.Labels.{IsFunctionOf}
 use Rattle.net_order.specs.Order.{Paired, gate_operands, name_of, names_of}
-use Rattle.dd_store.specs.Functions.{Agree, IsLeastDifference}
 use Rattle.dd_store.specs.Size.{HasSize}
 use Rattle.check_report.specs.declared.outcome.Outcome.{Outcome}
 use Rattle.check_report.specs.declared.outcome.Role.{Role}
@@ -14,6 +13,7 @@ use Rattle.check_report.specs.declared.outcome.Side.TheVariants.{First, Second}
 use Rattle.check_report.specs.declared.outcome.Subject.{Subject}
 use Rattle.check_report.specs.declared.verdict.Verdict.{Verdict}
 use Rattle.check_report.specs.declared.verdict.Verdict.TheVariants.{Equal, Differs, Lone}
+use Rattle.check_report.specs.Conditions.{HoldsWhere, restricted, AgreeWhere, IsLeastWhere}
 use Rattle.check_report.specs.Lines.{Found, counted}
 
 -- The signal that a register takes next: its operand.
@@ -49,12 +49,12 @@ abbrev pub AreSizesShown : Bool → ℕ → (List Bool → Bool) → (List Bool 
 AreSizesShown false n f g shown = shown ≡ None
 AreSizesShown true n f g shown = (k : ℕ) × (m : ℕ) × HasSize n f k × HasSize n g m × (shown ≡ Some (k, m))
 
--- The verdict of what is compared: Equal where their functions of n bits are equal, else Differs with the least difference and the
--- two values there. There is no verdict of another kind.
-pub data IsVerdictOf (n : ℕ) (sizes : Bool) (c : Compared) : Verdict → Type 0 where
-  where_equal : {shown : Option ℕ} → Agree n c.first c.second → IsSizeShown sizes n c.first shown → IsVerdictOf n sizes c (Equal c.role c.name shown)
-  where_different : {x : List Bool} {shown : Option (ℕ × ℕ)} → IsLeastDifference n c.first c.second x → AreSizesShown sizes n c.first c.second shown →
-      IsVerdictOf n sizes c (Differs c.role c.name x (c.first x) (c.second x) shown)
+-- The verdict of what is compared: Equal where their functions of n bits agree wherever the condition holds, else Differs with the least
+-- difference there and the two values. Sizes are those of the functions where the condition holds. There is no verdict of another kind.
+pub data IsVerdictOf (n : ℕ) (sizes : Bool) (holds : List Bool → Bool) (c : Compared) : Verdict → Type 0 where
+  where_equal : {shown : Option ℕ} → AgreeWhere n holds c.first c.second → IsSizeShown sizes n (restricted holds c.first) shown → IsVerdictOf n sizes holds c (Equal c.role c.name shown)
+  where_different : {x : List Bool} {shown : Option (ℕ × ℕ)} → IsLeastWhere n holds c.first c.second x → AreSizesShown sizes n (restricted holds c.first) (restricted holds c.second) shown →
+      IsVerdictOf n sizes holds c (Differs c.role c.name x (c.first x) (c.second x) shown)
 
 -- the function of each of the two signals, over the variables of the pairing
 pub record AreFunctions (a b : Circuit) (p : Paired) (subject : Subject) (c : Compared) : Type 0 where
@@ -78,20 +78,22 @@ CallsEqual (Differs role name at first second sizes) = ⊥
 CallsEqual (Lone side role name) = ⊥
 
 -- What a comparison finds of two netlists that are paired: a verdict for each pair of outputs, then for the next states of each pair of
--- registers, then for the outputs and registers without a partner. The variables stand by level.
-pub record AreVerdicts (sizes : Bool) (a b : Circuit) (p : Paired) (found : Found) : Type 0 where
+-- registers, then for the outputs and registers without a partner. A condition has no verdicts of its own. The variables stand by level.
+pub record AreVerdicts (sizes : Bool) (a b : Circuit) (given : Option Circuit) (p : Paired) (found : Found) : Type 0 where
   pub variables : found.variables ≡ p.names
+  pub holds : List Bool → Bool
+  pub condition : HoldsWhere given p holds
   pub compared : List Compared
   pub functions : AllZip (AreFunctions a b p) (subjects a b p) compared
   pub of_pairs : List Verdict
-  pub are_verdicts : AllZip (IsVerdictOf (length p.names) sizes) compared of_pairs
-  -- two outputs, or two next states, are called equal exactly where their functions are equal
-  pub called_equal : AllZip (λ c v. CallsEqual v ↔ Agree (length p.names) c.first c.second) compared of_pairs
+  pub are_verdicts : AllZip (IsVerdictOf (length p.names) sizes holds) compared of_pairs
+  -- two outputs, or two next states, are called equal exactly where their functions agree wherever the condition holds
+  pub called_equal : AllZip (λ c v. CallsEqual v ↔ AgreeWhere (length p.names) holds c.first c.second) compared of_pairs
   pub all : found.verdicts ≡ of_pairs ++ lone_verdicts a b p
 
 -- The report of two netlists that are paired, in some form: the text of what a comparison finds, and its counts.
-pub record IsReport (form : Found → List ℕ) (sizes : Bool) (a b : Circuit) (p : Paired) (o : Outcome) (bytes : List ℕ) : Type 0 where
+pub record IsReport (form : Found → List ℕ) (sizes : Bool) (a b : Circuit) (given : Option Circuit) (p : Paired) (o : Outcome) (bytes : List ℕ) : Type 0 where
   pub found : Found
-  pub verdicts : AreVerdicts sizes a b p found
+  pub verdicts : AreVerdicts sizes a b given p found
   pub counts : o ≡ counted found.verdicts
   pub text : bytes ≡ form found

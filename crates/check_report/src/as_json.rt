@@ -1,7 +1,7 @@
 //! What a comparison found as one JSON object.
 ghost use Rattle.std.specs.Prelude.{◌≡◌, ◌∷◌, [], ◌++◌, IfOk, codes, decimal};
-ghost use Rattle.json.specs.Token.{begin_object, end_object, key, string, number};
-ghost use Rattle.check_report.specs.Json.{Adds, shown, match_kind, order_kind, role_text, side_word, bit_token, subject_tokens, size_tokens, sizes_tokens, assignment_tokens, values_tokens, verdict_members, verdicts_tokens, names_tokens, settings_tokens, counts_tokens, array_tokens, json_text};
+ghost use Rattle.json.specs.Token.{begin_object, end_object, key, string, number, boolean};
+ghost use Rattle.check_report.specs.Json.{Adds, shown, match_kind, order_kind, role_text, side_word, bit_token, subject_tokens, size_tokens, sizes_tokens, assignment_tokens, values_tokens, verdict_members, verdicts_tokens, names_tokens, settings_tokens, given_tokens, counts_tokens, array_tokens, json_text};
 
 use crate::outcome::{Outcome, Role, Side};
 use crate::verdict::Verdict;
@@ -235,6 +235,18 @@ fn add_settings(out: &mut Writer, matching: Match, order: &Order) -> Result<(), 
     add_text(out, "order", order_word(order))
 }
 
+/// Adds that there was a condition, where there was one.
+fn add_given(out: &mut Writer, given: bool) -> Result<(), AllocError>
+    ensures { Adds result out.old out.new (given_tokens given) }
+{
+    if given {
+        out.key("given")?;
+        out.boolean(true)
+    } else {
+        Ok(())
+    }
+}
+
 /// Adds the counts.
 fn add_counts(out: &mut Writer, outcome: Outcome) -> Result<(), AllocError>
     ensures { Adds result out.old out.new (counts_tokens outcome) }
@@ -244,19 +256,21 @@ fn add_counts(out: &mut Writer, outcome: Outcome) -> Result<(), AllocError>
     add_number(out, "unmatched", outcome.unmatched)
 }
 
-/// What a comparison found as the text of one JSON object, on a line: the settings, the variables by level, the verdicts as in
-/// the report by lines, and their counts. docs/report.schema.json describes it.
+/// What a comparison found as the text of one JSON object, on a line: the settings, that there was a condition, the variables by level,
+/// the verdicts as in the report by lines, and their counts. docs/report.schema.json describes it.
 pub fn json_of(
     alloc: Global,
     matching: Match,
     order: &Order,
+    given: bool,
     found: &Verdicts,
 ) -> Result<Vec<u8>, AllocError>
-    ensures { IfOk result (λ text. text.items ≡ json_text matching order.now found.now) }
+    ensures { IfOk result (λ text. text.items ≡ json_text matching order.now given found.now) }
 {
     let mut out = Writer::new(Vec::new(alloc));
     out.begin_object()?;
     add_settings(&mut out, matching, order)?;
+    add_given(&mut out, given)?;
     add_variables(&mut out, found.variables())?;
     add_judged(&mut out, found)?;
     add_counts(&mut out, found.outcome())?;

@@ -1,10 +1,12 @@
 //! The attempts of a comparison: an order, and the nodes within which it is to stay.
-ghost use Rattle.std.specs.Prelude.{◌≡◌, ◌≢◌, ◌≤◌, ◌<◌, ◌^◌, ◌*◌, ◌⊎◌, ℕ, List, Option, Some, true, false, IfOk, IfErr, OnOk, IsTrue, Err};
+ghost use Rattle.std.specs.Prelude.{min, None, ◌≡◌, ◌≢◌, ◌≤◌, ◌<◌, ◌^◌, ◌*◌, ◌⊎◌, ℕ, List, Option, Some, true, false, IfOk, IfErr, OnOk, IsTrue, Err};
+ghost use Rattle.expand_work.specs.Bounds.{most_of};
 ghost use Rattle.net_bench.specs.Circuit.{circuit};
+ghost use Rattle.net_order.specs.Order.{condition};
 ghost use Rattle.check_report.specs.declared.choice.Candidate.{Candidate as CandidateValue};
 ghost use Rattle.net_order.specs.declared.order.Order.{Order as OrderValue};
 ghost use Rattle.check_report.specs.Best.{AllBefore, IsAllowed, IsBudget, IsChosen, order_of};
-ghost use Rattle.check_report.specs.Check.{Gives, IsJudged, IsCheckFault};
+ghost use Rattle.check_report.specs.Check.{AreGiven, IsJudged, IsCheckFault};
 ghost use Rattle.check_report.specs.Limits.{AreWithin, AreBeyond};
 
 use crate::checking::{Task, compare};
@@ -38,6 +40,8 @@ impl<'a, G: Gate> Watch for Bounded<'a, G> {
 }
 
 impl<'a, G: Gate> Gate for Bounded<'a, G> {
+    ghost bound = { λ b. Some (min b.most (most_of (G.bound b.gate.now))) };
+
     fn at_level(&self, worker: u32, level: u16) {
         self.gate.at_level(worker, level);
     }
@@ -49,6 +53,10 @@ impl<'a, G: Gate> Gate for Bounded<'a, G> {
     fn most_requests(&self) -> usize {
         self.most.min(self.gate.most_requests())
     }
+
+    fn at_rank(&self, rank: u32, ranks: u32, nodes: u64) {
+        self.gate.at_rank(rank, ranks, nodes);
+    }
 }
 
 /// Pairs two netlists in this order, and compares them within so many nodes.
@@ -59,22 +67,23 @@ fn attempt<H: Threads + Wait + Sync, G: Gate>(
     gate: &G,
 ) -> Result<Verdicts, CheckFault>
     requires { limit < 2 ^ 32 }
-    ensures judged { (one two : Option (List ℕ)) → Gives one (circuit task.now.first.now) → Gives two (circuit task.now.second.now) →
-        IfOk result (IsJudged one two task.now.settings.now.matching order.now task.now.settings.now.sizes) }
-    ensures within { (one two : Option (List ℕ)) → Gives one (circuit task.now.first.now) → Gives two (circuit task.now.second.now) →
-        OnOk result (AreWithin one two task.now.settings.now.matching order.now limit) }
-    ensures full { (one two : Option (List ℕ)) → Gives one (circuit task.now.first.now) → Gives two (circuit task.now.second.now) →
-        result ≡ Err (CheckFault.Wave WaveFault.Full) → AreBeyond one two task.now.settings.now.matching order.now limit }
-    ensures fault { (one two : Option (List ℕ)) → Gives one (circuit task.now.first.now) → Gives two (circuit task.now.second.now) →
-        IfErr result (IsCheckFault one two ⊥ ⊥ task.now.settings.now.matching order.now) }
+    ensures judged { (one two : Option (List ℕ)) (three : Option (Option (List ℕ))) → AreGiven one two three (circuit task.now.first.now) (circuit task.now.second.now) (condition task.now.given) →
+        IfOk result (IsJudged one two three task.now.settings.now.matching order.now task.now.settings.now.sizes) }
+    ensures within { (one two : Option (List ℕ)) (three : Option (Option (List ℕ))) → AreGiven one two three (circuit task.now.first.now) (circuit task.now.second.now) (condition task.now.given) →
+        OnOk result (AreWithin one two three task.now.settings.now.matching order.now limit) }
+    ensures full { (one two : Option (List ℕ)) (three : Option (Option (List ℕ))) → AreGiven one two three (circuit task.now.first.now) (circuit task.now.second.now) (condition task.now.given) →
+        result ≡ Err (CheckFault.Wave WaveFault.Full) → AreBeyond one two three task.now.settings.now.matching order.now limit }
+    ensures fault { (one two : Option (List ℕ)) (three : Option (Option (List ℕ))) → AreGiven one two three (circuit task.now.first.now) (circuit task.now.second.now) (condition task.now.given) →
+        IfErr result (IsCheckFault one two three ⊥ ⊥ ⊥ task.now.settings.now.matching order.now) }
     ensures unwritten { result ≢ Err CheckFault.Write }
+    ensures unbounded { G.bound gate.now ≡ None → result ≢ Err (CheckFault.Wave WaveFault.TooManyRequests) }
 {
     let _ = task.first.inputs();
     let pairing = match pair(
         task.alloc,
         task.first,
         task.second,
-        None,
+        task.given,
         task.settings.matching,
         order,
     ) {
@@ -87,6 +96,7 @@ fn attempt<H: Threads + Wait + Sync, G: Gate>(
 /// Whether the fault of an attempt stays: it was not given up for the nodes that it needs, nor, where its requests are bounded, for these.
 fn is_kept(fault: CheckFault, bounded: bool) -> bool
     ensures kept { result ≡ true → fault ≢ CheckFault.Wave WaveFault.Full }
+    ensures passed { bounded ≡ true → result ≡ true → fault ≢ CheckFault.Wave WaveFault.TooManyRequests }
     ensures full { bounded ≡ false → result ≡ false → fault ≡ CheckFault.Wave WaveFault.Full }
 {
     match fault {
@@ -105,17 +115,18 @@ fn try_candidates<H: Threads + Wait + Sync, G: Gate>(
     gate: &G,
 ) -> Result<(Verdicts, Candidate), CheckFault>
     requires { limit < 2 ^ 32 }
-    ensures judged { (one two : Option (List ℕ)) → Gives one (circuit task.now.first.now) → Gives two (circuit task.now.second.now) →
-        IfOk result (λ r. IsJudged one two task.now.settings.now.matching (order_of r.1) task.now.settings.now.sizes r.0) }
-    ensures within { (one two : Option (List ℕ)) → Gives one (circuit task.now.first.now) → Gives two (circuit task.now.second.now) →
-        IfOk result (λ r. AreWithin one two task.now.settings.now.matching (order_of r.1) limit) }
-    ensures before { (one two : Option (List ℕ)) → Gives one (circuit task.now.first.now) → Gives two (circuit task.now.second.now) →
-        bounded ≡ false → IfOk result (λ r. AllBefore r.1 (λ c. AreBeyond one two task.now.settings.now.matching (order_of c) limit)) }
-    ensures full { (one two : Option (List ℕ)) → Gives one (circuit task.now.first.now) → Gives two (circuit task.now.second.now) →
-        bounded ≡ false → result ≡ Err (CheckFault.Wave WaveFault.Full) → (c : CandidateValue) → AreBeyond one two task.now.settings.now.matching (order_of c) limit }
-    ensures fault { (one two : Option (List ℕ)) → Gives one (circuit task.now.first.now) → Gives two (circuit task.now.second.now) →
-        IfErr result (λ fault. (c : CandidateValue) × IsCheckFault one two ⊥ ⊥ task.now.settings.now.matching (order_of c) fault) }
+    ensures judged { (one two : Option (List ℕ)) (three : Option (Option (List ℕ))) → AreGiven one two three (circuit task.now.first.now) (circuit task.now.second.now) (condition task.now.given) →
+        IfOk result (λ r. IsJudged one two three task.now.settings.now.matching (order_of r.1) task.now.settings.now.sizes r.0) }
+    ensures within { (one two : Option (List ℕ)) (three : Option (Option (List ℕ))) → AreGiven one two three (circuit task.now.first.now) (circuit task.now.second.now) (condition task.now.given) →
+        IfOk result (λ r. AreWithin one two three task.now.settings.now.matching (order_of r.1) limit) }
+    ensures before { (one two : Option (List ℕ)) (three : Option (Option (List ℕ))) → AreGiven one two three (circuit task.now.first.now) (circuit task.now.second.now) (condition task.now.given) →
+        bounded ≡ false → IfOk result (λ r. AllBefore r.1 (λ c. AreBeyond one two three task.now.settings.now.matching (order_of c) limit)) }
+    ensures full { (one two : Option (List ℕ)) (three : Option (Option (List ℕ))) → AreGiven one two three (circuit task.now.first.now) (circuit task.now.second.now) (condition task.now.given) →
+        bounded ≡ false → result ≡ Err (CheckFault.Wave WaveFault.Full) → (c : CandidateValue) → AreBeyond one two three task.now.settings.now.matching (order_of c) limit }
+    ensures fault { (one two : Option (List ℕ)) (three : Option (Option (List ℕ))) → AreGiven one two three (circuit task.now.first.now) (circuit task.now.second.now) (condition task.now.given) →
+        IfErr result (λ fault. (c : CandidateValue) × IsCheckFault one two three ⊥ ⊥ ⊥ task.now.settings.now.matching (order_of c) fault) }
     ensures unwritten { result ≢ Err CheckFault.Write }
+    ensures unbounded { G.bound gate.now ≡ None → result ≢ Err (CheckFault.Wave WaveFault.TooManyRequests) }
 {
     match attempt(task, &Order::Interleave, limit, gate) {
         Ok(verdicts) => return Ok((verdicts, Candidate::Interleave)),
@@ -140,15 +151,16 @@ pub fn find_best<H: Threads + Wait + Sync, G: Gate>(
     task: &Task<'_, H>,
     gate: &G,
 ) -> Result<(Verdicts, Attempt), CheckFault>
-    ensures judged { (one two : Option (List ℕ)) → Gives one (circuit task.now.first.now) → Gives two (circuit task.now.second.now) →
-        IfOk result (λ r. IsJudged one two task.now.settings.now.matching (order_of r.1.order) task.now.settings.now.sizes r.0) }
-    ensures chosen { (one two : Option (List ℕ)) → Gives one (circuit task.now.first.now) → Gives two (circuit task.now.second.now) →
-        IfOk result (λ r. IsChosen one two task.now.settings.now.matching Choice.Best task.now.settings.now.limit (Some r.1) (order_of r.1.order)) }
-    ensures full { (one two : Option (List ℕ)) → Gives one (circuit task.now.first.now) → Gives two (circuit task.now.second.now) →
-        result ≡ Err (CheckFault.Wave WaveFault.Full) → (c : CandidateValue) → AreBeyond one two task.now.settings.now.matching (order_of c) task.now.settings.now.limit }
-    ensures fault { (one two : Option (List ℕ)) → Gives one (circuit task.now.first.now) → Gives two (circuit task.now.second.now) →
-        IfErr result (λ fault. (c : CandidateValue) × IsCheckFault one two ⊥ ⊥ task.now.settings.now.matching (order_of c) fault) }
+    ensures judged { (one two : Option (List ℕ)) (three : Option (Option (List ℕ))) → AreGiven one two three (circuit task.now.first.now) (circuit task.now.second.now) (condition task.now.given) →
+        IfOk result (λ r. IsJudged one two three task.now.settings.now.matching (order_of r.1.order) task.now.settings.now.sizes r.0) }
+    ensures chosen { (one two : Option (List ℕ)) (three : Option (Option (List ℕ))) → AreGiven one two three (circuit task.now.first.now) (circuit task.now.second.now) (condition task.now.given) →
+        IfOk result (λ r. IsChosen one two three task.now.settings.now.matching Choice.Best task.now.settings.now.limit (Some r.1) (order_of r.1.order)) }
+    ensures full { (one two : Option (List ℕ)) (three : Option (Option (List ℕ))) → AreGiven one two three (circuit task.now.first.now) (circuit task.now.second.now) (condition task.now.given) →
+        result ≡ Err (CheckFault.Wave WaveFault.Full) → (c : CandidateValue) → AreBeyond one two three task.now.settings.now.matching (order_of c) task.now.settings.now.limit }
+    ensures fault { (one two : Option (List ℕ)) (three : Option (Option (List ℕ))) → AreGiven one two three (circuit task.now.first.now) (circuit task.now.second.now) (condition task.now.given) →
+        IfErr result (λ fault. (c : CandidateValue) × IsCheckFault one two three ⊥ ⊥ ⊥ task.now.settings.now.matching (order_of c) fault) }
     ensures unwritten { result ≢ Err CheckFault.Write }
+    ensures unbounded { G.bound gate.now ≡ None → result ≢ Err (CheckFault.Wave WaveFault.TooManyRequests) }
 {
     let limit = task.settings.limit;
     let mut budget = FIRST_BUDGET;
@@ -183,14 +195,15 @@ fn by_order<H: Threads + Wait + Sync, G: Gate>(
     order: &Order,
     gate: &G,
 ) -> Result<(Verdicts, Option<Attempt>), CheckFault>
-    ensures chosen { (one two : Option (List ℕ)) → Gives one (circuit task.now.first.now) → Gives two (circuit task.now.second.now) →
-        IfOk result (λ r. (o : OrderValue) × IsJudged one two task.now.settings.now.matching o task.now.settings.now.sizes r.0
-        × IsChosen one two task.now.settings.now.matching (Choice.One order.now) task.now.settings.now.limit r.1 o) }
-    ensures full { (one two : Option (List ℕ)) → Gives one (circuit task.now.first.now) → Gives two (circuit task.now.second.now) →
-        result ≡ Err (CheckFault.Wave WaveFault.Full) → (o : OrderValue) → IsAllowed (Choice.One order.now) o → AreBeyond one two task.now.settings.now.matching o task.now.settings.now.limit }
-    ensures fault { (one two : Option (List ℕ)) → Gives one (circuit task.now.first.now) → Gives two (circuit task.now.second.now) →
-        IfErr result (λ fault. (o : OrderValue) × IsAllowed (Choice.One order.now) o × IsCheckFault one two ⊥ ⊥ task.now.settings.now.matching o fault) }
+    ensures chosen { (one two : Option (List ℕ)) (three : Option (Option (List ℕ))) → AreGiven one two three (circuit task.now.first.now) (circuit task.now.second.now) (condition task.now.given) →
+        IfOk result (λ r. (o : OrderValue) × IsJudged one two three task.now.settings.now.matching o task.now.settings.now.sizes r.0
+        × IsChosen one two three task.now.settings.now.matching (Choice.One order.now) task.now.settings.now.limit r.1 o) }
+    ensures full { (one two : Option (List ℕ)) (three : Option (Option (List ℕ))) → AreGiven one two three (circuit task.now.first.now) (circuit task.now.second.now) (condition task.now.given) →
+        result ≡ Err (CheckFault.Wave WaveFault.Full) → (o : OrderValue) → IsAllowed (Choice.One order.now) o → AreBeyond one two three task.now.settings.now.matching o task.now.settings.now.limit }
+    ensures fault { (one two : Option (List ℕ)) (three : Option (Option (List ℕ))) → AreGiven one two three (circuit task.now.first.now) (circuit task.now.second.now) (condition task.now.given) →
+        IfErr result (λ fault. (o : OrderValue) × IsAllowed (Choice.One order.now) o × IsCheckFault one two three ⊥ ⊥ ⊥ task.now.settings.now.matching o fault) }
     ensures unwritten { result ≢ Err CheckFault.Write }
+    ensures unbounded { G.bound gate.now ≡ None → result ≢ Err (CheckFault.Wave WaveFault.TooManyRequests) }
 {
     match attempt(task, order, task.settings.limit, gate) {
         Ok(verdicts) => Ok((verdicts, None)),
@@ -203,14 +216,15 @@ fn by_best<H: Threads + Wait + Sync, G: Gate>(
     task: &Task<'_, H>,
     gate: &G,
 ) -> Result<(Verdicts, Option<Attempt>), CheckFault>
-    ensures chosen { (one two : Option (List ℕ)) → Gives one (circuit task.now.first.now) → Gives two (circuit task.now.second.now) →
-        IfOk result (λ r. (o : OrderValue) × IsJudged one two task.now.settings.now.matching o task.now.settings.now.sizes r.0
-        × IsChosen one two task.now.settings.now.matching Choice.Best task.now.settings.now.limit r.1 o) }
-    ensures full { (one two : Option (List ℕ)) → Gives one (circuit task.now.first.now) → Gives two (circuit task.now.second.now) →
-        result ≡ Err (CheckFault.Wave WaveFault.Full) → (o : OrderValue) → IsAllowed Choice.Best o → AreBeyond one two task.now.settings.now.matching o task.now.settings.now.limit }
-    ensures fault { (one two : Option (List ℕ)) → Gives one (circuit task.now.first.now) → Gives two (circuit task.now.second.now) →
-        IfErr result (λ fault. (o : OrderValue) × IsAllowed Choice.Best o × IsCheckFault one two ⊥ ⊥ task.now.settings.now.matching o fault) }
+    ensures chosen { (one two : Option (List ℕ)) (three : Option (Option (List ℕ))) → AreGiven one two three (circuit task.now.first.now) (circuit task.now.second.now) (condition task.now.given) →
+        IfOk result (λ r. (o : OrderValue) × IsJudged one two three task.now.settings.now.matching o task.now.settings.now.sizes r.0
+        × IsChosen one two three task.now.settings.now.matching Choice.Best task.now.settings.now.limit r.1 o) }
+    ensures full { (one two : Option (List ℕ)) (three : Option (Option (List ℕ))) → AreGiven one two three (circuit task.now.first.now) (circuit task.now.second.now) (condition task.now.given) →
+        result ≡ Err (CheckFault.Wave WaveFault.Full) → (o : OrderValue) → IsAllowed Choice.Best o → AreBeyond one two three task.now.settings.now.matching o task.now.settings.now.limit }
+    ensures fault { (one two : Option (List ℕ)) (three : Option (Option (List ℕ))) → AreGiven one two three (circuit task.now.first.now) (circuit task.now.second.now) (condition task.now.given) →
+        IfErr result (λ fault. (o : OrderValue) × IsAllowed Choice.Best o × IsCheckFault one two three ⊥ ⊥ ⊥ task.now.settings.now.matching o fault) }
     ensures unwritten { result ≢ Err CheckFault.Write }
+    ensures unbounded { G.bound gate.now ≡ None → result ≢ Err (CheckFault.Wave WaveFault.TooManyRequests) }
 {
     match find_best(task, gate) {
         Ok((verdicts, found)) => Ok((verdicts, Some(found))),
@@ -223,14 +237,15 @@ pub fn decide<H: Threads + Wait + Sync, G: Gate>(
     task: &Task<'_, H>,
     gate: &G,
 ) -> Result<(Verdicts, Option<Attempt>), CheckFault>
-    ensures chosen { (one two : Option (List ℕ)) → Gives one (circuit task.now.first.now) → Gives two (circuit task.now.second.now) →
-        IfOk result (λ r. (order : OrderValue) × IsJudged one two task.now.settings.now.matching order task.now.settings.now.sizes r.0
-        × IsChosen one two task.now.settings.now.matching task.now.settings.now.order task.now.settings.now.limit r.1 order) }
-    ensures full { (one two : Option (List ℕ)) → Gives one (circuit task.now.first.now) → Gives two (circuit task.now.second.now) →
-        result ≡ Err (CheckFault.Wave WaveFault.Full) → (order : OrderValue) → IsAllowed task.now.settings.now.order order → AreBeyond one two task.now.settings.now.matching order task.now.settings.now.limit }
-    ensures fault { (one two : Option (List ℕ)) → Gives one (circuit task.now.first.now) → Gives two (circuit task.now.second.now) →
-        IfErr result (λ fault. (order : OrderValue) × IsAllowed task.now.settings.now.order order × IsCheckFault one two ⊥ ⊥ task.now.settings.now.matching order fault) }
+    ensures chosen { (one two : Option (List ℕ)) (three : Option (Option (List ℕ))) → AreGiven one two three (circuit task.now.first.now) (circuit task.now.second.now) (condition task.now.given) →
+        IfOk result (λ r. (order : OrderValue) × IsJudged one two three task.now.settings.now.matching order task.now.settings.now.sizes r.0
+        × IsChosen one two three task.now.settings.now.matching task.now.settings.now.order task.now.settings.now.limit r.1 order) }
+    ensures full { (one two : Option (List ℕ)) (three : Option (Option (List ℕ))) → AreGiven one two three (circuit task.now.first.now) (circuit task.now.second.now) (condition task.now.given) →
+        result ≡ Err (CheckFault.Wave WaveFault.Full) → (order : OrderValue) → IsAllowed task.now.settings.now.order order → AreBeyond one two three task.now.settings.now.matching order task.now.settings.now.limit }
+    ensures fault { (one two : Option (List ℕ)) (three : Option (Option (List ℕ))) → AreGiven one two three (circuit task.now.first.now) (circuit task.now.second.now) (condition task.now.given) →
+        IfErr result (λ fault. (order : OrderValue) × IsAllowed task.now.settings.now.order order × IsCheckFault one two three ⊥ ⊥ ⊥ task.now.settings.now.matching order fault) }
     ensures unwritten { result ≢ Err CheckFault.Write }
+    ensures unbounded { G.bound gate.now ≡ None → result ≢ Err (CheckFault.Wave WaveFault.TooManyRequests) }
 {
     match &task.settings.order {
         Choice::One(order) => by_order(task, order, gate),

@@ -1,31 +1,33 @@
 //! The comparison of two netlists whose diagrams stand in one store: a verdict for each line of the report.
-ghost use Rattle.std.specs.Prelude.{◌≡◌, ◌++◌, ◌<◌, length, map, All, OnOk, IfOk};
+ghost use Rattle.std.specs.Prelude.{◌≡◌, ◌++◌, ◌+◌, ◌<◌, length, map, All, OnOk, IfOk};
 ghost use Rattle.net_bench.specs.Circuit.{circuit};
-ghost use Rattle.net_order.specs.Order.{name_of, names_of};
+ghost use Rattle.net_order.specs.Order.{condition, name_of, names_of};
 ghost use Rattle.dd_store.specs.Nodes.{den};
 ghost use Rattle.dd_store.specs.View.{Has};
 ghost use Rattle.gate_plan.specs.Building.{reference_of};
-ghost use Rattle.check_report.specs.Report.{IsSizeShown, AreSizesShown, IsVerdictOf, AreVerdicts, lone_side, next_of, next_subject, output_subject, subjects};
-ghost use Rattle.check_report.specs.Comparing.{AreBuilt, AreSignals, HaveVerdicts, IsInside, compared_of};
+ghost use Rattle.check_report.specs.Conditions.{everywhere};
+ghost use Rattle.check_report.specs.Report.{IsSizeShown, AreSizesShown, IsVerdictOf, AreVerdicts, lone_side};
+ghost use Rattle.check_report.specs.Comparing.{AreCompared, AreSignals, HaveAllVerdicts, compared_of, subject_at};
 
 use crate::outcome::{Role, Side, Subject};
 use crate::verdict::{Bits, Name, Verdict};
 use counter_walk::{least_difference, value};
 use dd_store::{Ref, Store};
-use gate_plan::Built;
 use net_bench::netlist::Signal;
 use net_bench::reader::Netlist;
 use net_order::pairing::Pairing;
 use std::alloc::{AllocError, Global};
 
-/// Two netlists, how they are paired, and the diagrams of their signals.
+/// Two netlists, how they are paired, what is compared of them, and the diagrams of this: the first netlist's of each, then the second's.
 #[derive(Clone, Copy, Drop)]
 pub struct Comparison<'a> {
     pub first: &'a Netlist,
     pub second: &'a Netlist,
+    pub given: Option<&'a Netlist>,
     pub pairing: &'a Pairing,
     pub store: &'a Store,
-    pub built: &'a Built,
+    pub subjects: &'a [Subject],
+    pub references: &'a [Ref],
     pub sizes: bool,
 }
 
@@ -80,7 +82,7 @@ fn verdict_of(
 ) -> Result<Verdict, AllocError>
     requires first_known { Has store.now of.first }
     requires second_known { Has store.now of.second }
-    ensures { IfOk result (λ v. IsVerdictOf store.now.levels sizes (compared_of store.now of.entry.role of.entry.name.now of.entry.first of.entry.second) v) }
+    ensures { IfOk result (λ v. IsVerdictOf store.now.levels sizes everywhere (compared_of store.now of.entry.role of.entry.name.now of.entry.first of.entry.second) v) }
 {
     let Diagrams {
         role,
@@ -110,90 +112,33 @@ fn verdict_of(
     }
 }
 
-/// The signal that a register takes next. There are no more registers than variables.
-fn next_state(net: &Netlist, register: Signal) -> Signal
-    ensures { result ≡ next_of (circuit net.now) register }
+/// The role, the name and the diagrams of what is compared at this place.
+fn diagrams_of<'a>(of: &Comparison<'a>, place: usize) -> Diagrams<'a>
+    requires place { place < length of.now.subjects.now }
+    requires named { All (λ subject. subject.named < length of.now.first.now.names) of.now.subjects.now }
+    requires each { length of.now.references.now ≡ length of.now.subjects.now + length of.now.subjects.now }
+    ensures role { result.role ≡ (subject_at of.now.subjects.now place).role }
+    ensures name { result.name.now ≡ name_of (circuit of.now.first.now) (subject_at of.now.subjects.now place).named }
+    ensures first { result.first ≡ reference_of of.now.references.now place }
+    ensures second { result.second ≡ reference_of of.now.references.now (length of.now.subjects.now + place) }
 {
-    let registers = net.registers();
-    for i in 0..registers.len() {
-        if registers[i].out == register {
-            return registers[i].operands.as_slice()[0];
-        }
-    }
-    Signal::of(0)
-}
-
-/// Puts the pairs of outputs at the end.
-fn add_outputs(of: &Comparison<'_>, subjects: &mut Vec<Subject>) -> Result<(), AllocError>
-    ensures { OnOk result (subjects.new.items ≡ subjects.old.items ++ map output_subject of.now.pairing.now.outputs.pairs) }
-{
-    let pairs = of.pairing.output_pairs();
-    for i in 0..pairs.len() {
-        let (first, second) = pairs[i];
-        subjects.push(Subject {
-            role: Role::Output,
-            named: first,
-            first,
-            second,
-        })?;
-    }
-    Ok(())
-}
-
-/// Puts the next states of the pairs of registers at the end.
-fn add_next_states(of: &Comparison<'_>, subjects: &mut Vec<Subject>) -> Result<(), AllocError>
-    ensures { OnOk result (subjects.new.items ≡ subjects.old.items ++ map (next_subject (circuit of.now.first.now) (circuit of.now.second.now)) of.now.pairing.now.registers.pairs) }
-{
-    let pairs = of.pairing.next_pairs();
-    for i in 0..pairs.len() {
-        let (first, second) = pairs[i];
-        subjects.push(Subject {
-            role: Role::NextState,
-            named: first,
-            first: next_state(of.first, first),
-            second: next_state(of.second, second),
-        })?;
-    }
-    Ok(())
-}
-
-/// All that is compared, in the order of the report.
-fn subjects_of(alloc: Global, of: &Comparison<'_>) -> Result<Vec<Subject>, AllocError>
-    ensures { IfOk result (λ v. v.items ≡ subjects (circuit of.now.first.now) (circuit of.now.second.now) of.now.pairing.now) }
-{
-    let mut subjects = Vec::new(alloc);
-    add_outputs(of, &mut subjects)?;
-    add_next_states(of, &mut subjects)?;
-    Ok(subjects)
-}
-
-/// The role, the name and the diagrams of what is compared.
-fn diagrams_of<'a>(of: &Comparison<'a>, subject: Subject) -> Diagrams<'a>
-    requires built { AreBuilt (circuit of.now.first.now) (circuit of.now.second.now) of.now.pairing.now of.now.store.now of.now.built.now }
-    requires inside { IsInside (circuit of.now.first.now) (circuit of.now.second.now) subject }
-    ensures role { result.role ≡ subject.role }
-    ensures name { result.name.now ≡ name_of (circuit of.now.first.now) subject.named }
-    ensures first { result.first ≡ reference_of of.now.built.now.first subject.first }
-    ensures second { result.second ≡ reference_of of.now.built.now.second subject.second }
-{
+    let subject = of.subjects[place];
     Diagrams {
         role: subject.role,
         name: of.first.name(subject.named),
-        first: of.built.first(subject.first),
-        second: of.built.second(subject.second),
+        first: of.references[place],
+        second: of.references[of.subjects.len() + place],
     }
 }
 
 /// The verdicts of all that is compared.
 fn verdicts_of_pairs(alloc: Global, of: &Comparison<'_>) -> Result<Vec<Verdict>, AllocError>
-    requires { AreBuilt (circuit of.now.first.now) (circuit of.now.second.now) of.now.pairing.now of.now.store.now of.now.built.now }
-    ensures { IfOk result (λ v. HaveVerdicts of.now.sizes (circuit of.now.first.now) (circuit of.now.second.now) of.now.pairing.now (subjects (circuit of.now.first.now) (circuit of.now.second.now) of.now.pairing.now) v.items) }
+    requires { AreCompared (circuit of.now.first.now) (circuit of.now.second.now) (condition of.now.given) of.now.pairing.now of.now.store.now of.now.subjects.now of.now.references.now }
+    ensures { IfOk result (λ v. HaveAllVerdicts of.now.sizes (circuit of.now.first.now) (circuit of.now.second.now) (condition of.now.given) of.now.pairing.now v.items) }
 {
     let mut verdicts = Vec::new(alloc);
-    let all = subjects_of(alloc, of)?;
-    let subjects = all.as_slice();
-    for i in 0..subjects.len() {
-        let diagrams = diagrams_of(of, subjects[i]);
+    for i in 0..of.subjects.len() {
+        let diagrams = diagrams_of(of, i);
         let verdict = verdict_of(alloc, of.store, diagrams, of.sizes)?;
         verdicts.push(verdict)?;
     }
@@ -279,8 +224,8 @@ fn add_second_lone(
 
 /// What a comparison finds, in the order of the report.
 pub fn verdicts_of(alloc: Global, of: &Comparison<'_>) -> Result<Vec<Verdict>, AllocError>
-    requires { AreBuilt (circuit of.now.first.now) (circuit of.now.second.now) of.now.pairing.now of.now.store.now of.now.built.now }
-    ensures { IfOk result (λ v. AreVerdicts of.now.sizes (circuit of.now.first.now) (circuit of.now.second.now) of.now.pairing.now (record { variables = of.now.pairing.now.names; verdicts = v.items })) }
+    requires { AreCompared (circuit of.now.first.now) (circuit of.now.second.now) (condition of.now.given) of.now.pairing.now of.now.store.now of.now.subjects.now of.now.references.now }
+    ensures { IfOk result (λ v. AreVerdicts of.now.sizes (circuit of.now.first.now) (circuit of.now.second.now) (condition of.now.given) of.now.pairing.now (record { variables = of.now.pairing.now.names; verdicts = v.items })) }
 {
     let mut verdicts = verdicts_of_pairs(alloc, of)?;
     add_first_lone(alloc, &mut verdicts, of)?;

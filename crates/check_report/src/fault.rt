@@ -15,7 +15,11 @@ pub enum CheckFault {
     First(BenchFault),
     /// The second text was not accepted.
     Second(BenchFault),
-    /// The two netlists have no pairing.
+    /// The condition's text was not accepted.
+    Given(BenchFault),
+    /// The condition has no output, or more than one.
+    GivenOutputs,
+    /// The netlists have no pairing.
     Order(OrderFault),
     /// The diagrams were not built.
     Wave(WaveFault),
@@ -32,6 +36,8 @@ impl fmt::Display for CheckFault {
         match self {
             CheckFault::First(fault) => write!(f, "first: {fault}"),
             CheckFault::Second(fault) => write!(f, "second: {fault}"),
+            CheckFault::Given(fault) => write!(f, "given: {fault}"),
+            CheckFault::GivenOutputs => write!(f, "given: not exactly one output"),
             CheckFault::Order(fault) => write!(f, "order: {fault}"),
             CheckFault::Wave(fault) => write!(f, "build: {fault}"),
             CheckFault::Write => write!(f, "report: cannot be written"),

@@ -1,23 +1,40 @@
 //! Laws of the definitions.
-ghost use Rattle.std.specs.Prelude.{None, ◌≡◌, ℕ, Bool, List};
+ghost use Rattle.std.specs.Prelude.{◌≡◌, ◌↔◌, ℕ, Bool, List, Option, None, IfSome, option_map};
 ghost use Rattle.net_bench.specs.Circuit.{Circuit, Net, IsNet, circuit};
 ghost use Rattle.net_order.specs.declared.order.Match.{Match};
 ghost use Rattle.net_order.specs.declared.order.Order.{Order};
 ghost use Rattle.net_order.specs.Order.{Paired, IsPairing};
+ghost use Rattle.dd_store.specs.Functions.{Agree, IsLeastDifference};
 ghost use Rattle.check_report.specs.declared.outcome.Outcome.{Outcome};
+ghost use Rattle.check_report.specs.Conditions.{HasOneOutput, HoldsWhere, restricted, AgreeWhere, IsLeastWhere};
 ghost use Rattle.check_report.specs.Limits.{FitsWithin, Exceeds};
 ghost use Rattle.check_report.specs.Lines.{Found};
 ghost use Rattle.check_report.specs.Report.{IsReport};
 
-/// What two netlists need is within a limit or beyond it, and never both.
+/// What two netlists need, with a condition or without, is within a limit or beyond it, and never both.
 pub fn limits()
-    ensures { (limit : ℕ) (a b : Circuit) (p : Paired) → FitsWithin limit a b p → Exceeds limit a b p → ⊥ }
+    ensures { (limit : ℕ) (a b : Circuit) (given : Option Circuit) (p : Paired) → FitsWithin limit a b given p → Exceeds limit a b given p → ⊥ }
 {}
 
-/// Two netlists have one report for a form, a matching, an order and a wish for sizes: its counts and its bytes are determined.
+/// Two netlists, with a condition or without, have one report for a form, a matching, an order and a wish for sizes: its counts and its
+/// bytes are determined.
 pub fn one_report()
-    ensures { (one two : Net) → IsNet one → IsNet two → (how : Match) (order : Order) (p q : Paired) →
-        IsPairing how (circuit one) (circuit two) None order p → IsPairing how (circuit one) (circuit two) None order q →
-        (form : Found → List ℕ) (sizes : Bool) (o more : Outcome) (bytes text : List ℕ) → IsReport form sizes (circuit one) (circuit two) p o bytes →
-        IsReport form sizes (circuit one) (circuit two) q more text → (o ≡ more) × (bytes ≡ text) }
+    ensures { (one two : Net) (given : Option Net) → IsNet one → IsNet two → IfSome given (λ net. IsNet net × HasOneOutput (circuit net)) → (how : Match) (order : Order) (p q : Paired) →
+        IsPairing how (circuit one) (circuit two) (option_map circuit given) order p → IsPairing how (circuit one) (circuit two) (option_map circuit given) order q →
+        (form : Found → List ℕ) (sizes : Bool) (o more : Outcome) (bytes text : List ℕ) → IsReport form sizes (circuit one) (circuit two) (option_map circuit given) p o bytes →
+        IsReport form sizes (circuit one) (circuit two) (option_map circuit given) q more text → (o ≡ more) × (bytes ≡ text) }
+{}
+
+/// Without a condition the report speaks of all assignments.
+pub fn without_condition()
+    ensures equal { (p : Paired) (holds : List Bool → Bool) → HoldsWhere None p holds → (n : ℕ) (f g : List Bool → Bool) → AgreeWhere n holds f g ↔ Agree n f g }
+    ensures least { (p : Paired) (holds : List Bool → Bool) → HoldsWhere None p holds → (n : ℕ) (f g : List Bool → Bool) (x : List Bool) → IsLeastWhere n holds f g x ↔ IsLeastDifference n f g x }
+    ensures whole { (p : Paired) (holds : List Bool → Bool) → HoldsWhere None p holds → (f : List Bool → Bool) → restricted holds f ≡ f }
+{}
+
+/// Functions agree where a condition holds exactly where they agree everywhere once each is taken together with the condition, and their
+/// least difference there is that of these two.
+pub fn conjunctions()
+    ensures equal { (n : ℕ) (holds f g : List Bool → Bool) → AgreeWhere n holds f g ↔ Agree n (restricted holds f) (restricted holds g) }
+    ensures least { (n : ℕ) (holds f g : List Bool → Bool) (x : List Bool) → IsLeastWhere n holds f g x ↔ IsLeastDifference n (restricted holds f) (restricted holds g) x }
 {}

@@ -1,13 +1,15 @@
 //! From two readers to the order of their variables.
-ghost use Rattle.std.specs.Prelude.{◌≡◌, ◌≢◌, ℕ, List, Option, IfOk, IfErr, OnOk, OnErr, IsTrue, Err};
+ghost use Rattle.std.specs.Prelude.{None, ◌≡◌, ◌≢◌, ℕ, List, Option, IfOk, IfErr, OnOk, OnErr, IsTrue, Err};
 ghost use Rattle.std.specs.Io.KnownBytes.{Appends};
-ghost use Rattle.expand_work.specs.declared.fault.WaveFault.TheVariants.{Full};
+ghost use Rattle.expand_work.specs.declared.fault.WaveFault.TheVariants.{Full, TooManyRequests};
 ghost use Rattle.net_bench.specs.Circuit.{circuit};
 ghost use Rattle.net_order.specs.declared.order.Order.{Order as OrderValue};
+ghost use Rattle.net_order.specs.Order.{condition};
 ghost use Rattle.net_order.specs.OrderText.{order_text};
 ghost use Rattle.check_report.specs.declared.choice.Attempt.{Attempt as AttemptValue};
 ghost use Rattle.check_report.specs.Best.{IsAllowed, IsFound};
-ghost use Rattle.check_report.specs.Check.{Gives, IsCheckFault};
+ghost use Rattle.check_report.specs.Check.{AreGiven, IsCheckFault};
+ghost use Rattle.check_report.specs.Devices.{told_by, HasFailedIn};
 ghost use Rattle.check_report.specs.Limits.{AreBeyond};
 ghost use Rattle.check_report.specs.Listing.{IsOrderPrinted};
 ghost use Rattle.check_report.specs.Writing.{AppendsFront};
@@ -16,6 +18,7 @@ use crate::attempts::find_best;
 use crate::checking::Task;
 use crate::choice::{Attempt, Choice};
 use crate::fault::CheckFault;
+use crate::reading::read_condition;
 use crate::settings::Settings;
 use crate::write::write_whole;
 use expand_work::Gate;
@@ -42,18 +45,19 @@ fn text_of(alloc: Global, names: &Names) -> Result<Vec<u8>, CheckFault>
 
 /// The order file of the variables of two netlists, in this order.
 fn text_by<H>(task: &Task<'_, H>, order: &Order) -> Result<Vec<u8>, CheckFault>
-    ensures text { (one two : Option (List ℕ)) → Gives one (circuit task.now.first.now) → Gives two (circuit task.now.second.now) →
-        IfOk result (λ text. IsOrderPrinted one two task.now.settings.now.matching order.now text.items) }
-    ensures fault { (one two : Option (List ℕ)) → Gives one (circuit task.now.first.now) → Gives two (circuit task.now.second.now) →
-        IfErr result (IsCheckFault one two ⊥ ⊥ task.now.settings.now.matching order.now) }
+    ensures text { (one two : Option (List ℕ)) (three : Option (Option (List ℕ))) → AreGiven one two three (circuit task.now.first.now) (circuit task.now.second.now) (condition task.now.given) →
+        IfOk result (λ text. IsOrderPrinted one two three task.now.settings.now.matching order.now text.items) }
+    ensures fault { (one two : Option (List ℕ)) (three : Option (Option (List ℕ))) → AreGiven one two three (circuit task.now.first.now) (circuit task.now.second.now) (condition task.now.given) →
+        IfErr result (IsCheckFault one two three ⊥ ⊥ ⊥ task.now.settings.now.matching order.now) }
     ensures unbuilt { result ≢ Err (CheckFault.Wave Full) }
+    ensures unbounded { result ≢ Err (CheckFault.Wave TooManyRequests) }
     ensures unwritten { result ≢ Err CheckFault.Write }
 {
     match pair(
         task.alloc,
         task.first,
         task.second,
-        None,
+        task.given,
         task.settings.matching,
         order,
     ) {
@@ -67,12 +71,13 @@ fn given_text<H>(
     task: &Task<'_, H>,
     order: &Order,
 ) -> Result<(Vec<u8>, Option<Attempt>), CheckFault>
-    ensures text { (one two : Option (List ℕ)) → Gives one (circuit task.now.first.now) → Gives two (circuit task.now.second.now) →
-        IfOk result (λ r. (o : OrderValue) × IsOrderPrinted one two task.now.settings.now.matching o r.0.items
-        × IsFound one two task.now.settings.now.matching (Choice.One order.now) task.now.settings.now.limit r.1 o) }
-    ensures fault { (one two : Option (List ℕ)) → Gives one (circuit task.now.first.now) → Gives two (circuit task.now.second.now) →
-        IfErr result (λ fault. (o : OrderValue) × IsAllowed (Choice.One order.now) o × IsCheckFault one two ⊥ ⊥ task.now.settings.now.matching o fault) }
+    ensures text { (one two : Option (List ℕ)) (three : Option (Option (List ℕ))) → AreGiven one two three (circuit task.now.first.now) (circuit task.now.second.now) (condition task.now.given) →
+        IfOk result (λ r. (o : OrderValue) × IsOrderPrinted one two three task.now.settings.now.matching o r.0.items
+        × IsFound one two three task.now.settings.now.matching (Choice.One order.now) task.now.settings.now.limit r.1 o) }
+    ensures fault { (one two : Option (List ℕ)) (three : Option (Option (List ℕ))) → AreGiven one two three (circuit task.now.first.now) (circuit task.now.second.now) (condition task.now.given) →
+        IfErr result (λ fault. (o : OrderValue) × IsAllowed (Choice.One order.now) o × IsCheckFault one two three ⊥ ⊥ ⊥ task.now.settings.now.matching o fault) }
     ensures unbuilt { result ≢ Err (CheckFault.Wave Full) }
+    ensures unbounded { result ≢ Err (CheckFault.Wave TooManyRequests) }
     ensures unwritten { result ≢ Err CheckFault.Write }
 {
     match text_by(task, order) {
@@ -86,14 +91,15 @@ fn best_text<H: Threads + Wait + Sync, G: Gate>(
     task: &Task<'_, H>,
     gate: &G,
 ) -> Result<(Vec<u8>, Option<Attempt>), CheckFault>
-    ensures text { (one two : Option (List ℕ)) → Gives one (circuit task.now.first.now) → Gives two (circuit task.now.second.now) →
-        IfOk result (λ r. (o : OrderValue) × IsOrderPrinted one two task.now.settings.now.matching o r.0.items
-        × IsFound one two task.now.settings.now.matching Choice.Best task.now.settings.now.limit r.1 o) }
-    ensures full { (one two : Option (List ℕ)) → Gives one (circuit task.now.first.now) → Gives two (circuit task.now.second.now) →
-        result ≡ Err (CheckFault.Wave Full) → (o : OrderValue) → IsAllowed Choice.Best o → AreBeyond one two task.now.settings.now.matching o task.now.settings.now.limit }
-    ensures fault { (one two : Option (List ℕ)) → Gives one (circuit task.now.first.now) → Gives two (circuit task.now.second.now) →
-        IfErr result (λ fault. (o : OrderValue) × IsAllowed Choice.Best o × IsCheckFault one two ⊥ ⊥ task.now.settings.now.matching o fault) }
+    ensures text { (one two : Option (List ℕ)) (three : Option (Option (List ℕ))) → AreGiven one two three (circuit task.now.first.now) (circuit task.now.second.now) (condition task.now.given) →
+        IfOk result (λ r. (o : OrderValue) × IsOrderPrinted one two three task.now.settings.now.matching o r.0.items
+        × IsFound one two three task.now.settings.now.matching Choice.Best task.now.settings.now.limit r.1 o) }
+    ensures full { (one two : Option (List ℕ)) (three : Option (Option (List ℕ))) → AreGiven one two three (circuit task.now.first.now) (circuit task.now.second.now) (condition task.now.given) →
+        result ≡ Err (CheckFault.Wave Full) → (o : OrderValue) → IsAllowed Choice.Best o → AreBeyond one two three task.now.settings.now.matching o task.now.settings.now.limit }
+    ensures fault { (one two : Option (List ℕ)) (three : Option (Option (List ℕ))) → AreGiven one two three (circuit task.now.first.now) (circuit task.now.second.now) (condition task.now.given) →
+        IfErr result (λ fault. (o : OrderValue) × IsAllowed Choice.Best o × IsCheckFault one two three ⊥ ⊥ ⊥ task.now.settings.now.matching o fault) }
     ensures unwritten { result ≢ Err CheckFault.Write }
+    ensures unbounded { G.bound gate.now ≡ None → result ≢ Err (CheckFault.Wave TooManyRequests) }
 {
     match find_best(task, gate) {
         Ok((verdicts, found)) => match text_of(task.alloc, verdicts.variables()) {
@@ -109,14 +115,15 @@ fn text_for<H: Threads + Wait + Sync, G: Gate>(
     task: &Task<'_, H>,
     gate: &G,
 ) -> Result<(Vec<u8>, Option<Attempt>), CheckFault>
-    ensures text { (one two : Option (List ℕ)) → Gives one (circuit task.now.first.now) → Gives two (circuit task.now.second.now) →
-        IfOk result (λ r. (order : OrderValue) × IsOrderPrinted one two task.now.settings.now.matching order r.0.items
-        × IsFound one two task.now.settings.now.matching task.now.settings.now.order task.now.settings.now.limit r.1 order) }
-    ensures full { (one two : Option (List ℕ)) → Gives one (circuit task.now.first.now) → Gives two (circuit task.now.second.now) →
-        result ≡ Err (CheckFault.Wave Full) → (order : OrderValue) → IsAllowed task.now.settings.now.order order → AreBeyond one two task.now.settings.now.matching order task.now.settings.now.limit }
-    ensures fault { (one two : Option (List ℕ)) → Gives one (circuit task.now.first.now) → Gives two (circuit task.now.second.now) →
-        IfErr result (λ fault. (order : OrderValue) × IsAllowed task.now.settings.now.order order × IsCheckFault one two ⊥ ⊥ task.now.settings.now.matching order fault) }
+    ensures text { (one two : Option (List ℕ)) (three : Option (Option (List ℕ))) → AreGiven one two three (circuit task.now.first.now) (circuit task.now.second.now) (condition task.now.given) →
+        IfOk result (λ r. (order : OrderValue) × IsOrderPrinted one two three task.now.settings.now.matching order r.0.items
+        × IsFound one two three task.now.settings.now.matching task.now.settings.now.order task.now.settings.now.limit r.1 order) }
+    ensures full { (one two : Option (List ℕ)) (three : Option (Option (List ℕ))) → AreGiven one two three (circuit task.now.first.now) (circuit task.now.second.now) (condition task.now.given) →
+        result ≡ Err (CheckFault.Wave Full) → (order : OrderValue) → IsAllowed task.now.settings.now.order order → AreBeyond one two three task.now.settings.now.matching order task.now.settings.now.limit }
+    ensures fault { (one two : Option (List ℕ)) (three : Option (Option (List ℕ))) → AreGiven one two three (circuit task.now.first.now) (circuit task.now.second.now) (condition task.now.given) →
+        IfErr result (λ fault. (order : OrderValue) × IsAllowed task.now.settings.now.order order × IsCheckFault one two three ⊥ ⊥ ⊥ task.now.settings.now.matching order fault) }
     ensures unwritten { result ≢ Err CheckFault.Write }
+    ensures unbounded { G.bound gate.now ≡ None → result ≢ Err (CheckFault.Wave TooManyRequests) }
 {
     match &task.settings.order {
         Choice::One(order) => given_text(task, order),
@@ -124,36 +131,47 @@ fn text_for<H: Threads + Wait + Sync, G: Gate>(
     }
 }
 
-/// Reads two netlists, and writes the names of their variables in level order, one a line, as an order file has them. Nothing is
-/// compared, and nothing built unless the best order is to be found.
-pub fn print_order<H: Threads + Wait + Sync, R1: Source, R2: Source, G: Gate, W: Sink>(
-    rt: &H,
+/// Reads two netlists, and a condition where there is one, and writes the names of their variables in level order, one a line, as an
+/// order file has them. Nothing is compared, and nothing built unless the best order is to be found.
+pub fn print_order<
+    'a,
+    H: Threads + Wait + Sync,
+    R1: Source,
+    R2: Source,
+    R3: Source,
+    G: Gate,
+    W: Sink,
+>(
+    rt: &'a H,
     alloc: Global,
     first: &mut R1,
     second: &mut R2,
-    settings: &Settings,
+    given: &mut Option<R3>,
+    settings: &'a Settings,
     gate: &G,
     out: &mut W,
 ) -> Result<Option<Attempt>, CheckFault>
     // What was written is an order of what was read that the settings allow, and nothing else.
-    ensures order { IfOk result (λ tried. (order : OrderValue) × (bytes : List ℕ) × IsOrderPrinted (R1.remaining first.old) (R2.remaining second.old) settings.now.matching order bytes
-        × IsFound (R1.remaining first.old) (R2.remaining second.old) settings.now.matching settings.now.order settings.now.limit tried order × Appends (W.contents out.old) (W.contents out.new) bytes) }
+    ensures order { IfOk result (λ tried. (order : OrderValue) × (bytes : List ℕ) × IsOrderPrinted (R1.remaining first.old) (R2.remaining second.old) (told_by R3.remaining given.old) settings.now.matching order bytes
+        × IsFound (R1.remaining first.old) (R2.remaining second.old) (told_by R3.remaining given.old) settings.now.matching settings.now.order settings.now.limit tried order × Appends (W.contents out.old) (W.contents out.new) bytes) }
     // Full comes only where the netlists need more nodes than the limit, in each order that the settings allow.
     ensures full { result ≡ Err (CheckFault.Wave Full) → (order : OrderValue) → IsAllowed settings.now.order order →
-        AreBeyond (R1.remaining first.old) (R2.remaining second.old) settings.now.matching order settings.now.limit }
+        AreBeyond (R1.remaining first.old) (R2.remaining second.old) (told_by R3.remaining given.old) settings.now.matching order settings.now.limit }
+    // Where the gate sets no bound, no attempt is refused for its requests.
+    ensures unbounded { G.bound gate.now ≡ None → result ≢ Err (CheckFault.Wave TooManyRequests) }
     // A fault has its cause, and what comes before it was accepted.
     ensures fault { IfErr result (λ fault. (order : OrderValue) × IsAllowed settings.now.order order
-        × IsCheckFault (R1.remaining first.old) (R2.remaining second.old) (IsTrue (R1.has_failed first.new)) (IsTrue (R2.has_failed second.new)) settings.now.matching order fault) }
+        × IsCheckFault (R1.remaining first.old) (R2.remaining second.old) (told_by R3.remaining given.old) (IsTrue (R1.has_failed first.new)) (IsTrue (R2.has_failed second.new)) (HasFailedIn R3.has_failed given.new) settings.now.matching order fault) }
     // Where the writing failed, a front part of the order was written, and the device has failed or taken nothing of the rest.
     ensures unwritten { result ≡ Err CheckFault.Write → (tried : Option AttemptValue) × (order : OrderValue) × (bytes : List ℕ)
-        × IsOrderPrinted (R1.remaining first.old) (R2.remaining second.old) settings.now.matching order bytes
-        × IsFound (R1.remaining first.old) (R2.remaining second.old) settings.now.matching settings.now.order settings.now.limit tried order
+        × IsOrderPrinted (R1.remaining first.old) (R2.remaining second.old) (told_by R3.remaining given.old) settings.now.matching order bytes
+        × IsFound (R1.remaining first.old) (R2.remaining second.old) (told_by R3.remaining given.old) settings.now.matching settings.now.order settings.now.limit tried order
         × AppendsFront (W.contents out.old) (W.contents out.new) (W.has_failed out.new) (W.has_stopped out.new) bytes }
     // At any other fault nothing was written.
     ensures untouched { OnErr result (result ≢ Err CheckFault.Write → out.new ≡ out.old) }
     // A writer that took the order has not failed, and took some bytes at each write.
     ensures written { OnOk result ((W.has_failed out.new ≡ W.has_failed out.old) × (W.has_stopped out.new ≡ W.has_stopped out.old)) }
-    ensures origins { (R1.origin first.new ≡ R1.origin first.old) × (R2.origin second.new ≡ R2.origin second.old) }
+    ensures origins { (R1.origin first.new ≡ R1.origin first.old) × (R2.origin second.new ≡ R2.origin second.old) × (told_by R3.origin given.new ≡ told_by R3.origin given.old) }
 {
     let one = match read_bench(alloc, first) {
         Ok(net) => net,
@@ -163,11 +181,17 @@ pub fn print_order<H: Threads + Wait + Sync, R1: Source, R2: Source, G: Gate, W:
         Ok(net) => net,
         Err(fault) => return Err(CheckFault::Second(fault)),
     };
+    let three = match read_condition(alloc, given) {
+        Ok(net) => net,
+        Err(fault) => return Err(fault),
+    };
+    let condition = three.as_ref();
     let task = Task {
         rt,
         alloc,
         first: &one,
         second: &two,
+        given: condition,
         settings,
     };
     let (text, tried) = match text_for(&task, gate) {

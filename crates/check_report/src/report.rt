@@ -40,13 +40,20 @@ fn object_of(
     alloc: Global,
     settings: &Settings,
     tried: Option<Attempt>,
+    given: bool,
     verdicts: &Verdicts,
 ) -> Result<Vec<u8>, AllocError>
-    ensures { IfOk result (λ text. text.items ≡ json_text settings.now.matching (tried_order settings.now.order tried) verdicts.now) }
+    ensures { IfOk result (λ text. text.items ≡ json_text settings.now.matching (tried_order settings.now.order tried) given verdicts.now) }
 {
     match &settings.order {
-        Choice::One(order) => json_of(alloc, settings.matching, order, verdicts),
-        Choice::Best => json_of(alloc, settings.matching, &best_order(tried), verdicts),
+        Choice::One(order) => json_of(alloc, settings.matching, order, given, verdicts),
+        Choice::Best => json_of(
+            alloc,
+            settings.matching,
+            &best_order(tried),
+            given,
+            verdicts,
+        ),
     }
 }
 
@@ -55,12 +62,13 @@ pub(crate) fn text_of(
     alloc: Global,
     settings: &Settings,
     tried: Option<Attempt>,
+    given: bool,
     verdicts: &Verdicts,
 ) -> Result<Vec<u8>, AllocError>
-    ensures { IfOk result (λ text. text.items ≡ form_text settings.now.json settings.now.matching (tried_order settings.now.order tried) verdicts.now) }
+    ensures { IfOk result (λ text. text.items ≡ form_text settings.now.json settings.now.matching (tried_order settings.now.order tried) given verdicts.now) }
 {
     if settings.json {
-        object_of(alloc, settings, tried, verdicts)
+        object_of(alloc, settings, tried, given, verdicts)
     } else {
         report_of(alloc, verdicts)
     }

@@ -45,6 +45,10 @@ module _ (matching order format : Option ValueParser) where
   unfolding clap_on_literals
   format_found = refl
 
+  verbose_found : one_of (codes "verbose") (matches_of (tool_app matching order format) []) ≡ Some (codes "false")
+  unfolding clap_on_literals
+  verbose_found = refl
+
   first_found : first_of (codes "FIRST") (matches_of (tool_app matching order format) []) ≡ None
   unfolding clap_on_literals
   first_found = refl
@@ -89,6 +93,7 @@ defaults o (rows, found, one, are) =
       sizes = (subst (λ w. IsFlag w o.sizes) (ap (one_of (codes "sizes")) e ∙ sizes_found m d f) are.sizes).1 refl;
       print_order = (subst (λ w. IsFlag w o.print_order) (ap (one_of (codes "print-order")) e ∙ print_order_found m d f) are.print_order).1 refl;
       json = as_text o.json (subst (λ w. IsForm w o.json) (ap (first_of (codes "format")) e ∙ format_found m d f) are.json);
+      verbose = (subst (λ w. IsFlag w o.verbose) (ap (one_of (codes "verbose")) e ∙ verbose_found m d f) are.verbose).1 refl;
       texts = subst (λ w. AreTexts w None o.texts) (ap (first_of (codes "FIRST")) e ∙ first_found m d f)
           (subst (λ w. AreTexts (first_of (codes "FIRST") rows) w o.texts) (ap (first_of (codes "SECOND")) e ∙ second_found m d f) are.texts);
     }

@@ -5,7 +5,7 @@ use Rattle.command_line.specs.declared.options.Options.{Options}
 use Rattle.command_line.specs.declared.options.OrderChoice.TheVariants.{Declared}
 use Rattle.command_line.specs.declared.options.Texts.TheVariants.{Input}
 
--- by name, in declared order, by 4 workers, at most 67,108,864 nodes, without sizes, compared, both texts on the input
+-- by name, in declared order, by 4 workers, at most 67,108,864 nodes, without sizes, compared, silent, both texts on the input
 pub record AreDefaults (o : Options) : Type 0 where
   pub matching : o.matching ≡ Name
   pub order : o.order ≡ Declared
@@ -14,4 +14,5 @@ pub record AreDefaults (o : Options) : Type 0 where
   pub sizes : o.sizes ≡ false
   pub print_order : o.print_order ≡ false
   pub json : o.json ≡ false
+  pub verbose : o.verbose ≡ false
   pub texts : o.texts ≡ Input

@@ -56,6 +56,9 @@ print_order_rule = record (new_rule (codes "print-order")) { long = Some (codes 
 abbrev pub format_rule : Option ValueParser → Rule
 format_rule parser = value_rule (codes "format") (codes "text" ∷ []) parser
 
+abbrev pub verbose_rule : Rule
+verbose_rule = record (new_rule (codes "verbose")) { long = Some (codes "verbose"); action = Some SetTrue }
+
 -- the command before it has arguments: its words begin behind the program's name, and it tells its version
 abbrev pub bare_app : App
 bare_app = on_top (λ s. record s { no_binary_name = true; has_version = true }) (new_app (codes "bddcheck"))
@@ -76,7 +79,7 @@ TakesFormats = TakesOnly (codes "text" ∷ codes "json" ∷ [])
 -- The command with its arguments. The parsers of three lists of words are named apart.
 abbrev pub tool_app : (matching order format : Option ValueParser) → App
 tool_app matching order format =
-    with_rule (with_rule (with_rule (with_rule (with_rule (with_rule (with_rule (with_rule (with_rule (with_rule bare_app (match_rule matching)) (order_rule order)) order_file_rule) workers_rule) limit_rule) sizes_rule) print_order_rule) (format_rule format)) (new_rule (codes "FIRST"))) (new_rule (codes "SECOND"))
+    with_rule (with_rule (with_rule (with_rule (with_rule (with_rule (with_rule (with_rule (with_rule (with_rule (with_rule bare_app (match_rule matching)) (order_rule order)) order_file_rule) workers_rule) limit_rule) sizes_rule) print_order_rule) (format_rule format)) verbose_rule) (new_rule (codes "FIRST"))) (new_rule (codes "SECOND"))
 
 -- the command has these arguments
 abbrev pub IsTool : App → Type 0
@@ -161,6 +164,7 @@ pub record AreOptions (rows : List Row) (o : Options) : Type 0 where
   pub sizes : IsFlag (one_of (codes "sizes") rows) o.sizes
   pub json : IsForm (first_of (codes "format") rows) o.json
   pub print_order : IsFlag (one_of (codes "print-order") rows) o.print_order
+  pub verbose : IsFlag (one_of (codes "verbose") rows) o.verbose
 
 -- the kinds of the first fault that clap finds in the words; none where it takes them
 abbrev pub AreFaults : List Text → Kinds → Type 0

@@ -1,7 +1,7 @@
 //! The command of the program, as clap knows it.
 ghost use Rattle.std.specs.Prelude.{◌≡◌, false, codes, IfOk};
 ghost use Rattle.clap.specs.Words.{app_of, new_rule, rule_of};
-ghost use Rattle.command_line.specs.Words.{TakesMatches, TakesOrders, match_rule, order_rule, order_file_rule, workers_rule, limit_rule, sizes_rule, print_order_rule, TakesFormats, format_rule, bare_app, IsTool};
+ghost use Rattle.command_line.specs.Words.{TakesMatches, TakesOrders, match_rule, order_rule, order_file_rule, workers_rule, limit_rule, sizes_rule, print_order_rule, TakesFormats, format_rule, verbose_rule, bare_app, IsTool};
 
 use clap::{Arg, ArgAction, Command, value_parser};
 use std::alloc::{AllocError, Global};
@@ -124,6 +124,18 @@ fn format<'a>(alloc: Global) -> Arg<'a>
         .help("Write the report as lines of text, or as one JSON object")
 }
 
+fn verbose<'a>(alloc: Global) -> Arg<'a>
+    ensures rule { rule_of result ≡ verbose_rule }
+    ensures local { result.global ≡ false }
+{
+    Arg::new(alloc, "verbose")
+        .long("verbose")
+        .action(ArgAction::SetTrue)
+        .help(
+            "Tell on standard error which of the best order's attempts it was, and behind a fault where it stands and what helps",
+        )
+}
+
 fn first<'a>(alloc: Global) -> Arg<'a>
     ensures rule { rule_of result ≡ new_rule (codes "FIRST") }
     ensures local { result.global ≡ false }
@@ -165,6 +177,9 @@ pub fn command<'a>(alloc: Global) -> Result<Command<'a>, AllocError>
         .arg(sizes(alloc))?
         .arg(print_order(alloc))?
         .arg(format(alloc))?;
-    let command = command.arg(first(alloc))?.arg(second(alloc))?;
+    let command = command
+        .arg(verbose(alloc))?
+        .arg(first(alloc))?
+        .arg(second(alloc))?;
     Ok(command)
 }

@@ -44,6 +44,8 @@ pub struct Options<'a> {
     pub print_order: bool,
     /// Whether the report is one JSON object, and not lines.
     pub json: bool,
+    /// Whether standard error tells more than faults.
+    pub verbose: bool,
     pub texts: Texts<'a>,
     ghost some_workers: { 1 ≤ workers },
     ghost few_workers: { workers ≤ 16 },

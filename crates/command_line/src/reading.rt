@@ -195,6 +195,7 @@ fn options_of<'a>(matches: &ArgMatches<'a>) -> Options<'a>
         sizes: matches.get_flag("sizes"),
         print_order: matches.get_flag("print-order"),
         json: is_json(matches.get_str("format")),
+        verbose: matches.get_flag("verbose"),
         texts: texts_of(matches.get_str("FIRST"), matches.get_str("SECOND")),
     }
 }

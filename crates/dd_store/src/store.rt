@@ -299,7 +299,8 @@ impl Store {
 
     /// Adds to a level a node for each pair of children that has none, by sixteen lists, one for each shard. Four threads
     /// share the shards. Full is answered only where a shard alone holds as many nodes as the limit and lacks a pair of
-    /// its list, and OutOfMemory where both befall. After a refusal some of the nodes may stand.
+    /// its list, and OutOfMemory only where a shard lacks one, also where both befall. After a refusal some of the nodes
+    /// may stand.
     pub fn add_all<R: Threads + Sync, H: Watch>(
         &mut self,
         rt: &R,

@@ -56,8 +56,10 @@ fn names_of_nodes_far_back(rt: HostRuntime) -> Result<(), Fail> {
                 shard: 15,
                 index,
             };
-            assert!(rt; Ref::node(id).view() == Reference::Node(id));
-            assert!(rt; Ref::node(id) > Ref::TRUE);
+            let reference = Ref::node(id);
+            assert!(rt; reference.view() == Reference::Node(id));
+            assert!(rt; reference > Ref::TRUE && !reference.is_terminal());
+            assert_eq!(rt; Ref::of_word(reference.word()), reference);
         }
     }
     Ok(())
@@ -75,6 +77,8 @@ fn parts(rt: HostRuntime) -> Result<(), Fail> {
     assert!(rt; store.top(r) < store.levels());
     assert_eq!(rt; store.low(r), Ref::FALSE);
     assert_eq!(rt; store.high(r), b);
+    assert_eq!(rt; store.children(r), (Ref::FALSE, b));
+    assert_eq!(rt; store.cofactors(r, 0), (Ref::FALSE, b));
     assert_eq!(rt; store.cofactor(r, 0, false), Ref::FALSE);
     assert_eq!(rt; store.cofactor(r, 0, true), b);
     assert_eq!(rt; store.cofactor(b, 0, true), b);

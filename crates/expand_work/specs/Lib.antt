@@ -7,3 +7,4 @@ pub mod Working
 pub mod Team
 pub mod Expanded
 pub mod Gathered
+pub mod Bounds

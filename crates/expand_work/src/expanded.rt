@@ -72,6 +72,7 @@ pub fn expand_all<R: Threads + Wait + Sync, G: Gate>(
     ensures put { IfOk result (λ e. put_by e.ports
         ≡ bundles_between workers store.now.levels (sent_from e.ports) + workers * (workers * store.now.levels)) }
     ensures fault { IfErr result (λ f. f ≢ WaveFault.Full) }
+    ensures unbounded { IfErr result (λ f. f ≢ WaveFault.TooManyRequests) }
 {
     let levels = store.levels();
     let (lanes, ports) = Lanes::new(alloc, store, workers)?;

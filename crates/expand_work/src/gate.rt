@@ -1,8 +1,14 @@
 //! Whoever watches workers come to their levels, and threads to the shards of a level.
+ghost use Rattle.std.specs.Prelude.{◌≡◌, ℕ, Option, None};
+ghost use Rattle.expand_work.specs.Bounds.{most_of};
+
 use dd_store::Watch;
 
 /// Is told when a worker has closed a level and is about to expand it, and what a `Watch` is told.
 pub trait Gate: Watch + Sync {
+    // The most requests that a wave of an engine may have, where they are bounded.
+    ghost bound: { Self → Option ℕ } = { λ _. None };
+
     fn at_level(&self, worker: u32, level: u16);
 
     /// The most requests that a level may have before a wave that began on the caller's thread calls in so many workers. 0, where a gate
@@ -13,9 +19,12 @@ pub trait Gate: Watch + Sync {
 
     /// The most requests that a wave of an engine may have. A wave that is bounded so is the caller's alone, so that no more than
     /// three times as many are ever held; which waves are refused does not depend on the workers.
-    fn most_requests(&self) -> usize {
-        usize::MAX
-    }
+    fn most_requests(&self) -> usize
+        ensures bound { result ≡ most_of (bound self.now) };
+
+    /// Is told of each rank of a build before it is built: its number, from 1 on, how many ranks the build has, and how many nodes the
+    /// store has so far.
+    fn at_rank(&self, _rank: u32, _ranks: u32, _nodes: u64) {}
 }
 
 /// Up to so many requests of a level the caller's thread was measured, and was faster than any number of workers.
@@ -34,5 +43,9 @@ impl Gate for Free {
 
     fn most_alone(&self, workers: u32) -> usize {
         if workers <= 1 { usize::MAX } else { WIDE }
+    }
+
+    fn most_requests(&self) -> usize {
+        usize::MAX
     }
 }

@@ -65,6 +65,7 @@ pub fn expand_parts<R: Threads + Wait + Sync, G: Gate>(
     requires roots { All (IsKey store.now) roots.now }
     ensures parts { IfOk result (λ p. AreParts store.now workers roots.now p) }
     ensures fault { IfErr result (λ f. f ≢ WaveFault.Full) }
+    ensures unbounded { IfErr result (λ f. f ≢ WaveFault.TooManyRequests) }
 {
     let _ = store.levels();
     let (lanes, ports) = Lanes::new(alloc, store, workers)?;

@@ -93,6 +93,7 @@ pub fn run_workers<R: Threads + Wait + Sync, G: Gate>(
     requires roots { All (IsKey wave.store.now) wave.roots.now }
     ensures parts { IfOk result (λ v. AreWorked wave.entry.lanes.now wave.entry.store.now wave.entry.roots.now v.items) }
     ensures fault { IfErr result (λ f. f ≢ WaveFault.Full) }
+    ensures unbounded { IfErr result (λ f. f ≢ WaveFault.TooManyRequests) }
 {
     let Wave {
         alloc,
@@ -112,6 +113,7 @@ pub fn run_workers<R: Threads + Wait + Sync, G: Gate>(
             requires roots { All (IsKey store.now) roots.now }
             ensures parts { IfOk result (λ v. AreWorked lanes.entry.now store.entry.now roots.entry.now v.items) }
             ensures fault { IfErr result (λ f. f ≢ WaveFault.Full) }
+            ensures unbounded { IfErr result (λ f. f ≢ WaveFault.TooManyRequests) }
         {
             let count = ports.len();
             let mut children = Vec::with_capacity(alloc, count)?;

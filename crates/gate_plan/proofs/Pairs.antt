@@ -6,12 +6,12 @@ use Rattle.dd_store.specs.Nodes.{Nodes}
 use Rattle.net_bench.specs.Circuit.{Circuit, Net, circuit, variables_of}
 use Rattle.net_order.specs.declared.order.Match.{Match}
 use Rattle.net_order.specs.declared.order.Order.{Order}
-use Rattle.net_order.specs.Order.{Paired, IsPairing}
+use Rattle.net_order.specs.Order.{Paired, IsPairing, first_level, second_level, given_level}
 use Rattle.net_order.proofs.InputLevels.{first_below, second_below, given_below}
 use Rattle.gate_plan.specs.declared.inputs.Which.{Which}
 use Rattle.gate_plan.specs.declared.inputs.Which.TheVariants.{First, Second, Given}
 use Rattle.gate_plan.specs.Plans.{IsPlan}
-use Rattle.gate_plan.specs.Building.{IsPaired, ArePlaced, Placed, Levelled, levelled, levelled_given, levelled_of, input_level, first_level, second_level, given_level, AreDiagrams}
+use Rattle.gate_plan.specs.Building.{IsPaired, ArePlaced, Placed, Levelled, levelled, levelled_given, levelled_of, input_level, AreDiagrams}
 use Rattle.gate_plan.proofs.Together.{image}
 
 module _ (how : Match) (a b : Circuit) (order : Order) (p : Paired) (n : ℕ) (count : n ≡ length p.names) where

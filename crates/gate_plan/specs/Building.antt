@@ -15,7 +15,7 @@ use Rattle.net_bench.specs.Circuit.{Circuit, Net, circuit, variables_of}
 use Rattle.net_bench.specs.Labels.{bit_of, is_complemented, IsLabelling, IsFunctionOf}
 use Rattle.net_order.specs.declared.order.Match.{Match}
 use Rattle.net_order.specs.declared.order.Order.{Order}
-use Rattle.net_order.specs.Order.{Paired, IsPairing}
+use Rattle.net_order.specs.Order.{Paired, IsPairing, first_level, second_level, given_level}
 use Rattle.gate_plan.specs.declared.inputs.Which.{Which}
 use Rattle.gate_plan.specs.declared.inputs.Which.TheVariants.{First, Second, Given}
 use Rattle.gate_plan.specs.declared.steps.Step.{Step}
@@ -39,18 +39,6 @@ pub record Placed : Type 0 where
 -- p is the pairing of the two netlists, with this condition or none, for some way of matching and some order
 abbrev pub IsPaired : Circuit → Circuit → Option Circuit → Paired → Type 0
 IsPaired a b given p = (how : Match) × (order : Order) × IsPairing how a b given order p
-
--- the level of an input of the first netlist
-abbrev pub first_level : Paired → ℕ → ℕ
-first_level p s = slice_index p.first s
-
--- the level of an input of the second netlist
-abbrev pub second_level : Paired → ℕ → ℕ
-second_level p s = slice_index p.second s
-
--- the level of an input of the condition
-abbrev pub given_level : Paired → ℕ → ℕ
-given_level p s = slice_index p.given s
 
 -- the level of an input of one of them
 abbrev pub level_in : Which → Paired → ℕ → ℕ

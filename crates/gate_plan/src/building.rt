@@ -1,15 +1,15 @@
 //! The building of netlists' diagrams in one store, rank by rank.
-ghost use Rattle.std.specs.Prelude.{◌≡◌, ◌+◌, ◌<◌, ◌≤◌, [], Contains, length, IfOk, IfErr, IfSome, OnOk, slice_get, slice_index_or, Some};
+ghost use Rattle.std.specs.Prelude.{◌≡◌, ◌≢◌, ◌+◌, ◌<◌, ◌≤◌, None, Err, [], Contains, length, IfOk, IfErr, IfSome, OnOk, slice_get, slice_index_or, Some};
 ghost use Rattle.dd_store.specs.Nodes.{IsSound, count_of};
 ghost use Rattle.dd_store.specs.View.{Keeps};
 ghost use Rattle.net_bench.specs.Circuit.{circuit};
-ghost use Rattle.net_order.specs.Order.{condition};
+ghost use Rattle.net_order.specs.Order.{condition, first_level, second_level, given_level};
 ghost use Rattle.reduce_up.specs.Reducing.{AddsDescribed};
 ghost use Rattle.gate_plan.specs.Need.{IsCounted};
 ghost use Rattle.gate_plan.specs.Needing.{IsNeeded, IsNeededValue, HasNeed, IsBuildFault, IsPlacedValue};
 ghost use Rattle.gate_plan.specs.Asking.{AnyAsks, AnyAsksAt, AnyAsksIn, IsWithinOrUnasked, IsHeldWithin};
 ghost use Rattle.gate_plan.specs.Plans.{IsPlan};
-ghost use Rattle.gate_plan.specs.Building.{Placed, IsPaired, first_level, second_level, given_level, AreDiagrams, AllRight, AllFolded};
+ghost use Rattle.gate_plan.specs.Building.{Placed, IsPaired, AreDiagrams, AllRight, AllFolded};
 
 use crate::inputs::make_variables;
 use crate::sides::{Diagrams, Side, copy_rank, entries_of, last_rank, most_folds, sides_of, start};
@@ -89,14 +89,16 @@ fn build_fold<R: Threads + Wait + Sync, G: Gate>(
 ) -> Result<(), WaveFault>
     requires rank { 1 ≤ rank }
     requires plans { (one : Placed) → Contains sides.now one → IsPlan one.net one.plan }
-    requires held { IsHeldWithin store.old engine.old }
+    requires held { IsHeldWithin store.old engine.old.held }
     requires folded { AllFolded sides.now store.old built.old rank fold }
     ensures sound { IsSound store.new }
     ensures adds { AddsDescribed store.old store.new (IsCounted store.old.levels (IsPlacedValue store.old.levels sides.now)) }
-    ensures held { OnOk result (IsHeldWithin store.new engine.new) }
+    ensures held { OnOk result (IsHeldWithin store.new engine.new.held) }
+    ensures bound { engine.new.bound ≡ engine.old.bound }
     ensures next { OnOk result (AllFolded sides.now store.new built.new rank (fold + 1)) }
     ensures within { OnOk result (IsWithinOrUnasked (AnyAsksAt sides.now store.new rank fold) store.old store.new) }
     ensures fault { IfErr result (IsBuildFault store.old.levels (IsPlacedValue store.old.levels sides.now) store.new) }
+    ensures unbounded { engine.old.bound ≡ None → result ≢ Err WaveFault.TooManyRequests }
 {
     let _ = store.levels();
     let entries = match entries_of(engine.alloc(), sides, built, rank, fold) {
@@ -126,14 +128,16 @@ fn build_rank<R: Threads + Wait + Sync, G: Gate>(
 ) -> Result<(), WaveFault>
     requires rank { 1 ≤ rank }
     requires plans { (one : Placed) → Contains sides.now one → IsPlan one.net one.plan }
-    requires held { IsHeldWithin store.old engine.old }
+    requires held { IsHeldWithin store.old engine.old.held }
     requires right { AllRight sides.now store.old built.old rank }
     ensures sound { IsSound store.new }
     ensures adds { AddsDescribed store.old store.new (IsCounted store.old.levels (IsPlacedValue store.old.levels sides.now)) }
-    ensures held { OnOk result (IsHeldWithin store.new engine.new) }
+    ensures held { OnOk result (IsHeldWithin store.new engine.new.held) }
+    ensures bound { engine.new.bound ≡ engine.old.bound }
     ensures next { OnOk result (AllRight sides.now store.new built.new (rank + 1)) }
     ensures within { OnOk result (IsWithinOrUnasked (AnyAsksIn sides.now store.new rank) store.old store.new) }
     ensures fault { IfErr result (IsBuildFault store.old.levels (IsPlacedValue store.old.levels sides.now) store.new) }
+    ensures unbounded { engine.old.bound ≡ None → result ≢ Err WaveFault.TooManyRequests }
 {
     let _ = store.levels();
     copy_rank(sides, built, rank);
@@ -141,6 +145,11 @@ fn build_rank<R: Threads + Wait + Sync, G: Gate>(
         build_fold(engine, store, sides, built, rank, fold)?;
     }
     Ok(())
+}
+
+/// A number as a gate is told it.
+fn told(number: usize) -> u32 {
+    u32::try_from(number).unwrap_or(u32::MAX)
 }
 
 /// Builds the diagrams of all signals of two netlists, and of a condition where there is one, over the variables of their pairing: all
@@ -176,6 +185,8 @@ pub fn build<R: Threads + Wait + Sync, G: Gate>(
     ensures need { count_of store.old ≡ 0 → OnOk result (HasNeed (circuit first.now) (circuit second.now) (condition given.entry) pairing.now store.new) }
     // Full is answered only where the store has more nodes than its limit, or as many and lacks one that is needed.
     ensures fault { IfErr result (IsBuildFault (length pairing.now.names) (IsNeededValue (circuit first.now) (circuit second.now) (condition given.entry) pairing.now) store.new) }
+    // Where the gate sets no bound, the build is not refused for its requests.
+    ensures unbounded { G.bound gate.now ≡ None → result ≢ Err WaveFault.TooManyRequests }
 {
     let variables = make_variables(alloc, store)?;
     let Ok(sides) = sides_of(alloc, first, second, given, pairing) else {
@@ -188,7 +199,9 @@ pub fn build<R: Threads + Wait + Sync, G: Gate>(
     let Ok(mut engine) = Engine::new(rt, alloc, Workers::new(workers), gate) else {
         return Err(WaveFault::OutOfMemory);
     };
-    for below in 0..last_rank(sides) {
+    let ranks = last_rank(sides);
+    for below in 0..ranks {
+        gate.at_rank(told(below + 1), told(ranks), store.count());
         build_rank(&mut engine, store, sides, list.as_mut_slice(), below + 1)?;
     }
     Ok(Built { list })

@@ -1,5 +1,5 @@
 //! Functions where a condition holds.
-ghost use Rattle.std.specs.Prelude.{◌≡◌, ◌++◌, ◌≤◌, IfOk, IfErr, OnOk, All};
+ghost use Rattle.std.specs.Prelude.{◌≡◌, ◌≢◌, ◌++◌, ◌≤◌, None, Err, IfOk, IfErr, OnOk, All};
 ghost use Rattle.dd_store.specs.Nodes.{IsSound};
 ghost use Rattle.dd_store.specs.View.{Has};
 ghost use Rattle.reduce_up.specs.Reducing.{AddsDescribed};
@@ -52,6 +52,8 @@ pub fn conjoin<R: Threads + Wait + Sync, G: Gate>(
     ensures within { OnOk result (IsWithinLimit store.old (conjunctions references.now given) store.new) }
     // Full is answered only where the store has more nodes than its limit, or as many and lacks one that is wanted.
     ensures fault { IfErr result (IsWaveFault store.old (conjunctions references.now given) store.new) }
+    // Where the gate sets no bound, the wave is not refused for its requests.
+    ensures unbounded { G.bound gate.now ≡ None → result ≢ Err WaveFault.TooManyRequests }
 {
     let _ = store.levels();
     let Ok(entries) = conjunctions(alloc, references, given) else {

@@ -52,6 +52,7 @@ pub fn make_variables(alloc: Global, store: &mut Store) -> Result<Vec<Ref>, Wave
     ensures within { IsStillWithin store.old store.new }
     ensures fault { IfErr result (IsBuildFault store.old.levels (IsVariable store.old.levels) store.new) }
     ensures served { IfErr result (λ e. e ≢ WaveFault.NoWorker) }
+    ensures unbounded { IfErr result (λ e. e ≢ WaveFault.TooManyRequests) }
 {
     let mut variables = Vec::new(alloc);
     for level in 0..store.levels() {

@@ -1,70 +1,75 @@
--- The variables of a netlist, kind by kind.
-use Rattle.std.proofs.Common.{◌≡◌, ℕ, zero, suc, ◌<◌, List, [], ◌∷◌, ◌++◌, true, subst, length, map, arith, All, IsTrue, Option}
-use Rattle.std.proofs.lemmas.List.{map-append}
-use Rattle.net_bench.specs.Circuit.{Circuit, Net, IsNet, circuit, is_name_in, variables_of}
-use Rattle.net_order.specs.declared.order.Match.{Match}
-use Rattle.net_order.specs.Order.{all_names, both_names, given_names, is_member, name_of, names_of, registers_of, second_name, second_names}
+-- The variables of each netlist of a pairing have names among all.
+use Rattle.std.proofs.Common.{◌≡◌, ℕ, zero, suc, ◌<◌, inl, inr, List, [], ◌∷◌, ◌++◌, true, sym, ap, ◌∙◌, subst, length, map, arith, All, get_or}
+use Rattle.std.specs.Prelude.{◌==◌, bytes_eq}
+use Rattle.net_bench.specs.Circuit.{Net, IsNet, circuit, is_name_in}
+use Rattle.net_bench.proofs.Numbers.{in_distinct, or_cases, or_right, same_name}
+use Rattle.net_order.specs.Order.{Sided, all_names, declared, is_member, met, named, names_in, names_of_sides, names_on, registers_of}
+use Rattle.net_order.specs.Tables.{AreKnown, IsKnown}
 use Rattle.net_order.proofs.Different.{AmongNames}
-use Rattle.net_order.proofs.Members.{joined_names, left_names, right_names}
-use Rattle.net_order.proofs.Seconds.{members}
-
-all_left : {X : Type 0} (P : X → Type 0) (xs ys : List X) → All P (xs ++ ys) → All P xs
-all_left P [] ys h i d low = absurd (omega arith)
-all_left P (x ∷ xs) ys h zero d low = h zero d (omega arith)
-all_left P (x ∷ xs) ys h (suc i) d low = all_left P xs ys (λ j e k. h (suc j) e (omega (arith, k))) i d (omega arith)
+use Rattle.net_order.proofs.Members.{joined_names, left_names, right_names, member_head, met_inputs, named_member, no_true}
+use Rattle.net_order.proofs.Walking.{in_append}
 
 all_right : {X : Type 0} (P : X → Type 0) (xs ys : List X) → All P (xs ++ ys) → All P ys
 all_right P [] ys h = h
 all_right P (x ∷ xs) ys h = all_right P xs ys (λ j e k. h (suc j) e (omega (arith, k)))
 
--- ---- what holds of all variables holds of each kind
+-- what holds of all variables holds of the registers
+pub registers_low : (n : Net) → IsNet n → All (λ s. s < length n.names) (registers_of (circuit n))
+registers_low n sound = all_right (λ s. s < length n.names) n.inputs (registers_of (circuit n)) sound.variables
 
-module _ (n : Net) (sound : IsNet n) where
-  pub inputs_low : All (λ s. s < length n.names) n.inputs
-  inputs_low = all_left (λ s. s < length n.names) n.inputs (registers_of (circuit n)) sound.variables
+-- ---- sides
 
-  pub registers_low : All (λ s. s < length n.names) (registers_of (circuit n))
-  registers_low = all_right (λ s. s < length n.names) n.inputs (registers_of (circuit n)) sound.variables
+-- names that are told one by one
+pub told_names : (f : ℕ → List ℕ) (xs : List ℕ) (names : List (List ℕ)) → ((s : ℕ) → is_member s xs ≡ true → is_name_in names (f s) ≡ true) → AmongNames (map f xs) names
+told_names f [] names h n e = absurd (no_true e)
+told_names f (x ∷ xs) names h n e = elim (or_cases (bytes_eq (f x) n) (is_name_in (map f xs) n) e) [
+  | inl same ↦ ap (is_name_in names) (sym (same_name (f x) n same)) ∙ h x (member_head x xs)
+  | inr more ↦ told_names f xs names (λ s k. h s (or_right (x == s) (is_member s xs) k)) n more
+]
 
-pub inputs_variables : (c : Circuit) → All (λ s. IsTrue (is_member s (variables_of c))) c.inputs
-inputs_variables c = all_left (λ s. IsTrue (is_member s (variables_of c))) c.inputs (registers_of c) (members (variables_of c))
+-- a side whose inputs and registers have names among these
+one_known : (side : Sided) (names : List (List ℕ)) → AmongNames (names_on side side.net.inputs) names → AmongNames (names_on side (registers_of side.net)) names → IsKnown names side
+one_known side names h k s e = elim (or_cases (is_member s side.net.inputs) (is_member s (registers_of side.net)) (sym (in_append s side.net.inputs (registers_of side.net)) ∙ e)) [
+  | inl input ↦ h (named side s) (named_member (named side) side.net.inputs s input)
+  | inr register ↦ k (named side s) (named_member (named side) (registers_of side.net) s register)
+]
 
-pub registers_variables : (c : Circuit) → All (λ s. IsTrue (is_member s (variables_of c))) (registers_of c)
-registers_variables c = all_right (λ s. IsTrue (is_member s (variables_of c))) c.inputs (registers_of c) (members (variables_of c))
+all_known : (sides : List Sided) (names : List (List ℕ)) → AmongNames (names_of_sides (λ c. c.inputs) sides) names → AmongNames (names_of_sides registers_of sides) names → AreKnown names sides
+all_known [] names h k = tt
+all_known (side ∷ sides) names h k =
+    let inputs = names_on side side.net.inputs in
+    let registers = names_on side (registers_of side.net) in (
+      one_known side names (λ n e. h n (left_names inputs inputs (names_of_sides (λ c. c.inputs) sides) (λ m i. i) n e)) (λ n e. k n (left_names registers registers (names_of_sides registers_of sides) (λ m i. i) n e)),
+      all_known sides names (λ n e. h n (right_names (names_of_sides (λ c. c.inputs) sides) inputs (names_of_sides (λ c. c.inputs) sides) (λ m i. i) n e))
+          (λ n e. k n (right_names (names_of_sides registers_of sides) registers (names_of_sides registers_of sides) (λ m i. i) n e)),
+    )
 
--- ---- the names of all variables
+pub known_in : (sides : List Sided) (names : List (List ℕ)) → AmongNames (names_in sides) names → AreKnown names sides
+known_in sides names h =
+    let inputs = names_of_sides (λ c. c.inputs) sides in
+    let registers = names_of_sides registers_of sides in
+    all_known sides names (λ n e. h n (left_names inputs inputs registers (λ m i. i) n e)) (λ n e. h n (right_names registers inputs registers (λ m i. i) n e))
 
-module _ (how : Match) (a b : Circuit) (given : Option Circuit) where
-  by_inputs : (xs : List (List ℕ)) → AmongNames xs (both_names how a b a.inputs b.inputs) → AmongNames xs (all_names how a b given)
-  by_inputs xs h =
-      left_names xs (both_names how a b a.inputs b.inputs ++ both_names how a b (registers_of a) (registers_of b)) (given_names given)
-      (left_names xs (both_names how a b a.inputs b.inputs) (both_names how a b (registers_of a) (registers_of b)) h)
+pub known_sides : (sides given : List Sided) → AreKnown (all_names sides given) sides
+known_sides sides given = known_in sides (all_names sides given) (left_names (names_in sides) (names_in sides) (names_in given) (λ n e. e))
 
-  by_registers : (xs : List (List ℕ)) → AmongNames xs (both_names how a b (registers_of a) (registers_of b)) → AmongNames xs (all_names how a b given)
-  by_registers xs h =
-      left_names xs (both_names how a b a.inputs b.inputs ++ both_names how a b (registers_of a) (registers_of b)) (given_names given)
-      (right_names xs (both_names how a b a.inputs b.inputs) (both_names how a b (registers_of a) (registers_of b)) h)
+pub known_given : (sides given : List Sided) → AreKnown (all_names sides given) given
+known_given sides given = known_in given (all_names sides given) (right_names (names_in given) (names_in sides) (names_in given) (λ n e. e))
 
-  -- so have those of the condition
-  pub given_all : AmongNames (given_names given) (all_names how a b given)
-  given_all = right_names (given_names given) (both_names how a b a.inputs b.inputs ++ both_names how a b (registers_of a) (registers_of b)) (given_names given) (λ n e. e)
+pub known_more : (names more : List (List ℕ)) (sides : List Sided) → AmongNames names more → AreKnown names sides → AreKnown more sides
+known_more names more [] h k = tt
+known_more names more (side ∷ sides) h k = (λ s e. h (named side s) (k.0 s e), known_more names more sides h k.1)
 
-  firsts : (ss ts : List ℕ) → AmongNames (names_of a ss) (both_names how a b ss ts)
-  firsts ss ts = left_names (names_of a ss) (names_of a ss) (second_names how a b ts) (λ n e. e)
+pub known_declared : (sides given : List Sided) → AreKnown (declared sides given) sides
+known_declared sides given = known_more (all_names sides given) (declared sides given) sides (λ n e. in_distinct (all_names sides given) n ∙ e) (known_sides sides given)
 
-  seconds : (ss ts : List ℕ) → AmongNames (second_names how a b ts) (both_names how a b ss ts)
-  seconds ss ts = right_names (second_names how a b ts) (names_of a ss) (second_names how a b ts) (λ n e. e)
+pub known_at : (names : List (List ℕ)) (sides : List Sided) (i : ℕ) (side : Sided) → AreKnown names sides → i < length sides → side ≡ get_or sides i side → IsKnown names side
+known_at names [] i side k low at = absurd (omega arith)
+known_at names (x ∷ sides) zero side k low at = subst (IsKnown names) (sym at) k.0
+known_at names (x ∷ sides) (suc i) side k low at = known_at names sides i side k.1 (omega arith) at
 
-  split : (f : ℕ → List ℕ) (xs ys : List ℕ) (zs : List (List ℕ)) → AmongNames (map f xs) zs → AmongNames (map f ys) zs → AmongNames (map f (xs ++ ys)) zs
-  split f xs ys zs h k n e = joined_names (map f xs) (map f ys) zs h k n (subst (λ ns. is_name_in ns n ≡ true) (map-append f xs ys) e)
-
-  -- the variables of either netlist have names among all
-  pub first_all : AmongNames (names_of a (variables_of a)) (all_names how a b given)
-  first_all =
-      split (name_of a) a.inputs (registers_of a) (all_names how a b given) (by_inputs (names_of a a.inputs) (firsts a.inputs b.inputs))
-      (by_registers (names_of a (registers_of a)) (firsts (registers_of a) (registers_of b)))
-
-  pub second_all : AmongNames (second_names how a b (variables_of b)) (all_names how a b given)
-  second_all =
-      split (second_name how a b) b.inputs (registers_of b) (all_names how a b given) (by_inputs (second_names how a b b.inputs) (seconds a.inputs b.inputs))
-      (by_registers (second_names how a b (registers_of b)) (seconds (registers_of a) (registers_of b)))
+-- what walks meet are variables
+pub known_met : (names : List (List ℕ)) (sides : List Sided) → AreKnown names sides → AmongNames (names_of_sides met sides) names
+known_met names [] k n e = absurd (no_true e)
+known_met names (side ∷ sides) k n e =
+    joined_names (names_on side (met side.net)) (names_of_sides met sides) names (told_names (named side) (met side.net) names (λ s h. k.0 s (met_inputs side.net s h))) (known_met names sides k.1) n e

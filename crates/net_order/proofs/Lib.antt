@@ -1,7 +1,7 @@
 pub mod Ranks
 pub mod Named
 pub mod Steps
-pub mod Seconds
+pub mod Tabling
 pub mod Walking
 pub mod Falling
 pub mod Leaves
@@ -17,3 +17,4 @@ pub mod InputLevels
 pub mod Matching
 pub mod NameTexts
 pub mod Written
+pub mod Pairings

@@ -1,9 +1,9 @@
 -- Members of lists, and the variables that walks meet.
 use Rattle.std.proofs.Common.{◌≡◌, ℕ, zero, suc, ◌<◌, inl, inr, List, [], ◌∷◌, ◌++◌, Bool, true, false, refl, sym, ap, ◌∙◌, subst, length, map, arith, get_or, All, IsTrue}
-use Rattle.std.specs.Prelude.{cond, ◌||◌, ◌==◌, flat_map, fold, bytes_eq}
+use Rattle.std.specs.Prelude.{cond, ◌||◌, ◌==◌, flat_map, fold, bytes_eq, Contains}
 use Rattle.std.proofs.lemmas.List.Folds.{list_any-append}
 use Rattle.net_bench.specs.Circuit.{Circuit, Net, IsNet, circuit, is_name_in, distinct, variables_of}
-use Rattle.net_bench.proofs.Numbers.{same_name, name_itself, in_distinct, or_left, or_right, or_cases}
+use Rattle.net_bench.proofs.Numbers.{name_itself, in_distinct, or_left, or_right, or_cases}
 use Rattle.net_order.specs.declared.walk.Way.{Way}
 use Rattle.net_order.specs.declared.walk.Way.TheVariants.{Written}
 use Rattle.net_order.specs.Order.{is_member, leaves, below, with_number, met, met_below, roots, steps_of}
@@ -85,13 +85,6 @@ named_member f (x ∷ xs) s e = elim (or_cases (x == s) (is_member s xs) e) [
   | inr more ↦ or_right (bytes_eq (f x) (f s)) (is_name_in (map f xs) (f s)) (named_member f xs s more)
 ]
 
-pub named_among : (f : ℕ → List ℕ) (xs ys : List ℕ) → Among xs ys → AmongNames (map f xs) (map f ys)
-named_among f [] ys h n e = absurd (no_true e)
-named_among f (x ∷ xs) ys h n e = elim (or_cases (bytes_eq (f x) n) (is_name_in (map f xs) n) e) [
-  | inl same ↦ ap (is_name_in (map f ys)) (sym (same_name (f x) n same)) ∙ named_member f ys x (h x (member_head x xs))
-  | inr more ↦ named_among f xs ys (λ y k. h y (or_right (x == y) (is_member y xs) k)) n more
-]
-
 pub in_joined : (xs ys : List (List ℕ)) (n : List ℕ) → is_name_in (xs ++ ys) n ≡ (is_name_in xs n || is_name_in ys n)
 in_joined xs ys n = list_any-append (λ m. bytes_eq m n) xs ys
 
@@ -107,3 +100,20 @@ right_names xs ys zs h n e = in_joined ys zs n ∙ or_right (is_name_in ys n) (i
 -- each name once makes no difference
 pub distinct_names : (xs ys : List (List ℕ)) → AmongNames xs ys → AmongNames (distinct xs) (distinct ys)
 distinct_names xs ys h n e = in_distinct ys n ∙ h n (sym (in_distinct xs n) ∙ e)
+
+pub contains_member : (xs : List ℕ) (s : ℕ) → Contains xs s → is_member s xs ≡ true
+contains_member [] s (i, low, at) = absurd (omega arith)
+contains_member (x ∷ xs) s (zero, low, at) = ap (λ y. y == s || is_member s xs) at ∙ member_head s xs
+contains_member (x ∷ xs) s (suc i, low, at) = or_right (x == s) (is_member s xs) (contains_member xs s (i, omega arith, at))
+
+-- ---- what holds of members
+
+pub at_inputs : (P : ℕ → Type 0) (inputs : List ℕ) → All P inputs → (s : ℕ) → is_member s inputs ≡ true → P s
+at_inputs P inputs h s e = let at = member_at s inputs e in subst P at.2 (h at.0 s at.1)
+
+pub all_of : (P : ℕ → Type 0) (xs : List ℕ) → ((s : ℕ) → is_member s xs ≡ true → P s) → All P xs
+all_of P xs h i d low = h (get_or xs i d) (at_place xs i d low)
+
+-- an item of a list that is these signals is one of them
+pub item_member : (xs items : List ℕ) (i s : ℕ) → items ≡ xs → i < length items → s ≡ get_or items i s → is_member s xs ≡ true
+item_member xs items i s e low at = subst (λ ys. is_member s ys ≡ true) e (subst (λ t. is_member t items ≡ true) (sym at) (at_place items i s low))

@@ -1,19 +1,18 @@
 -- The names of the variables in each order: they are the same, and as many.
-use Rattle.std.proofs.Common.{◌≡◌, ℕ, zero, suc, ◌+◌, ◌<◌, ◌≤◌, inl, inr, List, [], ◌∷◌, ◌++◌, Bool, true, false, refl, sym, ap, ◌∙◌, subst, length, map, arith, append_assoc}
-use Rattle.std.specs.Prelude.{cond, ◌==◌, ◌&&◌, not, fold, bytes_eq, nat_lt, Option, Some, None}
+use Rattle.std.proofs.Common.{◌≡◌, ℕ, zero, suc, ◌+◌, ◌<◌, ◌≤◌, inl, inr, List, [], ◌∷◌, ◌++◌, Bool, true, false, refl, sym, ap, ◌∙◌, subst, length, arith, append_assoc}
+use Rattle.std.specs.Prelude.{cond, ◌&&◌, not, fold, bytes_eq, nat_lt, Option, Some, None}
 use Rattle.std.specs.List.{IsDistinct}
 use Rattle.std.proofs.lemmas.List.{append-nil}
-use Rattle.net_bench.specs.Circuit.{Circuit, is_name_in, with_name, distinct, variables_of}
-use Rattle.net_bench.proofs.Numbers.{same_name, name_itself, in_distinct, or_left, or_right, or_cases}
-use Rattle.net_order.specs.declared.order.Match.{Match}
+use Rattle.net_bench.specs.Circuit.{is_name_in, with_name, distinct}
+use Rattle.net_bench.proofs.Numbers.{name_itself, in_distinct, or_left, or_right, or_cases, same_name}
 use Rattle.net_order.specs.declared.order.Order.{Order}
 use Rattle.net_order.specs.declared.order.Order.TheVariants.{Declared, Depth, Interleave, Listed}
 use Rattle.std.specs.List.{slice_index_or}
-use Rattle.net_order.specs.Order.{is_member, met, names_of, second_name, second_names, all_names, declared, by_depth, interleaved, woven, variable_name, ordered, bad_place, IsListing, IsFit, name_of}
+use Rattle.net_order.specs.Order.{Sided, met, all_names, declared, by_depth, interleaved, woven, numbered, ordered, names_of_sides, bad_place, IsListing, IsFit}
 use Rattle.net_order.specs.Tables.{with_names}
-use Rattle.net_order.proofs.AllNames.{first_all, second_all}
-use Rattle.net_order.proofs.Members.{joined_names, member_head, right_names, distinct_names, named_among, met_inputs, no_true}
 use Rattle.net_order.proofs.Named.{joined}
+use Rattle.net_order.proofs.AllNames.{known_declared, known_met, known_sides, told_names}
+use Rattle.net_order.proofs.Members.{joined_names, right_names, distinct_names, no_true}
 use Rattle.net_order.proofs.Woven.{woven_low}
 use Rattle.net_order.proofs.Different.{AmongNames, no_more, all_different, all_there}
 
@@ -25,92 +24,57 @@ name_there [] v low = absurd (omega arith)
 name_there (n ∷ names) zero low = or_left (bytes_eq n n) (is_name_in names n) (name_itself n)
 name_there (n ∷ names) (suc v) low = or_right (bytes_eq n (slice_index_or names v [])) (is_name_in names (slice_index_or names v [])) (name_there names v (omega arith))
 
-module _ (how : Match) (a b : Circuit) (given : Option Circuit) where
-  pub met_first : AmongNames (names_of a (met a)) (all_names how a b given)
-  met_first n e = first_all how a b given n (named_among (name_of a) (met a) (variables_of a) (met_inputs a) n e)
+module _ (sides given : List Sided) where
+  depth_among : AmongNames (names_of_sides met sides) (all_names sides given)
+  depth_among = known_met (all_names sides given) sides (known_sides sides given)
 
-  met_second : AmongNames (second_names how a b (met b)) (all_names how a b given)
-  met_second n e = second_all how a b given n (named_among (second_name how a b) (met b) (variables_of b) (met_inputs b) n e)
-
-  pub met_both : AmongNames (names_of a (met a) ++ second_names how a b (met b)) (all_names how a b given)
-  met_both = joined_names (names_of a (met a)) (second_names how a b (met b)) (all_names how a b given) met_first met_second
-
-  pub met_all : AmongNames (names_of a (met a) ++ second_names how a b (met b) ++ all_names how a b given) (all_names how a b given)
-  met_all = joined_names (names_of a (met a) ++ second_names how a b (met b)) (all_names how a b given) (all_names how a b given) met_both (λ n e. e)
-
-  -- names of inputs are no more than the variables
-  pub few_of : (xs : List (List ℕ)) → AmongNames xs (all_names how a b given) → length (distinct xs) ≤ length (declared how a b given)
-  few_of xs h = no_more (distinct xs) (declared how a b given) (all_different xs) (distinct_names xs (all_names how a b given) h)
+  -- names of variables are no more than the variables
+  few_of : (xs : List (List ℕ)) → AmongNames xs (all_names sides given) → length (distinct xs) ≤ length (declared sides given)
+  few_of xs h = no_more (distinct xs) (declared sides given) (all_different xs) (distinct_names xs (all_names sides given) h)
 
   -- what stands at a place of the declared names is a variable
-  at_declared : (v : ℕ) → v < length (declared how a b given) → is_name_in (all_names how a b given) (variable_name how a b given v) ≡ true
-  at_declared v low = sym (in_distinct (all_names how a b given) (variable_name how a b given v)) ∙ name_there (declared how a b given) v low
+  at_declared : (v : ℕ) → v < length (declared sides given) → is_name_in (all_names sides given) (slice_index_or (declared sides given) v []) ≡ true
+  at_declared v low = sym (in_distinct (all_names sides given) (slice_index_or (declared sides given) v [])) ∙ name_there (declared sides given) v low
 
-  numbered : (vs : List ℕ) → ((v : ℕ) → is_member v vs ≡ true → v < length (declared how a b given)) → AmongNames (map (variable_name how a b given) vs) (all_names how a b given)
-  numbered [] low n e = absurd (no_true e)
-  numbered (v ∷ vs) low n e = elim (or_cases (bytes_eq (variable_name how a b given v) n) (is_name_in (map (variable_name how a b given) vs) n) e) [
-    | inl same ↦ ap (is_name_in (all_names how a b given)) (sym (same_name (variable_name how a b given v) n same)) ∙ at_declared v (low v (member_head v vs))
-    | inr more ↦ numbered vs (λ w k. low w (or_right (v == w) (is_member w vs) k)) n more
-  ]
+  woven_among : AmongNames (numbered (declared sides given) (woven (declared sides given) sides)) (all_names sides given)
+  woven_among =
+      told_names (λ v. slice_index_or (declared sides given) v []) (woven (declared sides given) sides) (all_names sides given)
+      (λ v e. at_declared v (woven_low (declared sides given) sides (known_declared sides given) v e))
 
-  pub woven_names : AmongNames (map (variable_name how a b given) (woven how a b given)) (all_names how a b given)
-  woven_names = numbered (woven how a b given) (woven_low how a b given)
+  -- with all names behind them
+  with_all : (xs : List (List ℕ)) → AmongNames xs (all_names sides given) → AmongNames (xs ++ all_names sides given) (all_names sides given)
+  with_all xs h = joined_names xs (all_names sides given) (all_names sides given) h (λ n e. e)
 
-  pub woven_all : AmongNames (map (variable_name how a b given) (woven how a b given) ++ all_names how a b given) (all_names how a b given)
-  woven_all = joined_names (map (variable_name how a b given) (woven how a b given)) (all_names how a b given) (all_names how a b given) woven_names (λ n e. e)
+  has_all : (xs : List (List ℕ)) → AmongNames (declared sides given) (distinct (xs ++ all_names sides given))
+  has_all xs = distinct_names (all_names sides given) (xs ++ all_names sides given) (right_names (all_names sides given) xs (all_names sides given) (λ n e. e))
 
-  interleaved_has : AmongNames (declared how a b given) (interleaved how a b given)
-  interleaved_has =
-      distinct_names (all_names how a b given) (map (variable_name how a b given) (woven how a b given) ++ all_names how a b given)
-      (right_names (all_names how a b given) (map (variable_name how a b given) (woven how a b given)) (all_names how a b given) (λ n e. e))
+  -- ---- a table of an order: what walks meet, and then the others
 
-  depth_all : AmongNames (declared how a b given) (by_depth how a b given)
-  depth_all =
-      distinct_names (all_names how a b given) (names_of a (met a) ++ second_names how a b (met b) ++ all_names how a b given)
-      (right_names (all_names how a b given) (names_of a (met a) ++ second_names how a b (met b)) (all_names how a b given) (λ n e. e))
+  whole_few : (xs : List (List ℕ)) → AmongNames xs (all_names sides given) → length (distinct (xs ++ all_names sides given)) ≤ length (declared sides given)
+  whole_few xs h = few_of (xs ++ all_names sides given) (with_all xs h)
 
--- ---- the tables of depth order, one after the other
+  pub depth_few : length (distinct (names_of_sides met sides)) ≤ length (declared sides given)
+  depth_few = few_of (names_of_sides met sides) depth_among
 
-module _ (how : Match) (a b : Circuit) (given : Option Circuit) (t : List (List ℕ)) where
-  pub first_table : (inputs : List ℕ) → t ≡ [] → inputs ≡ met a → with_names t (names_of a inputs) ≡ distinct (names_of a (met a))
-  first_table inputs e i = ap (λ n. with_names n (names_of a inputs)) e ∙ ap (λ xs. with_names [] (names_of a xs)) i
+  pub depth_all_few : length (by_depth sides given) ≤ length (declared sides given)
+  depth_all_few = whole_few (names_of_sides met sides) depth_among
 
-  pub second_table : (others : List ℕ) → t ≡ distinct (names_of a (met a)) → others ≡ met b → with_names t (second_names how a b others) ≡ distinct (names_of a (met a) ++ second_names how a b (met b))
-  second_table others e o =
-      ap (λ n. with_names n (second_names how a b others)) e ∙ ap (λ xs. with_names (distinct (names_of a (met a))) (second_names how a b xs)) o ∙
-      joined [] (names_of a (met a)) (second_names how a b (met b))
+  pub woven_few : length (distinct (numbered (declared sides given) (woven (declared sides given) sides))) ≤ length (declared sides given)
+  woven_few = few_of (numbered (declared sides given) (woven (declared sides given) sides)) woven_among
 
-  pub whole_table : t ≡ distinct (names_of a (met a) ++ second_names how a b (met b)) → with_names t (all_names how a b given) ≡ by_depth how a b given
-  whole_table e = ap (λ n. with_names n (all_names how a b given)) e ∙ joined [] (names_of a (met a) ++ second_names how a b (met b)) (all_names how a b given)
+  pub interleaved_few : length (interleaved sides given) ≤ length (declared sides given)
+  interleaved_few = whole_few (numbered (declared sides given) (woven (declared sides given) sides)) woven_among
 
-module _ (how : Match) (a b : Circuit) (given : Option Circuit) (t : List (List ℕ)) where
-  pub first_few : t ≡ distinct (names_of a (met a)) → length t ≤ length (declared how a b given)
-  first_few e = subst (λ n. length n ≤ length (declared how a b given)) (sym e) (few_of how a b given (names_of a (met a)) (met_first how a b given))
+  -- the table of interleaved order, before the others are put behind
+  pub woven_table : (empty variables new : List (List ℕ)) (vs : List ℕ) → empty ≡ [] → variables ≡ declared sides given → vs ≡ woven variables sides → new ≡ with_names empty (numbered variables vs) →
+      new ≡ distinct (numbered (declared sides given) (woven (declared sides given) sides))
+  woven_table empty variables new vs is_empty all is grown =
+      grown ∙ ap (λ (z : List (List ℕ)). with_names z (numbered variables vs)) is_empty ∙ ap (λ zs. with_names [] (numbered variables zs)) is ∙
+      ap (λ (z : List (List ℕ)). with_names [] (numbered z (woven z sides))) all
 
-  pub second_few : t ≡ distinct (names_of a (met a) ++ second_names how a b (met b)) → length t ≤ length (declared how a b given)
-  second_few e = subst (λ n. length n ≤ length (declared how a b given)) (sym e) (few_of how a b given (names_of a (met a) ++ second_names how a b (met b)) (met_both how a b given))
-
-  pub whole_few : t ≡ by_depth how a b given → length t ≤ length (declared how a b given)
-  whole_few e =
-      subst (λ n. length n ≤ length (declared how a b given)) (sym e)
-      (few_of how a b given (names_of a (met a) ++ second_names how a b (met b) ++ all_names how a b given) (met_all how a b given))
-
--- ---- the tables of interleaved order, one after the other
-
-module _ (how : Match) (a b : Circuit) (given : Option Circuit) (t : List (List ℕ)) where
-  pub woven_table : (vs : List ℕ) → t ≡ [] → vs ≡ woven how a b given → with_names t (map (variable_name how a b given) vs) ≡ distinct (map (variable_name how a b given) (woven how a b given))
-  woven_table vs e i = ap (λ n. with_names n (map (variable_name how a b given) vs)) e ∙ ap (λ xs. with_names [] (map (variable_name how a b given) xs)) i
-
-  pub interleaved_table : t ≡ distinct (map (variable_name how a b given) (woven how a b given)) → with_names t (all_names how a b given) ≡ interleaved how a b given
-  interleaved_table e = ap (λ n. with_names n (all_names how a b given)) e ∙ joined [] (map (variable_name how a b given) (woven how a b given)) (all_names how a b given)
-
-  pub woven_few : t ≡ distinct (map (variable_name how a b given) (woven how a b given)) → length t ≤ length (declared how a b given)
-  woven_few e = subst (λ n. length n ≤ length (declared how a b given)) (sym e) (few_of how a b given (map (variable_name how a b given) (woven how a b given)) (woven_names how a b given))
-
-  pub interleaved_few : t ≡ interleaved how a b given → length t ≤ length (declared how a b given)
-  interleaved_few e =
-      subst (λ n. length n ≤ length (declared how a b given)) (sym e)
-      (few_of how a b given (map (variable_name how a b given) (woven how a b given) ++ all_names how a b given) (woven_all how a b given))
+  -- all names on top of others
+  pub all_table : (new : List (List ℕ)) (xs : List (List ℕ)) → new ≡ distinct xs → with_names new (all_names sides given) ≡ distinct (xs ++ all_names sides given)
+  all_table new xs e = ap (λ z. with_names z (all_names sides given)) e ∙ joined [] xs (all_names sides given)
 
 -- ---- a list of names that fits
 
@@ -161,39 +125,40 @@ listing_few variables names h =
 
 -- ---- the names in the order that is asked for
 
-module _ (how : Match) (a b : Circuit) (given : Option Circuit) where
-  listed_different : (names : List (List ℕ)) → IsListing (declared how a b given) names → IsDistinct bytes_eq names
-  listed_different names h = subst (IsDistinct bytes_eq) (fitting (declared how a b given) [] names 1 h).once (all_different names)
+module _ (sides given : List Sided) where
+  listed_different : (names : List (List ℕ)) → IsListing (declared sides given) names → IsDistinct bytes_eq names
+  listed_different names h = subst (IsDistinct bytes_eq) (fitting (declared sides given) [] names 1 h).once (all_different names)
 
   -- no name stands twice
-  pub ordered_different : (order : Order) → IsFit how a b given order → IsDistinct bytes_eq (ordered how a b given order)
-  ordered_different Declared fit = all_different (all_names how a b given)
-  ordered_different Depth fit = all_different (names_of a (met a) ++ second_names how a b (met b) ++ all_names how a b given)
-  ordered_different Interleave fit = all_different (map (variable_name how a b given) (woven how a b given) ++ all_names how a b given)
+  pub ordered_different : (order : Order) → IsFit (declared sides given) order → IsDistinct bytes_eq (ordered sides given order)
+  ordered_different Declared fit = all_different (all_names sides given)
+  ordered_different Depth fit = all_different (names_of_sides met sides ++ all_names sides given)
+  ordered_different Interleave fit = all_different (numbered (declared sides given) (woven (declared sides given) sides) ++ all_names sides given)
   ordered_different (Listed names) fit = listed_different names fit
 
   -- each of the names is a variable
-  pub ordered_known : (order : Order) → IsFit how a b given order → AmongNames (ordered how a b given order) (declared how a b given)
+  pub ordered_known : (order : Order) → IsFit (declared sides given) order → AmongNames (ordered sides given order) (declared sides given)
   ordered_known Declared fit n e = e
   ordered_known Depth fit n e =
-      distinct_names (names_of a (met a) ++ second_names how a b (met b) ++ all_names how a b given) (all_names how a b given) (met_all how a b given) n e
+      distinct_names (names_of_sides met sides ++ all_names sides given) (all_names sides given) (with_all sides given (names_of_sides met sides) (depth_among sides given)) n e
   ordered_known Interleave fit n e =
-      distinct_names (map (variable_name how a b given) (woven how a b given) ++ all_names how a b given) (all_names how a b given) (woven_all how a b given) n e
-  ordered_known (Listed names) fit n e = (fitting (declared how a b given) [] names 1 fit).known n e
+      distinct_names (numbered (declared sides given) (woven (declared sides given) sides) ++ all_names sides given) (all_names sides given)
+      (with_all sides given (numbered (declared sides given) (woven (declared sides given) sides)) (woven_among sides given)) n e
+  ordered_known (Listed names) fit n e = (fitting (declared sides given) [] names 1 fit).known n e
 
   -- each variable is one of the names
-  pub ordered_all : (order : Order) → IsFit how a b given order → AmongNames (declared how a b given) (ordered how a b given order)
+  pub ordered_all : (order : Order) → IsFit (declared sides given) order → AmongNames (declared sides given) (ordered sides given order)
   ordered_all Declared fit n e = e
-  ordered_all Depth fit n e = depth_all how a b given n e
-  ordered_all Interleave fit n e = interleaved_has how a b given n e
+  ordered_all Depth fit n e = has_all sides given (names_of_sides met sides) n e
+  ordered_all Interleave fit n e = has_all sides given (numbered (declared sides given) (woven (declared sides given) sides)) n e
   ordered_all (Listed names) fit n e =
-      all_there names (declared how a b given) (listed_different names fit) (ordered_known (Listed names) fit) (fitting (declared how a b given) [] names 1 fit).many n e
+      all_there names (declared sides given) (listed_different names fit) (ordered_known (Listed names) fit) (fitting (declared sides given) [] names 1 fit).many n e
 
   -- so they are as many
-  pub ordered_count : (order : Order) → IsFit how a b given order → length (ordered how a b given order) ≡ length (declared how a b given)
+  pub ordered_count : (order : Order) → IsFit (declared sides given) order → length (ordered sides given order) ≡ length (declared sides given)
   ordered_count order fit =
       omega (
         arith,
-        no_more (ordered how a b given order) (declared how a b given) (ordered_different order fit) (ordered_known order fit),
-        no_more (declared how a b given) (ordered how a b given order) (all_different (all_names how a b given)) (ordered_all order fit),
+        no_more (ordered sides given order) (declared sides given) (ordered_different order fit) (ordered_known order fit),
+        no_more (declared sides given) (ordered sides given order) (all_different (all_names sides given)) (ordered_all order fit),
       )

@@ -35,7 +35,7 @@ behind_here last order i x low at this h v =
     ap (λ xs. xs ++ v ∷ drop (i + 1) order) front ∙ append_assoc (take i order) (x ∷ []) (v ∷ drop (i + 1) order) ∙
     ap (λ xs. take i order ++ xs) (sym (this_first last v x (drop (i + 1) order) this) ∙ ap (put_behind (Some last) v) (sym here)) ∙ h v
 
-none_left : (xs : List ℕ) (i : ℕ) → length xs ≤ i → drop i xs ≡ []
+pub none_left : {X : Type 0} (xs : List X) (i : ℕ) → length xs ≤ i → drop i xs ≡ []
 none_left [] zero h = refl
 none_left [] (suc i) h = refl
 none_left (x ∷ xs) zero h = absurd (omega (arith, h))

@@ -1,18 +1,16 @@
 -- A netlist is woven into an order: what the walks below its outputs add.
-use Rattle.std.proofs.Common.{Option, ◌≡◌, ℕ, ◌+◌, ◌<◌, ◌≤◌, ◌⊎◌, inl, inr, List, [], ◌∷◌, ◌++◌, true, false, refl, sym, ap, ◌∙◌, subst, length, map, drop, arith, get_or, All, length-append}
+use Rattle.std.proofs.Common.{◌≡◌, ℕ, ◌+◌, ◌<◌, ◌≤◌, ◌⊎◌, inl, inr, List, [], ◌∷◌, ◌++◌, true, false, refl, sym, ap, ◌∙◌, subst, length, map, drop, arith, get_or, All, length-append}
 use Rattle.std.specs.Prelude.{cond, ◌||◌, ◌==◌, fold, None}
 use Rattle.std.proofs.lemmas.List.{drop_more}
-use Rattle.net_bench.proofs.Numbers.{or_left, or_right, or_cases, in_distinct, number_low}
-use Rattle.net_bench.specs.Circuit.{Circuit, is_name_in, variables_of}
-use Rattle.net_order.specs.declared.order.Match.{Match}
+use Rattle.net_bench.proofs.Numbers.{or_left, or_right, or_cases, number_low}
+use Rattle.net_bench.specs.Circuit.{Circuit, variables_of}
 use Rattle.net_order.specs.declared.walk.Way.TheVariants.{ByRank}
-use Rattle.net_order.specs.Order.{below, declared, all_names, first_variable, is_member, level_of, met_below, name_of, second_name, second_variable, weave, weave_below, weave_netlist, with_number, woven, falling, rank_of, roots}
+use Rattle.net_order.specs.Order.{HasLevels, Sided, below, is_member, level_of, met_below, named, weave, weave_below, weave_netlist, weave_side, with_number, woven, falling, rank_of, roots}
+use Rattle.net_order.specs.Tables.{AreKnown, IsKnown}
 use Rattle.net_order.specs.Walk.{Among}
-use Rattle.net_order.proofs.AllNames.{first_all, second_all}
-use Rattle.net_order.proofs.Leaves.{member_at}
-use Rattle.net_order.proofs.Members.{at_place, equal_numbers, member_head, met_below_inputs, named_member, no_true}
+use Rattle.net_order.proofs.Members.{all_of, at_inputs, equal_numbers, member_head, met_below_inputs, no_true}
 use Rattle.net_order.proofs.Walking.{in_append}
-use Rattle.net_order.proofs.Weaving.{weave_from, weave_has, weave_keeps, weave_nothing}
+use Rattle.net_order.proofs.Weaving.{none_left, weave_from, weave_has, weave_keeps, weave_nothing}
 
 -- ---- what has been found
 
@@ -173,56 +171,50 @@ outputs_same c f g h (s ∷ outs) order =
 pub netlist_same : (c : Circuit) (f g : ℕ → ℕ) → ((s : ℕ) → is_member s (variables_of c) ≡ true → f s ≡ g s) → (order : List ℕ) → weave_netlist c f order ≡ weave_netlist c g order
 netlist_same c f g h order = outputs_same c f g h (falling (rank_of c) (roots c)) order
 
--- ---- the numbers of variables
-
-module _ (how : Match) (a b : Circuit) (given : Option Circuit) where
-  variable_low : (n : List ℕ) → is_name_in (all_names how a b given) n ≡ true → level_of (declared how a b given) n < length (declared how a b given)
-  variable_low n e = number_low (declared how a b given) n (in_distinct (all_names how a b given) n ∙ e)
-
-  pub first_low : (s : ℕ) → is_member s (variables_of a) ≡ true → first_variable how a b given s < length (declared how a b given)
-  first_low s e = variable_low (name_of a s) (first_all how a b given (name_of a s) (named_member (name_of a) (variables_of a) s e))
-
-  pub second_low : (s : ℕ) → is_member s (variables_of b) ≡ true → second_variable how a b given s < length (declared how a b given)
-  second_low s e =
-      variable_low (second_name how a b s)
-      (second_all how a b given (second_name how a b s) (named_member (second_name how a b) (variables_of b) s e))
-
-  pub woven_low : (x : ℕ) → is_member x (woven how a b given) ≡ true → x < length (declared how a b given)
-  woven_low x e = elim (netlist_from b (second_variable how a b given) (falling (rank_of b) (roots b)) (weave_netlist a (first_variable how a b given) []) x e) [
-    | inl before ↦ elim (netlist_from a (first_variable how a b given) (falling (rank_of a) (roots a)) [] x before) [
-      | inl none ↦ absurd (no_true none)
-      | inr (m, input, is) ↦ subst (λ y. y < length (declared how a b given)) is (first_low m input)
-    ]
-    | inr (m, input, is) ↦ subst (λ y. y < length (declared how a b given)) is (second_low m input)
-  ]
-
--- ---- tables of numbers
-
-pub at_inputs : (P : ℕ → Type 0) (inputs : List ℕ) → All P inputs → (s : ℕ) → is_member s inputs ≡ true → P s
-at_inputs P inputs h s e = let at = member_at s inputs e in subst P at.2 (h at.0 s at.1)
-
-pub all_of : (P : ℕ → Type 0) (xs : List ℕ) → ((s : ℕ) → is_member s xs ≡ true → P s) → All P xs
-all_of P xs h i d low = h (get_or xs i d) (at_place xs i d low)
+-- ---- what holds of variables
 
 pub all_met : (P : ℕ → Type 0) (c : Circuit) (s : ℕ) (xs : List ℕ) → All P (variables_of c) → xs ≡ met_below ByRank c s → All P xs
 all_met P c s xs h e = subst (All P) (sym e) (all_of P (met_below ByRank c s) (λ x k. at_inputs P (variables_of c) h x (met_below_inputs ByRank c s x k)))
 
-pub numbers_low : (t : List (List ℕ)) (vs ws inputs : List ℕ) (name : ℕ → List ℕ) (count : ℕ) → ws ≡ vs → All (λ s. get_or vs s 0 ≡ level_of t (name s)) inputs →
-    ((s : ℕ) → is_member s inputs ≡ true → level_of t (name s) < count) → All (λ s. get_or ws s 0 < count) inputs
-numbers_low t vs ws inputs name count is h low =
-    all_of (λ s. get_or ws s 0 < count) inputs
-    (λ s e. subst (λ k. k < count) (sym (ap (λ xs. get_or xs s 0) is ∙ at_inputs (λ x. get_or vs x 0 ≡ level_of t (name x)) inputs h s e)) (low s e))
+-- ---- sides, one after the other
 
-pub numbers_are : (t u : List (List ℕ)) (vs ws inputs : List ℕ) (name : ℕ → List ℕ) → ws ≡ vs → t ≡ u → All (λ s. get_or vs s 0 ≡ level_of t (name s)) inputs →
-    (s : ℕ) → is_member s inputs ≡ true → get_or ws s 0 ≡ level_of u (name s)
-numbers_are t u vs ws inputs name is same h s e =
-    ap (λ xs. get_or xs s 0) is ∙ at_inputs (λ x. get_or vs x 0 ≡ level_of t (name x)) inputs h s e ∙ ap (λ k. level_of k (name s)) same
+module _ (names : List (List ℕ)) where
+  -- each number of the order is one of a name
+  abbrev pub AreLow : List ℕ → Type 0
+  AreLow order = (x : ℕ) → is_member x order ≡ true → x < length names
 
--- what is woven by tables of numbers is woven
-pub woven_is : (how : Match) (a b : Circuit) (given : Option Circuit) (t : List (List ℕ)) (vs ws xs ys empty one two : List ℕ) → t ≡ declared how a b given → ws ≡ vs → All (λ s. get_or vs s 0 ≡ level_of t (name_of a s)) (variables_of a) →
-    ys ≡ xs → All (λ s. get_or xs s 0 ≡ level_of t (second_name how a b s)) (variables_of b) → empty ≡ [] → one ≡ weave_netlist a (λ s. get_or ws s 0) empty → two ≡ weave_netlist b (λ s. get_or ys s 0) one → two ≡ woven how a b given
-woven_is how a b given t vs ws xs ys empty one two all is_ws first is_ys second is_empty is_one is_two =
-    let from : one ≡ weave_netlist a (first_variable how a b given) [] =
-    is_one ∙ ap (weave_netlist a (λ s. get_or ws s 0)) is_empty ∙ netlist_same a (λ s. get_or ws s 0) (first_variable how a b given) (numbers_are t (declared how a b given) vs ws (variables_of a) (name_of a) is_ws all first) [] in
-    is_two ∙ ap (weave_netlist b (λ s. get_or ys s 0)) from ∙
-    netlist_same b (λ s. get_or ys s 0) (second_variable how a b given) (numbers_are t (declared how a b given) xs ys (variables_of b) (second_name how a b) is_ys all second) (weave_netlist a (first_variable how a b given) [])
+  side_low : (side : Sided) (order : List ℕ) → IsKnown names side → AreLow order → AreLow (weave_side names order side)
+  side_low side order known low x e = elim (netlist_from side.net (λ s. level_of names (named side s)) (falling (rank_of side.net) (roots side.net)) order x e) [
+    | inl before ↦ low x before
+    | inr (m, input, is) ↦ subst (λ y. y < length names) is (number_low names (named side m) (known m input))
+  ]
+
+  sides_low : (sides : List Sided) (order : List ℕ) → AreKnown names sides → AreLow order → AreLow (fold (weave_side names) order sides)
+  sides_low [] order known low = low
+  sides_low (side ∷ sides) order known low = sides_low sides (weave_side names order side) known.1 (side_low side order known.0 low)
+
+  pub woven_low : (sides : List Sided) → AreKnown names sides → AreLow (woven names sides)
+  woven_low sides known = sides_low sides [] known (λ x e. absurd (no_true e))
+
+  -- the levels of a side are numbers of names
+  pub levels_low : (side : Sided) (levels : List ℕ) (c : Circuit) (count : ℕ) → c ≡ side.net → HasLevels names side levels → IsKnown names side → count ≡ length names → All (λ s. get_or levels s 0 < count) (variables_of c)
+  levels_low side levels c count is has known same =
+      subst (λ (d : Circuit). All (λ s. get_or levels s 0 < count) (variables_of d)) (sym is)
+      (all_of (λ s. get_or levels s 0 < count) (variables_of side.net)
+      (λ s e. subst (λ k. k < count) (sym (at_inputs (λ x. get_or levels x 0 ≡ level_of names (named side x)) (variables_of side.net) has s e))
+      (subst (λ k. level_of names (named side s) < k) (sym same) (number_low names (named side s) (known s e)))))
+
+  -- what is woven by the levels of a side is woven
+  pub side_woven : (side : Sided) (levels : List ℕ) (c : Circuit) (order new : List ℕ) → c ≡ side.net → HasLevels names side levels → new ≡ weave_netlist c (λ s. get_or levels s 0) order → new ≡ weave_side names order side
+  side_woven side levels c order new is has e =
+      e ∙ ap (λ (d : Circuit). weave_netlist d (λ s. get_or levels s 0) order) is ∙
+      netlist_same side.net (λ s. get_or levels s 0) (λ s. level_of names (named side s)) (at_inputs (λ x. get_or levels x 0 ≡ level_of names (named side x)) (variables_of side.net) has) order
+
+  pub next_side : (sides : List Sided) (order new total : List ℕ) (i : ℕ) (side : Sided) → i < length sides → side ≡ get_or sides i side → new ≡ weave_side names order side →
+      fold (weave_side names) order (drop i sides) ≡ total → fold (weave_side names) new (drop (i + 1) sides) ≡ total
+  next_side sides order new total i side low at is_new e =
+      ap (λ o. fold (weave_side names) o (drop (i + 1) sides)) is_new ∙
+      sym (ap (fold (weave_side names) order) (drop_more sides i side low ∙ ap (λ x. x ∷ drop (i + 1) sides) (sym at))) ∙ e
+
+  pub all_woven : (sides : List Sided) (order total : List ℕ) (i : ℕ) → length sides ≤ i → fold (weave_side names) order (drop i sides) ≡ total → order ≡ total
+  all_woven sides order total i high e = ap (fold (weave_side names) order) (sym (none_left sides i high)) ∙ e

@@ -6,7 +6,7 @@ use Rattle.net_bench.specs.Statement.{Statement}
 use Rattle.net_bench.specs.Circuit.{Circuit, circuit_of}
 use Rattle.net_bench.specs.Judge.{judge, answer}
 use Rattle.net_order.specs.declared.order.Match.TheVariants.{Name, Position}
-use Rattle.net_order.specs.Order.{declared, by_depth, bad_place, IsListing, matched, only_in, registers_of}
+use Rattle.net_order.specs.Order.{both, declared, given_side, by_depth, bad_place, IsListing, matched, only_in, registers_of}
 
 -- The circuit of the statements that are answered, without any where a fault is.
 abbrev read : Result (List Statement) BenchFault → Circuit
@@ -21,34 +21,34 @@ netlist text = read (answer text)
 abbrev c17 : List ℕ
 c17 = codes "INPUT(1)\nINPUT(2)\nINPUT(3)\nINPUT(6)\nINPUT(7)\nOUTPUT(22)\nOUTPUT(23)\n10 = NAND(1, 3)\n11 = NAND(3, 6)\n16 = NAND(2, 11)\n19 = NAND(11, 7)\n22 = NAND(10, 16)\n23 = NAND(16, 19)\n"
 
-declared_c17 : declared Name (netlist c17) (netlist c17) None ≡ map (λ d. d ∷ []) (codes "12367")
+declared_c17 : declared (both Name (netlist c17) (netlist c17)) (given_side None) ≡ map (λ d. d ∷ []) (codes "12367")
 unfolding tokens_in pieces_in judge
 declared_c17 = refl
 
-depth_c17 : by_depth Name (netlist c17) (netlist c17) None ≡ map (λ d. d ∷ []) (codes "13267")
+depth_c17 : by_depth (both Name (netlist c17) (netlist c17)) (given_side None) ≡ map (λ d. d ∷ []) (codes "13267")
 unfolding tokens_in pieces_in judge
 depth_c17 = refl
 
 -- by name the inputs are joined; by position they are the first netlist's
-joined : declared Name (netlist (codes "INPUT(a) OUTPUT(a)")) (netlist (codes "INPUT(x) OUTPUT(a) a = BUFF(x)")) None ≡ map (λ d. d ∷ []) (codes "ax")
+joined : declared (both Name (netlist (codes "INPUT(a) OUTPUT(a)")) (netlist (codes "INPUT(x) OUTPUT(a) a = BUFF(x)"))) (given_side None) ≡ map (λ d. d ∷ []) (codes "ax")
 unfolding tokens_in pieces_in judge
 joined = refl
 
-across : declared Position (netlist (codes "INPUT(a) OUTPUT(a)")) (netlist (codes "INPUT(x) OUTPUT(a) a = BUFF(x)")) None ≡ map (λ d. d ∷ []) (codes "a")
+across : declared (both Position (netlist (codes "INPUT(a) OUTPUT(a)")) (netlist (codes "INPUT(x) OUTPUT(a) a = BUFF(x)"))) (given_side None) ≡ map (λ d. d ∷ []) (codes "a")
 unfolding tokens_in pieces_in judge
 across = refl
 
 -- the second's inputs are met in its own order, under the first's names; the first's gate comes later in its text than its use
-crossed : by_depth Position (netlist (codes "INPUT(a) INPUT(b) INPUT(c) OUTPUT(b)")) (netlist (codes "INPUT(x) INPUT(y) INPUT(z) OUTPUT(f) f = AND(g, y) g = NOT(z)")) None ≡ map (λ d. d ∷ []) (codes "bca")
+crossed : by_depth (both Position (netlist (codes "INPUT(a) INPUT(b) INPUT(c) OUTPUT(b)")) (netlist (codes "INPUT(x) INPUT(y) INPUT(z) OUTPUT(f) f = AND(g, y) g = NOT(z)"))) (given_side None) ≡ map (λ d. d ∷ []) (codes "bca")
 unfolding tokens_in pieces_in judge
 crossed = refl
 
 -- the condition's variables go by their names, also by position; new ones stand behind all others
-conditioned : declared Position (netlist (codes "INPUT(a) OUTPUT(a)")) (netlist (codes "INPUT(x) OUTPUT(a) a = BUFF(x)")) (Some (netlist (codes "q = DFF(a) INPUT(x) INPUT(a) OUTPUT(q)"))) ≡ map (λ d. d ∷ []) (codes "axq")
+conditioned : declared (both Position (netlist (codes "INPUT(a) OUTPUT(a)")) (netlist (codes "INPUT(x) OUTPUT(a) a = BUFF(x)"))) (given_side (Some (netlist (codes "q = DFF(a) INPUT(x) INPUT(a) OUTPUT(q)")))) ≡ map (λ d. d ∷ []) (codes "axq")
 unfolding tokens_in pieces_in judge
 conditioned = refl
 
-conditioned_depth : by_depth Name (netlist (codes "INPUT(a) INPUT(b) OUTPUT(b)")) (netlist (codes "INPUT(a) OUTPUT(a)")) (Some (netlist (codes "INPUT(z) INPUT(a) OUTPUT(z)"))) ≡ map (λ d. d ∷ []) (codes "baz")
+conditioned_depth : by_depth (both Name (netlist (codes "INPUT(a) INPUT(b) OUTPUT(b)")) (netlist (codes "INPUT(a) OUTPUT(a)"))) (given_side (Some (netlist (codes "INPUT(z) INPUT(a) OUTPUT(z)")))) ≡ map (λ d. d ∷ []) (codes "baz")
 unfolding tokens_in pieces_in judge
 conditioned_depth = refl
 
@@ -74,12 +74,12 @@ one_register = netlist (codes "OUTPUT(q) q = DFF(n) n = XOR(q, c) INPUT(c)")
 abbrev more_inputs : Circuit
 more_inputs = netlist (codes "INPUT(d) r = DFF(d) OUTPUT(r) INPUT(c)")
 
-registers_last : declared Name one_register more_inputs None ≡ map (λ d. d ∷ []) (codes "cdqr")
+registers_last : declared (both Name one_register more_inputs) (given_side None) ≡ map (λ d. d ∷ []) (codes "cdqr")
 unfolding tokens_in pieces_in judge
 registers_last = refl
 
 -- walks begin at the outputs and go on at the next states; a register ends a chain of operands
-registers_met : by_depth Name one_register more_inputs None ≡ map (λ d. d ∷ []) (codes "qcrd")
+registers_met : by_depth (both Name one_register more_inputs) (given_side None) ≡ map (λ d. d ∷ []) (codes "qcrd")
 unfolding tokens_in pieces_in judge
 registers_met = refl
 

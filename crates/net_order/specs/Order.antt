@@ -109,44 +109,65 @@ partner [] ts s = 0
 partner (x ∷ xs) [] s = 0
 partner (x ∷ xs) (t ∷ ts) s = if x == s then t else partner xs ts s
 
--- The variable of an input or register of the second netlist. By position, input i of both is one variable, with the first netlist's
--- name, and so is register i.
-abbrev pub second_name : Match → Circuit → Circuit → ℕ → List ℕ
-second_name Name a b s = name_of b s
-second_name Position a b s = name_of a (partner (variables_of b) (variables_of a) s)
+-- The name of an input or register of a netlist c in a pairing: its own, or by position that of its partner in a, as input i of both is
+-- one variable, and so is register i.
+abbrev pub name_by : Match → Circuit → Circuit → ℕ → List ℕ
+name_by Name a c s = name_of c s
+name_by Position a c s = name_of a (partner (variables_of c) (variables_of a) s)
 
--- The variables of inputs or registers of the second netlist, in their order.
-abbrev pub second_names : Match → Circuit → Circuit → List ℕ → List (List ℕ)
-second_names how a b ss = map (second_name how a b) ss
+-- A side of a pairing: a netlist, how its variables are matched, and the netlist that names them by position.
+pub record Sided : Type 0 where
+  pub how : Match
+  pub namer : Circuit
+  pub net : Circuit
 
--- The names of signals of the first netlist, then those of the variables of signals of the second.
-abbrev pub both_names : Match → Circuit → Circuit → List ℕ → List ℕ → List (List ℕ)
-both_names how a b ss ts = names_of a ss ++ second_names how a b ts
+-- The name of a variable of one side.
+abbrev pub named : Sided → ℕ → List ℕ
+named side s = name_by side.how side.namer side.net s
+
+-- The names of variables of one side, in their order.
+abbrev pub names_on : Sided → List ℕ → List (List ℕ)
+names_on side ss = map (named side) ss
+
+-- A netlist whose variables go by their own names.
+abbrev pub own : Circuit → Sided
+own c = record { how = Name; namer = c; net = c }
+
+-- The two netlists that are compared.
+abbrev pub both : Match → Circuit → Circuit → List Sided
+both how a b = own a ∷ record { how = how; namer = a; net = b } ∷ []
 
 -- The circuit of a condition, where there is one.
 abbrev pub condition : Option (Bor Net) → Option Circuit
 condition None = None
 condition (Some net) = Some (circuit net.now)
 
--- The names of a condition's inputs, then of its registers; none where there is no condition. Its variables go by their names, also
--- by position.
-abbrev pub given_names : Option Circuit → List (List ℕ)
-given_names None = []
-given_names (Some c) = names_of c (variables_of c)
+-- A condition, where there is one. Its variables go by their names, also by position.
+abbrev pub given_side : Option Circuit → List Sided
+given_side None = []
+given_side (Some c) = own c ∷ []
 
--- The names of all variables, as often as they stand: the first netlist's inputs, the second's, the first's registers, the second's,
--- and last those of the condition.
-abbrev pub all_names : Match → Circuit → Circuit → Option Circuit → List (List ℕ)
-all_names how a b given = both_names how a b a.inputs b.inputs ++ both_names how a b (registers_of a) (registers_of b) ++ given_names given
+-- Side after side, the names of those of its variables that the function tells.
+abbrev pub names_of_sides : (Circuit → List ℕ) → List Sided → List (List ℕ)
+names_of_sides which [] = []
+names_of_sides which (side ∷ sides) = names_on side (which side.net) ++ names_of_sides which sides
+
+-- The names of all variables of sides, as often as they stand: the inputs of each, then the registers of each.
+abbrev pub names_in : List Sided → List (List ℕ)
+names_in sides = names_of_sides (λ c. c.inputs) sides ++ names_of_sides registers_of sides
+
+-- The names of all variables, as often as they stand: those of both netlists, and last those of the condition.
+abbrev pub all_names : List Sided → List Sided → List (List ℕ)
+all_names sides given = names_in sides ++ names_in given
 
 -- The variables as they are declared, each at its first place: those of the condition alone stand behind all others.
-abbrev pub declared : Match → Circuit → Circuit → Option Circuit → List (List ℕ)
-declared how a b given = distinct (all_names how a b given)
+abbrev pub declared : List Sided → List Sided → List (List ℕ)
+declared sides given = distinct (all_names sides given)
 
 -- The variables as they are met below the first netlist's outputs and next states, then below the second's, then the others as they
 -- are declared.
-abbrev pub by_depth : Match → Circuit → Circuit → Option Circuit → List (List ℕ)
-by_depth how a b given = distinct (both_names how a b (met a) (met b) ++ all_names how a b given)
+abbrev pub by_depth : List Sided → List Sided → List (List ℕ)
+by_depth sides given = distinct (names_of_sides met sides ++ all_names sides given)
 
 -- A variable's level in an order of names is its place among them.
 abbrev pub level_of : List (List ℕ) → List ℕ → ℕ
@@ -178,33 +199,30 @@ weave_below c variable order s = weave order None (map variable (met_below ByRan
 abbrev pub weave_netlist : Circuit → (ℕ → ℕ) → List ℕ → List ℕ
 weave_netlist c variable order = fold (weave_below c variable) order (falling (rank_of c) (roots c))
 
--- A variable's number is its place among the declared ones.
-abbrev pub first_variable : Match → Circuit → Circuit → Option Circuit → ℕ → ℕ
-first_variable how a b given s = level_of (declared how a b given) (name_of a s)
-
-abbrev pub second_variable : Match → Circuit → Circuit → Option Circuit → ℕ → ℕ
-second_variable how a b given s = level_of (declared how a b given) (second_name how a b s)
+-- A side is woven into an order. A variable's number is its place among the declared ones.
+abbrev pub weave_side : List (List ℕ) → List ℕ → Sided → List ℕ
+weave_side names order side = weave_netlist side.net (λ s. level_of names (named side s)) order
 
 -- The variables that walks meet, by number: the first netlist is woven into the empty order, then the second.
-abbrev pub woven : Match → Circuit → Circuit → Option Circuit → List ℕ
-woven how a b given = weave_netlist b (second_variable how a b given) (weave_netlist a (first_variable how a b given) [])
+abbrev pub woven : List (List ℕ) → List Sided → List ℕ
+woven names sides = fold (weave_side names) [] sides
 
--- The name of a variable.
-abbrev pub variable_name : Match → Circuit → Circuit → Option Circuit → ℕ → List ℕ
-variable_name how a b given v = slice_index_or (declared how a b given) v []
+-- The names of variables, by number.
+abbrev pub numbered : List (List ℕ) → List ℕ → List (List ℕ)
+numbered names vs = map (λ v. slice_index_or names v []) vs
 
 -- The variables that walks meet, then the others as they are declared.
-abbrev pub interleaved : Match → Circuit → Circuit → Option Circuit → List (List ℕ)
-interleaved how a b given = distinct (map (variable_name how a b given) (woven how a b given) ++ all_names how a b given)
+abbrev pub interleaved : List Sided → List Sided → List (List ℕ)
+interleaved sides given = distinct (numbered (declared sides given) (woven (declared sides given) sides) ++ all_names sides given)
 
 -- ---- the orders
 
 -- The names of the variables in the order that is asked for, from level 0 on.
-abbrev pub ordered : Match → Circuit → Circuit → Option Circuit → Order → List (List ℕ)
-ordered how a b given Declared = declared how a b given
-ordered how a b given Depth = by_depth how a b given
-ordered how a b given Interleave = interleaved how a b given
-ordered how a b given (Listed names) = names
+abbrev pub ordered : List Sided → List Sided → Order → List (List ℕ)
+ordered sides given Declared = declared sides given
+ordered sides given Depth = by_depth sides given
+ordered sides given Interleave = interleaved sides given
+ordered sides given (Listed names) = names
 
 -- ---- a list of names
 
@@ -285,11 +303,11 @@ abbrev pub AreCounted : Match → Circuit → Circuit → Type 0
 AreCounted how a b = AreAsMany how a.inputs b.inputs × AreAsMany how a.outputs b.outputs × AreAsMany how (registers_of a) (registers_of b)
 
 -- A list that is asked for has each variable's name exactly once.
-abbrev pub IsFit : Match → Circuit → Circuit → Option Circuit → Order → Type 0
-IsFit how a b given Declared = Unit {0}
-IsFit how a b given Depth = Unit {0}
-IsFit how a b given Interleave = Unit {0}
-IsFit how a b given (Listed names) = IsListing (declared how a b given) names
+abbrev pub IsFit : List (List ℕ) → Order → Type 0
+IsFit variables Declared = Unit {0}
+IsFit variables Depth = Unit {0}
+IsFit variables Interleave = Unit {0}
+IsFit variables (Listed names) = IsListing variables names
 
 -- A pairing as its users see it: the variables by level, by signal the level of an input or register of each netlist and of the
 -- condition, and which outputs and which registers are compared.
@@ -301,26 +319,50 @@ pub record Paired : Type 0 where
   pub outputs : Corresponding
   pub registers : Corresponding
 
+-- the level of an input or register of the first netlist
+abbrev pub first_level : Paired → ℕ → ℕ
+first_level p s = slice_index p.first s
+
+-- the level of an input or register of the second netlist
+abbrev pub second_level : Paired → ℕ → ℕ
+second_level p s = slice_index p.second s
+
+-- the level of an input or register of the condition
+abbrev pub given_level : Paired → ℕ → ℕ
+given_level p s = slice_index p.given s
+
+-- By signal, the levels of one side's variables in an order of names.
+abbrev pub HasLevels : List (List ℕ) → Sided → List ℕ → Type 0
+HasLevels names side levels = All (λ s. slice_index levels s ≡ level_of names (named side s)) (variables_of side.net)
+
+-- The names of the variables of a pairing in the order that is asked for.
+abbrev pub names_by : Match → Circuit → Circuit → Option Circuit → Order → List (List ℕ)
+names_by how a b given order = ordered (both how a b) (given_side given) order
+
+-- The variables of two netlists and a condition, as they are declared.
+abbrev pub variables_in : Match → Circuit → Circuit → Option Circuit → List (List ℕ)
+variables_in how a b given = declared (both how a b) (given_side given)
+
 -- This is the pairing of two netlists, with a condition or without: its variables are few and in the order that is asked for, each input or register has its
 -- variable's level, and outputs correspond to outputs, registers to registers.
 pub record IsPairing (how : Match) (a b : Circuit) (given : Option Circuit) (order : Order) (p : Paired) : Type 0 where
   pub counted : AreCounted how a b
-  pub few : length (declared how a b given) ≤ max_variables
-  pub fit : IsFit how a b given order
-  pub names : p.names ≡ ordered how a b given order
-  pub first : All (λ s. slice_index p.first s ≡ level_of (ordered how a b given order) (name_of a s)) (variables_of a)
-  pub second : All (λ s. slice_index p.second s ≡ level_of (ordered how a b given order) (second_name how a b s)) (variables_of b)
-  pub conditional : IfSome given (λ c. All (λ s. slice_index p.given s ≡ level_of (ordered how a b given order) (name_of c s)) (variables_of c))
+  pub few : length (variables_in how a b given) ≤ max_variables
+  pub fit : IsFit (variables_in how a b given) order
+  pub names : p.names ≡ names_by how a b given order
+  pub first : HasLevels (names_by how a b given order) (own a) p.first
+  pub second : HasLevels (names_by how a b given order) (record { how = how; namer = a; net = b }) p.second
+  pub conditional : IfSome given (λ c. HasLevels (names_by how a b given order) (own c) p.given)
   pub outputs : p.outputs ≡ correspondence how a b a.outputs b.outputs
   pub registers : p.registers ≡ correspondence how a b (registers_of a) (registers_of b)
 
 -- Why there is no pairing, each cause only where none comes before it. Want of memory is said apart.
 abbrev pub IsRefused : Match → Circuit → Circuit → Option Circuit → Order → OrderFault → Type 0
 IsRefused how a b given order CountsDiffer = AreCounted how a b → ⊥
-IsRefused how a b given order TooManyInputs = AreCounted how a b × (max_variables < length (declared how a b given))
+IsRefused how a b given order TooManyInputs = AreCounted how a b × (max_variables < length (variables_in how a b given))
 IsRefused how a b given order (NotAPermutation place) =
-    AreCounted how a b × (length (declared how a b given) ≤ max_variables) ×
-    ((names : List (List ℕ)) × (order ≡ Listed names) × (bad_place (declared how a b given) [] names 1 ≡ Some place))
+    AreCounted how a b × (length (variables_in how a b given) ≤ max_variables) ×
+    ((names : List (List ℕ)) × (order ≡ Listed names) × (bad_place (variables_in how a b given) [] names 1 ≡ Some place))
 IsRefused how a b given order OutOfMemory = ⊥
 IsRefused how a b given order (BadName line) = ⊥
 IsRefused how a b given order TooLong = ⊥

@@ -1,16 +1,49 @@
 -- What the tables of the code hold.
-use Rattle.std.specs.Prelude.{◌≡◌, ◌⊎◌, ◌<◌, ℕ, Bool, true, false, List, fold, length, slice_index_or}
-use Rattle.net_bench.specs.Circuit.{Circuit, with_name}
-use Rattle.net_order.specs.declared.kinds.VariableKind.{VariableKind}
-use Rattle.net_order.specs.declared.kinds.VariableKind.TheVariants.{Input, Register}
+use Rattle.std.specs.Prelude.{◌≡◌, ◌⊎◌, ◌<◌, ℕ, Bool, true, false, List, [], ◌∷◌, fold, length, Some, slice_index, slice_index_or, All}
+use Rattle.std.specs.List.{AllZip}
+use Rattle.net_bench.specs.Circuit.{Circuit, Net, IsNet, circuit, is_name_in, variables_of, with_name}
+use Rattle.net_order.specs.declared.listings.Listing.{Listing}
+use Rattle.net_order.specs.declared.listings.Listing.TheVariants.{Inputs, Registers, Met}
+use Rattle.net_order.specs.declared.order.Match.{Match}
+use Rattle.net_order.specs.declared.order.Match.TheVariants.{Name, Position}
+use Rattle.net_order.specs.declared.order.Order.{Order}
+use Rattle.net_order.specs.declared.order.Order.TheVariants.{Listed}
 use Rattle.net_order.specs.declared.order.OrderFault.{OrderFault}
-use Rattle.net_order.specs.declared.order.OrderFault.TheVariants.{TooManyInputs, OutOfMemory}
-use Rattle.net_order.specs.Order.{is_member, max_variables, registers_of}
+use Rattle.net_order.specs.declared.order.OrderFault.TheVariants.{NotAPermutation, TooManyInputs, OutOfMemory}
+use Rattle.net_order.specs.Order.{HasLevels, Paired, Sided, bad_place, is_member, max_variables, met, named, partner, registers_of}
 
--- The variables of one kind.
-abbrev pub of_kind : VariableKind → Circuit → List ℕ
-of_kind Input c = c.inputs
-of_kind Register c = registers_of c
+-- The variables that a listing has.
+abbrev pub listed_of : Listing → Circuit → List ℕ
+listed_of Inputs c = c.inputs
+listed_of Registers c = registers_of c
+listed_of Met c = met c
+
+-- By position, a netlist has as many variables as the one that names them.
+abbrev pub AreMatched : Match → Circuit → Circuit → Type 0
+AreMatched Name namer c = Unit {0}
+AreMatched Position namer c = length (variables_of c) ≡ length (variables_of namer)
+
+-- The table by signal that tells the partner of each variable, which is read by position alone.
+abbrev pub ArePartners : Match → Circuit → Circuit → List ℕ → Type 0
+ArePartners Name namer c partners = Unit {0}
+ArePartners Position namer c partners =
+    (length partners ≡ length c.names) × ((s : ℕ) → s < length c.names → slice_index partners s ≡ partner (variables_of c) (variables_of namer) s)
+
+-- A netlist of a pairing with the one that names its variables, and their table.
+pub record IsSide (how : Match) (namer net : Net) (partners : List ℕ) : Type 0 where
+  pub sound : IsNet net
+  pub naming : IsNet namer
+  pub matched : AreMatched how (circuit namer) (circuit net)
+  pub table : ArePartners how (circuit namer) (circuit net) partners
+
+-- The variables of a side have names among these.
+abbrev pub IsKnown : List (List ℕ) → Sided → Type 0
+IsKnown names side = (s : ℕ) → is_member s (variables_of side.net) ≡ true → is_name_in names (named side s) ≡ true
+
+-- So have those of each side.
+abbrev pub AreKnown : List (List ℕ) → List Sided → Type 0
+AreKnown names [] = Unit {0}
+AreKnown names (side ∷ sides) = IsKnown names side × AreKnown names sides
 
 -- Names, and then more, each where it is not there yet.
 abbrev pub with_names : List (List ℕ) → List (List ℕ) → List (List ℕ)
@@ -24,3 +57,28 @@ IsOverflow names fault = (fault ≡ OutOfMemory) ⊎ ((fault ≡ TooManyInputs) 
 pub record IsMarked (marks : List Bool) (order : List ℕ) : Type 0 where
   pub low : (v : ℕ) → is_member v order ≡ true → v < length marks
   pub each : (v : ℕ) → v < length marks → slice_index_or marks v false ≡ is_member v order
+
+-- Signals of one netlist that are to be compared.
+pub record AreChosen : Type 0 where
+  pub net : Circuit
+  pub signals : List ℕ
+
+-- Each of them has a mark, and no other signal has one.
+pub record IsChosen (net : Net) (signals : List ℕ) (marks : List Bool) : Type 0 where
+  pub sound : IsNet net
+  pub known : All (λ s. s < length net.names) signals
+  pub len : length marks ≡ length net.names
+  pub each : (s : ℕ) → s < length net.names → slice_index_or marks s false ≡ is_member s signals
+
+-- Each side's variables have their levels in an order of names.
+pub record AreLevels (names : List (List ℕ)) (sides : List Sided) (p : Paired) : Type 0 where
+  pub levels : List (List ℕ)
+  pub each : AllZip (HasLevels names) sides levels
+  pub first : p.first ≡ slice_index_or levels 0 []
+  pub second : p.second ≡ slice_index_or levels 1 []
+  pub given : p.given ≡ slice_index_or levels 2 []
+
+-- Why these variables were not put into the order that is asked for.
+abbrev pub IsUnordered : List (List ℕ) → Order → OrderFault → Type 0
+IsUnordered variables order fault =
+    (fault ≡ OutOfMemory) ⊎ ((place : ℕ) × (names : List (List ℕ)) × (fault ≡ NotAPermutation place) × (order ≡ Listed names) × (bad_place variables [] names 1 ≡ Some place))

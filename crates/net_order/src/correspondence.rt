@@ -1,7 +1,7 @@
 //! Signals that two netlists have, and those that only one has.
-ghost use Rattle.std.specs.Prelude.{IfOk, ◌≡◌, ℕ, ◌<◌, length, false, All, slice_index_or, zip};
+ghost use Rattle.std.specs.Prelude.{IfOk, ◌≡◌, ℕ, ◌<◌, length, false, All, slice_index, slice_index_or, zip};
 ghost use Rattle.net_bench.specs.Circuit.{circuit};
-ghost use Rattle.net_order.specs.Order.{AreAsMany, Corresponding, correspondence, signal_named, pairs_by_name, unmatched, is_member};
+ghost use Rattle.net_order.specs.Order.{AreAsMany, correspondence, is_member, name_of, pairs_by_name, signal_named, unmatched};
 
 use crate::order::Match;
 use net_bench::netlist::Signal;
@@ -52,6 +52,25 @@ impl Correspondence {
     }
 }
 
+/// Signals of one netlist that are to be compared, with a mark for each of its signals that is one of them.
+#[derive(Drop)]
+struct Chosen<'a> {
+    net: &'a Netlist,
+    signals: &'a [Signal],
+    marks: Vec<bool>,
+}
+
+impl<'a> Model for Chosen<'a> {
+    ghost use Rattle.net_bench.specs.Circuit.{circuit};
+    ghost use Rattle.net_order.specs.Tables.{AreChosen, IsChosen};
+
+    ghost Value = { AreChosen };
+
+    ghost view = { λ c. record { net = circuit c.net.now; signals = c.signals.now } };
+
+    ghost invariant = { λ c. IsChosen c.net.now c.signals.now c.marks.items };
+}
+
 /// For each signal below `count` whether it is among these.
 fn marked(alloc: Global, count: usize, signals: &[Signal]) -> Result<Vec<bool>, AllocError>
     requires { All (λ s. s < count) signals.now }
@@ -65,66 +84,79 @@ fn marked(alloc: Global, count: usize, signals: &[Signal]) -> Result<Vec<bool>, 
     Ok(marks)
 }
 
-/// The signal of this name among these, by their marks.
-fn named(net: &Netlist, among: &[Signal], marks: &[bool], name: &[u8]) -> Option<Signal>
-    requires len { length marks.now ≡ length net.now.names }
-    requires marks { (s : ℕ) → s < length net.now.names → slice_index_or marks.now s false ≡ is_member s among.now }
-    ensures { result ≡ signal_named (circuit net.now) among.now name.now }
-{
-    let _ = among;
-    match net.find(name) {
-        Some(signal) => if marks[signal.number() as usize] {
-            Some(signal)
-        } else {
-            None
-        },
-        None => None,
+impl<'a> Chosen<'a> {
+    /// These signals of a netlist.
+    fn new(alloc: Global, net: &'a Netlist, signals: &'a [Signal]) -> Result<Chosen<'a>, AllocError>
+        requires { All (λ s. s < length net.now.names) signals.now }
+        ensures { IfOk result (λ c. c ≡ record { net = circuit net.entry.now; signals = signals.entry.now }) }
+    {
+        let marks = marked(alloc, net.count(), signals)?;
+        Ok(Chosen {
+            net,
+            signals,
+            marks,
+        })
+    }
+
+    /// The signals.
+    fn signals(&self) -> &[Signal]
+        ensures { result.now ≡ self.now.signals }
+    {
+        self.signals
+    }
+
+    /// The name of a signal at this place among them.
+    fn name_at(&self, place: usize) -> &[u8]
+        requires { place < length self.now.signals }
+        ensures { result.now ≡ name_of self.now.net (slice_index self.now.signals place) }
+    {
+        self.net.name(self.signals[place])
+    }
+
+    /// The signal of this name among them.
+    fn named(&self, name: &[u8]) -> Option<Signal>
+        ensures { result ≡ signal_named self.now.net self.now.signals name.now }
+    {
+        match self.net.find(name) {
+            Some(signal) => if self.marks[signal.number() as usize] {
+                Some(signal)
+            } else {
+                None
+            },
+            None => None,
+        }
     }
 }
 
-/// Each of the signals with the one of that name among those of the other netlist, by the marks of these.
+/// Each of the signals with the one of its name among those of the other netlist.
 fn pairs_of(
     alloc: Global,
-    first: &Netlist,
-    second: &Netlist,
-    signals: &[Signal],
-    others: &[Signal],
-    marks: &[bool],
+    ours: &Chosen<'_>,
+    theirs: &Chosen<'_>,
 ) -> Result<Vec<(Signal, Signal)>, AllocError>
-    requires known { All (λ s. s < length first.now.names) signals.now }
-    requires len { length marks.now ≡ length second.now.names }
-    requires marks { (s : ℕ) → s < length second.now.names → slice_index_or marks.now s false ≡ is_member s others.now }
-    ensures { IfOk result (λ v. v.items ≡ pairs_by_name (circuit first.now) (circuit second.now) others.now signals.now) }
+    ensures { IfOk result (λ v. v.items ≡ pairs_by_name ours.now.net theirs.now.net theirs.now.signals ours.now.signals) }
 {
     let mut pairs = Vec::new(alloc);
-    for signal in signals {
-        match named(second, others, marks, first.name(*signal)) {
-            Some(other) => pairs.push((*signal, other))?,
+    let signals = ours.signals();
+    for i in 0..signals.len() {
+        match theirs.named(ours.name_at(i)) {
+            Some(other) => pairs.push((signals[i], other))?,
             None => {}
         }
     }
     Ok(pairs)
 }
 
-/// The signals whose name none of those of the other netlist has, by the marks of these.
-fn lone(
-    alloc: Global,
-    net: &Netlist,
-    other: &Netlist,
-    signals: &[Signal],
-    others: &[Signal],
-    marks: &[bool],
-) -> Result<Vec<Signal>, AllocError>
-    requires known { All (λ s. s < length net.now.names) signals.now }
-    requires len { length marks.now ≡ length other.now.names }
-    requires marks { (s : ℕ) → s < length other.now.names → slice_index_or marks.now s false ≡ is_member s others.now }
-    ensures { IfOk result (λ v. v.items ≡ unmatched (circuit net.now) (circuit other.now) others.now signals.now) }
+/// The signals whose name none of those of the other netlist has.
+fn lone(alloc: Global, ours: &Chosen<'_>, theirs: &Chosen<'_>) -> Result<Vec<Signal>, AllocError>
+    ensures { IfOk result (λ v. v.items ≡ unmatched ours.now.net theirs.now.net theirs.now.signals ours.now.signals) }
 {
     let mut lone = Vec::new(alloc);
-    for signal in signals {
-        match named(other, others, marks, net.name(*signal)) {
+    let signals = ours.signals();
+    for i in 0..signals.len() {
+        match theirs.named(ours.name_at(i)) {
             Some(_) => {}
-            None => lone.push(*signal)?,
+            None => lone.push(signals[i])?,
         }
     }
     Ok(lone)
@@ -162,11 +194,11 @@ pub fn correspond(
 {
     match how {
         Match::Name => {
-            let here = marked(alloc, first.count(), signals)?;
-            let there = marked(alloc, second.count(), others)?;
-            let pairs = pairs_of(alloc, first, second, signals, others, there.as_slice())?;
-            let only_first = lone(alloc, first, second, signals, others, there.as_slice())?;
-            let only_second = lone(alloc, second, first, others, signals, here.as_slice())?;
+            let ours = Chosen::new(alloc, first, signals)?;
+            let theirs = Chosen::new(alloc, second, others)?;
+            let pairs = pairs_of(alloc, &ours, &theirs)?;
+            let only_first = lone(alloc, &ours, &theirs)?;
+            let only_second = lone(alloc, &theirs, &ours)?;
             Ok(Correspondence {
                 pairs,
                 only_first,

@@ -1,14 +1,15 @@
 //! Variables interleaved: what a walk meets for the first time goes right behind what it met last. After Fujii, Ootomo and Hori,
 //! "Interleaving based variable ordering methods for ordered binary decision diagrams", ICCAD 1993.
-ghost use Rattle.std.specs.Prelude.{◌≡◌, ℕ, ◌<◌, ◌≤◌, [], length, map, All, OnOk, IfOk, IfErr, Some, None, insert, slice_index, slice_index_or};
+ghost use Rattle.std.specs.Prelude.{◌≡◌, ℕ, ◌<◌, ◌≤◌, [], length, map, All, OnOk, IfOk, IfErr, Some, None, insert, slice_index};
 ghost use Rattle.net_bench.specs.Circuit.{circuit, variables_of};
-ghost use Rattle.net_order.specs.Order.{AreCounted, condition, declared, interleaved, put_behind, weave, weave_netlist, with_variable, woven};
-ghost use Rattle.net_order.specs.Tables.{IsMarked, with_names};
+ghost use Rattle.net_order.specs.Order.{declared, interleaved, numbered, put_behind, weave, weave_netlist, with_variable, woven};
+ghost use Rattle.net_order.specs.Tables.{AreKnown, IsMarked, with_names};
 
-use crate::kinds::roots_of;
-use crate::levels::{first_levels, second_levels};
-use crate::order::{Match, OrderFault};
+use crate::levels::{Levels, levels_on};
+use crate::order::OrderFault;
 use crate::ranked::by_rank;
+use crate::roots::roots_of;
+use crate::side::Side;
 use crate::variables::{MAX_VARIABLES, add_all};
 use crate::walk::{Way, met_below, no_marks, paths_of, walk_below};
 use net_bench::name_table::NameTable;
@@ -43,16 +44,6 @@ fn put_behind(order: &mut Vec<u32>, last: Option<u32>, variable: u32) -> Result<
     }
 }
 
-/// The variable of a signal.
-fn variable_of(variables: &[u32], signal: Signal) -> u32
-    ensures { result ≡ slice_index variables.now signal }
-{
-    variables
-        .get(signal.number() as usize)
-        .copied()
-        .unwrap_or(0)
-}
-
 /// Puts a variable into the order, unless it is there: right behind the other one. The marks say which variables are there.
 fn add(
     order: &mut Vec<u32>,
@@ -78,7 +69,7 @@ fn add(
 fn weave(
     order: &mut Vec<u32>,
     marks: &mut Vec<bool>,
-    variables: &[u32],
+    variables: &Levels,
     met: &[Signal],
 ) -> Result<(), AllocError>
     requires low { All (λ s. slice_index variables.now s < length marks.old.items) met.now }
@@ -89,7 +80,7 @@ fn weave(
 {
     let mut last = None;
     for signal in met {
-        let variable = variable_of(variables, *signal);
+        let variable = variables.at(*signal);
         add(order, marks, last, variable)?;
         last = Some(variable);
     }
@@ -103,7 +94,7 @@ fn weave_netlist(
     order: &mut Vec<u32>,
     marks: &mut Vec<bool>,
     net: &Netlist,
-    variables: &[u32],
+    variables: &Levels,
 ) -> Result<(), AllocError>
     requires low { All (λ s. slice_index variables.now s < length marks.old.items) (variables_of (circuit net.now)) }
     requires marked { IsMarked marks.old.items order.old.items }
@@ -136,7 +127,7 @@ fn add_variables(
     order: &[u32],
 ) -> Result<(), AllocError>
     requires { All (λ v. v < length variables.now) order.now }
-    ensures { OnOk result (table.new ≡ with_names table.old (map (λ v. slice_index_or variables.now v []) order.now)) }
+    ensures { OnOk result (table.new ≡ with_names table.old (numbered variables.now order.now)) }
 {
     for variable in order {
         table.count(alloc, variables.name(*variable))?;
@@ -145,48 +136,37 @@ fn add_variables(
 }
 
 /// The numbers of the variables that walks meet, in interleaved order.
-fn woven(
-    alloc: Global,
-    first: &Netlist,
-    second: &Netlist,
-    given: Option<&Netlist>,
-    how: Match,
-    variables: &NameTable,
-) -> Result<Vec<u32>, AllocError>
-    requires counted { AreCounted how (circuit first.now) (circuit second.now) }
-    requires all { variables.now ≡ declared how (circuit first.now) (circuit second.now) (condition given) }
-    ensures woven { IfOk result (λ v. v.items ≡ woven how (circuit first.now) (circuit second.now) (condition given.entry)) }
+fn woven(alloc: Global, sides: &[Side<'_>], variables: &NameTable) -> Result<Vec<u32>, AllocError>
+    requires { AreKnown variables.now sides.now }
+    ensures woven { IfOk result (λ v. v.items ≡ woven variables.now sides.now) }
     ensures low { IfOk result (λ v. All (λ k. k < length variables.now) v.items) }
 {
-    let _ = given;
     let mut order = Vec::new(alloc);
     let mut marks = Vec::from_elem(alloc, false, variables.len())?;
-    let numbers = first_levels(alloc, variables, first)?;
-    weave_netlist(alloc, &mut order, &mut marks, first, numbers.as_slice())?;
-    let numbers = second_levels(alloc, variables, first, second, how)?;
-    weave_netlist(alloc, &mut order, &mut marks, second, numbers.as_slice())?;
+    for i in 0..sides.len() {
+        let side = &sides[i];
+        let numbers = levels_on(alloc, variables, side)?;
+        weave_netlist(alloc, &mut order, &mut marks, side.net(), &numbers)?;
+    }
     Ok(order)
 }
 
 /// The variables in interleaved order.
 pub fn interleaved_table(
     alloc: Global,
-    first: &Netlist,
-    second: &Netlist,
-    given: Option<&Netlist>,
-    how: Match,
+    sides: &[Side<'_>],
+    given: &[Side<'_>],
     variables: &NameTable,
 ) -> Result<NameTable, OrderFault>
-    requires counted { AreCounted how (circuit first.now) (circuit second.now) }
-    requires all { variables.now ≡ declared how (circuit first.now) (circuit second.now) (condition given) }
+    requires all { variables.now ≡ declared sides.now given.now }
     requires few { length variables.now ≤ MAX_VARIABLES }
-    ensures ok { IfOk result (λ t. t ≡ interleaved how (circuit first.now) (circuit second.now) (condition given.entry)) }
+    ensures ok { IfOk result (λ t. t ≡ interleaved sides.now given.now) }
     ensures few { IfOk result (λ t. length t ≤ MAX_VARIABLES) }
     ensures err { IfErr result (λ fault. fault ≡ OrderFault.OutOfMemory) }
 {
-    let order = woven(alloc, first, second, given, how, variables)?;
+    let order = woven(alloc, sides, variables)?;
     let mut table = NameTable::new(alloc);
     add_variables(alloc, &mut table, variables, order.as_slice())?;
-    add_all(alloc, &mut table, first, second, given, how)?;
+    add_all(alloc, &mut table, sides, given)?;
     Ok(table)
 }

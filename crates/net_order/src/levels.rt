@@ -1,85 +1,75 @@
-//! The levels of inputs and registers.
-ghost use Rattle.std.specs.Prelude.{◌≡◌, ℕ, ◌<◌, length, All, IfOk, IfSome, slice_index};
-ghost use Rattle.net_bench.specs.Circuit.{circuit, variables_of};
-ghost use Rattle.net_order.specs.Order.{AreCounted, condition, name_of, second_name, level_of};
+//! The levels of variables.
+ghost use Rattle.std.specs.Prelude.{◌≡◌, ◌++◌, IfOk, OnOk, slice_index, slice_index_or, []};
+ghost use Rattle.std.specs.List.{AllZip};
+ghost use Rattle.net_order.specs.Order.{HasLevels};
 
-use crate::order::Match;
-use crate::partners::partners;
+use crate::side::Side;
 use net_bench::name_table::NameTable;
 use net_bench::netlist::Signal;
-use net_bench::reader::Netlist;
 use std::alloc::{AllocError, Global};
+use std::marker::Model;
 
-/// By signal below `count`, the level of the variable that it is. Signal i has the variable that `called[i]` of `net` names.
-fn levels(
-    alloc: Global,
-    table: &NameTable,
-    count: usize,
-    inputs: &[Signal],
-    net: &Netlist,
-    called: &[Signal],
-) -> Result<Vec<u32>, AllocError>
-    requires inside { All (λ s. s < count) inputs.now }
-    requires same { length inputs.now ≡ length called.now }
-    requires known { All (λ s. s < length net.now.names) called.now }
-    // a signal that stands twice has one variable
-    requires clear { (i j : ℕ) → i < length inputs.now → j < length inputs.now → slice_index inputs.now i ≡ slice_index inputs.now j → slice_index called.now i ≡ slice_index called.now j }
-    ensures each { IfOk result (λ v. (k : ℕ) → k < length inputs.now →
-        slice_index v.items (slice_index inputs.now k) ≡ level_of table.now (name_of (circuit net.now) (slice_index called.now k))) }
-{
-    let mut levels = Vec::from_elem(alloc, 0u32, count)?;
-    for i in 0..inputs.len() {
-        let level = table.find(net.name(called[i])).unwrap_or(0);
-        levels[inputs[i].number() as usize] = level;
-    }
-    Ok(levels)
+/// By signal, the levels of one netlist's variables.
+#[derive(Drop)]
+pub struct Levels {
+    list: Vec<u32>,
 }
 
-/// The levels of the second netlist's inputs and registers, by signal.
-pub fn second_levels(
-    alloc: Global,
-    table: &NameTable,
-    first: &Netlist,
-    second: &Netlist,
-    how: Match,
-) -> Result<Vec<u32>, AllocError>
-    requires { AreCounted how (circuit first.now) (circuit second.now) }
-    ensures { IfOk result (λ v. All (λ s. slice_index v.items s ≡ level_of table.now (second_name how (circuit first.now) (circuit second.now) s)) (variables_of (circuit second.now))) }
-{
-    let variables = second.variables();
-    let count = second.count();
-    match how {
-        Match::Name => levels(alloc, table, count, variables, second, variables),
-        Match::Position => {
-            let called = partners(alloc, count, variables, first.variables(), variables)?;
-            levels(alloc, table, count, variables, first, called.as_slice())
-        }
+impl Model for Levels {
+    ghost use Rattle.std.specs.Prelude.{List, ℕ};
+
+    ghost Value = { List ℕ };
+
+    ghost view = { λ l. l.list.items };
+}
+
+impl Levels {
+    /// The level of a variable.
+    pub fn at(&self, variable: Signal) -> u32
+        ensures { result ≡ slice_index self.now variable }
+    {
+        self.list
+            .get(variable.number() as usize)
+            .copied()
+            .unwrap_or(0)
     }
 }
 
-/// The levels of the first netlist's inputs and registers, by signal.
-pub fn first_levels(
-    alloc: Global,
-    table: &NameTable,
-    first: &Netlist,
-) -> Result<Vec<u32>, AllocError>
-    ensures { IfOk result (λ v. All (λ s. slice_index v.items s ≡ level_of table.now (name_of (circuit first.now) s)) (variables_of (circuit first.now))) }
+/// The level of a variable of the side at this place, 0 where there is no such side.
+pub fn level_at(sides: &[Levels], place: usize, variable: Signal) -> u32
+    ensures { result ≡ slice_index (slice_index_or sides.now place []) variable }
 {
-    let variables = first.variables();
-    let count = first.count();
-    levels(alloc, table, count, variables, first, variables)
+    match sides.get(place) {
+        Some(levels) => levels.at(variable),
+        None => 0,
+    }
 }
 
-/// The levels of the condition's inputs and registers, by signal.
-pub fn given_levels(
+/// The levels of one side's variables.
+pub fn levels_on(alloc: Global, table: &NameTable, side: &Side<'_>) -> Result<Levels, AllocError>
+    ensures { IfOk result (HasLevels table.now side.now) }
+{
+    let net = side.net();
+    let mut list = Vec::from_elem(alloc, 0u32, net.count())?;
+    for variable in net.variables() {
+        let level = table.find(side.name(*variable)).unwrap_or(0);
+        list[variable.number() as usize] = level;
+    }
+    Ok(Levels { list })
+}
+
+/// The levels of the variables of each side.
+pub fn all_levels(
     alloc: Global,
     table: &NameTable,
-    given: Option<&Netlist>,
-) -> Result<Vec<u32>, AllocError>
-    ensures { IfOk result (λ v. IfSome (condition given.entry) (λ c. All (λ s. slice_index v.items s ≡ level_of table.now (name_of c s)) (variables_of c))) }
+    sides: &[Side<'_>],
+) -> Result<Vec<Levels>, AllocError>
+    ensures { IfOk result (λ v. AllZip (HasLevels table.now) sides.now v.items) }
 {
-    match given {
-        None => Ok(Vec::new(alloc)),
-        Some(net) => first_levels(alloc, table, net),
+    let mut all = Vec::new(alloc);
+    for i in 0..sides.len() {
+        let side = &sides[i];
+        all.push(levels_on(alloc, table, side)?)?;
     }
+    Ok(all)
 }

@@ -3,14 +3,15 @@
 
 mod correspondence;
 mod interleave;
-mod kinds;
 mod levels;
 mod listed;
+mod listings;
 pub mod names;
 pub mod order;
 pub mod order_file;
 pub mod pairing;
-mod partners;
 mod ranked;
+mod roots;
+mod side;
 mod variables;
 mod walk;

@@ -1,15 +1,17 @@
 //! The pairing of two netlists.
-ghost use Rattle.std.specs.Prelude.{◌≡◌, ◌≤◌, ◌⊎◌, ◌↔◌, length, All, IfOk, IfErr, IfSome, IsTrue, slice_index};
-ghost use Rattle.net_bench.specs.Circuit.{circuit, variables_of};
-ghost use Rattle.net_order.specs.Order.{AreAsMany, AreCounted, IsFit, IsPairing, IsRefused, Paired, max_variables, condition, correspondence, declared, ordered, level_of, name_of, registers_of, second_name};
+ghost use Rattle.std.specs.Prelude.{◌≡◌, ◌≤◌, ◌⊎◌, ◌↔◌, length, IfOk, IfErr, IsTrue, slice_index};
+ghost use Rattle.net_bench.specs.Circuit.{circuit};
+ghost use Rattle.net_order.specs.Order.{AreAsMany, AreCounted, IsFit, IsPairing, IsRefused, Paired, max_variables, condition, correspondence, declared, ordered, registers_of};
+ghost use Rattle.net_order.specs.Tables.{AreLevels, IsUnordered};
 
 use crate::correspondence::{Correspondence, correspond};
 use crate::interleave::interleaved_table;
-use crate::kinds::registers_of;
-use crate::levels::{first_levels, given_levels, second_levels};
+use crate::levels::{Levels, all_levels, level_at};
 use crate::listed::listed;
+use crate::listings::registers_of;
 use crate::names::Names;
 use crate::order::{Match, Order, OrderFault};
+use crate::side::{Side, sides_of};
 use crate::variables::{declared_table, depth_table};
 use net_bench::name_table::NameTable;
 use net_bench::netlist::Signal;
@@ -21,24 +23,23 @@ use std::marker::Model;
 #[derive(Drop)]
 pub struct Pairing {
     names: Names,
-    first: Vec<u32>,
-    second: Vec<u32>,
-    given: Vec<u32>,
+    /// Side by side: the first netlist's, the second's, and the condition's where there is one.
+    levels: Vec<Levels>,
     outputs: Correspondence,
     registers: Correspondence,
 }
 
 impl Model for Pairing {
-    ghost use Rattle.std.specs.Prelude.{◌≤◌, length};
+    ghost use Rattle.std.specs.Prelude.{◌≤◌, [], length, slice_index_or};
     ghost use Rattle.net_order.specs.Order.{Paired, max_variables};
 
     ghost Value = { Paired };
 
     ghost view = { λ a. record {
       names = a.names;
-      first = a.first.items;
-      second = a.second.items;
-      given = a.given.items;
+      first = slice_index_or a.levels.items 0 [];
+      second = slice_index_or a.levels.items 1 [];
+      given = slice_index_or a.levels.items 2 [];
       outputs = a.outputs;
       registers = a.registers;
     } };
@@ -59,30 +60,21 @@ impl Pairing {
     pub fn first_level(&self, input: Signal) -> u32
         ensures { result ≡ slice_index self.now.first input }
     {
-        self.first
-            .get(input.number() as usize)
-            .copied()
-            .unwrap_or(0)
+        level_at(self.levels.as_slice(), 0, input)
     }
 
     /// The level of an input or register of the second netlist.
     pub fn second_level(&self, input: Signal) -> u32
         ensures { result ≡ slice_index self.now.second input }
     {
-        self.second
-            .get(input.number() as usize)
-            .copied()
-            .unwrap_or(0)
+        level_at(self.levels.as_slice(), 1, input)
     }
 
     /// The level of an input or register of the condition.
     pub fn given_level(&self, input: Signal) -> u32
         ensures { result ≡ slice_index self.now.given input }
     {
-        self.given
-            .get(input.number() as usize)
-            .copied()
-            .unwrap_or(0)
+        level_at(self.levels.as_slice(), 2, input)
     }
 
     /// The outputs that are compared, the first netlist's signal first.
@@ -150,25 +142,22 @@ fn are_counted(first: &Netlist, second: &Netlist, how: Match) -> bool
 /// The names by level, in the order that is asked for.
 fn ordered_table(
     alloc: Global,
-    first: &Netlist,
-    second: &Netlist,
-    given: Option<&Netlist>,
-    how: Match,
+    sides: &[Side<'_>],
+    given: &[Side<'_>],
     order: &Order,
     variables: NameTable,
 ) -> Result<NameTable, OrderFault>
-    requires counted { AreCounted how (circuit first.now) (circuit second.now) }
-    requires all { variables ≡ declared how (circuit first.now) (circuit second.now) (condition given) }
+    requires all { variables ≡ declared sides.now given.now }
     requires few { length variables ≤ max_variables }
-    ensures ok { IfOk result (λ t. t ≡ ordered how (circuit first.now) (circuit second.now) (condition given.entry) order.now) }
-    ensures fit { IfOk result (λ t. IsFit how (circuit first.now) (circuit second.now) (condition given.entry) order.now) }
+    ensures ok { IfOk result (λ t. t ≡ ordered sides.now given.now order.now) }
+    ensures fit { IfOk result (λ t. IsFit (declared sides.now given.now) order.now) }
     ensures few { IfOk result (λ t. length t ≤ max_variables) }
-    ensures err { IfErr result (λ f. (f ≡ OrderFault.OutOfMemory) ⊎ IsRefused how (circuit first.now) (circuit second.now) (condition given.entry) order.now f) }
+    ensures err { IfErr result (IsUnordered (declared sides.now given.now) order.now) }
 {
     match order {
         Order::Declared => Ok(variables),
-        Order::Depth => depth_table(alloc, first, second, given, how),
-        Order::Interleave => interleaved_table(alloc, first, second, given, how, &variables),
+        Order::Depth => depth_table(alloc, sides, given),
+        Order::Interleave => interleaved_table(alloc, sides, given, &variables),
         Order::Listed(list) => listed(alloc, &variables, list),
     }
 }
@@ -178,22 +167,18 @@ fn finish(
     alloc: Global,
     first: &Netlist,
     second: &Netlist,
-    given: Option<&Netlist>,
     how: Match,
+    sides: &[Side<'_>],
     table: NameTable,
 ) -> Result<Pairing, AllocError>
     requires counted { AreCounted how (circuit first.now) (circuit second.now) }
     requires few { length table ≤ max_variables }
     ensures names { IfOk result (λ p. p.names ≡ table) }
-    ensures first { IfOk result (λ p. All (λ s. slice_index p.first s ≡ level_of table (name_of (circuit first.now) s)) (variables_of (circuit first.now))) }
-    ensures second { IfOk result (λ p. All (λ s. slice_index p.second s ≡ level_of table (second_name how (circuit first.now) (circuit second.now) s)) (variables_of (circuit second.now))) }
-    ensures given { IfOk result (λ p. IfSome (condition given.entry) (λ c. All (λ s. slice_index p.given s ≡ level_of table (name_of c s)) (variables_of c))) }
+    ensures levels { IfOk result (AreLevels table sides.now) }
     ensures outputs { IfOk result (λ p. p.outputs ≡ correspondence how (circuit first.now) (circuit second.now) first.now.outputs second.now.outputs) }
     ensures registers { IfOk result (λ p. p.registers ≡ correspondence how (circuit first.now) (circuit second.now) (registers_of (circuit first.now)) (registers_of (circuit second.now))) }
 {
-    let first_levels = first_levels(alloc, &table, first)?;
-    let second_levels = second_levels(alloc, &table, first, second, how)?;
-    let given_levels = given_levels(alloc, &table, given)?;
+    let levels = all_levels(alloc, &table, sides)?;
     let outputs = correspond(alloc, first, second, how, first.outputs(), second.outputs())?;
     let registers = correspond(
         alloc,
@@ -206,9 +191,7 @@ fn finish(
     let names = table.to_names(alloc)?;
     Ok(Pairing {
         names: Names::of(names),
-        first: first_levels,
-        second: second_levels,
-        given: given_levels,
+        levels,
         outputs,
         registers,
     })
@@ -232,14 +215,20 @@ pub fn pair(
     if !are_counted(first, second, how) {
         return Err(OrderFault::CountsDiffer);
     }
-    match declared_table(alloc, first, second, given, how) {
-        Ok(variables) => match ordered_table(alloc, first, second, given, how, order, variables) {
-            Ok(table) => match finish(alloc, first, second, given, how, table) {
-                Ok(pairing) => Ok(pairing),
-                Err(_) => Err(OrderFault::OutOfMemory),
-            },
-            Err(fault) => Err(fault),
-        },
-        Err(fault) => Err(fault),
+    let Ok(sides) = sides_of(alloc, first, second, given, how) else {
+        return Err(OrderFault::OutOfMemory);
+    };
+    let (both, condition) = sides.as_slice().split_at(2);
+    let variables = match declared_table(alloc, both, condition) {
+        Ok(variables) => variables,
+        Err(fault) => return Err(fault),
+    };
+    let table = match ordered_table(alloc, both, condition, order, variables) {
+        Ok(table) => table,
+        Err(fault) => return Err(fault),
+    };
+    match finish(alloc, first, second, how, sides.as_slice(), table) {
+        Ok(pairing) => Ok(pairing),
+        Err(_) => Err(OrderFault::OutOfMemory),
     }
 }

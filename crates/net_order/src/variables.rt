@@ -1,37 +1,34 @@
-//! The variables of two netlists, as they are declared and as they are met below outputs and next states.
-ghost use Rattle.std.specs.Prelude.{◌≡◌, ◌<◌, ◌≤◌, length, All, IsTrue, OnOk, IfOk, IfErr};
-ghost use Rattle.net_bench.specs.Circuit.{circuit, variables_of};
-ghost use Rattle.net_order.specs.Order.{AreCounted, all_names, both_names, by_depth, condition, declared, given_names, is_member, names_of, second_names};
-ghost use Rattle.net_order.specs.Tables.{IsOverflow, of_kind, with_names};
+//! The variables of the netlists of a pairing, as they are declared and as they are met below outputs and next states.
+ghost use Rattle.std.specs.Prelude.{◌≡◌, ◌≤◌, length, All, IsTrue, OnOk, IfOk, IfErr};
+ghost use Rattle.net_bench.specs.Circuit.{variables_of};
+ghost use Rattle.net_order.specs.Order.{Sided, all_names, by_depth, declared, is_member, names_in, names_of_sides, names_on};
+ghost use Rattle.net_order.specs.Tables.{IsOverflow, listed_of, with_names};
 
-use crate::kinds::{VariableKind, of_kind};
-use crate::order::{Match, OrderFault};
-use crate::partners::partners;
-use crate::walk::met;
+use crate::listings::{Listing, listed_of};
+use crate::order::OrderFault;
+use crate::side::Side;
 use net_bench::name_table::NameTable;
 use net_bench::netlist::Signal;
-use net_bench::reader::Netlist;
 use std::alloc::Global;
 
 /// The most variables.
 pub const MAX_VARIABLES: usize = 4_096;
 
-/// Puts the signals' names into the table, each where it is not there yet.
+/// Puts the names of these variables of one side into the table, each where it is not there yet.
 fn add_names(
     alloc: Global,
     table: &mut NameTable,
-    net: &Netlist,
-    signals: &[Signal],
+    side: &Side<'_>,
+    variables: &[Signal],
 ) -> Result<(), OrderFault>
     requires room { length table.old ≤ MAX_VARIABLES }
-    requires known { All (λ s. s < length net.now.names) signals.now }
-    ensures ok { OnOk result (table.new ≡ with_names table.old (names_of (circuit net.now) signals.now)) }
+    requires variables { All (λ s. IsTrue (is_member s (variables_of side.now.net))) variables.now }
+    ensures ok { OnOk result (table.new ≡ with_names table.old (names_on side.now variables.now)) }
     ensures few { OnOk result (length table.new ≤ MAX_VARIABLES) }
-    ensures err { IfErr result (IsOverflow (with_names table.old (names_of (circuit net.now) signals.now))) }
+    ensures err { IfErr result (IsOverflow (with_names table.old (names_on side.now variables.now))) }
 {
-    for signal in signals {
-        let name = net.name(*signal);
-        table.count(alloc, name)?;
+    for variable in variables {
+        table.count(alloc, side.name(*variable))?;
         if table.len() > MAX_VARIABLES {
             return Err(OrderFault::TooManyInputs);
         }
@@ -39,131 +36,96 @@ fn add_names(
     Ok(())
 }
 
-/// Puts the variables of these inputs or registers of the second netlist into the table, each where it is not there yet.
-fn add_second(
+/// Puts what a listing has of one side into the table.
+fn add_side(
     alloc: Global,
     table: &mut NameTable,
-    first: &Netlist,
-    second: &Netlist,
-    how: Match,
-    signals: &[Signal],
-) -> Result<(), OrderFault>
-    requires counted { AreCounted how (circuit first.now) (circuit second.now) }
-    requires room { length table.old ≤ MAX_VARIABLES }
-    requires known { All (λ s. s < length second.now.names) signals.now }
-    requires variables { All (λ s. IsTrue (is_member s (variables_of (circuit second.now)))) signals.now }
-    ensures ok { OnOk result (table.new ≡ with_names table.old (second_names how (circuit first.now) (circuit second.now) signals.now)) }
-    ensures few { OnOk result (length table.new ≤ MAX_VARIABLES) }
-    ensures err { IfErr result (IsOverflow (with_names table.old (second_names how (circuit first.now) (circuit second.now) signals.now))) }
-{
-    match how {
-        Match::Name => add_names(alloc, table, second, signals),
-        Match::Position => {
-            let called = partners(
-                alloc,
-                second.count(),
-                second.variables(),
-                first.variables(),
-                signals,
-            )?;
-            add_names(alloc, table, first, called.as_slice())
-        }
-    }
-}
-
-/// Puts the variables of one kind into the table, the first netlist's and then the second's, each where it is not there yet.
-fn add_kind(
-    alloc: Global,
-    table: &mut NameTable,
-    first: &Netlist,
-    second: &Netlist,
-    how: Match,
-    kind: VariableKind,
-) -> Result<(), OrderFault>
-    requires counted { AreCounted how (circuit first.now) (circuit second.now) }
-    requires room { length table.old ≤ MAX_VARIABLES }
-    ensures ok { OnOk result (table.new ≡ with_names table.old (both_names how (circuit first.now) (circuit second.now) (of_kind kind (circuit first.now)) (of_kind kind (circuit second.now)))) }
-    ensures few { OnOk result (length table.new ≤ MAX_VARIABLES) }
-    ensures err { IfErr result (IsOverflow (with_names table.old (both_names how (circuit first.now) (circuit second.now) (of_kind kind (circuit first.now)) (of_kind kind (circuit second.now))))) }
-{
-    add_names(alloc, table, first, of_kind(first, kind))?;
-    add_second(alloc, table, first, second, how, of_kind(second, kind))
-}
-
-/// Puts the condition's variables into the table, each where it is not there yet.
-fn add_given(
-    alloc: Global,
-    table: &mut NameTable,
-    given: Option<&Netlist>,
+    side: &Side<'_>,
+    listing: Listing,
 ) -> Result<(), OrderFault>
     requires { length table.old ≤ MAX_VARIABLES }
-    ensures ok { OnOk result (table.new ≡ with_names table.old (given_names (condition given.entry))) }
+    ensures ok { OnOk result (table.new ≡ with_names table.old (names_on side.now (listed_of listing side.now.net))) }
     ensures few { OnOk result (length table.new ≤ MAX_VARIABLES) }
-    ensures err { IfErr result (IsOverflow (with_names table.old (given_names (condition given.entry)))) }
+    ensures err { IfErr result (IsOverflow (with_names table.old (names_on side.now (listed_of listing side.now.net)))) }
 {
-    match given {
-        None => Ok(()),
-        Some(net) => add_names(alloc, table, net, net.variables()),
-    }
+    let variables = listed_of(alloc, side.net(), listing)?;
+    add_names(alloc, table, side, variables.as_slice())
 }
 
-/// Puts all variables into the table, as they are declared, each where it is not there yet.
+/// Puts what a listing has of each side into the table, side after side.
+fn add_sides(
+    alloc: Global,
+    table: &mut NameTable,
+    sides: &[Side<'_>],
+    listing: Listing,
+) -> Result<(), OrderFault>
+    requires { length table.old ≤ MAX_VARIABLES }
+    ensures ok { OnOk result (table.new ≡ with_names table.old (names_of_sides (listed_of listing) sides.now)) }
+    ensures few { OnOk result (length table.new ≤ MAX_VARIABLES) }
+    ensures err { IfErr result (IsOverflow (with_names table.old (names_of_sides (listed_of listing) sides.now))) }
+{
+    for i in 0..sides.len() {
+        let side = &sides[i];
+        add_side(alloc, table, side, listing)?;
+    }
+    Ok(())
+}
+
+/// Puts all variables of sides into the table, as they are declared.
+fn add_declared(alloc: Global, table: &mut NameTable, sides: &[Side<'_>]) -> Result<(), OrderFault>
+    requires { length table.old ≤ MAX_VARIABLES }
+    ensures ok { OnOk result (table.new ≡ with_names table.old (names_in sides.now)) }
+    ensures few { OnOk result (length table.new ≤ MAX_VARIABLES) }
+    ensures err { IfErr result (IsOverflow (with_names table.old (names_in sides.now))) }
+{
+    add_sides(alloc, table, sides, Listing::Inputs)?;
+    add_sides(alloc, table, sides, Listing::Registers)
+}
+
+/// Puts all variables into the table, as they are declared: those of a condition last.
 pub fn add_all(
     alloc: Global,
     table: &mut NameTable,
-    first: &Netlist,
-    second: &Netlist,
-    given: Option<&Netlist>,
-    how: Match,
+    sides: &[Side<'_>],
+    given: &[Side<'_>],
 ) -> Result<(), OrderFault>
-    requires counted { AreCounted how (circuit first.now) (circuit second.now) }
-    requires room { length table.old ≤ MAX_VARIABLES }
-    ensures ok { OnOk result (table.new ≡ with_names table.old (all_names how (circuit first.now) (circuit second.now) (condition given.entry))) }
+    requires { length table.old ≤ MAX_VARIABLES }
+    ensures ok { OnOk result (table.new ≡ with_names table.old (all_names sides.now given.now)) }
     ensures few { OnOk result (length table.new ≤ MAX_VARIABLES) }
-    ensures err { IfErr result (IsOverflow (with_names table.old (all_names how (circuit first.now) (circuit second.now) (condition given.entry)))) }
+    ensures err { IfErr result (IsOverflow (with_names table.old (all_names sides.now given.now))) }
 {
-    add_kind(alloc, table, first, second, how, VariableKind::Input)?;
-    add_kind(alloc, table, first, second, how, VariableKind::Register)?;
-    add_given(alloc, table, given)
+    add_declared(alloc, table, sides)?;
+    add_declared(alloc, table, given)
 }
 
 /// The variables in declared order.
 pub fn declared_table(
     alloc: Global,
-    first: &Netlist,
-    second: &Netlist,
-    given: Option<&Netlist>,
-    how: Match,
+    sides: &[Side<'_>],
+    given: &[Side<'_>],
 ) -> Result<NameTable, OrderFault>
-    requires { AreCounted how (circuit first.now) (circuit second.now) }
-    ensures ok { IfOk result (λ t. t ≡ declared how (circuit first.now) (circuit second.now) (condition given.entry)) }
+    ensures ok { IfOk result (λ t. t ≡ declared sides.now given.now) }
     ensures few { IfOk result (λ t. length t ≤ MAX_VARIABLES) }
-    ensures err { IfErr result (IsOverflow (declared how (circuit first.now) (circuit second.now) (condition given.entry))) }
+    ensures err { IfErr result (IsOverflow (declared sides.now given.now)) }
 {
     let mut table = NameTable::new(alloc);
-    add_all(alloc, &mut table, first, second, given, how)?;
+    add_all(alloc, &mut table, sides, given)?;
     Ok(table)
 }
 
 /// The variables in depth order.
 pub fn depth_table(
     alloc: Global,
-    first: &Netlist,
-    second: &Netlist,
-    given: Option<&Netlist>,
-    how: Match,
+    sides: &[Side<'_>],
+    given: &[Side<'_>],
 ) -> Result<NameTable, OrderFault>
-    requires counted { AreCounted how (circuit first.now) (circuit second.now) }
-    requires few { length (declared how (circuit first.now) (circuit second.now) (condition given)) ≤ MAX_VARIABLES }
-    ensures ok { IfOk result (λ t. t ≡ by_depth how (circuit first.now) (circuit second.now) (condition given.entry)) }
+    requires { length (declared sides.now given.now) ≤ MAX_VARIABLES }
+    ensures ok { IfOk result (λ t. t ≡ by_depth sides.now given.now) }
     ensures few { IfOk result (λ t. length t ≤ MAX_VARIABLES) }
     ensures err { IfErr result (λ fault. fault ≡ OrderFault.OutOfMemory) }
 {
     let mut table = NameTable::new(alloc);
-    let met_first = met(alloc, first)?;
-    add_names(alloc, &mut table, first, met_first.as_slice())?;
-    let met_second = met(alloc, second)?;
-    add_second(alloc, &mut table, first, second, how, met_second.as_slice())?;
-    add_all(alloc, &mut table, first, second, given, how)?;
+    add_sides(alloc, &mut table, sides, Listing::Met)?;
+    add_all(alloc, &mut table, sides, given)?;
     Ok(table)
 }

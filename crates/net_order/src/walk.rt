@@ -4,8 +4,8 @@ ghost use Rattle.net_bench.specs.Circuit.{IsNet, circuit, variables_of};
 ghost use Rattle.net_order.specs.Order.{below, is_member, met, met_below, taken, with_number};
 ghost use Rattle.net_order.specs.Walk.{ArePaths, IsGoing, IsSettled, IsStepsOf, IsWalk, entered, outcome, steps_left};
 
-use crate::kinds::roots_of;
 use crate::ranked::by_rank;
+use crate::roots::roots_of;
 use net_bench::netlist::{Role, Signal};
 use net_bench::reader::Netlist;
 use std::alloc::{AllocError, Global};

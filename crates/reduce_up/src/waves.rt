@@ -103,6 +103,7 @@ fn answer_closure<R: Threads + Sync, H: Watch>(
     ensures within { OnOk result (IsWithinLimit store.old entries.now store.new) }
     ensures fault { IfErr result (λ e. IsWaveFault store.old entries.now store.new e) }
     ensures served { IfErr result (λ e. e ≢ WaveFault.NoWorker) }
+    ensures unbounded { IfErr result (λ e. e ≢ WaveFault.TooManyRequests) }
 {
     let _ = store.levels();
     let results = match reduce(rt, alloc, store, records, watch) {
@@ -133,6 +134,7 @@ fn wave_alone<R: Threads + Sync>(
     ensures within { OnOk result (IsWithinLimit store.old entries.now store.new) }
     ensures fault { IfErr result (λ e. IsWaveFault store.old entries.now store.new e) }
     ensures served { IfErr result (λ e. e ≢ WaveFault.NoWorker) }
+    ensures unbounded { IfErr result (λ e. e ≢ WaveFault.TooManyRequests) }
 {
     let _ = store.levels();
     let Ok(roots) = requests_of(alloc, entries) else {
@@ -168,6 +170,7 @@ pub fn wave_one<R: Threads + Sync>(
     ensures within { OnOk result (IsWithinLimit store.old (unknown memo.old entries.now) store.new) }
     ensures fault { IfErr result (λ e. IsWaveFault store.old (unknown memo.old entries.now) store.new e) }
     ensures served { IfErr result (λ e. e ≢ WaveFault.NoWorker) }
+    ensures unbounded { IfErr result (λ e. e ≢ WaveFault.TooManyRequests) }
     ensures kept { IfOk result (λ answers. IsKeptWave memo.old entries.now answers.items memo.new) }
     ensures refused { OnErr result (memo.new ≡ memo.old) }
     ensures right { IsRight store.new memo.new }
@@ -202,6 +205,7 @@ fn answer_team<R: Threads + Sync, H: Watch>(
     ensures no_others { IfOk result (λ answers. AddsBelow store.old store.new answers.items) }
     ensures within { OnOk result (IsWithinLimit store.old entries.now store.new) }
     ensures fault { IfErr result (λ e. IsWaveFault store.old entries.now store.new e) }
+    ensures unbounded { IfErr result (λ e. e ≢ WaveFault.TooManyRequests) }
 {
     let _ = store.levels();
     let Ok(mut progress) = begin(store, field) else {
@@ -245,6 +249,7 @@ pub fn shared_wave<R: Threads + Wait + Sync, G: Gate>(
     ensures no_others { IfOk result (λ answers. AddsBelow store.old store.new answers.items) }
     ensures within { OnOk result (IsWithinLimit store.old entries.now store.new) }
     ensures fault { IfErr result (λ e. IsWaveFault store.old entries.now store.new e) }
+    ensures unbounded { IfErr result (λ e. e ≢ WaveFault.TooManyRequests) }
 {
     let _ = store.levels();
     let Ok(roots) = requests_of(alloc, entries) else {

@@ -39,7 +39,18 @@ fn fault_of<R: AllocGlobal + Threads + Wait + Sync, R1: Source, R2: Source>(
         sizes: false,
         json: false,
     };
-    check(rt, rt.alloc(), first, second, &settings, &Free, out).err()
+    let mut nothing: Option<Dripping> = None;
+    check(
+        rt,
+        rt.alloc(),
+        first,
+        second,
+        &mut nothing,
+        &settings,
+        &Free,
+        out,
+    )
+    .err()
 }
 
 /// A page with ample room.

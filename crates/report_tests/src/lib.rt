@@ -1,6 +1,8 @@
-//! Tests of a whole check over devices that fail. They stand apart, since a crate with tests is proved twice.
+//! Tests of a whole check, with a condition, and over devices that fail. They stand apart, since a crate with tests is proved twice.
 #![tactic(auto)]
 
+#[cfg(test)]
+mod conditions;
 #[cfg(test)]
 mod devices;
 #[cfg(test)]

@@ -2,10 +2,21 @@
 use Rattle.std.proofs.Common.{◌≡◌, ℕ, suc, ◌+◌, ◌*◌, ◌/◌, ◌<◌, ◌≤◌, sym, ◌∙◌, ap, arith, ◌⊎◌, inl, inr}
 use Rattle.std.proofs.Math.Nat.{pow-succ'}
 use Rattle.slot_table.specs.Probes.{IsSlotCount}
+use Rattle.slot_table.specs.Stamps.{IsPower}
 
--- no more than half of the slots are taken
-pub slots-half : (len n : ℕ) → IsSlotCount len n → 2 * len ≤ n
-slots-half len n count = elim count [ inl none ↦ omega arith | inr table ↦ table.half ]
+-- where there are slots, they are more than the items, and their number is a power of two
+pub slots-some : (len n : ℕ) → IsSlotCount len n → 0 < n → (len < n) × IsPower n
+slots-some len n count some = elim count [
+  | inl none ↦ absurd (omega arith)
+  | inr table ↦ (let half = table.half in omega arith, table.power)
+]
+
+-- slots for one item more have room for it and for another
+pub slots-room : (len n : ℕ) → IsSlotCount (len + 1) n → (len + 1 < n) × IsPower n
+slots-room len n count = elim count [
+  | inl none ↦ absurd (omega arith)
+  | inr table ↦ (let half = table.half in omega arith, table.power)
+]
 
 -- the slots serve one pair more
 pub slots-same : (len n : ℕ) → IsSlotCount len n → len < n / 2 → IsSlotCount (len + 1) n

@@ -3,4 +3,5 @@ pub mod Listing
 pub mod Pigeons
 pub mod Places
 pub mod Probing
+pub mod Stamping
 pub mod Walking

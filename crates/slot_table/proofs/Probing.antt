@@ -116,16 +116,3 @@ module _ {X : Type 0} (spread : X → ℕ) where
   pub none_sought : (ps : List X) (ts : List ℕ) (p : X) → 2 * length ps ≤ length ts → length ts ≡ 0
       → (i : ℕ) × (slice_get ps i ≡ Some p) → ⊥
   none_sought ps ts p half empty at = let lt = slice_get_within ps at.0 p at.1 in omega arith
-
-  -- one pair more, written by the code
-  pub Probes-pushed : (ps qs : List X) (ts : List ℕ) (p : X) (j x : ℕ) → Probes spread (length ts) ps ts
-      → IsFree (length ts) (home_of spread (length ts) p) ts j → x ≡ length ps + 1 → qs ≡ ps ++ p ∷ []
-      → Probes spread (length (set ts j x)) qs (set ts j x)
-  Probes-pushed ps qs ts p j x w free held pairs =
-      let v = Probes-push (length ts) ps ts p j w free in
-      let is : suc (length ps) ≡ x = omega arith in
-      let size : length ts ≡ length (set ts j x) = sym (length-set ts j x) in
-      let a : Probes spread (length ts) (ps ++ p ∷ []) (set ts j x) =
-      subst (λ (z : ℕ). Probes spread (length ts) (ps ++ p ∷ []) (set ts j z)) is v in
-      let b : Probes spread (length ts) qs (set ts j x) = subst (λ (z : List X). Probes spread (length ts) z (set ts j x)) (sym pairs) a in
-      subst (λ (z : ℕ). Probes spread z qs (set ts j x)) size b

@@ -62,7 +62,7 @@ slice_get-set_same [] i x y e = absurd (none_some y e)
 slice_get-set_same (z ∷ zs) zero x y e = refl
 slice_get-set_same (z ∷ zs) (suc i) x y e = slice_get-set_same zs i x y e
 
-slice_get-set_other : (xs : List ℕ) (i j x : ℕ) → (i ≡ j → ⊥) → slice_get (set xs i x) j ≡ slice_get xs j
+pub slice_get-set_other : (xs : List ℕ) (i j x : ℕ) → (i ≡ j → ⊥) → slice_get (set xs i x) j ≡ slice_get xs j
 slice_get-set_other [] i j x ne = refl
 slice_get-set_other (z ∷ zs) zero zero x ne = absurd (ne refl)
 slice_get-set_other (z ∷ zs) zero (suc j) x ne = refl

@@ -3,3 +3,4 @@ pub mod Mixing
 pub mod Pairs
 pub mod Placing
 pub mod Probes
+pub mod Stamps

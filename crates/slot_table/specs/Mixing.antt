@@ -1,5 +1,6 @@
 -- A number that spreads what has two words. No proof knows more of it than that two words have one.
 use Rattle.std.specs.Prelude.{ℕ, ◌*◌, ◌/◌, ◌%◌, ◌^◌, bit_xor}
+use Rattle.std.specs.Int.{rotate_left, w64}
 
 unfoldable pub mix_of : ℕ → ℕ → ℕ
-mix_of a b = bit_xor (a * 11400714819323198485 % 2 ^ 64) b * 15485907386658061715 % 2 ^ 64 / 2 ^ 32
+mix_of a b = rotate_left w64 (bit_xor (a * 11400714819323198485 % 2 ^ 64) b) 32 * 15485907386658061715 % 2 ^ 64 / 2 ^ 32

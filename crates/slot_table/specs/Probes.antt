@@ -1,7 +1,6 @@
 -- Slots, in which the search for an item begins at its home and goes on after a slot that is not empty. An empty slot
 -- holds 0, and any other the place of an item and 1.
 use Rattle.std.specs.Prelude.{◌≡◌, ℕ, suc, ◌+◌, ◌-◌, ◌*◌, ◌^◌, ◌<◌, ◌≤◌, ◌⊎◌, nat_lt, if◌then◌else◌, List, length, slice_get, Some, bit_and}
-use Rattle.slot_table.specs.Lists.{IsOnce}
 use Rattle.slot_table.specs.declared.Sought.{Sought}
 use Rattle.slot_table.specs.declared.Sought.TheVariants.{Place, Slot}
 
@@ -50,12 +49,6 @@ pub record IsTableFor (items n : ℕ) : Type 0 where
 -- how many slots there are for so many items: none for none
 abbrev pub IsSlotCount : ℕ → ℕ → Type 0
 IsSlotCount items n = ((items ≡ 0) × (n ≡ 0)) ⊎ IsTableFor items n
-
--- items, each once, and slots that find them
-pub record IsTable {X : Type 0} (spread : X → ℕ) (xs : List X) (ts : List ℕ) : Type 0 where
-  pub probes : Probes spread (length ts) xs ts
-  pub count : IsSlotCount (length xs) (length ts)
-  pub once : IsOnce xs
 
 -- a slot is the first from the home of an item that is empty, where there are slots
 abbrev pub IsFreeFor : {X : Type 0} → (X → ℕ) → List ℕ → X → ℕ → Type 0

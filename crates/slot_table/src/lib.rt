@@ -3,7 +3,8 @@
 #![tactic(auto)]
 
 ghost use Rattle.std.specs.Prelude.{◌≡◌, ◌<◌, ◌≤◌, ◌*◌, ◌+◌, ◌==◌, ◌++◌, ◌∷◌, [], ◌^◌, ℕ, true, length, slice_get, Some, MatchOption, IfOk, OnOk, OnErr, if◌then◌else◌};
-ghost use Rattle.slot_table.specs.Probes.{home_of, IsFree, IsFreeFor, HasFree, Probes, IsSlotCount, IsSought};
+ghost use Rattle.slot_table.specs.Probes.{home_of, IsFree, IsFreeFor, HasFree, IsSlotCount, IsSought};
+ghost use Rattle.slot_table.specs.Stamps.{Finds, IsPower, stamp_of, tag_of};
 ghost use Rattle.slot_table.specs.Mixing.{mix_of};
 ghost use Rattle.slot_table.specs.Pairs.{pairs-same};
 ghost use Rattle.std.proofs.lemmas.Bool.{eqb-true};
@@ -23,12 +24,14 @@ pub trait Spread: Copy + Eq {
     ghost same: { (x y : Self) → Self.eq x y ≡ true → x ≡ y };
 }
 
-/// A number that spreads what has two words: two multiplications, and the upper half.
+/// A number that spreads what has two words: two multiplications, and the upper half. Between them the halves change
+/// places, so that the upper bits of both words reach the lower bits of the number.
 pub fn mix(first: u64, second: u64) -> u64
     ensures { result ≡ mix_of first second }
 {
     let product = first.wrapping_mul(11400714819323198485);
-    (product ^ second).wrapping_mul(15485907386658061715) >> 32
+    let turned = (product ^ second).rotate_left(32);
+    turned.wrapping_mul(15485907386658061715) >> 32
 }
 
 impl Spread for u64 {
@@ -55,7 +58,8 @@ impl<A: Spread, B: Spread> Spread for (A, B) {
 #[derive(Drop)]
 pub struct SlotTable<T: Spread> {
     items: Vec<T>,
-    /// 0 where a slot is empty, else a place and 1.
+    /// 0 where a slot is empty, else the stamp of an item: a place and 1, and above them a part of the item's number,
+    /// which tells most items apart without a look at them.
     slots: Vec<u32>,
 }
 
@@ -64,7 +68,7 @@ impl<T: Spread> Model for SlotTable<T> {
 
     ghost Value = { List T };
 
-    ghost use Rattle.slot_table.specs.Probes.{IsTable};
+    ghost use Rattle.slot_table.specs.Stamps.{IsTable};
 
     ghost view = { λ t. t.items.items };
 
@@ -109,6 +113,25 @@ fn home<T: Spread>(item: T, count: usize) -> usize
     item.spread() as usize & (count - 1)
 }
 
+/// The upper part of an item's number of 32 bits, above the bits that number the slots, of which there are `count`.
+fn tag<T: Spread>(item: T, count: usize) -> usize
+    requires { 0 < count }
+    ensures { result ≡ tag_of T.spread_of count item }
+{
+    let number = (item.spread() % 4294967296) as usize;
+    number - (number & (count - 1))
+}
+
+/// What one of `count` slots holds for an item at a place.
+fn stamp<T: Spread>(item: T, count: usize, place: usize) -> u32
+    requires count { IsPower count }
+    requires place { place + 1 < count }
+    requires places { place + 1 < 2 ^ 32 }
+    ensures { result ≡ stamp_of T.spread_of count item place }
+{
+    (tag(item, count) + place + 1) as u32
+}
+
 /// The slot after this one, of `count`: the first comes after the last.
 pub fn next_slot(slot: usize, count: usize) -> usize
     requires { slot < count }
@@ -135,21 +158,23 @@ pub fn free_slot(slots: &[u32], home: usize) -> usize
 
 /// Where the search for an item ends.
 fn seek<T: Spread>(items: &[T], slots: &[u32], item: T) -> Sought
-    requires probes { Probes T.spread_of (length slots.now) items.now slots.now }
-    requires half { 2 * length items.now ≤ length slots.now }
+    requires finds { Finds T.spread_of (length slots.now) items.now slots.now }
+    requires count { IsSlotCount (length items.now) (length slots.now) }
     ensures { IsSought T.spread_of items.now slots.now item result }
 {
     if slots.is_empty() {
         return Sought::Slot(0);
     }
+    let tag = tag(item, slots.len());
     let mut slot = home(item, slots.len());
     for _distance in 0..slots.len() {
-        let held = slots[slot];
+        let held = slots[slot] as usize;
         if held == 0 {
             return Sought::Slot(slot);
         }
-        if items[held as usize - 1] == item {
-            return Sought::Place(held - 1);
+        let number = held & (slots.len() - 1);
+        if held - number == tag && items[number - 1] == item {
+            return Sought::Place((number - 1) as u32);
         }
         slot = next_slot(slot, slots.len());
     }
@@ -160,18 +185,19 @@ fn seek<T: Spread>(items: &[T], slots: &[u32], item: T) -> Sought
 /// error the slots are as before.
 fn refill<T: Spread>(items: &[T], slots: &mut Vec<u32>, count: usize) -> Result<(), AllocError>
     requires count { length items.now < count }
+    requires power { IsPower count }
     requires places { length items.now < 2 ^ 32 }
     requires more { length slots.old.items ≤ count }
-    ensures probes { OnOk result (Probes T.spread_of count items.now slots.new.items) }
+    ensures finds { OnOk result (Finds T.spread_of count items.now slots.new.items) }
     ensures refused { OnErr result (slots.new.items ≡ slots.old.items) }
 {
     slots.reserve(count - slots.len())?;
     slots.clear();
     let _ = slots.resize(count, 0);
     for place in 0..items.len() {
-        let home = home(items[place], count);
-        let slot = free_slot(slots.as_slice(), home);
-        slots[slot] = place as u32 + 1;
+        let item = items[place];
+        let slot = free_slot(slots.as_slice(), home(item, count));
+        slots[slot] = stamp(item, count, place);
     }
     Ok(())
 }
@@ -184,11 +210,11 @@ fn slot_for<T: Spread>(
     item: T,
     slot: usize,
 ) -> Result<usize, AllocError>
-    requires probes { Probes T.spread_of (length slots.old.items) items.now slots.old.items }
+    requires finds { Finds T.spread_of (length slots.old.items) items.now slots.old.items }
     requires count { IsSlotCount (length items.now) (length slots.old.items) }
     requires free { IsFreeFor T.spread_of slots.old.items item slot }
     requires places { length items.now < 2 ^ 32 }
-    ensures probes { OnOk result (Probes T.spread_of (length slots.new.items) items.now slots.new.items) }
+    ensures finds { OnOk result (Finds T.spread_of (length slots.new.items) items.now slots.new.items) }
     ensures count { OnOk result (IsSlotCount (length items.now + 1) (length slots.new.items)) }
     ensures free { IfOk result (λ j. IsFree (length slots.new.items) (home_of T.spread_of (length slots.new.items) item) slots.new.items j) }
     ensures refused { OnErr result (slots.new.items ≡ slots.old.items) }
@@ -209,13 +235,13 @@ fn add_at<T: Spread>(
     item: T,
     slot: usize,
 ) -> Result<(), AllocError>
-    requires probes { Probes T.spread_of (length slots.old.items) items.old.items slots.old.items }
+    requires finds { Finds T.spread_of (length slots.old.items) items.old.items slots.old.items }
     requires count { IsSlotCount (length items.old.items) (length slots.old.items) }
     requires free { IsFreeFor T.spread_of slots.old.items item slot }
     requires places { length items.old.items + 1 < 2 ^ 32 }
     requires absent { IsIn items.old.items item → ⊥ }
     requires once { IsOnce items.old.items }
-    ensures probes { Probes T.spread_of (length slots.new.items) items.new.items slots.new.items }
+    ensures finds { Finds T.spread_of (length slots.new.items) items.new.items slots.new.items }
     ensures count { IsSlotCount (length items.new.items) (length slots.new.items) }
     ensures once { IsOnce items.new.items }
     ensures added { OnOk result (items.new.items ≡ items.old.items ++ item ∷ []) }
@@ -223,7 +249,7 @@ fn add_at<T: Spread>(
 {
     items.reserve(1)?;
     let slot = slot_for(items.as_slice(), slots, item, slot)?;
-    slots[slot] = items.len() as u32 + 1;
+    slots[slot] = stamp(item, slots.len(), items.len());
     items.push_reserved(item);
     Ok(())
 }

@@ -27,11 +27,11 @@ fn both<R: Threads + Wait + Sync>(
     one: (Op, Ref, Ref),
     two: (Op, Ref, Ref),
 ) -> Result<(Ref, Ref), WaveFault>
-    requires right { IsRight store.old engine.old }
+    requires right { IsRight store.old engine.old.held }
     requires one { IsEntry store.old one }
     requires two { IsEntry store.old two }
     ensures sound { IsSound store.new }
-    ensures right { IsRight store.new engine.new }
+    ensures right { IsRight store.new engine.new.held }
     ensures kept { (r : RefValue) → Has store.old r → Has store.new r × ((x : List Bool) → den store.new r x ≡ den store.old r x) }
     ensures levels { store.new.levels ≡ store.old.levels }
     ensures first { IfOk result (λ r. IsDiagram store.new r.0 (entry_value store.old one)) }

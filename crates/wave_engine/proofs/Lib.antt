@@ -5,3 +5,4 @@ pub mod Wanted
 pub mod Raising
 pub mod Fronting
 pub mod Whole
+pub mod Counting

@@ -5,3 +5,5 @@ pub mod Up
 pub mod Front
 pub mod Words
 pub mod WordLaws
+pub mod Resting
+pub mod Bounds

@@ -4,6 +4,7 @@ ghost use Rattle.std.specs.List.{AllZip};
 ghost use Rattle.req_table.specs.Keys.{IsChildIn, child as child_spec};
 ghost use Rattle.reduce_up.specs.Waves.{IsEntry};
 ghost use Rattle.wave_engine.specs.Places.{row, IsPlaced, Admits};
+ghost use Rattle.wave_engine.specs.Bounds.{AreMoreThan};
 ghost use Rattle.wave_engine.specs.Down.{AreAdmitted, IsRowExpanded, AreExpanded};
 
 use crate::lists::{Placed, Row};
@@ -97,7 +98,8 @@ pub(crate) fn expand(
     ensures bound { IfOk result (λ v. v ≤ store.now.levels) }
     ensures expanded { IfOk result (λ v. AreExpanded store.now entries.now roots.now v requests.new rows.new.items) }
     ensures refused { IfErr result (λ e. e ≢ WaveFault.Full) }
-    ensures allowed { result ≡ Err WaveFault.TooManyRequests → bound < 2 ^ 64 - 1 }
+    ensures bounded { result ≡ Err WaveFault.TooManyRequests → bound < 2 ^ 64 - 1 }
+    ensures past { result ≡ Err WaveFault.TooManyRequests → AreMoreThan bound store.now entries.now }
 {
     let _ = entries.len();
     let _ = roots.len();
@@ -106,7 +108,7 @@ pub(crate) fn expand(
     let mut left = bound;
     while let Some(next) = requests.next_level(level) {
         let count = requests.count(next);
-        if count > left && bound < usize::MAX {
+        if bound < usize::MAX && count > left {
             return Err(WaveFault::TooManyRequests);
         }
         if count > most {

@@ -1,10 +1,11 @@
 //! The engine of waves: what lasts from wave to wave.
-ghost use Rattle.std.specs.Prelude.{◌≡◌, [], All, IfOk, IfErr, OnOk, OnErr};
+ghost use Rattle.std.specs.Prelude.{◌≡◌, [], Err, All, IfOk, IfErr, OnOk, OnErr};
 ghost use Rattle.dd_store.specs.Nodes.{Nodes, IsSound};
 ghost use Rattle.req_table.specs.Memos.{IsRight};
 ghost use Rattle.reduce_up.specs.Known.{unknown, IsKeptWave};
 ghost use Rattle.reduce_up.specs.Reducing.{AddsDescribed};
 ghost use Rattle.reduce_up.specs.Waves.{IsEntry, AnswersEach, IsWanted, AddsBelow, IsWithinLimit, IsWaveFault};
+ghost use Rattle.wave_engine.specs.Bounds.{ArePast};
 
 use crate::team::Workers;
 use crate::workspace::Workspace;
@@ -29,7 +30,9 @@ pub(crate) struct Runner<'a, R, G> {
 
 impl<'a, R: Threads + Wait + Sync, G: Gate> Runner<'a, R, G> {
     /// A runner that has done no wave. It takes no memory yet.
-    pub(crate) fn new(rt: &'a R, alloc: Global, workers: Workers, gate: &'a G) -> Self {
+    pub(crate) fn new(rt: &'a R, alloc: Global, workers: Workers, gate: &'a G) -> Self
+        ensures gate { result.workspace.team.gate.now ≡ gate.now }
+    {
         Runner {
             workspace: Workspace::new(rt, alloc, workers, gate),
             sought: Sought::new(alloc),
@@ -51,6 +54,8 @@ impl<'a, R: Threads + Wait + Sync, G: Gate> Runner<'a, R, G> {
         ensures no_others { IfOk result (λ answers. AddsBelow store.old store.new answers.items) }
         ensures within { OnOk result (IsWithinLimit store.old (unknown memo.old entries.now) store.new) }
         ensures fault { IfErr result (λ e. IsWaveFault store.old (unknown memo.old entries.now) store.new e) }
+        ensures past { result ≡ Err WaveFault.TooManyRequests → ArePast (G.bound self.old.workspace.team.gate.now) store.old (unknown memo.old entries.now) }
+        ensures gate { self.new.workspace.team.gate ≡ self.old.workspace.team.gate }
         ensures kept { IfOk result (λ answers. IsKeptWave memo.old entries.now answers.items memo.new) }
         ensures refused { OnErr result (memo.new ≡ memo.old) }
         ensures right { IsRight store.new memo.new }
@@ -70,24 +75,25 @@ impl<'a, R: Threads + Wait + Sync, G: Gate> Runner<'a, R, G> {
 
 /// Does waves one after the other over one store. It keeps the memory that they take, and holds answers of earlier waves.
 #[derive(Drop)]
-pub struct Engine<'a, R, G> {
+pub struct Engine<'a, R, G: Gate> {
     runner: Runner<'a, R, G>,
     memo: Memo,
 }
 
-impl<'a, R, G> Model for Engine<'a, R, G> {
-    ghost use Rattle.req_table.specs.Memos.{Held};
+impl<'a, R, G: Gate> Model for Engine<'a, R, G> {
+    ghost use Rattle.wave_engine.specs.Resting.{AtRest};
 
-    ghost Value = { Held };
+    ghost Value = { AtRest };
 
-    ghost view = { λ e. e.memo };
+    ghost view = { λ e. record { held = e.memo; bound = G.bound e.runner.workspace.team.gate.now } };
 }
 
 impl<'a, R: Threads + Wait + Sync, G: Gate> Engine<'a, R, G> {
     /// An engine that has done no wave.
     pub fn new(rt: &'a R, alloc: Global, workers: Workers, gate: &'a G) -> Result<Self, AllocError>
-        ensures empty { IfOk result (λ e. e.pairs ≡ []) }
-        ensures right { IfOk result (λ e. (S : Nodes) → IsRight S e) }
+        ensures empty { IfOk result (λ e. e.held.pairs ≡ []) }
+        ensures right { IfOk result (λ e. (S : Nodes) → IsRight S e.held) }
+        ensures bound { IfOk result (λ e. e.bound ≡ G.bound gate.now) }
     {
         Ok(Engine {
             runner: Runner::new(rt, alloc, workers, gate),
@@ -97,8 +103,9 @@ impl<'a, R: Threads + Wait + Sync, G: Gate> Engine<'a, R, G> {
 
     /// Holds no answers any more, as waves over another store need it.
     pub fn forget(&mut self) -> Result<(), AllocError>
-        ensures empty { OnOk result (self.new.pairs ≡ []) }
-        ensures right { OnOk result ((S : Nodes) → IsRight S self.new) }
+        ensures empty { OnOk result (self.new.held.pairs ≡ []) }
+        ensures right { OnOk result ((S : Nodes) → IsRight S self.new.held) }
+        ensures bound { self.new.bound ≡ self.old.bound }
         ensures refused { OnErr result (self.new ≡ self.old) }
     {
         self.memo = Memo::new(self.alloc(), CAPACITY)?;
@@ -123,16 +130,18 @@ impl<'a, R: Threads + Wait + Sync, G: Gate> Engine<'a, R, G> {
         entries: &[(Op, Ref, Ref)],
     ) -> Result<Vec<Ref>, WaveFault>
         requires operands { All (IsEntry store.old) entries.now }
-        requires right { IsRight store.old self.old }
+        requires right { IsRight store.old self.old.held }
         ensures sound { IsSound store.new }
         ensures adds { AddsDescribed store.old store.new (IsWanted store.old entries.now) }
         ensures answers { IfOk result (λ answers. AnswersEach store.old entries.now store.new answers.items) }
         ensures no_others { IfOk result (λ answers. AddsBelow store.old store.new answers.items) }
-        ensures within { OnOk result (IsWithinLimit store.old (unknown self.old entries.now) store.new) }
-        ensures fault { IfErr result (λ e. IsWaveFault store.old (unknown self.old entries.now) store.new e) }
-        ensures kept { IfOk result (λ answers. IsKeptWave self.old entries.now answers.items self.new) }
+        ensures within { OnOk result (IsWithinLimit store.old (unknown self.old.held entries.now) store.new) }
+        ensures fault { IfErr result (λ e. IsWaveFault store.old (unknown self.old.held entries.now) store.new e) }
+        ensures past { result ≡ Err WaveFault.TooManyRequests → ArePast self.old.bound store.old (unknown self.old.held entries.now) }
+        ensures kept { IfOk result (λ answers. IsKeptWave self.old.held entries.now answers.items self.new.held) }
         ensures refused { OnErr result (self.new ≡ self.old) }
-        ensures right { IsRight store.new self.new }
+        ensures right { IsRight store.new self.new.held }
+        ensures bound { self.new.bound ≡ self.old.bound }
     {
         self.runner.wave(store, &mut self.memo, entries)
     }

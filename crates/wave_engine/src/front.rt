@@ -1,5 +1,5 @@
 //! What is handed to the workers at a wide level, and their answers.
-ghost use Rattle.std.specs.Prelude.{◌≡◌, ◌<◌, ◌≤◌, [], length, All, IfOk, IfErr, OnOk, map, ◌+◌, ◌++◌};
+ghost use Rattle.std.specs.Prelude.{◌≡◌, ◌≢◌, ◌<◌, ◌≤◌, [], length, All, IfOk, IfErr, OnOk, map, ◌+◌, ◌++◌};
 ghost use Rattle.dd_store.specs.Nodes.{IsSound};
 ghost use Rattle.reduce_up.specs.Reducing.{AddsDescribed};
 ghost use Rattle.reduce_up.specs.Waves.{IsEntry, IsWanted, IsWaveFault};
@@ -100,6 +100,7 @@ pub(crate) fn hand_over<R: Threads + Wait + Sync, G: Gate>(
     ensures reduced { OnOk result (AreReducedBelow store.new entries.now requests.now from store.new answers.new.items) }
     ensures within { OnOk result (IsWithinBelow store.old requests.now from store.new) }
     ensures fault { IfErr result (λ e. IsWaveFault store.old entries.now store.new e) }
+    ensures unbounded { IfErr result (λ e. e ≢ WaveFault.TooManyRequests) }
 {
     let _ = store.levels();
     let _ = entries.len();

@@ -1,5 +1,6 @@
 //! What a wave keeps of a level: its requests, the children of each, and the answer of each, all by place.
 ghost use Rattle.std.specs.Prelude.{◌≡◌, ◌<◌, ◌++◌, ◌∷◌, [], length, slice_get, Some, IfOk, OnOk, OnErr};
+ghost use Rattle.slot_table.specs.Lists.{IsOnce};
 ghost use Rattle.wave_engine.specs.Places.{Enters};
 
 use dd_store::Ref;
@@ -119,9 +120,10 @@ impl Table {
 
     /// The number of requests.
     pub(crate) fn len(&self) -> usize
-        ensures { result ≡ length self.now }
+        ensures value { result ≡ length self.now }
+        ensures once { IsOnce self.now }
     {
-        self.keys.len()
+        self.keys.as_slice().len()
     }
 
     /// The request at a place.

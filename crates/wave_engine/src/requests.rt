@@ -1,5 +1,6 @@
 //! The requests of a wave, by level.
 ghost use Rattle.std.specs.Prelude.{◌≡◌, ◌<◌, ◌≤◌, [], ℕ, length, set, IfOk, OnOk, MatchOption};
+ghost use Rattle.slot_table.specs.Lists.{IsOnce};
 ghost use Rattle.req_table.specs.declared.Child.TheVariants as child;
 ghost use Rattle.wave_engine.specs.Places.{row, StandsAt, Admits, AreEmpty, IsNextLevel, IsLastLevel};
 
@@ -110,7 +111,8 @@ impl Requests {
     /// The number of requests of a level.
     pub(crate) fn count(&self, level: u16) -> usize
         requires { level < length self.now }
-        ensures { result ≡ length (row self.now level) }
+        ensures value { result ≡ length (row self.now level) }
+        ensures once { IsOnce (row self.now level) }
     {
         self.tables[level as usize].len()
     }

@@ -1,5 +1,6 @@
 //! Who does the waves.
-ghost use Rattle.std.specs.Prelude.{◌≡◌, ◌≤◌};
+ghost use Rattle.std.specs.Prelude.{◌≡◌, ◌<◌, ◌≤◌, ◌⊎◌, ◌-◌, ◌^◌};
+ghost use Rattle.expand_work.specs.Bounds.{most_of};
 
 use expand_work::Gate;
 use std::alloc::Global;
@@ -47,7 +48,10 @@ pub(crate) struct Team<'a, R, G> {
 impl<'a, R, G: Gate> Team<'a, R, G> {
     /// The most requests that a level may have before the workers are called in. One worker is called in for a whole wave or never,
     /// and none for a wave whose requests are bounded.
-    pub(crate) fn most_alone(&self) -> usize {
+    pub(crate) fn most_alone(&self) -> usize
+        ensures bounded { most_of (G.bound self.now.gate.now) < 2 ^ 64 - 1 → result ≡ 2 ^ 64 - 1 }
+        ensures one { self.now.workers.count ≡ 1 → (result ≡ 0) ⊎ (result ≡ 2 ^ 64 - 1) }
+    {
         let workers = self.workers.count();
         let most = self.gate.most_alone(workers);
         if self.gate.most_requests() < usize::MAX || (workers == 1 && most > 0) {

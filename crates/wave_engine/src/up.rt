@@ -88,6 +88,7 @@ pub(crate) fn reduce(
     ensures reduced { OnOk result (AreReducedBelow store.old entries.now down.now.requests 0 store.new answers.new.items) }
     ensures fault { IfErr result (λ e. IsWaveFault store.old entries.now store.new e) }
     ensures served { IfErr result (λ e. e ≢ WaveFault.NoWorker) }
+    ensures unbounded { IfErr result (λ e. e ≢ WaveFault.TooManyRequests) }
 {
     let _ = entries.len();
     let alloc = *answers.allocator();

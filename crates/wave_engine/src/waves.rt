@@ -1,10 +1,11 @@
 //! Waves: the diagrams of a list of operations (Ochi, Yasuoka and Yajima 1993).
-ghost use Rattle.std.specs.Prelude.{◌≡◌, ◌<◌, ◌≤◌, All, IfOk, IfErr, OnOk, OnErr};
+ghost use Rattle.std.specs.Prelude.{◌≡◌, ◌<◌, ◌≤◌, Err, All, IfOk, IfErr, OnOk, OnErr};
 ghost use Rattle.dd_store.specs.Nodes.{IsSound};
 ghost use Rattle.req_table.specs.Memos.{IsRight};
 ghost use Rattle.reduce_up.specs.Known.{unknown, IsKeptWave};
 ghost use Rattle.reduce_up.specs.Reducing.{AddsDescribed};
 ghost use Rattle.reduce_up.specs.Waves.{IsEntry, AnswersEach, IsWanted, AddsBelow, IsWithinLimit, IsWaveFault};
+ghost use Rattle.wave_engine.specs.Bounds.{ArePast};
 
 use crate::engine::Runner;
 use crate::team::Workers;
@@ -35,6 +36,7 @@ pub fn wave<R: Threads + Wait + Sync, G: Gate>(
     ensures no_others { IfOk result (λ answers. AddsBelow store.old store.new answers.items) }
     ensures within { OnOk result (IsWithinLimit store.old (unknown memo.old entries.now) store.new) }
     ensures fault { IfErr result (λ e. IsWaveFault store.old (unknown memo.old entries.now) store.new e) }
+    ensures past { result ≡ Err WaveFault.TooManyRequests → ArePast (G.bound gate.now) store.old (unknown memo.old entries.now) }
     ensures kept { IfOk result (λ answers. IsKeptWave memo.old entries.now answers.items memo.new) }
     ensures refused { OnErr result (memo.new ≡ memo.old) }
     ensures right { IsRight store.new memo.new }

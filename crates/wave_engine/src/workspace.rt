@@ -1,10 +1,11 @@
 //! Waves without a memo, and the memory that lasts from wave to wave.
-ghost use Rattle.std.specs.Prelude.{◌≡◌, ◌≢◌, ◌≤◌, ℕ, length, All, IfOk, IfErr, OnOk};
+ghost use Rattle.std.specs.Prelude.{◌≡◌, ◌≢◌, ◌<◌, ◌≤◌, ◌-◌, ◌^◌, ℕ, length, Err, All, IfOk, IfErr, OnOk};
 ghost use Rattle.std.specs.List.{AllZip};
 ghost use Rattle.dd_store.specs.declared.reference.Ref.{Ref as RefValue};
 ghost use Rattle.dd_store.specs.Nodes.{IsSound};
 ghost use Rattle.reduce_up.specs.Reducing.{AddsDescribed};
 ghost use Rattle.reduce_up.specs.Waves.{IsEntry, AnswersEach, IsWanted, AddsBelow, IsWithinLimit, IsWaveFault};
+ghost use Rattle.wave_engine.specs.Bounds.{AreMoreThan, ArePast};
 ghost use Rattle.wave_engine.specs.Down.{IsDown};
 ghost use Rattle.wave_engine.specs.Up.{ComesTo};
 
@@ -74,6 +75,8 @@ fn go_down(
     requires operands { All (IsEntry store.now) entries.now }
     ensures down { IfOk result (λ v. IsDown store.now entries.now v down.new.requests down.new.rows.items down.new.roots.items answers.new.items) }
     ensures refused { IfErr result (λ e. e ≢ WaveFault.Full) }
+    ensures bounded { result ≡ Err WaveFault.TooManyRequests → bound < 2 ^ 64 - 1 }
+    ensures past { result ≡ Err WaveFault.TooManyRequests → AreMoreThan bound store.now entries.now }
 {
     let levels = store.levels();
     down.requests.restart(alloc, levels)?;
@@ -111,14 +114,16 @@ fn root_answers(
 /// Does waves one after the other. It keeps the memory that they take, and nothing else: no wave knows of an earlier one.
 #[derive(Drop)]
 pub(crate) struct Workspace<'a, R, G> {
-    team: Team<'a, R, G>,
+    pub(crate) team: Team<'a, R, G>,
     down: Down,
     answers: Vec<Answers>,
 }
 
 impl<'a, R: Threads + Wait + Sync, G: Gate> Workspace<'a, R, G> {
     /// A workspace that has done no wave. It takes no memory yet.
-    pub(crate) fn new(rt: &'a R, alloc: Global, workers: Workers, gate: &'a G) -> Self {
+    pub(crate) fn new(rt: &'a R, alloc: Global, workers: Workers, gate: &'a G) -> Self
+        ensures gate { result.team.gate.now ≡ gate.now }
+    {
         Workspace {
             team: Team {
                 rt,
@@ -158,6 +163,8 @@ impl<'a, R: Threads + Wait + Sync, G: Gate> Workspace<'a, R, G> {
         ensures no_others { IfOk result (λ answers. AddsBelow store.old store.new answers.items) }
         ensures within { OnOk result (IsWithinLimit store.old entries.now store.new) }
         ensures fault { IfErr result (λ e. IsWaveFault store.old entries.now store.new e) }
+        ensures past { result ≡ Err WaveFault.TooManyRequests → ArePast (G.bound self.old.team.gate.now) store.old entries.now }
+        ensures gate { self.new.team.gate ≡ self.old.team.gate }
     {
         let _ = store.levels();
         let alloc = self.team.alloc;

@@ -76,6 +76,10 @@ impl Gate for Narrow {
     fn most_alone(&self, _workers: u32) -> usize {
         self.most
     }
+
+    fn most_requests(&self) -> usize {
+        usize::MAX
+    }
 }
 
 /// The choices are none, few, and more than a small wave has events.

@@ -128,6 +128,10 @@ impl Watch for Shards {
 
 impl Gate for Shards {
     fn at_level(&self, _worker: u32, _level: u16) {}
+
+    fn most_requests(&self) -> usize {
+        usize::MAX
+    }
 }
 
 /// How often each shard is come to in a wave of so many records at one level, and whether another level's is.
@@ -210,6 +214,10 @@ impl Watch for Four {
 
 impl Gate for Four {
     fn at_level(&self, _worker: u32, _level: u16) {}
+
+    fn most_requests(&self) -> usize {
+        usize::MAX
+    }
 }
 
 // Four threads are at once in the shards of a level, however few workers there are.

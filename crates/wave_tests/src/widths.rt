@@ -38,6 +38,10 @@ impl Gate for Width {
     fn most_alone(&self, _workers: u32) -> usize {
         self.most.load(Ordering::SeqCst) as usize
     }
+
+    fn most_requests(&self) -> usize {
+        usize::MAX
+    }
 }
 
 /// Numbers that look random, from a seed.
@@ -85,8 +89,8 @@ fn answers_of<R: Threads + Wait + Sync>(
     entries: &[(Op, Ref, Ref)],
 ) -> Result<Vec<Ref>, WaveFault>
     requires operands { All (IsEntry store.old) entries.now }
-    requires right { IsRight store.old engine.old }
-    ensures right { IsRight store.new engine.new }
+    requires right { IsRight store.old engine.old.held }
+    ensures right { IsRight store.new engine.new.held }
     ensures known { IfOk result (λ answers. All (Has store.new) answers.items) }
     ensures keeps { Keeps store.old store.new }
 {
@@ -102,9 +106,9 @@ fn run_engine<R: Abort + Threads + Wait + Sync>(
     steps: &[Step],
 ) -> Result<(), WaveFault>
     requires known { All (Has store.old) known.old.items }
-    requires right { IsRight store.old engine.old }
+    requires right { IsRight store.old engine.old.held }
     ensures known { All (Has store.new) known.new.items }
-    ensures right { IsRight store.new engine.new }
+    ensures right { IsRight store.new engine.new.held }
 {
     let entries = entries_of(rt, engine.alloc(), store, known.as_slice(), steps);
     let answers = answers_of(engine, store, entries.as_slice())?;

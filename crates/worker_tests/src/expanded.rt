@@ -114,6 +114,10 @@ impl Gate for AtFirst {
             self.0.come();
         }
     }
+
+    fn most_requests(&self) -> usize {
+        usize::MAX
+    }
 }
 
 /// The operations of the same two requests.
@@ -189,6 +193,10 @@ impl Gate for Holder {
             let early = wait_for(&self.further, TURNS / 50);
             self.early.store(early, Ordering::SeqCst);
         }
+    }
+
+    fn most_requests(&self) -> usize {
+        usize::MAX
     }
 }
 

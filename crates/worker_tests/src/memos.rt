@@ -1,6 +1,7 @@
 //! Memos by themselves.
 use crate::requests::{request, store_of, variable};
 use dd_store::Ref;
+use req_table::requests::known;
 use req_table::{Memo, Op};
 use std::test::Fail;
 
@@ -18,6 +19,11 @@ fn memo_of_one(rt: HostRuntime) -> Result<(), Fail> {
     memo.keep(some, Ref::TRUE);
     assert_eq!(rt; memo.peek(&both), None);
     assert_eq!(rt; memo.peek(&some), Some(Ref::TRUE));
+    let a = variable(&rt, &store, 0);
+    let b = variable(&rt, &store, 1);
+    assert_eq!(rt; known(&memo, Op::Or, b, a), Some(Ref::TRUE));
+    assert_eq!(rt; known(&memo, Op::And, a, b), None);
+    assert_eq!(rt; known(&memo, Op::And, a, Ref::TRUE), Some(a));
     Ok(())
 }
 

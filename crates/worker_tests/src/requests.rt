@@ -5,7 +5,7 @@ ghost use Rattle.req_table.specs.Keys.{IsKey};
 
 use dd_store::{Ref, Store};
 use req_table::requests::{child, level_of, normal, owner, short, split};
-use req_table::{Child, Key, Op, Records, Table};
+use req_table::{Child, Key, Op, Operation, Records, Table};
 use std::alloc::Global;
 use std::process::Abort;
 use std::test::Fail;
@@ -115,6 +115,14 @@ fn children(rt: HostRuntime) -> Result<(), Fail> {
     assert_eq!(rt; key.op(), Op::And);
     assert_eq!(rt; key.f(), a);
     assert_eq!(rt; key.g(), b);
+    assert!(rt;
+        key.view()
+            == Operation {
+                op: Op::And,
+                f: a,
+                g: b
+            }
+    );
     let both = split(&store, key);
     assert_eq!(rt; both.key, key);
     assert_eq!(rt; tell(both.low), Ok(Ref::FALSE));

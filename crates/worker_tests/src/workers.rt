@@ -43,6 +43,10 @@ impl<'a> Gate for Watcher<'a> {
             self.stop.store(true, Ordering::SeqCst);
         }
     }
+
+    fn most_requests(&self) -> usize {
+        usize::MAX
+    }
 }
 
 /// What a child says, to be compared: its answer, or its level and key.

@@ -1,7 +1,7 @@
 //! Devices and a folder in memory, which fail where they are told to.
 ghost use Rattle.std.specs.Prelude.{◌≡◌, None, Some, false};
 
-use crate::folder::{Folder, OpenFault};
+use crate::folder::{Folder, Obstacle, OpenFault};
 use net_bench::device::{Failed, Sink, Source};
 use std::alloc::Global;
 
@@ -151,7 +151,7 @@ impl Folder for Shelf {
             "second" => Ok(start(self.second)),
             "list" => Ok(start(self.list)),
             "forbidden" => Err(OpenFault::OutOfMemory),
-            _ => Err(OpenFault::Refused),
+            _ => Err(OpenFault::Refused(Obstacle::Missing)),
         }
     }
 }

@@ -1,5 +1,6 @@
 //! The line and the status of each fault.
 use crate::fault::{Place, ToolFault, line_of, status_of_fault};
+use crate::folder::Obstacle;
 use check_report::CheckFault;
 use expand_work::WaveFault;
 use net_bench::netlist::BenchFault;
@@ -18,17 +19,17 @@ fn order(fault: OrderFault) -> ToolFault {
 fn lines_of_faults(rt: HostRuntime) -> Result<(), Fail> {
     let table = [
         (
-            ToolFault::CannotOpen(Place::First),
+            ToolFault::CannotOpen(Place::First, Obstacle::Missing),
             "first: cannot be opened",
             2,
         ),
         (
-            ToolFault::CannotOpen(Place::Second),
+            ToolFault::CannotOpen(Place::Second, Obstacle::Forbidden),
             "second: cannot be opened",
             2,
         ),
         (
-            ToolFault::CannotOpen(Place::Order),
+            ToolFault::CannotOpen(Place::Order, Obstacle::Other),
             "order: cannot be opened",
             2,
         ),

@@ -70,6 +70,10 @@ impl Gate for AtLevel {
             self.0.come(worker == 1);
         }
     }
+
+    fn most_requests(&self) -> usize {
+        usize::MAX
+    }
 }
 
 /// The threads of the shards 0 and 15 meet.
@@ -86,6 +90,10 @@ impl Watch for AtShards {
 
 impl Gate for AtShards {
     fn at_level(&self, _worker: u32, _level: u16) {}
+
+    fn most_requests(&self) -> usize {
+        usize::MAX
+    }
 }
 
 /// The report of a netlist against itself, by two workers.

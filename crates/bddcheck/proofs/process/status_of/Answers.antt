@@ -6,3 +6,6 @@ returns-in-Ok-clause-ending g c = rw (c.in-Ok.is, ← c.as_slice.ensures.value, 
 
 pub returns-in-Err-clause-ending : goal.returns-in-Err-clause-ending
 returns-in-Err-clause-ending g c = rw c.in-Err.is (c.wordless.ensures.told, refl, refl, refl)
+
+pub returns-in-Ok-clause-silent : goal.returns-in-Ok-clause-silent
+returns-in-Ok-clause-silent g c = rw (c.in-Ok.is, ← c.as_slice.ensures.value, ← c.behind_name.ensures) c.run_tool.ensures.silent

@@ -4,7 +4,7 @@ use Rattle.bddcheck.specs.declared.done.Done.{Done}
 use Rattle.check_report.specs.declared.fault.CheckFault.TheVariants.{Write}
 use Rattle.bddcheck.specs.declared.fault.ToolFault.{ToolFault}
 use Rattle.bddcheck.specs.declared.fault.ToolFault.TheVariants.{Check, OutOfMemory}
-use Rattle.bddcheck.proofs.Composing.{keeps_own}
+use Rattle.bddcheck.proofs.Composing.{keeps_own, asked_or}
 use Rattle.bddcheck.proofs.tool.run_tool.Goals as goal
 
 -- the fault of an answer that has one
@@ -22,7 +22,7 @@ returns-in-Ok-run_options-clause-ending g c =
         record {
           report = c.in-Ok-run_options.ensures.report;
           opened_all = c.in-Ok-run_options.ensures.opened;
-          silent = keeps_own (g.E.Sink.contents c.args.errors.now);
+          said = c.tell.ensures.said;
           code = c.status_of_done.ensures.status;
         },
       ),
@@ -43,7 +43,7 @@ returns-in-Err-run_options-clause-ending g c =
           cause = cause.2;
           unread = λ e. c.run_options.ensures.read (c.in-Err-run_options.is ∙ ap Err e);
           full = λ e. c.run_options.ensures.full (c.in-Err-run_options.is ∙ ap Err e);
-          line = c.refuse.ensures.said;
+          line = c.refuse_run.ensures.said;
           front = λ e. c.run_options.ensures.unwritten (c.in-Err-run_options.is ∙ ap Err e);
           nothing = λ other.
               let same = subst (λ r. OnErr r (r ≢ Err (Check Write) → c.run_options.new.out ≡ c.args.out.now)) c.in-Err-run_options.is c.run_options.ensures.untouched (λ e. other (ap fault_in e)) in
@@ -52,3 +52,7 @@ returns-in-Err-run_options-clause-ending g c =
       ),
       c.run_options.ensures.unasked,
     )
+
+pub returns-in-Ok-run_options-clause-silent : goal.returns-in-Ok-run_options-clause-silent
+returns-in-Ok-run_options-clause-silent g c =
+    asked_or c.in-Ok.options.verbose (λ e. (c.in-Ok.options, c.in-Ok.ensures.options, e)) (λ e low. c.tell.ensures.silent e)

@@ -6,14 +6,14 @@ use Rattle.check_report.specs.Limits.{AreBeyond}
 use Rattle.check_report.proofs.attempts.by_best.Goals as goal
 
 pub returns-in-Ok-clause-chosen : goal.returns-in-Ok-clause-chosen
-returns-in-Ok-clause-chosen g c = λ one two ga gb. (order_of c.in-Ok.found.order, c.in-Ok.ensures.judged one two ga gb, c.in-Ok.ensures.chosen one two ga gb)
+returns-in-Ok-clause-chosen g c = λ one two three ga. (order_of c.in-Ok.found.order, c.in-Ok.ensures.judged one two three ga, c.in-Ok.ensures.chosen one two three ga)
 
 pub returns-in-Err-clause-full : goal.returns-in-Err-clause-full
-returns-in-Err-clause-full g c = λ one two ga gb e o allowed.
+returns-in-Err-clause-full g c = λ one two three ga e o allowed.
     let same : c.in-Err.fault ≡ Wave Full = cc in
-    subst (λ k. AreBeyond one two c.args.task.now.settings.now.matching k c.args.task.now.settings.now.limit) (sym allowed.1) (c.in-Err.ensures.full one two ga gb (ap Err same) allowed.0)
+    subst (λ k. AreBeyond one two three c.args.task.now.settings.now.matching k c.args.task.now.settings.now.limit) (sym allowed.1) (c.in-Err.ensures.full one two three ga (ap Err same) allowed.0)
 
 pub returns-in-Err-clause-fault : goal.returns-in-Err-clause-fault
-returns-in-Err-clause-fault g c = λ one two ga gb.
-    let w = c.in-Err.ensures.fault one two ga gb in
+returns-in-Err-clause-fault g c = λ one two three ga.
+    let w = c.in-Err.ensures.fault one two three ga in
     (order_of w.0, (w.0, refl), w.1)

@@ -1,25 +1,34 @@
-use Rattle.std.proofs.Common.{◌≡◌, ◌∙◌, ◌<◌, length, sym, arith, get_or}
+use Rattle.std.proofs.Common.{◌≡◌, ◌<◌, [], length, sym, subst}
 use Rattle.net_bench.specs.Circuit.{circuit}
-use Rattle.check_report.specs.Comparing.{compared_of}
-use Rattle.check_report.proofs.Adding.{next, functions_of, all_added, subject_known}
+use Rattle.check_report.specs.Comparing.{HaveVerdicts}
+use Rattle.check_report.proofs.Adding.{start, next_shown, all_added, all_named}
 use Rattle.check_report.proofs.compare.verdicts_of_pairs.Goals as goal
 
-pub loop-i-preserved : goal.loop-i-preserved
-loop-i-preserved c =
+pub loop-i-init : goal.loop-i-init
+loop-i-init c = λ h.
     let of = c.args.of.now in
-    let a = circuit of.first.now in
-    let b = circuit of.second.now in
-    let p = of.pairing.now in
-    let all = c.as_slice-subjects.result.now in
-    let lt : c.loop-i.i < length all = omega arith in
-    let subject = c.index-subjects-i.result in
-    let here : get_or all c.loop-i.i subject ≡ subject = sym c.index-subjects-i.is in
-    let is = c.as_slice-subjects.ensures.value ∙ c.in_ok-all.ensures in
-    let known = subject_known of.sizes a b p all c.loop-i.i subject is lt here c.requires.signals in
-    let d = c.diagrams_of-diagrams.result in
-    next of.sizes a b p of.store.now.levels all c.loop-i.i subject (compared_of of.store.now d.role d.name.now d.first d.second) c.in_ok-verdict.verdict _ _ c.requires.levels lt here c.loop-i.invariant
-    (functions_of of.sizes a b p of.store.now of.built.now c.requires subject known _ _ _ _ c.diagrams_of-diagrams.ensures.role c.diagrams_of-diagrams.ensures.name c.diagrams_of-diagrams.ensures.first c.diagrams_of-diagrams.ensures.second)
-    c.in_ok-verdict.ensures c.in_ok-push.ensures.items
+    let none : c.new-verdicts.result.items ≡ [] = cc in
+    subst (λ vs. HaveVerdicts of.sizes h.shown.holds (circuit of.first.now) (circuit of.second.now) of.pairing.now [] vs) (sym none) (start of.sizes h.shown.holds (circuit of.first.now) (circuit of.second.now) of.pairing.now)
+
+pub diagrams_of-diagrams-requires : goal.diagrams_of-diagrams-requires
+diagrams_of-diagrams-requires c = record {
+  place = c.loop-i-test.true;
+  named = all_named (circuit c.args.of.now.first.now) (circuit c.args.of.now.second.now) c.args.of.now.pairing.now c.args.of.now.subjects.now c.requires.all c.requires.signals;
+  each = c.requires.shown.each;
+}
+
+pub loop-i-preserved : goal.loop-i-preserved
+loop-i-preserved c = λ h.
+    let of = c.args.of.now in
+    let lt : c.loop-i.i < length of.subjects.now = c.loop-i-test.true in
+    let d = c.diagrams_of-diagrams in
+    next_shown of.sizes h.shown.holds (circuit of.first.now) (circuit of.second.now) of.pairing.now of.store.now of.subjects.now c.loop-i.i d.result.role d.result.name.now d.result.first d.result.second _ _ c.in_ok-verdict.verdict _ _
+    h.levels lt d.ensures.role d.ensures.name d.ensures.first d.ensures.second (h.shown.first c.loop-i.i lt) (h.shown.second c.loop-i.i lt) (c.loop-i.invariant h) c.in_ok-verdict.ensures c.in_ok-push.ensures.items
 
 pub returns : goal.returns
-returns c = all_added _ _ _ _ c.as_slice-subjects.result.now c.loop-i.i _ (c.as_slice-subjects.ensures.value ∙ c.in_ok-all.ensures) c.loop-i-test.false c.loop-i.invariant
+returns c =
+    let of = c.args.of.now in (
+      c.requires.shown.holds,
+      c.requires.shown.condition,
+      all_added of.sizes c.requires.shown.holds (circuit of.first.now) (circuit of.second.now) of.pairing.now of.subjects.now c.loop-i.i _ c.requires.all c.loop-i-test.false (c.loop-i.invariant c.requires),
+    )

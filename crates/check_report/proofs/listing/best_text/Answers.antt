@@ -9,27 +9,27 @@ use Rattle.check_report.proofs.Printing.{printed}
 use Rattle.check_report.proofs.listing.best_text.Goals as goal
 
 pub returns-in-Ok-text_of-clause-text : goal.returns-in-Ok-text_of-clause-text
-returns-in-Ok-text_of-clause-text g c = λ one two ga gb. (
+returns-in-Ok-text_of-clause-text g c = λ one two three ga. (
   order_of c.in-Ok.found.order,
-  printed one two c.args.task.now.settings.now.matching (order_of c.in-Ok.found.order) c.args.task.now.settings.now.sizes c.in-Ok.verdicts c.in-Ok-text_of.text.items (c.in-Ok.ensures.judged one two ga gb)
+  printed one two three c.args.task.now.settings.now.matching (order_of c.in-Ok.found.order) c.args.task.now.settings.now.sizes c.in-Ok.verdicts c.in-Ok-text_of.text.items (c.in-Ok.ensures.judged one two three ga)
       (c.in-Ok-text_of.ensures.text ∙ ap order_text c.variables.ensures),
-  c.in-Ok.ensures.chosen one two ga gb,
+  c.in-Ok.ensures.chosen one two three ga,
 )
 
 pub returns-in-Ok-clause-fault : goal.returns-in-Ok-clause-fault
-returns-in-Ok-clause-fault g c = λ one two ga gb.
-    let j = c.in-Ok.ensures.judged one two ga gb in (
+returns-in-Ok-clause-fault g c = λ one two three ga.
+    let j = c.in-Ok.ensures.judged one two three ga in (
       order_of c.in-Ok.found.order,
       (c.in-Ok.found.order, refl),
-      subst (IsCheckFault one two ⊥ ⊥ c.args.task.now.settings.now.matching (order_of c.in-Ok.found.order)) (sym c.in-Err-text_of.ensures.fault) (j.a, j.b, j.p, j.paired),
+      subst (IsCheckFault one two three ⊥ ⊥ ⊥ c.args.task.now.settings.now.matching (order_of c.in-Ok.found.order)) (sym c.in-Err-text_of.ensures.fault) (j.a, j.b, j.c, j.p, j.paired),
     )
 
 pub returns-clause-full : goal.returns-clause-full
-returns-clause-full g c = λ one two ga gb e o allowed.
+returns-clause-full g c = λ one two three ga e o allowed.
     let same : c.in-Err.fault ≡ Wave Full = cc in
-    subst (λ k. AreBeyond one two c.args.task.now.settings.now.matching k c.args.task.now.settings.now.limit) (sym allowed.1) (c.in-Err.ensures.full one two ga gb (ap Err same) allowed.0)
+    subst (λ k. AreBeyond one two three c.args.task.now.settings.now.matching k c.args.task.now.settings.now.limit) (sym allowed.1) (c.in-Err.ensures.full one two three ga (ap Err same) allowed.0)
 
 pub returns-clause-fault : goal.returns-clause-fault
-returns-clause-fault g c = λ one two ga gb.
-    let w = c.in-Err.ensures.fault one two ga gb in
+returns-clause-fault g c = λ one two three ga.
+    let w = c.in-Err.ensures.fault one two three ga in
     (order_of w.0, (w.0, refl), w.1)

@@ -12,6 +12,7 @@ returns c =
     let six = c.in_ok-arg-5.ensures.shape c.sizes.ensures.local ∙ ap₂ with_rule five c.sizes.ensures.rule in
     let seven = c.in_ok-arg-6.ensures.shape c.print_order.ensures.local ∙ ap₂ with_rule six c.print_order.ensures.rule in
     let eight = c.in_ok-command-2.ensures.shape c.format.ensures.local ∙ ap₂ with_rule seven c.format.ensures.rule in
-    let nine = c.in_ok-arg-7.ensures.shape c.first.ensures.local ∙ ap₂ with_rule eight c.first.ensures.rule in
-    let ten = c.in_ok-command-3.ensures.shape c.second.ensures.local ∙ ap₂ with_rule nine c.second.ensures.rule in
-    (c.matching.result.value_parser, c.order.result.value_parser, c.format.result.value_parser, c.matching.ensures.parser, c.order.ensures.parser, c.format.ensures.parser, ten)
+    let nine = c.in_ok-arg-7.ensures.shape c.verbose.ensures.local ∙ ap₂ with_rule eight c.verbose.ensures.rule in
+    let ten = c.in_ok-arg-8.ensures.shape c.first.ensures.local ∙ ap₂ with_rule nine c.first.ensures.rule in
+    let eleven = c.in_ok-command-3.ensures.shape c.second.ensures.local ∙ ap₂ with_rule ten c.second.ensures.rule in
+    (c.matching.result.value_parser, c.order.result.value_parser, c.format.result.value_parser, c.matching.ensures.parser, c.order.ensures.parser, c.format.ensures.parser, eleven)

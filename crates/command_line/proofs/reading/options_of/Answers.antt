@@ -24,4 +24,5 @@ returns c =
       sizes = (λ e. c.get_flag.ensures.value (one_text-rows f (codes "sizes") ∙ e), λ e. c.get_flag.ensures.other (one_text-rows f (codes "sizes") ∙ e));
       json = subst (λ w. IsForm w c.is_json.result) (format_is ∙ first_value-rows f (codes "format")) c.is_json.ensures;
       print_order = (λ e. c.get_flag-2.ensures.value (one_text-rows f (codes "print-order") ∙ e), λ e. c.get_flag-2.ensures.other (one_text-rows f (codes "print-order") ∙ e));
+      verbose = (λ e. c.get_flag-3.ensures.value (one_text-rows f (codes "verbose") ∙ e), λ e. c.get_flag-3.ensures.other (one_text-rows f (codes "verbose") ∙ e));
     }

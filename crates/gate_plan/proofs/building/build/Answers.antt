@@ -2,8 +2,8 @@ use Rattle.std.proofs.Common.{refl, sym, inl, arith, ◌∙◌, ◌≡◌, ◌+�
 use Rattle.std.proofs.lemmas.Result.{err_from_is_err_and}
 use Rattle.dd_store.specs.declared.reference.Ref.{Ref}
 use Rattle.net_bench.specs.Circuit.{circuit}
-use Rattle.net_order.specs.Order.{condition}
-use Rattle.gate_plan.specs.Building.{ArePlaced, AllRight, AreVariables, first_level, second_level, input_level}
+use Rattle.net_order.specs.Order.{condition, first_level, second_level}
+use Rattle.gate_plan.specs.Building.{ArePlaced, AllRight, AreVariables, input_level}
 use Rattle.gate_plan.specs.Folds.{IsVariable}
 use Rattle.gate_plan.specs.Needing.{IsPlacedValue}
 use Rattle.gate_plan.specs.Asking.{AnyAsksIn}
@@ -57,6 +57,7 @@ loop-below-init g c =
       sound = c.make_variables.ensures.sound;
       adds = adds_more c.args.store.now T c.args.store.now.levels (IsVariable c.args.store.now.levels) (IsPlacedValue c.args.store.now.levels sides) (λ f v. inl v) c.make_variables.ensures.adds;
       held = record { right = c.in-Ok-new.ensures.right T; within = inl c.in-Ok-new.ensures.empty };
+      bound = c.in-Ok-new.ensures.bound;
       within = none_unasked c.args.store.now T (λ k. AnyAsksIn sides T (k + 1)) c.make_variables.ensures.within;
       variables = c.in_ok-variables.ensures.made;
       right = (
@@ -118,6 +119,7 @@ loop-below-preserved g c =
       sound = c.build_rank.ensures.sound;
       adds = adds_next c.args.store.now c.loop-below.store T (λ n. IsPlacedValue n sides) c.loop-below.invariant.sound c.loop-below.invariant.adds c.build_rank.ensures.adds;
       held = c.in_ok-build_rank.ensures.held;
+      bound = c.build_rank.ensures.bound ∙ c.loop-below.invariant.bound;
       within = next_unasked c.args.store.now c.loop-below.store T (λ S k. AnyAsksIn sides S (k + 1)) c.loop-below.below c.loop-below.invariant.within c.in_ok-build_rank.ensures.within;
       variables = variables_kept c.loop-below.store T c.in_ok-variables.variables.items c.loop-below.invariant.sound c.build_rank.ensures.adds.keeps c.loop-below.invariant.variables;
       right = subst (λ (z : List (List Ref)). AllRight sides T z (c.loop-below.below + 1 + 1)) (sym (lent items new c.loop-below.list.len long same)) c.in_ok-build_rank.ensures.next;
@@ -132,7 +134,7 @@ returns-clause-first g c =
     let sides = c.as_slice-sides.result.now in
     let placed : ArePlaced a b given p sides = subst (ArePlaced a b given p) (sym c.as_slice-sides.ensures.value) c.in-Ok.ensures in
     diagrams_at a b given p sides placed c.loop-below.store c.loop-below.list.items (c.loop-below.below + 1) c.loop-below.invariant.right (omega arith)
-    (λ one there. let ranks = (placed.plans one there).ranks in let last = c.last_rank-below-end.ensures one there in omega arith)
+    (λ one there. let ranks = (placed.plans one there).ranks in let last = c.last_rank-ranks.ensures one there in omega arith)
     0 (record { netlist = a; level = first_level p }) (omega arith) refl
 
 pub returns-clause-second : goal.returns-clause-second
@@ -144,7 +146,7 @@ returns-clause-second g c =
     let sides = c.as_slice-sides.result.now in
     let placed : ArePlaced a b given p sides = subst (ArePlaced a b given p) (sym c.as_slice-sides.ensures.value) c.in-Ok.ensures in
     diagrams_at a b given p sides placed c.loop-below.store c.loop-below.list.items (c.loop-below.below + 1) c.loop-below.invariant.right (omega arith)
-    (λ one there. let ranks = (placed.plans one there).ranks in let last = c.last_rank-below-end.ensures one there in omega arith)
+    (λ one there. let ranks = (placed.plans one there).ranks in let last = c.last_rank-ranks.ensures one there in omega arith)
     1 (record { netlist = b; level = second_level p }) (omega arith) refl
 
 pub returns-clause-given : goal.returns-clause-given
@@ -158,7 +160,7 @@ returns-clause-given g c =
     given_diagrams a b given p c.loop-below.store (get_or c.loop-below.list.items 2 [])
     (λ l lt at.
     diagrams_at a b given p sides placed c.loop-below.store c.loop-below.list.items (c.loop-below.below + 1) c.loop-below.invariant.right (omega arith)
-    (λ one there. let ranks = (placed.plans one there).ranks in let last = c.last_rank-below-end.ensures one there in omega arith)
+    (λ one there. let ranks = (placed.plans one there).ranks in let last = c.last_rank-ranks.ensures one there in omega arith)
     2 l lt at)
 
 pub returns-clause-adds : goal.returns-clause-adds
@@ -181,7 +183,7 @@ returns-clause-need g c = λ none.
     let placed : ArePlaced a b given p sides = subst (ArePlaced a b given p) (sym c.as_slice-sides.ensures.value) c.in-Ok.ensures in
     need_left a b given p sides placed c.args.store.now c.loop-below.store c.in_ok-variables.variables.items c.loop-below.list.items (c.loop-below.below + 1)
     c.requires.levels c.loop-below.invariant.sound c.loop-below.invariant.adds (still_within c.args.store.now c.loop-below.store _ c.loop-below.invariant.within) c.loop-below.invariant.variables c.loop-below.invariant.right
-    (λ one there. let ranks = (placed.plans one there).ranks in let last = c.last_rank-below-end.ensures one there in omega arith)
+    (λ one there. let ranks = (placed.plans one there).ranks in let last = c.last_rank-ranks.ensures one there in omega arith)
     none
 
 pub returns-clause-within : goal.returns-clause-within
@@ -193,7 +195,7 @@ returns-clause-within g c =
     let sides = c.as_slice-sides.result.now in
     let placed : ArePlaced a b given p sides = subst (ArePlaced a b given p) (sym c.as_slice-sides.ensures.value) c.in-Ok.ensures in
     all_unasked a b given p sides placed c.args.store.now c.loop-below.store c.loop-below.below
-    (λ one there. let ranks = (placed.plans one there).ranks in let last = c.last_rank-below-end.ensures one there in omega arith)
+    (λ one there. let ranks = (placed.plans one there).ranks in let last = c.last_rank-ranks.ensures one there in omega arith)
     c.loop-below.invariant.within
 
 pub returns-in_default-new-clause-adds : goal.returns-in_default-new-clause-adds

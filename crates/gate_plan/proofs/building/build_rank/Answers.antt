@@ -1,4 +1,4 @@
-use Rattle.std.proofs.Common.{refl, inr, arith, ◌≤◌}
+use Rattle.std.proofs.Common.{refl, inr, ◌∙◌, arith, ◌≤◌}
 use Rattle.gate_plan.specs.Building.{input_level}
 use Rattle.gate_plan.specs.Need.{IsCounted}
 use Rattle.gate_plan.specs.Needing.{IsPlacedValue}
@@ -21,6 +21,7 @@ loop-fold-init g c = record {
   sound = c.levels.ensures.sound;
   adds = adds_same c.args.store.now c.args.store.now (IsCounted c.args.store.now.levels (IsPlacedValue c.args.store.now.levels c.args.sides.now)) refl;
   held = c.requires.held;
+  bound = refl;
   within = none_unasked c.args.store.now c.args.store.now (λ j. AnyAsksAt c.args.sides.now c.args.store.now c.args.rank j) (inr refl);
   folded = all_copied c.args.sides.now c.requires.plans c.args.store.now c.args.built.now c.copy_rank.new.built c.args.rank c.requires.right c.copy_rank.ensures;
 }
@@ -34,6 +35,7 @@ loop-fold-preserved g c = record {
   sound = c.build_fold.ensures.sound;
   adds = adds_next c.args.store.now c.loop-fold.store c.build_fold.new.store (λ n. IsPlacedValue n c.args.sides.now) c.loop-fold.invariant.sound c.loop-fold.invariant.adds c.build_fold.ensures.adds;
   held = c.in_ok-build_fold.ensures.held;
+  bound = c.build_fold.ensures.bound ∙ c.loop-fold.invariant.bound;
   within = next_unasked c.args.store.now c.loop-fold.store c.build_fold.new.store (λ S j. AnyAsksAt c.args.sides.now S c.args.rank j) c.loop-fold.fold c.loop-fold.invariant.within c.in_ok-build_fold.ensures.within;
   folded = c.in_ok-build_fold.ensures.next;
 }

@@ -1,4 +1,4 @@
-use Rattle.std.proofs.Common.{ℕ, ◌<◌}
+use Rattle.std.proofs.Common.{◌≡◌, ℕ, ◌<◌}
 use Rattle.dd_store.specs.Nodes.{IsSound}
 use Rattle.reduce_up.specs.Reducing.{AddsDescribed}
 use Rattle.gate_plan.specs.Building.{AllFolded}
@@ -11,7 +11,8 @@ abbrev pub invariant-loop-fold : goal.invariant-loop-fold
 invariant-loop-fold g l = record {
   sound : IsSound l.store;
   adds : AddsDescribed l.fn.store l.store (IsCounted l.fn.store.levels (IsPlacedValue l.fn.store.levels l.sides));
-  held : IsHeldWithin l.store l.engine;
+  held : IsHeldWithin l.store l.engine.held;
+  bound : l.engine.bound ≡ l.fn.engine.bound;
   within : IsWithinOrUnasked ((j : ℕ) × (j < l.fold) × AnyAsksAt l.sides l.store l.rank j) l.fn.store l.store;
   folded : AllFolded l.sides l.store l.built l.rank l.fold;
 }

@@ -1,5 +1,8 @@
-use Rattle.std.proofs.Common.{◌∙◌, List, subst}
+use Rattle.std.proofs.Common.{rules, ◌≡◌, ◌≢◌, ◌∙◌, List, None, Err, subst}
+use Rattle.expand_work.specs.declared.fault.WaveFault.TheVariants.{TooManyRequests}
+use Rattle.reduce_up.specs.Known.{unknown}
 use Rattle.reduce_up.specs.Waves.{Entry, AnswersEach, IsWaveFault, IsWithinLimit}
+use Rattle.gate_plan.proofs.Counted.{not_past}
 use Rattle.gate_plan.proofs.Conjoined.{conjoined, entries_known}
 use Rattle.reduce_up.proofs.Known.{fault_of_all, within_all}
 use Rattle.gate_plan.proofs.conjoining.conjoin.Goals as goal
@@ -16,9 +19,15 @@ returns-in-Ok-wave-clause-conjoined g c =
 pub returns-in-Ok-wave-clause-within : goal.returns-in-Ok-wave-clause-within
 returns-in-Ok-wave-clause-within g c =
     subst (λ z. IsWithinLimit c.args.store.now z c.wave.new.store) (c.as_slice.ensures.value ∙ c.in-Ok.ensures)
-    (within_all c.args.store.now c.wave.new.store c.in-Ok-new.engine c.as_slice.result.now c.in-Ok-new.ensures.empty c.in-Ok-wave.ensures.within)
+    (within_all c.args.store.now c.wave.new.store c.in-Ok-new.engine.held c.as_slice.result.now c.in-Ok-new.ensures.empty c.in-Ok-wave.ensures.within)
 
 pub returns-clause-fault : goal.returns-clause-fault
 returns-clause-fault g c =
     subst (λ z. IsWaveFault c.args.store.now z c.wave.new.store c.in-Err.fault) (c.as_slice.ensures.value ∙ c.in-Ok.ensures)
-    (fault_of_all c.args.store.now c.wave.new.store c.in-Ok-new.engine c.as_slice.result.now _ c.in-Err.ensures.fault)
+    (fault_of_all c.args.store.now c.wave.new.store c.in-Ok-new.engine.held c.as_slice.result.now _ c.in-Err.ensures.fault)
+
+pub returns-clause-unbounded : goal.returns-clause-unbounded
+returns-clause-unbounded g c =
+    let never : c.in-Ok-new.engine.bound ≡ None → c.wave.result ≢ Err TooManyRequests = λ none refused.
+    not_past c.in-Ok-new.engine.bound c.args.store.now (unknown c.in-Ok-new.engine.held c.as_slice.result.now) none (c.wave.ensures.past refused) in
+    search (rules, never)

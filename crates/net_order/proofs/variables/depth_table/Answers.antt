@@ -1,41 +1,24 @@
-use Rattle.std.proofs.Common.{◌∙◌, arith}
+use Rattle.std.proofs.Common.{◌≤◌, ◌∙◌, List, ℕ, sym, ap, subst, arith, length}
 use Rattle.std.proofs.lemmas.Result.{err_from_is_err_and}
-use Rattle.net_bench.specs.Circuit.{circuit}
-use Rattle.net_order.specs.Order.{all_names, condition, names_of, second_names}
+use Rattle.net_order.specs.Order.{all_names, met, names_of_sides}
 use Rattle.net_order.specs.Tables.{with_names}
-use Rattle.net_order.proofs.Orders.{first_few, first_table, second_few, second_table, whole_few, whole_table}
-use Rattle.net_order.proofs.Seconds.{no_overflow}
+use Rattle.net_order.proofs.Orders.{all_table, depth_all_few, depth_few}
+use Rattle.net_order.proofs.Tabling.{no_overflow}
 use Rattle.net_order.proofs.variables.depth_table.Goals as goal
 
-pub returns-in_err-add_names-clause-err : goal.returns-in_err-add_names-clause-err
-returns-in_err-add_names-clause-err c =
-    let a = circuit c.args.first.now in
-    let b = circuit c.args.second.now in
-    let given = condition c.args.given in
-    let names = with_names c.new-table.result (names_of a c.as_slice.result.now) in
-    let few = first_few c.args.how a b given names (first_table c.args.how a b given c.new-table.result c.as_slice.result.now c.new-table.ensures (c.as_slice.ensures.value ∙ c.in_ok-met_first.ensures.met)) in
-    let p = err_from_is_err_and c.from_residual-in_err-add_names.result c.from_residual-in_err-add_names.ensures.1 in
-    rw (p.1, p.2) (no_overflow c.in_err-add_names.field-0.0 names (omega (arith, few, c.requires.few)) c.in_err-add_names.ensures.err)
-
-pub returns-in_err-add_second-clause-err : goal.returns-in_err-add_second-clause-err
-returns-in_err-add_second-clause-err c =
-    let a = circuit c.args.first.now in
-    let b = circuit c.args.second.now in
-    let given = condition c.args.given in
-    let names = with_names c.add_names.new.table (second_names c.args.how a b c.as_slice-2.result.now) in
-    let before = first_table c.args.how a b given c.new-table.result c.as_slice.result.now c.new-table.ensures (c.as_slice.ensures.value ∙ c.in_ok-met_first.ensures.met) in
-    let few = second_few c.args.how a b given names (second_table c.args.how a b given c.add_names.new.table c.as_slice-2.result.now (c.in_ok-add_names.ensures.ok ∙ before) (c.as_slice-2.ensures.value ∙ c.in_ok-met_second.ensures.met)) in
-    let p = err_from_is_err_and c.from_residual-in_err-add_second.result c.from_residual-in_err-add_second.ensures.1 in
-    rw (p.1, p.2) (no_overflow c.in_err-add_second.field-0.0 names (omega (arith, few, c.requires.few)) c.in_err-add_second.ensures.err)
+pub returns-in_err-add_sides-clause-err : goal.returns-in_err-add_sides-clause-err
+returns-in_err-add_sides-clause-err c =
+    let names = names_of_sides met c.args.sides.now in
+    let few : length (with_names c.new-table.result (names_of_sides met c.args.sides.now)) ≤ 4096 =
+    subst (λ (t : List (List ℕ)). length (with_names t (names_of_sides met c.args.sides.now)) ≤ 4096) (sym c.new-table.ensures) (omega (arith, depth_few c.args.sides.now c.args.given.now, c.requires)) in
+    let p = err_from_is_err_and c.from_residual.result c.from_residual.ensures.1 in
+    rw (p.1, p.2) (no_overflow c.in_err-add_sides.field-0.0 (with_names c.new-table.result names) few c.in_err-add_sides.ensures.err)
 
 pub returns-in_err-add_all-clause-err : goal.returns-in_err-add_all-clause-err
 returns-in_err-add_all-clause-err c =
-    let a = circuit c.args.first.now in
-    let b = circuit c.args.second.now in
-    let given = condition c.args.given in
-    let names = with_names c.add_second.new.table (all_names c.args.how a b given) in
-    let first = first_table c.args.how a b given c.new-table.result c.as_slice.result.now c.new-table.ensures (c.as_slice.ensures.value ∙ c.in_ok-met_first.ensures.met) in
-    let before = second_table c.args.how a b given c.add_names.new.table c.as_slice-2.result.now (c.in_ok-add_names.ensures.ok ∙ first) (c.as_slice-2.ensures.value ∙ c.in_ok-met_second.ensures.met) in
-    let few = whole_few c.args.how a b given names (whole_table c.args.how a b given c.add_second.new.table (c.in_ok-add_second.ensures.ok ∙ before)) in
+    let names = names_of_sides met c.args.sides.now in
+    let whole = all_table c.args.sides.now c.args.given.now c.add_sides.new.table names (c.in_ok-add_sides.ensures.ok ∙ ap (λ (t : List (List ℕ)). with_names t (names_of_sides met c.args.sides.now)) c.new-table.ensures) in
+    let few : length (with_names c.add_sides.new.table (all_names c.args.sides.now c.args.given.now)) ≤ 4096 =
+    subst (λ (t : List (List ℕ)). length t ≤ 4096) (sym whole) (omega (arith, depth_all_few c.args.sides.now c.args.given.now, c.requires)) in
     let p = err_from_is_err_and c.from_residual-in_err-add_all.result c.from_residual-in_err-add_all.ensures.1 in
-    rw (p.1, p.2) (no_overflow c.in_err-add_all.field-0.0 names (omega (arith, few, c.requires.few)) c.in_err-add_all.ensures.err)
+    rw (p.1, p.2) (no_overflow c.in_err-add_all.field-0.0 (with_names c.add_sides.new.table (all_names c.args.sides.now c.args.given.now)) few c.in_err-add_all.ensures.err)

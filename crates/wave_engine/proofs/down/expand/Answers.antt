@@ -1,4 +1,4 @@
-use Rattle.std.proofs.Common.{◌≡◌, ◌<◌, ◌^◌, ℕ, List, length, Some, arith}
+use Rattle.std.proofs.Common.{◌≡◌, ◌<◌, ◌≤◌, ◌-◌, ◌^◌, ℕ, List, length, Some, arith}
 use Rattle.dd_store.specs.Nodes.{Nodes}
 use Rattle.req_table.specs.declared.Key.{Key}
 use Rattle.reduce_up.specs.Waves.{Entry}
@@ -6,6 +6,8 @@ use Rattle.wave_engine.specs.declared.lists.Placed.{Placed}
 use Rattle.wave_engine.specs.Places.{IsNextLevel}
 use Rattle.wave_engine.specs.Down.{AreExpanded}
 use Rattle.wave_engine.proofs.Placing.{level_more, levels_passed}
+use Rattle.wave_engine.proofs.Counting.{more_counted, too_many}
+use Rattle.wave_engine.proofs.down.expand.Goals.{else-bound-lt18446744073709551615-via-then-bound-lt18446744073709551615+else-count-left, else-bound-lt18446744073709551615-via-else-bound-lt18446744073709551615}
 use Rattle.wave_engine.proofs.down.expand.Goals as goal
 
 pub returns-then-count-most-clause-expanded : goal.returns-then-count-most-clause-expanded
@@ -20,6 +22,16 @@ returns-then-count-most-clause-expanded c =
     let e : AreExpanded S es ps next T rows = levels_passed S es ps c.loop-next.level next T rows c.loop-next.invariant.expanded h.3 in
     let fit : next < S.levels = let n : next < length T = h.1 in let l : length T ≡ S.levels = e.admitted.levels in omega (arith, n, l) in
     e
+
+pub returns-then-count-left-clause-past : goal.returns-then-count-left-clause-past
+returns-then-count-left-clause-past c = λ _.
+    let S : Nodes = c.args.store.now in
+    let es : List Entry = c.args.entries.now in
+    let T : List (List Key) = c.loop-next.requests in
+    let next : ℕ = c.in-Some.next in
+    let h : IsNextLevel T c.loop-next.level (Some next) = c.in-Some.ensures in
+    too_many S es T c.loop-next.invariant.expanded.admitted c.args.bound c.loop-next.left c.loop-next.level (c.loop-next.invariant.counted c.if-bound-lt18446744073709551615.true) next h.0 c.count-count.ensures.once
+    c.count-count.result c.count-count.ensures.value c.if-count-left.true
 
 pub overflow_add-level : goal.overflow_add-level
 overflow_add-level c =
@@ -49,6 +61,14 @@ loop-next-preserved c =
     record {
       bound = omega (arith, fit);
       few = c.loop-next.invariant.few;
+      counted = λ bounded. elim c.else-bound-lt18446744073709551615.branch [
+        | else-bound-lt18446744073709551615-via-then-bound-lt18446744073709551615+else-count-left w ↦
+            let fits : c.count-count.result ≤ c.loop-next.left = let over = w.if-count-left.false in grind (arith, over) in
+            let left : c.saturating_sub-left.result ≡ c.loop-next.left - c.count-count.result = c.saturating_sub-left.ensures in
+            more_counted S es T e.admitted c.args.bound c.loop-next.left c.loop-next.level (c.loop-next.invariant.counted bounded) next h.0 c.count-count.ensures.once
+            c.count-count.result c.saturating_sub-left.result c.count-count.ensures.value (omega (arith, fits, left))
+        | else-bound-lt18446744073709551615-via-else-bound-lt18446744073709551615 w ↦ absurd (let free = w.if-bound-lt18446744073709551615.false in grind (arith, free, bounded))
+      ];
       expanded = level_more S es ps next T rows fit e c.expand_level.new.requests c.expand_level.new.pairs c.in_ok-expand_level.ensures.expanded;
     }
 

@@ -1,11 +1,13 @@
 use Rattle.std.proofs.Common.{◌≤◌, ◌<◌, ◌-◌, ◌^◌}
 use Rattle.wave_engine.specs.Down.{AreExpanded}
+use Rattle.wave_engine.proofs.Counting.{IsCounted}
 use Rattle.wave_engine.proofs.down.expand.Given as goal
 
 abbrev pub invariant-loop-next : goal.invariant-loop-next
 invariant-loop-next l = record {
   bound : l.level ≤ l.store.levels;
   few : l.store.levels < 2 ^ 16;
+  counted : l.bound < 2 ^ 64 - 1 → IsCounted l.store l.entries l.bound l.left l.level;
   expanded : AreExpanded l.store l.entries l.roots l.level l.requests l.rows.items;
 }
 

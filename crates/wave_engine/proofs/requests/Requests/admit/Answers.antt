@@ -26,7 +26,7 @@ invariant_of-self-else-count-eq0 c =
     let fits : l < length T = omega (arith, same, c.requires) in
     let read : c.index_mut.result.now ≡ row T l = row_read T l c.index_mut.result.now fits c.index_mut.ensures.value in
     let enters : Enters (row T l) c.args.key c.in_ok-place.place new = subst (λ (z : List Key). Enters z c.args.key c.in_ok-place.place new) read c.in_ok-place.ensures.enters in
-    let count : c.count-count.result ≡ length (row T l) = subst (λ (z : List (List Key)). c.count-count.result ≡ length (row z l)) (sym c.self.view_is) c.count-count.ensures in
+    let count : c.count-count.result ≡ length (row T l) = subst (λ (z : List (List Key)). c.count-count.result ≡ length (row z l)) (sym c.self.view_is) c.count-count.ensures.value in
     marked_more c.self.inside.marks T l c.args.key c.in_ok-place.place new c.self.invariant fits (let ne : c.count-count.result ≡ 0 → ⊥ = c.if-count-eq0.false in omega (arith, count, ne)) enters
 
 pub returns-then-count-eq0-clause-admits : goal.returns-then-count-eq0-clause-admits

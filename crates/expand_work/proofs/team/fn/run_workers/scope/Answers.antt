@@ -66,4 +66,4 @@ returns g c =
     let none : c.loop-port.port-iterator.rest.items ≡ [] = no_more c.loop-port.port-iterator.rest.items (search rules) in
     let all : c.loop-port.yielded ≡ c.captures.ports.items = sym (append-nil c.loop-port.yielded) ∙ ap (λ xs. c.loop-port.yielded ++ xs) (sym none) ∙ i.0 ∙ o in
     IfOk-weaker c.join_all-joined.result _ _ (λ v. all_worked c.captures.lanes.now c.captures.store.now c.captures.roots.now c.captures.ports.items c.loop-port.children.items v.items c.requires.ports (subst (AllZip (WorksFor c.captures.lanes.now c.captures.store.now c.captures.roots.now) c.loop-port.children.items) all i.2)) c.join_all-joined.ensures.parts) in
-    record { parts = parts; fault = search rules }
+    record { parts = parts; fault = search rules; unbounded = search rules }

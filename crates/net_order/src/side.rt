@@ -1,0 +1,122 @@
+//! The netlists of a pairing, each with the names of its variables.
+ghost use Rattle.std.specs.Prelude.{◌≡◌, ◌++◌, ℕ, ◌<◌, length, All, IfOk, IsTrue, slice_index};
+ghost use Rattle.net_bench.specs.Circuit.{circuit, variables_of};
+ghost use Rattle.net_order.specs.Order.{AreCounted, Sided, both, condition, given_side, is_member, named, partner};
+ghost use Rattle.net_order.specs.Tables.{AreMatched};
+
+use crate::order::Match;
+use net_bench::netlist::Signal;
+use net_bench::reader::Netlist;
+use std::alloc::{AllocError, Global};
+use std::marker::Model;
+
+/// A netlist of a pairing. By position another one names its variables: that of the same place.
+#[derive(Drop)]
+pub struct Side<'a> {
+    net: &'a Netlist,
+    namer: &'a Netlist,
+    how: Match,
+    /// By position: by signal, for a variable, the one of `namer` that names it.
+    partners: Vec<u32>,
+}
+
+impl<'a> Model for Side<'a> {
+    ghost use Rattle.net_bench.specs.Circuit.{circuit};
+    ghost use Rattle.net_order.specs.Order.{Sided};
+    ghost use Rattle.net_order.specs.Tables.{IsSide};
+
+    ghost Value = { Sided };
+
+    ghost view = { λ s. record { how = s.how; namer = circuit s.namer.now; net = circuit s.net.now } };
+
+    ghost invariant = { λ s. IsSide s.how s.namer.now s.net.now s.partners.items };
+}
+
+/// By signal below `count`, the number of its partner: the number in the one list at its first place in the other.
+fn partner_table(
+    alloc: Global,
+    count: usize,
+    from: &[Signal],
+    to: &[Signal],
+) -> Result<Vec<u32>, AllocError>
+    requires inside { All (λ s. s < count) from.now }
+    requires same { length from.now ≡ length to.now }
+    ensures len { IfOk result (λ v. length v.items ≡ count) }
+    ensures each { IfOk result (λ v. (s : ℕ) → s < count → slice_index v.items s ≡ partner from.now to.now s) }
+{
+    let mut table = Vec::from_elem(alloc, 0u32, count)?;
+    let mut i = from.len();
+    while i > 0 {
+        i -= 1;
+        table[from[i].number() as usize] = to[i].number();
+    }
+    Ok(table)
+}
+
+impl<'a> Side<'a> {
+    /// A netlist whose variables are matched with those of the one that names them.
+    fn new(
+        alloc: Global,
+        net: &'a Netlist,
+        namer: &'a Netlist,
+        how: Match,
+    ) -> Result<Side<'a>, AllocError>
+        requires { AreMatched how (circuit namer.now) (circuit net.now) }
+        ensures { IfOk result (λ side. side ≡ record { how = how; namer = circuit namer.entry.now; net = circuit net.entry.now }) }
+    {
+        let variables = net.variables();
+        let names = namer.variables();
+        let partners = match how {
+            Match::Name => Vec::new(alloc),
+            Match::Position => partner_table(alloc, net.count(), variables, names)?,
+        };
+        Ok(Side {
+            net,
+            namer,
+            how,
+            partners,
+        })
+    }
+
+    /// The netlist.
+    pub fn net(&self) -> &Netlist
+        ensures { circuit result.now ≡ self.now.net }
+    {
+        self.net
+    }
+
+    /// The name of a variable.
+    pub fn name(&self, variable: Signal) -> &[u8]
+        requires { IsTrue (is_member variable (variables_of self.now.net)) }
+        ensures { result.now ≡ named self.now variable }
+    {
+        match self.how {
+            Match::Name => self.net.name(variable),
+            Match::Position => {
+                let partner = Signal::of(self.partners[variable.number() as usize]);
+                self.namer.name(partner)
+            }
+        }
+    }
+}
+
+/// The netlists of a pairing: the first, the second, and the condition where there is one.
+pub fn sides_of<'a>(
+    alloc: Global,
+    first: &'a Netlist,
+    second: &'a Netlist,
+    given: Option<&'a Netlist>,
+    how: Match,
+) -> Result<Vec<Side<'a>>, AllocError>
+    requires { AreCounted how (circuit first.now) (circuit second.now) }
+    ensures { IfOk result (λ sides. sides.items ≡ both how (circuit first.entry.now) (circuit second.entry.now) ++ given_side (condition given.entry)) }
+{
+    let mut sides = Vec::new(alloc);
+    sides.push(Side::new(alloc, first, first, Match::Name)?)?;
+    sides.push(Side::new(alloc, second, first, how)?)?;
+    match given {
+        None => {}
+        Some(given) => sides.push(Side::new(alloc, given, given, Match::Name)?)?,
+    }
+    Ok(sides)
+}

@@ -1,0 +1,20 @@
+-- How many requests a wave may have.
+use Rattle.std.specs.Prelude.{ℕ, ◌<◌, List, length, Contains, Option, None, Some}
+use Rattle.slot_table.specs.Lists.{IsOnce}
+use Rattle.dd_store.specs.Nodes.{Nodes}
+use Rattle.req_table.specs.declared.Key.{Key}
+use Rattle.req_table.specs.Keys.{wave_of}
+use Rattle.req_table.specs.Reached.{IsReached}
+use Rattle.reduce_up.specs.Waves.{Entry, requests_of}
+
+-- more than n requests are reached from the entries: a list of them in which none stands twice is longer
+pub record AreMoreThan (n : ℕ) (s : Nodes) (entries : List Entry) : Type 0 where
+  pub requests : List Key
+  pub once : IsOnce requests
+  pub reached : (k : Key) → Contains requests k → IsReached (wave_of s 1) (requests_of entries) k
+  pub more : n < length requests
+
+-- the requests that are reached from the entries are more than the bound, where there is one
+abbrev pub ArePast : Option ℕ → Nodes → List Entry → Type 0
+ArePast None s entries = ⊥
+ArePast (Some n) s entries = AreMoreThan n s entries

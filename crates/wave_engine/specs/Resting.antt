@@ -1,0 +1,8 @@
+-- An engine between two waves.
+use Rattle.std.specs.Prelude.{ℕ, Option}
+use Rattle.req_table.specs.Memos.{Held}
+
+-- what it holds of earlier waves, and the bound that its gate sets on the requests of a wave
+pub record AtRest : Type 0 where
+  pub held : Held
+  pub bound : Option ℕ
