@@ -42,8 +42,8 @@ impl Answers {
     pub(crate) fn put(&mut self, level: u16, starts: Vec<usize>, found: Vec<Ref>)
         requires { level < length self.old.found }
         ensures { self.new ≡ record {
-            starts = slice_set self.old.starts level starts.items;
-            found = slice_set self.old.found level found.items;
+          starts = slice_set self.old.starts level starts.items;
+          found = slice_set self.old.found level found.items;
         } }
     {
         self.starts[level as usize] = starts;

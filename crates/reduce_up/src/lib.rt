@@ -1,8 +1,8 @@
 //! From the requests of a wave to their diagrams: reduction from the last level up, and waves over it.
 #![tactic(auto)]
 
-pub mod law;
 mod answers;
+pub mod law;
 mod levels;
 mod parallel;
 mod results;

@@ -25,7 +25,12 @@ fn root_answer(store: &Store, team: Team<'_>, lefts: &mut Vec<Vec<usize>>, root:
     let key = team.roots[root];
     let sender = (root % team.workers as usize) as u32;
     let level = level_of(store, key);
-    resolve(team, sender, &mut lefts[sender as usize], Child::Ask { level, key })
+    resolve(
+        team,
+        sender,
+        &mut lefts[sender as usize],
+        Child::Ask { level, key },
+    )
 }
 
 /// The diagrams of the entries, in order.

@@ -309,7 +309,14 @@ fn level_pairs<R: Threads + Sync>(
         workers: field.workers,
     };
     let shared = field.parts.row(0, level).len() >= FEWEST_SHARED / 2;
-    let reads = read_level(rt, field.alloc, team, level, progress.lefts.as_slice(), shared)?;
+    let reads = read_level(
+        rt,
+        field.alloc,
+        team,
+        level,
+        progress.lefts.as_slice(),
+        shared,
+    )?;
     let (pairs, lefts) = join_reads(field.alloc, team, level, reads)?;
     progress.lefts = lefts;
     Ok(pairs)

@@ -41,7 +41,7 @@ starts_of-requires-clause-total g c =
     let S = c.args.store.now in let n = c.args.field.workers in let p = c.args.field.parts.now in let a = c.args.progress.now.answers in
     let pairs = c.as_slice.result.now in
     let are : AllZip (IsPairOf (told n p a)) (team_row n p c.args.level) pairs = subst (AllZip (IsPairOf (told n p a)) (team_row n p c.args.level)) (sym c.as_slice.ensures.value) c.in-Ok.ensures.pairs in
-    c.len.ensures ∙ ap (λ z. length z) c.as_slice-found.ensures.value ∙ sym (zip_long (IsPairOf (told n p a)) (team_row n p c.args.level) pairs are ∙ zip_long (λ (q : Pair) r. IsThere c.answer_pairs.new.store c.args.level q.0 q.1 r) pairs c.in-Ok-answer_pairs.answers.items c.in-Ok-answer_pairs.ensures.there)
+    ap (λ z. length z) c.as_slice-found.ensures.value ∙ sym (zip_long (IsPairOf (told n p a)) (team_row n p c.args.level) pairs are ∙ zip_long (λ (q : Pair) r. IsThere c.answer_pairs.new.store c.args.level q.0 q.1 r) pairs c.in-Ok-answer_pairs.answers.items c.in-Ok-answer_pairs.ensures.there)
 
 pub returns-in_default-starts_of-clause-left : goal.returns-in_default-starts_of-clause-left
 returns-in_default-starts_of-clause-left g c =
