@@ -1,6 +1,6 @@
 -- From the lanes' new ports, and from the parts of all workers, to the expanded wave.
-use Rattle.std.proofs.Common.{◌≡◌, ℕ, zero, suc, ◌+◌, ◌*◌, ◌<◌, true, false, cond, eqb, List, [], ◌∷◌, map, length, slice_index_or, All, Contains, AllPairs, refl, sym, ap, ◌∙◌, subst, arith}
-use Rattle.std.specs.List.{sum_by}
+use Rattle.std.proofs.Common.{◌≡◌, ℕ, zero, suc, ◌+◌, ◌*◌, ◌<◌, true, false, cond, eqb, List, [], ◌∷◌, map, length, slice_index_or, slice_get, Some, All, Contains, AllPairs, refl, sym, ap, ◌∙◌, subst, arith}
+use Rattle.std.specs.List.{sum_by, AllZip}
 use Rattle.std.proofs.lemmas.List.Sums.{sum_by-cons}
 use Rattle.std.proofs.lemmas.List.{get_or-map, length-map}
 use Rattle.dd_store.specs.Nodes.{Nodes, IsSound}
@@ -11,10 +11,11 @@ use Rattle.lane_queue.specs.declared.load.Load.{Load}
 use Rattle.lane_queue.specs.Loads.{flat}
 use Rattle.req_table.specs.declared.Sizes.{Sizes}
 use Rattle.req_table.specs.Wave.{Wave}
-use Rattle.req_table.specs.Keys.{wave_of}
+use Rattle.req_table.specs.Keys.{level_of, wave_of}
+use Rattle.req_table.specs.Lanes.{sent_by, asks}
 use Rattle.req_table.specs.Sizes.{sizes_of}
 use Rattle.req_table.specs.Reached.{IsReached}
-use Rattle.req_table.specs.Settled.{IsSettled, IsSplit, IsClosure, level_of_rows, key_of, asked_by}
+use Rattle.req_table.specs.Settled.{IsSettled, IsSplit, IsClosure, level_of_rows, key_of, asked_by, owed}
 use Rattle.req_table.specs.Tables.{row_at}
 use Rattle.req_table.proofs.Waved.{is_wave}
 use Rattle.req_table.proofs.Sized.{fair_in_wave, law_in_wave}
@@ -26,6 +27,8 @@ use Rattle.expand_work.specs.Parts.{IsPart, sum_below, bundles_of, loads_of}
 use Rattle.expand_work.specs.Worked.{IsFresh, IsWorked}
 use Rattle.expand_work.specs.Team.{AreNew, AreWorked}
 use Rattle.expand_work.specs.Expanded.{IsSettledFor, AreByNumber, put_by, bundles_between, row_of}
+use Rattle.expand_work.specs.Gathered.{AreParts, noted_of}
+use Rattle.expand_work.specs.Work.{at}
 use Rattle.expand_work.proofs.Parting.{parts_settle}
 use Rattle.expand_work.proofs.Counting.{sum_add, sum_const}
 use Rattle.expand_work.proofs.Chain.{lanes_close}
@@ -81,7 +84,7 @@ count_at (x ∷ xs) (suc k) d b = count_at xs k d (omega (arith, b))
 
 -- ---- records by level that are the same level by level
 module _ (w : Wave) (rows records : ℕ → List Record) (same : (v : ℕ) → v < w.levels → records v ≡ rows v) where
-  closure_same : (roots : List Key) → IsClosure w roots rows → IsClosure w roots records
+  pub closure_same : (roots : List Key) → IsClosure w roots rows → IsClosure w roots records
   closure_same roots c = record {
     split = λ v vb. subst (All (IsSplit w)) (sym (same v vb)) (c.split v vb);
     placed = λ v vb. subst (All (λ (r : Record). w.level r.key ≡ v)) (sym (same v vb)) (c.placed v vb);
@@ -190,6 +193,32 @@ module _ (S : Nodes) (sound : IsSound S) (l : LanesView) (sizes : l.sizes ≡ si
       ∙ ap (λ n. sum_below n (λ s. f s + length l.lanes * S.levels)) gone.0
       ∙ sum_add (length l.lanes) f (λ s. length l.lanes * S.levels)
       ∙ ap (λ n. sum_below (length l.lanes) f + n) (sum_const (length l.lanes) (length l.lanes * S.levels))
+
+  -- ---- without putting the records together
+  abbrev notes : List (List (List ℕ))
+  notes = map (λ (p : Part). p.noted) parts
+
+  noted_at : (k : ℕ) (b : k < length l.lanes) → (part_at k b).noted ≡ slice_index_or notes k []
+  noted_at k b = sym (get_or-map (λ (p : Part). p.noted) parts k (first_of parts (let n = worked.long in omega (arith, b, n))) [] (let n = worked.long in omega (arith, b, n)))
+
+  places_at : (s k : ℕ) → s < length l.lanes → k < length l.lanes → AllZip (λ x n. slice_get (map key_of (row_of rows k (level_of S x))) n ≡ Some x) (owed w roots (row_of rows s) s k) (noted_of notes k s)
+  places_at s k sb kb =
+      subst (λ (ns : List (List ℕ)). AllZip (λ x n. slice_get (map key_of (row_of rows k (level_of S x))) n ≡ Some x) (owed w roots (row_of rows s) s k) (at ns s)) (noted_at k kb)
+      (subst (λ (r : List (List Record)). AllZip (λ x n. slice_get (map key_of (row_at r (level_of S x))) n ≡ Some x) (owed w roots (row_of rows s) s k) (at (part_at k kb).noted s)) (records_at k kb)
+      (subst (λ (xs : List Key). AllZip (λ x n. slice_get (map key_of (row_at (part_at k kb).rows (level_of S x))) n ≡ Some x) xs (at (part_at k kb).noted s))
+      (ap (λ (t : List Item). asks (sent_by s t)) (takes k kb) ∙ ap asks (settles.all_taken s k sb kb) ∙ settles.all_sent s k sb kb)
+      ((worked_at k kb).noted.each s sb)))
+
+  pub are_parts : (workers : ℕ) → length l.lanes ≡ workers → (rs : List (List (List Record))) (ns : List (List (List ℕ))) → rs ≡ map (λ (p : Part). p.rows) parts → ns ≡ map (λ (p : Part). p.noted) parts
+      → AreParts S workers roots (record { rows = rs; noted = ns })
+  are_parts workers wide rs ns rs-is ns-is = subst (λ (y : ℕ × List (List (List Record)) × List (List (List ℕ))). AreParts S y.0 roots (record { rows = y.1; noted = y.2 })) (λ i. (wide i, sym rs-is i, sym ns-is i)) (record {
+    many_rows = length-map parts (λ (p : Part). p.rows) ∙ worked.long;
+    levels = λ k b. ap (λ (r : List (List Record)). length r) (sym (records_at k b)) ∙ (worked_at k b).levels;
+    many_noted = length-map parts (λ (p : Part). p.noted) ∙ worked.long;
+    senders = λ k b. ap (λ (n : List (List ℕ)). length n) (sym (noted_at k b)) ∙ (worked_at k b).noted.long;
+    closure = lanes_close S sound (length l.lanes) some roots ports left (row_of rows) laws part_in;
+    places = places_at;
+  })
 
   module _ (records : List (List Record)) (merged : (v : ℕ) → v < S.levels → row_at records v ≡ level_of_rows (length rows) (row_of rows) v) where
     same : (v : ℕ) → v < S.levels → row_at records v ≡ level_of_rows (length l.lanes) (row_of rows) v

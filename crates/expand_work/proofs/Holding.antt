@@ -1,5 +1,5 @@
 -- A worker keeps the keys that it owns.
-use Rattle.std.proofs.Common.{◌≡◌, ◌≢◌, ℕ, ◌+◌, ◌-◌, ◌<◌, ◌≤◌, Bool, List, [], ◌∷◌, ◌++◌, Some, map, take, length, get_or, set, All, refl, sym, ap, ◌∙◌, subst, arith, append_assoc, append-nil}
+use Rattle.std.proofs.Common.{◌≡◌, ◌≢◌, ℕ, ◌+◌, ◌-◌, ◌<◌, ◌≤◌, List, [], ◌∷◌, ◌++◌, Some, map, take, length, get_or, set, All, refl, sym, ap, ◌∙◌, subst, arith, append_assoc, append-nil}
 use Rattle.std.proofs.lemmas.List.{map_more, length-map, take_all}
 use Rattle.dd_store.specs.Nodes.{Nodes}
 use Rattle.req_table.specs.declared.Key.{Key}
@@ -8,7 +8,6 @@ use Rattle.req_table.specs.declared.Item.TheVariants.{Ask}
 use Rattle.req_table.specs.declared.Sizes.{Sizes}
 use Rattle.req_table.specs.Keys.{level_of}
 use Rattle.req_table.specs.Sizes.{scope_of}
-use Rattle.req_table.specs.Tables.{Offers}
 use Rattle.req_table.specs.Lanes.{sent_by, ends, MayFollow, IsFair, IsClosed}
 use Rattle.req_table.proofs.Lists.{Has, each, all_of, map_has, Has-map}
 use Rattle.req_table.proofs.Fair.{ends-append, sent_by-append, counted_of_closed}
@@ -21,7 +20,8 @@ use Rattle.lane_queue.proofs.Keeping.{sent-own, sent-other}
 use Rattle.expand_work.specs.Work.{at, item_of, MaySend, HasKept, with_levels, Offered, IsHeard, StaysClosed}
 use Rattle.expand_work.proofs.Saying.{ends-items, same_port, port_on, still_of}
 use Rattle.expand_work.proofs.Hearing.{closed_more}
-use Rattle.expand_work.proofs.Taking.{admits_one, offered-more, offered-long, hear_asks, asks_stay}
+use Rattle.expand_work.specs.Noted.{EntersAt}
+use Rattle.expand_work.proofs.Taking.{offered-more, offered-long, hear_asks, asks_stay}
 
 -- of these keys all were kept
 pub record Holding (S : Nodes) (p q : PortView) (ts us : List (List Key)) (keys : List Key) : Type 0 where
@@ -72,7 +72,7 @@ module _ (l : LanesView) (S : Nodes) (p : PortView) (ts : List (List Key)) (keys
     pub hold-level : length ts ≡ l.sizes.levels → v < length us
     hold-level many = let a = offered-long (with_levels S (take i keys)) ts us h.offered in let f = follow.1 in omega (arith, a, many, f)
 
-    module _ (r : PortView) (vs : List (List Key)) (b : Bool) (is : r ≡ has_kept q (Ask q.number v x)) (off : (new : List Key) × Offers (at us v) x b new × (vs ≡ set us v new)) where
+    module _ (r : PortView) (vs : List (List Key)) (place : ℕ) (is : r ≡ has_kept q (Ask q.number v x)) (off : EntersAt us v x place vs) where
       r-own : sent_to r q.number ≡ sent_to q q.number ++ Ask q.number v x ∷ []
       r-own = ap (λ (u : PortView). sent_to u q.number) is ∙ sent-own (has_kept q (Ask q.number v x)) ∙ ap (λ xs. xs ++ Ask q.number v x ∷ []) (sym (sent-own q))
 
@@ -91,7 +91,7 @@ module _ (l : LanesView) (S : Nodes) (p : PortView) (ts : List (List Key)) (keys
         };
         all = ap (λ (u : PortView). sent_by u.number u.taken) is ∙ sent_by-append q.number q.taken (Ask q.number v x ∷ []) ∙ (λ j. h.all j ++ of-mine q.number (Ask q.number v x) [] refl j) ∙ sym r-own ∙ ap (λ k. sent_to r k) (sym (ap (λ (u : PortView). u.number) is));
         offered = subst (λ k. Offered k ts vs) (ap (λ y. with_levels S (take i keys) ++ (y, x) ∷ []) v-is ∙ ap (λ y. with_levels S (take i keys) ++ (level_of S y, y) ∷ []) x-is ∙ sym (map_more (λ (y : Key). (level_of S y, y)) keys i x lt))
-            (offered-more (with_levels S (take i keys)) (v, x) ts us vs off.0 h.offered (admits_one (at us v) off.0 x b off.1) off.2);
+            (offered-more (with_levels S (take i keys)) (v, x) ts us vs off.0 h.offered off.1.0 off.2);
       }
 
   -- once all were kept

@@ -21,6 +21,7 @@ use Rattle.expand_work.specs.declared.worker.Worker.{Worker}
 use Rattle.expand_work.specs.Parts.{loads_of, IsAt, IsLevelDone}
 use Rattle.expand_work.specs.Work.{at, item_of, owned_by, lanes_wave, MaySend, SentToAll, HasKept, put_items, put_loads, IsHeard, StaysClosed}
 use Rattle.expand_work.specs.Working.{IsWorking}
+use Rattle.expand_work.specs.Noted.{IsNoted}
 use Rattle.expand_work.proofs.Levels.{key_held, advances, loads-more, all-own}
 use Rattle.expand_work.proofs.Waves.{lanes_laws}
 use Rattle.expand_work.proofs.Saying.{ends-items, still_of, may_still}
@@ -108,7 +109,7 @@ module _ (l : LanesView) (s : Nodes) (roots : List Key) (v : ℕ) (w : Worker) (
         (heard : IsHeard (lanes_scope l) p3.taken clock tables) (stay2 : StaysClosed (lanes_scope l) p2.taken p3.taken heldt tables)
         (closed : IsClosed (lanes_scope l) v p3.taken)
         (keys : map key_of row ≡ at tables v) (split : All (IsSplit (wave_of s (length l.lanes))) row) (many : length due ≡ length l.lanes)
-        (owed : (k : ℕ) → k < length l.lanes → at due k ≡ filter (owned_by (length l.lanes) k) (asked_by row)) (rows-is : rows ≡ w.rows ++ row ∷ []) where
+        (owed : (k : ℕ) → k < length l.lanes → at due k ≡ filter (owned_by (length l.lanes) k) (asked_by row)) (rows-is : rows ≡ w.rows ++ row ∷ []) (noted : List (List ℕ)) (noting : IsNoted (length l.lanes) p3.taken tables noted) where
       pub number_same : p3.number ≡ w.port.number
       number_same = ap (λ (q : PortView). q.number) s3 ∙ s2.port.0 ∙ number_kept
 
@@ -154,7 +155,7 @@ module _ (l : LanesView) (s : Nodes) (roots : List Key) (v : ℕ) (w : Worker) (
           ∙ sym (loads-more (lanes_wave s (length l.lanes)) w.port.number k v (sent_to w.port k) (at w.due k) (h.level.ended k kb) (h.level.none_in k kb))
           ∙ (λ j. loads_of (up j) (sym number_same j) k (sym (sends k kb) j))
 
-      pub level_next : IsWorking l s roots (v + 1) (record { port = p3; clock = clock; tables = tables; rows = rows; due = due })
+      pub level_next : IsWorking l s roots (v + 1) (record { port = p3; clock = clock; tables = tables; noted = noted; rows = rows; due = due })
       level_next =
           let some : 0 < length l.lanes = (let z = h.within in omega (arith, z)) in
           let next = advances (lanes_wave s (length l.lanes)) (lanes_laws s h.sound (length l.lanes) some) roots w.port.number v (sent_to w.port) w.port.taken (at w.due) (at w.tables) (at w.rows) (sent_to p3) p3.taken (at due) (at tables) (at rows) vb h.level done in
@@ -165,6 +166,7 @@ module _ (l : LanesView) (s : Nodes) (roots : List Key) (v : ℕ) (w : Worker) (
             sizes = h.sizes;
             sound = h.sound;
             heard = heard;
+            noted = noting;
             many_rows = ap (λ m. length m) rows-is ∙ length-append w.rows (row ∷ []) ∙ ap (λ n. n + 1) h.many_rows;
             many_due = many;
             level = subst (λ n. IsAt (lanes_wave s (length l.lanes)) roots n (v + 1) (sent_to p3) p3.taken (at due) (at tables) (at rows)) (sym number_same)

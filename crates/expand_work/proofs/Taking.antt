@@ -1,5 +1,5 @@
 -- What a taken item tells a worker.
-use Rattle.std.proofs.Common.{◌≡◌, ℕ, ◌+◌, ◌<◌, Bool, true, false, inl, inr, List, [], ◌∷◌, ◌++◌, length, map, set, get_or, Some, All, refl, sym, ap, ◌∙◌, subst, append_assoc, append-nil, get_or-set_other}
+use Rattle.std.proofs.Common.{◌≡◌, ℕ, ◌+◌, ◌<◌, inl, inr, List, [], ◌∷◌, ◌++◌, length, map, set, get_or, Some, All, refl, sym, ap, ◌∙◌, subst, append_assoc, append-nil, get_or-set_other}
 use Rattle.std.proofs.lemmas.List.{length-map, length-set}
 use Rattle.req_table.specs.declared.Key.{Key}
 use Rattle.req_table.specs.declared.Item.{Item}
@@ -12,18 +12,12 @@ use Rattle.req_table.proofs.Items.{sent_by_of, fair_ask}
 use Rattle.req_table.proofs.Fair.{sent_by-append, fair_front}
 use Rattle.level_close.specs.Counts.{Counts}
 use Rattle.req_table.specs.Sizes.{scope_of}
-use Rattle.req_table.specs.Tables.{Offers}
 use Rattle.lane_queue.specs.declared.load.Load.{Load}
 use Rattle.lane_queue.specs.declared.load.Load.TheVariants.{Bundle, End as LoadEnd}
 use Rattle.lane_queue.specs.Loads.{load_from, ask_of, items_in}
 use Rattle.lane_queue.specs.PortView.{LanesView, PortView, IsPortOf, IsTaken, IsOpen, has_taken, lanes_scope}
 use Rattle.expand_work.specs.Work.{at, Offered, IsHeard, StaysClosed}
 use Rattle.expand_work.proofs.Hearing.{fair_item, closed_more, hear_end, hear_ask, end_stays}
-
--- a table to which a key was offered has admitted it
-pub admits_one : (ys zs : List Key) (x : Key) (b : Bool) → Offers ys x b zs → Admits ys (x ∷ []) zs
-admits_one ys zs x true h = inr (h.0, sym h.1)
-admits_one ys zs x false h = inl (h.0, sym h.1)
 
 -- in terms of the lanes
 pub record Told (l : LanesView) (taken : List Item) (x : Load) : Type 0 where

@@ -30,3 +30,16 @@ module _ {A B : Type 0} (R : A → B → Type 0) where
   zip_long [] (z ∷ ys) h = absurd h
   zip_long (z ∷ xs) [] h = absurd h
   zip_long (u ∷ xs) (v ∷ ys) h = let a = zip_long xs ys h.1 in omega (arith, a)
+
+  -- two lists behind two others
+  pub zip_append : (xs us : List A) (ys vs : List B) → AllZip R xs ys → AllZip R us vs → AllZip R (xs ++ us) (ys ++ vs)
+  zip_append [] us [] vs h k = k
+  zip_append [] us (y ∷ ys) vs h k = absurd h
+  zip_append (x ∷ xs) us [] vs h k = absurd h
+  zip_append (x ∷ xs) us (y ∷ ys) vs h k = (h.0, zip_append xs us ys vs h.1 k)
+
+pub zip_weaker : {A B : Type 0} (R Q : A → B → Type 0) → ((x : A) (y : B) → R x y → Q x y) → (xs : List A) (ys : List B) → AllZip R xs ys → AllZip Q xs ys
+zip_weaker R Q f [] [] h = tt
+zip_weaker R Q f [] (y ∷ ys) h = absurd h
+zip_weaker R Q f (x ∷ xs) [] h = absurd h
+zip_weaker R Q f (x ∷ xs) (y ∷ ys) h = (f x y h.0, zip_weaker R Q f xs ys h.1)

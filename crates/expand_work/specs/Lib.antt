@@ -2,7 +2,9 @@ pub mod Parts
 pub mod Fault
 pub mod Worked
 pub mod Work
+pub mod Noted
 pub mod Working
 pub mod Team
 pub mod Expanded
+pub mod Gathered
 pub mod Bounds

@@ -1,12 +1,15 @@
 -- What a worker begins with, and what it ends with.
-use Rattle.std.specs.Prelude.{◌≡◌, ℕ, ◌<◌, List, [], length}
+use Rattle.std.specs.Prelude.{◌≡◌, ℕ, ◌<◌, List, [], length, map}
 use Rattle.dd_store.specs.Nodes.{Nodes}
 use Rattle.req_table.specs.declared.Key.{Key}
 use Rattle.req_table.specs.Keys.{wave_of}
 use Rattle.req_table.specs.Tables.{row_at}
 use Rattle.lane_queue.specs.PortView.{LanesView, PortView, sent_to, put_to, IsPortOf}
 use Rattle.expand_work.specs.declared.part.Part.{Part}
+use Rattle.req_table.specs.Keys.{level_of}
+use Rattle.req_table.specs.Settled.{key_of}
 use Rattle.expand_work.specs.Parts.{IsPart, loads_of}
+use Rattle.expand_work.specs.Noted.{ArePlaces}
 
 -- The port has sent and taken nothing.
 abbrev pub IsFresh : PortView → Type 0
@@ -20,4 +23,5 @@ pub record IsWorked (l : LanesView) (S : Nodes) (roots : List Key) (s : ℕ) (p 
   pub lists : length p.port.put ≡ length l.lanes
   pub levels : length p.rows ≡ S.levels
   pub part : IsPart (wave_of S (length l.lanes)) roots s (sent_to p.port) p.port.taken (row_at p.rows)
+  pub noted : ArePlaces (level_of S) (length l.lanes) p.port.taken (λ u. map key_of (row_at p.rows u)) p.noted
   pub put : (k : ℕ) → k < length l.lanes → put_to p.port k ≡ loads_of S.levels s k (sent_to p.port k)

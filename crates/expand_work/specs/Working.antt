@@ -7,6 +7,7 @@ use Rattle.lane_queue.specs.PortView.{LanesView, sent_to, put_to, IsPortOf, lane
 use Rattle.expand_work.specs.declared.worker.Worker.{Worker}
 use Rattle.expand_work.specs.Parts.{IsAt, loads_of}
 use Rattle.expand_work.specs.Work.{at, lanes_wave, IsHeard}
+use Rattle.expand_work.specs.Noted.{IsNoted}
 
 -- What the worker has before level v.
 pub record IsWorking (l : LanesView) (S : Nodes) (roots : List Key) (v : ℕ) (w : Worker) : Type 0 where
@@ -15,6 +16,7 @@ pub record IsWorking (l : LanesView) (S : Nodes) (roots : List Key) (v : ℕ) (w
   pub sizes : l.sizes ≡ sizes_of S
   pub sound : IsSound S
   pub heard : IsHeard (lanes_scope l) w.port.taken w.clock w.tables
+  pub noted : IsNoted (length l.lanes) w.port.taken w.tables w.noted
   pub many_rows : length w.rows ≡ v
   pub many_due : length w.due ≡ length l.lanes
   pub level : IsAt (lanes_wave S (length l.lanes)) roots w.port.number v (sent_to w.port) w.port.taken (at w.due) (at w.tables) (at w.rows)

@@ -7,7 +7,7 @@ ghost use Rattle.lane_queue.specs.Joining.{sent_from};
 ghost use Rattle.expand_work.specs.Expanded.{IsSettledFor, AreByNumber, put_by, bundles_between};
 
 use crate::merge::{merge_rows, split_parts};
-use crate::team::run_workers;
+use crate::team::{Wave, run_workers};
 use crate::{Gate, WaveFault};
 use dd_store::Store;
 use lane_queue::{Lanes, Port};
@@ -76,8 +76,14 @@ pub fn expand_all<R: Threads + Wait + Sync, G: Gate>(
 {
     let levels = store.levels();
     let (lanes, ports) = Lanes::new(alloc, store, workers)?;
-    let parts = run_workers(rt, alloc, &lanes, ports, store, roots, gate)?;
-    let (ports, rows) = split_parts(alloc, parts)?;
+    let wave = Wave {
+        alloc,
+        lanes: &lanes,
+        store,
+        roots,
+    };
+    let parts = run_workers(rt, wave, ports, gate)?;
+    let (ports, rows, _) = split_parts(alloc, parts)?;
     let records = merge_rows(alloc, rows.as_slice(), levels)?;
     let settled = lanes.settle(rt, ports)?;
     Ok(Expanded {

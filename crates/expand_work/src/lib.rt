@@ -9,13 +9,17 @@ mod listen;
 mod lists;
 mod merge;
 mod part;
+mod parts;
 mod say;
 mod site;
+mod table;
 mod team;
 mod worker;
 
 pub use expanded::{Expanded, expand_all};
 pub use fault::{WaveFault, WorkFault};
 pub use gate::{Free, Gate};
+pub use lists::Noted;
 pub use part::Part;
+pub use parts::{Parts, expand_parts};
 pub use worker::work;

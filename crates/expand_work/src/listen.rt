@@ -3,10 +3,11 @@ ghost use Rattle.std.specs.Prelude.{◌≡◌, ◌<◌, length, map, All, OnOk};
 ghost use Rattle.req_table.specs.Lanes.{IsClosed};
 ghost use Rattle.lane_queue.specs.PortView.{sent_to, IsPortOf, lanes_scope};
 ghost use Rattle.req_table.specs.Lanes.{sent_by};
-ghost use Rattle.expand_work.specs.Work.{item_of, MaySend, HasKept, Offered, IsHeard, StaysClosed};
+ghost use Rattle.expand_work.specs.Work.{item_of, with_levels, MaySend, HasKept, Offered, IsHeard, StaysClosed};
+ghost use Rattle.expand_work.specs.Noted.{IsNoted, Notes};
 
 use crate::WorkFault;
-use crate::lists::Tables;
+use crate::lists::{Noted, Tables};
 use crate::site::Site;
 use crossbeam_utils::Backoff;
 use dd_store::Store;
@@ -18,14 +19,29 @@ use std::alloc::AllocError;
 use std::sync::Wait;
 use std::sync::atomic::Ordering;
 
-// Admits the requests of a bundle to their levels' tables.
-fn admit_all(tables: &mut Tables, asks: &[(u16, Key)]) -> Result<(), AllocError>
-    requires { All (λ a. a.0 < length tables.old) asks.now }
-    ensures { OnOk result (Offered asks.now tables.old tables.new) }
+/// What a worker knows by sender: how many levels it has ended, and where the requests were put that were taken of it.
+#[derive(Drop)]
+pub struct Senders {
+    pub clock: Clock,
+    pub noted: Noted,
+}
+
+// Admits the requests of a sender's bundle to their levels' tables, and notes their places.
+fn admit_all(
+    tables: &mut Tables,
+    noted: &mut Noted,
+    from: u32,
+    asks: &[(u16, Key)],
+) -> Result<(), AllocError>
+    requires levels { All (λ a. a.0 < length tables.old) asks.now }
+    requires from { from < length noted.old }
+    ensures offered { OnOk result (Offered asks.now tables.old tables.new) }
+    ensures noted { OnOk result (Notes from asks.now tables.old tables.new noted.old noted.new) }
 {
     for ask in asks {
         let (level, key) = *ask;
-        tables.admit(level, key)?;
+        let place = tables.admit(level, key)?;
+        noted.push(from, place)?;
     }
     Ok(())
 }
@@ -36,23 +52,27 @@ pub fn keep_own(
     port: &mut Port,
     clock: &Clock,
     tables: &mut Tables,
+    noted: &mut Noted,
     keys: &[Key],
 ) -> Result<(), AllocError>
     requires port { IsPortOf site.lanes.now port.old }
     requires may { MaySend site.lanes.now site.store.now port.old port.old.number keys.now }
     requires taken { sent_by port.old.number port.old.taken ≡ sent_to port.old port.old.number }
     requires heard { IsHeard (lanes_scope site.lanes.now) port.old.taken clock.now tables.old }
+    requires noted { IsNoted (length site.lanes.now.lanes) port.old.taken tables.old noted.old }
     ensures kept { OnOk result (HasKept port.old port.new (map (item_of site.entry.store.now port.old.number) keys.now)) }
     ensures heard { OnOk result (IsHeard (lanes_scope site.entry.lanes.now) port.new.taken clock.now tables.new) }
     ensures stays { OnOk result
         (StaysClosed (lanes_scope site.entry.lanes.now) port.old.taken port.new.taken tables.old tables.new) }
+    ensures noted { OnOk result (IsNoted (length site.entry.lanes.now.lanes) port.new.taken tables.new noted.new) }
 {
     let _clock = clock;
     let own = port.number();
     for key in keys {
         let level = level_of(site.store, *key);
         port.keep(level, *key);
-        tables.admit(level, *key)?;
+        let place = tables.admit(level, *key)?;
+        noted.push(own, place)?;
     }
     Ok(())
 }
@@ -62,24 +82,25 @@ fn take_one<R: Wait>(
     rt: &R,
     lanes: &Lanes,
     port: &mut Port,
-    clock: &mut Clock,
+    senders: &mut Senders,
     tables: &mut Tables,
 ) -> Result<bool, WorkFault>
     requires port { IsPortOf lanes.now port.old }
-    requires heard { IsHeard (lanes_scope lanes.now) port.old.taken clock.old tables.old }
+    requires heard { IsHeard (lanes_scope lanes.now) port.old.taken senders.old.clock tables.old }
+    requires noted { IsNoted (length lanes.now.lanes) port.old.taken tables.old senders.old.noted }
     ensures same { OnOk result (port.new ≡ record port.old { popped = port.new.popped; taken = port.new.taken }) }
-    ensures heard { OnOk result (IsHeard (lanes_scope lanes.now) port.new.taken clock.new tables.new) }
+    ensures heard { OnOk result (IsHeard (lanes_scope lanes.now) port.new.taken senders.new.clock tables.new) }
     ensures stays { OnOk result
         (StaysClosed (lanes_scope lanes.now) port.old.taken port.new.taken tables.old tables.new) }
+    ensures noted { OnOk result (IsNoted (length lanes.now.lanes) port.new.taken tables.new senders.new.noted) }
 {
     let Some(load) = lanes.take(rt, port) else {
         return Ok(false);
     };
     match load {
-        Load::End { from, level } => clock.note(from, level),
+        Load::End { from, level } => senders.clock.note(from, level),
         Load::Bundle { from, asks } => {
-            let _from = from;
-            admit_all(tables, asks.asks())?;
+            admit_all(tables, &mut senders.noted, from, asks.asks())?;
         }
     }
     Ok(true)
@@ -90,25 +111,27 @@ pub fn take_until_closed<R: Wait>(
     rt: &R,
     site: Site<'_>,
     port: &mut Port,
-    clock: &mut Clock,
+    senders: &mut Senders,
     tables: &mut Tables,
     level: u16,
 ) -> Result<(), WorkFault>
     requires port { IsPortOf site.lanes.now port.old }
-    requires heard { IsHeard (lanes_scope site.lanes.now) port.old.taken clock.old tables.old }
+    requires heard { IsHeard (lanes_scope site.lanes.now) port.old.taken senders.old.clock tables.old }
+    requires noted { IsNoted (length site.lanes.now.lanes) port.old.taken tables.old senders.old.noted }
     ensures same { OnOk result (port.new ≡ record port.old { popped = port.new.popped; taken = port.new.taken }) }
-    ensures heard { OnOk result (IsHeard (lanes_scope site.entry.lanes.now) port.new.taken clock.new tables.new) }
+    ensures heard { OnOk result (IsHeard (lanes_scope site.entry.lanes.now) port.new.taken senders.new.clock tables.new) }
     ensures stays { OnOk result
         (StaysClosed (lanes_scope site.entry.lanes.now) port.old.taken port.new.taken tables.old tables.new) }
+    ensures noted { OnOk result (IsNoted (length site.entry.lanes.now.lanes) port.new.taken tables.new senders.new.noted) }
     ensures closed { OnOk result (IsClosed (lanes_scope site.entry.lanes.now) level port.new.taken) }
 {
     let Site { lanes, stop, .. } = site;
     let backoff = Backoff::new();
     for turn in rt.forever() {
-        if clock.closed(level) {
+        if senders.clock.closed(level) {
             return Ok(());
         }
-        if take_one(rt, lanes, port, clock, tables)? {
+        if take_one(rt, lanes, port, senders, tables)? {
             backoff.reset();
         } else {
             if stop.load(Ordering::SeqCst) {

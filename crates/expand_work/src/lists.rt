@@ -1,10 +1,10 @@
-//! Lists of keys by worker, tables and rows by level.
-ghost use Rattle.std.specs.Prelude.{◌≡◌, ℕ, ◌<◌, List, [], ◌∷◌, ◌++◌, length, replicate, slice_set, IfOk, OnOk};
-ghost use Rattle.req_table.specs.declared.Key.{Key};
-ghost use Rattle.req_table.specs.Tables.{Offers};
+//! Lists of keys and of places by worker, tables and rows by level.
+ghost use Rattle.std.specs.Prelude.{◌≡◌, ◌<◌, [], ◌∷◌, ◌++◌, length, replicate, slice_set, IfOk, OnOk};
+ghost use Rattle.expand_work.specs.Noted.{EntersAt};
 ghost use Rattle.expand_work.specs.Work.{at};
 
-use req_table::{Key, Record, Records, Table};
+use crate::table::Table;
+use req_table::{Key, Record, Records};
 use std::alloc::{AllocError, Global};
 use std::marker::Model;
 
@@ -53,6 +53,50 @@ impl KeyLists {
     }
 }
 
+/// One list of places for each worker.
+#[derive(Drop)]
+pub struct Noted {
+    lists: Vec<Vec<u32>>,
+}
+
+impl Model for Noted {
+    ghost use Rattle.std.specs.Prelude.{ℕ, List, map};
+
+    ghost Value = { List (List ℕ) };
+
+    ghost view = { λ n. map (λ v. v.items) n.lists.items };
+}
+
+impl Noted {
+    /// So many empty lists.
+    pub fn new(alloc: Global, count: u32) -> Result<Noted, AllocError>
+        ensures { IfOk result (λ n. n ≡ replicate count []) }
+    {
+        let mut lists = Vec::new(alloc);
+        for made in 0..count {
+            lists.push(Vec::new(alloc))?;
+        }
+        Ok(Noted { lists })
+    }
+
+    /// Puts the place at the end of the worker's list.
+    pub fn push(&mut self, from: u32, place: u32) -> Result<(), AllocError>
+        requires { from < length self.old }
+        ensures { OnOk result (self.new ≡ slice_set self.old from (at self.old from ++ place ∷ [])) }
+    {
+        self.lists[from as usize].push(place)?;
+        Ok(())
+    }
+
+    /// The worker's list.
+    pub fn list(&self, from: u32) -> &[u32]
+        requires { from < length self.now }
+        ensures { result.now ≡ at self.now from }
+    {
+        &self.lists[from as usize]
+    }
+}
+
 /// One table for each level.
 #[derive(Drop)]
 pub struct Tables {
@@ -75,18 +119,17 @@ impl Tables {
     {
         let mut tables = Vec::new(alloc);
         for made in 0..count {
-            tables.push(Table::new(alloc)?)?;
+            tables.push(Table::new(alloc))?;
         }
         Ok(Tables { tables })
     }
 
-    /// Admits the key to the level's table if it is not there, and says whether it was new.
-    pub fn admit(&mut self, level: u16, key: Key) -> Result<bool, AllocError>
+    /// The place of the key in the level's table, to which it is admitted if it is not there.
+    pub fn admit(&mut self, level: u16, key: Key) -> Result<u32, AllocError>
         requires { level < length self.old }
-        ensures { IfOk result (λ new. (keys : List Key) × Offers (at self.old level) key new keys
-            × (self.new ≡ slice_set self.old level keys)) }
+        ensures { IfOk result (λ p. EntersAt self.old level key p self.new) }
     {
-        Ok(self.tables[level as usize].admit(key)?)
+        self.tables[level as usize].admit(key)
     }
 
     /// The keys of the level's table, in order of admission.
@@ -97,6 +140,11 @@ impl Tables {
         self.tables[level as usize].keys()
     }
 }
+
+// What a record takes in its row, and a request in a bundle.
+const _: () = prove!(size_of::<Record>() == 64);
+
+const _: () = prove!(size_of::<(u16, Key)>() == 24);
 
 /// The records of the levels so far.
 #[derive(Drop)]

@@ -6,23 +6,34 @@ ghost use Rattle.expand_work.specs.declared.part.Part.{Part};
 ghost use Rattle.expand_work.specs.Expanded.{row_of};
 
 use crate::Part;
+use crate::lists::Noted;
 use lane_queue::Port;
 use req_table::{Record, Records};
 use std::alloc::{AllocError, Global};
 
-/// The ports and the rows of the parts.
-pub fn split_parts(alloc: Global, parts: Vec<Part>) -> Result<(Vec<Port>, Vec<Records>), AllocError>
+/// The ports, the rows and the places of the parts.
+pub fn split_parts(
+    alloc: Global,
+    parts: Vec<Part>,
+) -> Result<(Vec<Port>, Vec<Records>, Vec<Noted>), AllocError>
     ensures ports { IfOk result (λ r. r.0.items ≡ map (λ (p : Part). p.port) parts.items) }
     ensures rows { IfOk result (λ r. r.1.items ≡ map (λ (p : Part). p.rows) parts.items) }
+    ensures noted { IfOk result (λ r. r.2.items ≡ map (λ (p : Part). p.noted) parts.items) }
 {
     let mut ports = Vec::new(alloc);
     let mut rows = Vec::new(alloc);
+    let mut notes = Vec::new(alloc);
     for part in parts {
-        let Part { port, rows: row } = part;
+        let Part {
+            port,
+            rows: row,
+            noted,
+        } = part;
         ports.push(port)?;
         rows.push(row)?;
+        notes.push(noted)?;
     }
-    Ok((ports, rows))
+    Ok((ports, rows, notes))
 }
 
 // The records of a level, worker by worker.

@@ -72,23 +72,35 @@ fn judge(started: bool, joined: Result<Vec<Part>, WaveFault>) -> Result<Vec<Part
     }
 }
 
+/// What the workers of a wave share: their lanes, the store and all roots.
+#[derive(Clone, Copy)]
+pub struct Wave<'a> {
+    pub alloc: Global,
+    pub lanes: &'a Lanes,
+    pub store: &'a Store,
+    pub roots: &'a [Key],
+}
+
 /// The parts of all workers by number, each from a thread of its own, once all threads were joined.
 pub fn run_workers<R: Threads + Wait + Sync, G: Gate>(
     rt: &R,
-    alloc: Global,
-    lanes: &Lanes,
+    wave: Wave<'_>,
     ports: Vec<Port>,
-    store: &Store,
-    roots: &[Key],
     gate: &G,
 ) -> Result<Vec<Part>, WaveFault>
-    requires ports { AreNew lanes.now ports.items }
-    requires sizes { lanes.now.sizes ≡ sizes_of store.now }
-    requires roots { All (IsKey store.now) roots.now }
-    ensures parts { IfOk result (λ v. AreWorked lanes.now store.now roots.now v.items) }
+    requires ports { AreNew wave.lanes.now ports.items }
+    requires sizes { wave.lanes.now.sizes ≡ sizes_of wave.store.now }
+    requires roots { All (IsKey wave.store.now) wave.roots.now }
+    ensures parts { IfOk result (λ v. AreWorked wave.entry.lanes.now wave.entry.store.now wave.entry.roots.now v.items) }
     ensures fault { IfErr result (λ f. f ≢ WaveFault.Full) }
     ensures unbounded { IfErr result (λ f. f ≢ WaveFault.TooManyRequests) }
 {
+    let Wave {
+        alloc,
+        lanes,
+        store,
+        roots,
+    } = wave;
     let stop = AtomicBool::new(false);
     let flag = &stop;
     thread::scope(

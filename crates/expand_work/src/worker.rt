@@ -7,8 +7,8 @@ ghost use Rattle.expand_work.specs.Working.{IsWorking};
 ghost use Rattle.expand_work.specs.Worked.{IsFresh, IsWorked};
 
 use crate::expand::{deal_roots, expand_row};
-use crate::listen::{keep_own, take_until_closed};
-use crate::lists::{KeyLists, Rows, Tables};
+use crate::listen::{Senders, keep_own, take_until_closed};
+use crate::lists::{KeyLists, Noted, Rows, Tables};
 use crate::say::{send_due, send_ends};
 use crate::site::Site;
 use crate::{Gate, Part, WorkFault};
@@ -21,12 +21,13 @@ use std::sync::Wait;
 use std::sync::atomic::{AtomicBool, Ordering};
 
 /// What a worker has between two levels: its port, how many levels each sender has ended, the keys that it was asked
-/// for and its records, by level, and the keys that it has to ask for next, by owner.
+/// for, by level, and where it put them, by sender, its records, by level, and the keys that it has to ask for next, by owner.
 #[derive(Drop)]
 pub struct Worker {
     pub port: Port,
     pub clock: Clock,
     pub tables: Tables,
+    pub noted: Noted,
     pub rows: Rows,
     pub due: KeyLists,
 }
@@ -47,16 +48,25 @@ fn do_level<R: Wait, G: Gate>(
 {
     let Worker {
         mut port,
-        mut clock,
+        clock,
         mut tables,
+        mut noted,
         mut rows,
         due,
     } = worker;
     send_due(rt, site, &mut port, &due)?;
     let own = port.number();
-    keep_own(site, &mut port, &clock, &mut tables, due.list(own))?;
+    keep_own(
+        site,
+        &mut port,
+        &clock,
+        &mut tables,
+        &mut noted,
+        due.list(own),
+    )?;
     send_ends(rt, site.lanes, &mut port, level)?;
-    take_until_closed(rt, site, &mut port, &mut clock, &mut tables, level)?;
+    let mut senders = Senders { clock, noted };
+    take_until_closed(rt, site, &mut port, &mut senders, &mut tables, level)?;
     gate.at_level(own, level);
     let workers = site.lanes.count();
     let Ok((row, due)) = expand_row(site.alloc, site.store, tables.keys(level), workers) else {
@@ -65,10 +75,12 @@ fn do_level<R: Wait, G: Gate>(
     let Ok(_) = rows.push(row) else {
         return Err(WorkFault::OutOfMemory);
     };
+    let Senders { clock, noted } = senders;
     Ok(Worker {
         port,
         clock,
         tables,
+        noted,
         rows,
         due,
     })
@@ -99,12 +111,14 @@ fn run_levels<R: Wait, G: Gate>(
     let levels = store.levels();
     let clock = Clock::new(alloc, workers, levels)?;
     let tables = Tables::new(alloc, levels)?;
+    let noted = Noted::new(alloc, workers)?;
     let rows = Rows::new(alloc);
     let due = deal_roots(alloc, roots, number, workers)?;
     let mut worker = Worker {
         port,
         clock,
         tables,
+        noted,
         rows,
         due,
     };
@@ -118,6 +132,7 @@ fn run_levels<R: Wait, G: Gate>(
     Ok(Part {
         port: worker.port,
         rows: worker.rows.into_records(),
+        noted: worker.noted,
     })
 }
 

@@ -12,3 +12,6 @@ pub mod Waving
 pub mod Driven
 pub mod Splits
 pub mod Known
+pub mod Reading
+pub mod Teaming
+pub mod Rooting

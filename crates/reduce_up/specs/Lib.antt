@@ -1,6 +1,7 @@
 pub mod Reducing
 pub mod Levels
 pub mod Waves
+pub mod Team
 pub mod Sharing
 pub mod Known
 pub mod Placed

@@ -1,11 +1,14 @@
 //! From the requests of a wave to their diagrams: reduction from the last level up, and waves over it.
 #![tactic(auto)]
 
+mod answers;
 pub mod law;
 mod levels;
 mod parallel;
 mod results;
+mod roots;
 mod seeking;
+mod team;
 mod waves;
 
 pub use levels::reduce;

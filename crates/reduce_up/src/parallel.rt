@@ -84,7 +84,7 @@ fn divide(alloc: Global, pairs: &[(Ref, Ref)]) -> Result<Vec<Vec<(Ref, Ref)>>, A
 }
 
 /// Adds to a level a node for each pair of different children that has none.
-fn add_pairs<R: Threads + Sync, H: Watch>(
+pub(crate) fn add_pairs<R: Threads + Sync, H: Watch>(
     rt: &R,
     alloc: Global,
     store: &mut Store,
@@ -119,7 +119,7 @@ fn reference(store: &Store, level: u16, pair: (Ref, Ref)) -> Ref
 }
 
 /// The references that stand for pairs, in the order of the pairs.
-fn references<R: Threads + Sync>(
+pub(crate) fn references<R: Threads + Sync>(
     rt: &R,
     alloc: Global,
     store: &Store,

@@ -5,15 +5,18 @@ ghost use Rattle.dd_store.specs.Nodes.{IsSound};
 ghost use Rattle.req_table.specs.Short.{short_of};
 ghost use Rattle.req_table.specs.Keys.{normal_of, IsKey};
 ghost use Rattle.req_table.specs.Memos.{IsRight};
+ghost use Rattle.expand_work.specs.Gathered.{AreParts};
 ghost use Rattle.reduce_up.specs.Known.{unknown, IsKeptWave};
 ghost use Rattle.reduce_up.specs.Reducing.{HasAnswer, AddsDescribed};
 ghost use Rattle.reduce_up.specs.Waves.{IsEntry, AnswersEach, IsWanted, AddsBelow, IsWithinLimit, IsWaveFault, IsClosureOf, requests_of, IsTakenFrom};
 
 use crate::levels::reduce;
 use crate::results::Results;
+use crate::roots::team_answers;
 use crate::seeking::Sought;
+use crate::team::{Field, Progress, Team, begin, reduce_team};
 use dd_store::{Ref, Store, Watch};
-use expand_work::{Free, Gate, WaveFault, expand_all};
+use expand_work::{Free, Gate, WaveFault, expand_parts};
 use req_table::requests::{normal, short};
 use req_table::{Key, Memo, Op, Records};
 use std::alloc::{AllocError, Global};
@@ -184,6 +187,47 @@ pub fn wave_one<R: Threads + Sync>(
     }
 }
 
+/// The diagram of each operation, by reduction of what the workers recorded, each for itself.
+fn answer_team<R: Threads + Sync, H: Watch>(
+    rt: &R,
+    store: &mut Store,
+    entries: &[(Op, Ref, Ref)],
+    field: Field<'_>,
+    watch: &H,
+) -> Result<Vec<Ref>, WaveFault>
+    requires operands { All (IsEntry store.old) entries.now }
+    requires some { 0 < field.workers }
+    requires roots { field.roots.now ≡ requests_of entries.now }
+    requires parts { AreParts store.old field.workers field.roots.now field.parts.now }
+    ensures sound { IsSound store.new }
+    ensures adds { AddsDescribed store.old store.new (IsWanted store.old entries.now) }
+    ensures answers { IfOk result (λ answers. AnswersEach store.old entries.now store.new answers.items) }
+    ensures no_others { IfOk result (λ answers. AddsBelow store.old store.new answers.items) }
+    ensures within { OnOk result (IsWithinLimit store.old entries.now store.new) }
+    ensures fault { IfErr result (λ e. IsWaveFault store.old entries.now store.new e) }
+    ensures unbounded { IfErr result (λ e. e ≢ WaveFault.TooManyRequests) }
+{
+    let _ = store.levels();
+    let Ok(mut progress) = begin(store, field) else {
+        return Err(WaveFault::OutOfMemory);
+    };
+    match reduce_team(rt, store, field, &mut progress, watch) {
+        Ok(()) => {}
+        Err(fault) => return Err(fault),
+    }
+    let Progress { answers, mut lefts } = progress;
+    let team = Team {
+        parts: field.parts,
+        roots: field.roots,
+        answers: &answers,
+        workers: field.workers,
+    };
+    match team_answers(field.alloc, store, entries, team, &mut lefts) {
+        Ok(found) => Ok(found),
+        Err(_) => Err(WaveFault::OutOfMemory),
+    }
+}
+
 /// The diagram of each operation on its two operands, without a memo.
 ///
 /// The requests of all operations together are expanded by workers in threads, and reduced from the last level up (Ochi,
@@ -211,9 +255,15 @@ pub fn shared_wave<R: Threads + Wait + Sync, G: Gate>(
     let Ok(roots) = requests_of(alloc, entries) else {
         return Err(WaveFault::OutOfMemory);
     };
-    let expanded = match expand_all(rt, alloc, store, roots.as_slice(), workers, gate) {
-        Ok(expanded) => expanded,
+    let parts = match expand_parts(rt, alloc, store, roots.as_slice(), workers, gate) {
+        Ok(parts) => parts,
         Err(fault) => return Err(fault),
     };
-    answer_closure(rt, alloc, store, entries, expanded.records(), gate)
+    let field = Field {
+        alloc,
+        parts: &parts,
+        roots: roots.as_slice(),
+        workers,
+    };
+    answer_team(rt, store, entries, field, gate)
 }

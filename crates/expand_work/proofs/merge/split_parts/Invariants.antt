@@ -7,3 +7,4 @@ invariant-loop-part l =
     (l.yielded ++ l.part-iterator.rest.items ≡ l.fn.parts.items)
     × (l.ports.items ≡ map (λ (p : Part). p.port) l.yielded)
     × (l.rows.items ≡ map (λ (p : Part). p.rows) l.yielded)
+    × (l.notes.items ≡ map (λ (p : Part). p.noted) l.yielded)

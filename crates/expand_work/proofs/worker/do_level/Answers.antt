@@ -1,6 +1,7 @@
-use Rattle.std.proofs.Common.{◌≡◌, ℕ, ◌<◌, filter, map, subst, sym, ◌∙◌, All}
+use Rattle.std.proofs.Common.{◌≡◌, ℕ, ◌<◌, filter, map, length, subst, sym, ◌∙◌, All}
 use Rattle.req_table.specs.Keys.{IsKey}
 use Rattle.req_table.specs.Settled.{asked_by}
+use Rattle.expand_work.specs.Noted.{IsNoted}
 use Rattle.expand_work.specs.Work.{at, item_of, owned_by, MaySend, HasKept}
 use Rattle.expand_work.proofs.Rounds.{due_may, port_due, heard_due, own_may, own_taken, port_kept, ended_before, keys_held, level_next, number_same}
 use Rattle.expand_work.proofs.worker.do_level.Goals as goal
@@ -20,7 +21,7 @@ send_ends-requires-clause-ended g c = ended_before c.args.site.lanes.now c.args.
 pub expand_row-requires-clause-keys : goal.expand_row-requires-clause-keys
 expand_row-requires-clause-keys g c =
     subst (All (IsKey c.args.site.store.now)) (sym c.keys.ensures)
-    (keys_held c.args.site.lanes.now c.args.site.store.now c.args.level c.take_until_closed.new.port.taken c.take_until_closed.new.clock c.take_until_closed.new.tables c.requires.working.sizes c.requires.level c.in_ok-take_until_closed.ensures.heard)
+    (keys_held c.args.site.lanes.now c.args.site.store.now c.args.level c.take_until_closed.new.port.taken c.take_until_closed.new.senders.clock c.take_until_closed.new.tables c.requires.working.sizes c.requires.level c.in_ok-take_until_closed.ensures.heard)
 
 pub returns : goal.returns
 returns g c =
@@ -28,6 +29,12 @@ returns g c =
     let keys = c.in-Ok.ensures.keys ∙ c.keys.ensures in
     let kept = subst (λ ks. HasKept c.send_due.new.port c.keep_own.new.port (map (item_of c.args.site.store.now c.send_due.new.port.number) ks)) c.list.ensures c.in_ok-keep_own.ensures.kept in
     let owed = subst (λ n. (k : ℕ) → k < n → at c.in-Ok.due k ≡ filter (owned_by n k) (asked_by c.in-Ok.row.items)) c.count-workers.ensures.count c.in-Ok.ensures.due in (
-      level_next c.args.site.lanes.now c.args.site.store.now c.args.site.roots.now c.args.level c.args.worker c.requires.working c.send_due.new.port c.in_ok-send_due.ensures c.number-own.result c.number-own.ensures.number c.keep_own.new.port kept c.send_ends.new.port c.take_until_closed.new.port c.take_until_closed.new.clock c.keep_own.new.tables c.take_until_closed.new.tables c.in-Ok.row.items c.in-Ok.due c.push.new.self c.requires.level c.in_ok-keep_own.ensures.stays c.in_ok-send_ends.ensures take.same take.heard take.stays take.closed keys c.in-Ok.ensures.split (c.in-Ok.ensures.long ∙ c.count-workers.ensures.count) owed c.in-Ok-push.ensures,
-      number_same c.args.site.lanes.now c.args.site.store.now c.args.site.roots.now c.args.level c.args.worker c.requires.working c.send_due.new.port c.in_ok-send_due.ensures c.number-own.result c.number-own.ensures.number c.keep_own.new.port kept c.send_ends.new.port c.take_until_closed.new.port c.take_until_closed.new.clock c.keep_own.new.tables c.take_until_closed.new.tables c.in-Ok.row.items c.in-Ok.due c.push.new.self c.requires.level c.in_ok-keep_own.ensures.stays c.in_ok-send_ends.ensures take.same take.heard take.stays take.closed keys c.in-Ok.ensures.split (c.in-Ok.ensures.long ∙ c.count-workers.ensures.count) owed c.in-Ok-push.ensures,
+      level_next c.args.site.lanes.now c.args.site.store.now c.args.site.roots.now c.args.level c.args.worker c.requires.working c.send_due.new.port c.in_ok-send_due.ensures c.number-own.result c.number-own.ensures.number c.keep_own.new.port kept c.send_ends.new.port c.take_until_closed.new.port c.take_until_closed.new.senders.clock c.keep_own.new.tables c.take_until_closed.new.tables c.in-Ok.row.items c.in-Ok.due c.push.new.self c.requires.level c.in_ok-keep_own.ensures.stays c.in_ok-send_ends.ensures take.same take.heard take.stays take.closed keys c.in-Ok.ensures.split (c.in-Ok.ensures.long ∙ c.count-workers.ensures.count) owed c.in-Ok-push.ensures c.take_until_closed.new.senders.noted take.noted,
+      number_same c.args.site.lanes.now c.args.site.store.now c.args.site.roots.now c.args.level c.args.worker c.requires.working c.send_due.new.port c.in_ok-send_due.ensures c.number-own.result c.number-own.ensures.number c.keep_own.new.port kept c.send_ends.new.port c.take_until_closed.new.port c.take_until_closed.new.senders.clock c.keep_own.new.tables c.take_until_closed.new.tables c.in-Ok.row.items c.in-Ok.due c.push.new.self c.requires.level c.in_ok-keep_own.ensures.stays c.in_ok-send_ends.ensures take.same take.heard take.stays take.closed keys c.in-Ok.ensures.split (c.in-Ok.ensures.long ∙ c.count-workers.ensures.count) owed c.in-Ok-push.ensures c.take_until_closed.new.senders.noted take.noted,
     )
+
+pub keep_own-requires-clause-noted : goal.keep_own-requires-clause-noted
+keep_own-requires-clause-noted g c = subst (λ xs. IsNoted (length c.args.site.lanes.now.lanes) xs c.args.worker.tables c.args.worker.noted) (sym c.in_ok-send_due.ensures.taken) c.requires.working.noted
+
+pub take_until_closed-requires-clause-noted : goal.take_until_closed-requires-clause-noted
+take_until_closed-requires-clause-noted g c = subst (λ xs. IsNoted (length c.args.site.lanes.now.lanes) xs c.keep_own.new.tables c.keep_own.new.noted) (sym c.in_ok-send_ends.ensures.taken) c.in_ok-keep_own.ensures.noted
