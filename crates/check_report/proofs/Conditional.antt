@@ -298,6 +298,13 @@ module _ (n m k : Net) (p : Paired) (S T : Nodes) (refs : References) (built : A
 
 -- ---- what a wave leaves, by the lists that it was handed
 
+-- references that were made of a view of what is compared, and a view of them
+pub made : (refs : References) (of view : List Subject) (items : List Ref) → items ≡ references refs view → view ≡ of → items ≡ references refs of
+made refs of view items e same = e ∙ ap (references refs) same
+
+pub handed : (refs : References) (of view : List Subject) (items slice : List Ref) → slice ≡ items → items ≡ references refs view → view ≡ of → slice ≡ references refs of
+handed refs of view items slice whole e same = whole ∙ made refs of view items e same
+
 -- what is none of those that are there is not there
 pub no_other : {X : Type 0} (o : Option X) → ((x : X) → o ≡ Some x → ⊥) → o ≡ None
 no_other None h = refl

@@ -1,5 +1,5 @@
 -- Candidates, and the budgets within which they are tried.
-use Rattle.std.proofs.Common.{◌≡◌, ℕ, suc, ◌*◌, ◌^◌, List, Option, Some, None, Result, Ok, Err, IfErr, arith, refl, ap, sym}
+use Rattle.std.proofs.Common.{◌≡◌, ℕ, suc, ◌*◌, ◌^◌, List, Option, Some, None, Result, Ok, Err, IfErr, arith, refl, ap, sym, ◌∙◌, Bool}
 use Rattle.std.specs.Prelude.{IsSomeAnd, is_some, option_map}
 use Rattle.std.specs.Option.{option_copied}
 use Rattle.std.specs.Borrow.{Bor}
@@ -18,6 +18,8 @@ use Rattle.check_report.specs.Best.{IsAllowed, IsChosen, tried_order}
 use Rattle.net_bench.specs.Circuit.{Circuit, Net, circuit}
 use Rattle.net_order.specs.Order.{condition}
 use Rattle.check_report.specs.Devices.{told_by}
+use Rattle.check_report.specs.Json.{form_text}
+use Rattle.check_report.specs.Lines.{Found}
 use Rattle.net_bench.specs.declared.netlist.BenchFault.{BenchFault}
 use Rattle.check_report.specs.Check.{Gives, IsUnread, IsConditionFault, IsCheckFault}
 
@@ -88,3 +90,7 @@ chosen_is one two three how (One o) limit None order c = c.0
 chosen_is one two three how (One o) limit (Some t) order c = absurd c
 chosen_is one two three how Best limit None order c = absurd c
 chosen_is one two three how Best limit (Some t) order c = c.0
+
+-- the bytes of a report, by what its order and its condition are
+pub form_as : (json : Bool) (how : Match) (found : Found) (items : List ℕ) (o order : Order) (h given : Bool) → items ≡ form_text json how o h found → order ≡ o → h ≡ given → items ≡ form_text json how order given found
+form_as json how found items o order h given e same told = e ∙ ap (λ z. form_text json how z h found) (sym same) ∙ ap (λ z. form_text json how order z found) told
