@@ -5,14 +5,17 @@ usage: tests/devices.py PROGRAM
 """
 import os
 import pathlib
+import re
 import shutil
 import socket
 import subprocess
 import sys
 import threading
+import time
 
 import kit
 from kit import C17, C17_DIFFERS, C17_EQUAL, C17B, Run, Tally, lines, netlist, run, written
+from refusals import products
 
 TEXT_LIMIT = 67_108_864
 INPUT_LIMIT = 134_221_824
@@ -39,6 +42,18 @@ class Devices:
         self.tally.check(name, seen == wanted, f"{seen}; wanted {wanted}")
 
     # Outputs.
+
+    def progress(self):
+        """What --verbose tells while the diagrams are built: lines on standard error alone, no more than one a second."""
+        one, chain = self.file("one", products(21)), self.file("chain", products(21, "chain"))
+        silent = self.run("--sizes", one, chain)
+        begun = time.monotonic()
+        seen = self.run("--sizes", "--verbose", one, chain)
+        seconds = time.monotonic() - begun
+        told = seen.err.decode().splitlines()
+        is_told = all(re.fullmatch(r"bddcheck: rank \d+ of \d+, \d+ nodes", line) for line in told)
+        self.check("a long run, and what is told of it", Run(seen.status, seen.out, b""), silent)
+        self.tally.check("lines of progress", is_told and len(told) <= seconds and (told or seconds < 3), seen)
 
     def full_disk(self):
         for words in (["--sizes"], ["--workers", 1], ["--format", "json"]):
@@ -256,6 +271,7 @@ def main():
     tally = Tally("devices")
     with kit.folder() as place:
         devices = Devices(sys.argv[1], place, tally)
+        devices.progress()
         devices.full_disk()
         devices.closed_output()
         devices.closed_errors()

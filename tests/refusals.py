@@ -24,7 +24,7 @@ from kit import C17, C17B, TOP, Tally, lines, netlist, run, say, written
 
 # Where want of memory may stand, and a worker that could not be started.
 REFUSED = {
-    lines(f"bddcheck: {place}out of memory") for place in ("", "first: ", "second: ", "order: ", "build: ")
+    lines(f"bddcheck: {place}out of memory") for place in ("", "first: ", "second: ", "given: ", "order: ", "build: ")
 } | {lines("bddcheck: build: a worker could not be started")}
 # A run without refusals takes a small part of a second; a run that takes so long hangs.
 HANGS = 60
@@ -89,6 +89,8 @@ def rows(place):
     yield Row("order file", ["--workers", 2, "--match", "position", "--order-file", order, c17, c17b])
     machines = [TOP / "examples" / f"{name}.bench" for name in ("s27", "s27_renamed")]
     yield Row("registers", ["--workers", 2, "--sizes", *machines])
+    condition = written(place, "condition", netlist("INPUT(1); INPUT(x); OUTPUT(c); c = NAND(1, x)"))
+    yield Row("condition", ["--workers", 2, "--sizes", "--given", condition, c17, c17b])
     yield Row("refused netlist", [c17, written(place, "bad", C17 + b"x")])
     yield Row("refused words", ["--workers", "none"])
     yield Row("help", ["--help"])

@@ -8,10 +8,10 @@ _bddcheck() {
     --format) mapfile -t COMPREPLY < <(compgen -W 'text json' -- "$word") ;;
     --workers) mapfile -t COMPREPLY < <(compgen -W '1 2 4 8 16' -- "$word") ;;
     --limit) COMPREPLY=() ;;
-    --order-file) mapfile -t COMPREPLY < <(compgen -f -- "$word") ;;
+    --order-file | --given) mapfile -t COMPREPLY < <(compgen -f -- "$word") ;;
     *)
         case $word in
-        -*) mapfile -t COMPREPLY < <(compgen -W '--match --order --order-file --workers --limit --sizes --print-order --format --verbose --help --version' -- "$word") ;;
+        -*) mapfile -t COMPREPLY < <(compgen -W '--match --order --order-file --given --workers --limit --sizes --print-order --format --verbose --help --version' -- "$word") ;;
         *) mapfile -t COMPREPLY < <(compgen -f -- "$word") ;;
         esac
         ;;

@@ -142,7 +142,7 @@ fn verbose<'a>(alloc: Global) -> Arg<'a>
         .long("verbose")
         .action(ArgAction::SetTrue)
         .help(
-            "Tell on standard error which of the best order's attempts it was, and behind a fault where it stands and what helps",
+            "Tell on standard error how far the building is, which of the best order's attempts it was, and behind a fault where it stands and what helps",
         )
 }
 

@@ -113,12 +113,14 @@ fn report_of<R: Threads + Wait + Sync, G: Gate>(
     };
     let mut first = Through::new(text.as_bytes());
     let mut second = Through::new(text.as_bytes());
+    let mut nothing: Option<Through<&[u8]>> = None;
     let mut out = new_page(alloc, 1_000, false);
     check(
         rt,
         alloc,
         &mut first,
         &mut second,
+        &mut nothing,
         &settings,
         gate,
         &mut out,
