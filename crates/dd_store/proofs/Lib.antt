@@ -6,6 +6,7 @@ pub mod Lacking
 pub mod Laws
 pub mod LevelFacts
 pub mod LevelGrown
+pub mod Noting
 pub mod OneSize
 pub mod Order
 pub mod Places
@@ -16,3 +17,4 @@ pub mod Splicing
 pub mod Storing
 pub mod View
 pub mod Visiting
+pub mod Widening

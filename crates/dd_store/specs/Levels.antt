@@ -1,21 +1,54 @@
 -- A list of pairs for each shard of a level.
-use Rattle.std.specs.Prelude.{◌≡◌, ◌≤◌, ℕ, List, [], length, slice_index_or, slice_get, map, Option, Some, None}
+use Rattle.std.specs.Prelude.{◌≡◌, ◌≤◌, ℕ, List, [], ◌∷◌, ◌++◌, length, slice_index_or, slice_get, map, Option, Some, None}
+use Rattle.std.specs.List.{AllZip}
 use Rattle.std.specs.declared.vec.Vec.{Vec}
 use Rattle.std.specs.declared.alloc.Global.{Global}
 use Rattle.dd_store.specs.declared.level.Slot.{Slot}
 use Rattle.dd_store.specs.declared.StoreFault.{StoreFault}
-use Rattle.dd_store.specs.declared.StoreFault.TheVariants.{OutOfMemory}
+use Rattle.dd_store.specs.declared.StoreFault.TheVariants.{Full, OutOfMemory}
+use Rattle.dd_store.specs.declared.reference.Ref.{Ref}
+use Rattle.dd_store.specs.declared.reference.Reference.TheVariants.{Node}
 use Rattle.dd_store.specs.Graph.{Pair}
-use Rattle.dd_store.specs.Growing.{Grows, IsStopped}
+use Rattle.dd_store.specs.Growing.{Grows, IsStopped, Lacks}
 
 -- the list for a shard
 abbrev pub list_at : List (Vec Pair Global) → ℕ → List Pair
 list_at lists s = slice_index_or (map (λ (v : Vec Pair Global). v.items) lists) s []
 
+-- the pairs for a shard in all parts, one part after the other
+abbrev pub all_at : List (Vec (Vec Pair Global) Global) → ℕ → List Pair
+all_at [] s = []
+all_at (part ∷ parts) s = list_at part.items s ++ all_at parts s
+
+-- the references for a shard
+abbrev pub refs_at : List (Vec Ref Global) → ℕ → List Ref
+refs_at lists s = slice_index_or (map (λ (v : Vec Ref Global). v.items) lists) s []
+
+-- a slot has grown by pairs of a list, within the limit
+abbrev pub IsGrown : ℕ → List Pair → Slot → Slot → Type 0
+IsGrown limit list old new = Grows list old.shard new.shard × (length old.shard ≤ limit → length new.shard ≤ limit)
+
 -- what adding a list leaves of a slot
 abbrev pub IsAdded : ℕ → List Pair → Slot → Slot → Type 0
-IsAdded limit list old new =
-    Grows list old.shard new.shard × IsStopped limit list new.shard new.fault × (length old.shard ≤ limit → length new.shard ≤ limit)
+IsAdded limit list old new = IsGrown limit list old new × IsStopped limit list new.shard new.fault
+
+-- a reference is that of a pair's place in shard s of level v
+abbrev pub Names : ℕ → ℕ → List Pair → Pair → Ref → Type 0
+Names v s pairs p r = (i : ℕ) × (r ≡ Node (record { level = v; shard = s; index = i })) × (slice_get pairs i ≡ Some p)
+
+-- why not all pairs of a list have a reference; none may be for want of memory
+abbrev pub IsHalted : ℕ → List Pair → List Pair → StoreFault → Type 0
+IsHalted limit list new Full = (limit ≤ length new) × Lacks list new
+IsHalted limit list new OutOfMemory = Unit {0}
+
+-- the references of a list, or why there are none
+abbrev pub AreNoted : ℕ → ℕ → ℕ → List Pair → List Pair → List Ref → Option StoreFault → Type 0
+AreNoted limit v s list new found None = AllZip (Names v s new) list found
+AreNoted limit v s list new found (Some f) = IsHalted limit list new f
+
+-- what making a list leaves of a slot
+abbrev pub IsNoted : ℕ → ℕ → ℕ → List Pair → Slot → Slot → Type 0
+IsNoted limit v s list old new = IsGrown limit list old new × AreNoted limit v s list new.shard new.found.items new.fault
 
 -- the pairs of each shard
 abbrev pub pairs_of : List Slot → List (List Pair)

@@ -1,16 +1,19 @@
-//! The shards of one level, and a list of pairs of children that is added to each of them by four threads.
-ghost use Rattle.std.specs.Prelude.{List, ◌≡◌, ◌⊎◌, ◌<◌, ◌≤◌, ◌^◌, ℕ, length, slice_index_or, Some};
-ghost use Rattle.std.specs.List.{sum_by};
+//! The shards of one level, and lists of pairs of children that four threads add to them.
+ghost use Rattle.std.specs.Prelude.{List, ◌≡◌, ◌⊎◌, ◌<◌, ◌≤◌, ◌-◌, ◌^◌, ◌++◌, [], ℕ, length, map, slice_index_or, vec_capacity, Some, All, OnOk, MatchResult};
+ghost use Rattle.std.specs.List.{sum_by, AllZip};
+ghost use Rattle.dd_store.specs.declared.reference.Ref.{Ref as RefValue};
 ghost use Rattle.dd_store.specs.Graph.{Pair};
 ghost use Rattle.dd_store.specs.Growing.{Grows, IsStopped};
-ghost use Rattle.dd_store.specs.Levels.{IsAdded, list_at, pairs_of, AreWithin, IsFault, HadMemory};
+ghost use Rattle.dd_store.specs.Levels.{IsAdded, IsNoted, IsHalted, Names, list_at, all_at, pairs_of, AreWithin, IsFault, HadMemory};
 ghost use Rattle.dd_store.specs.declared.level.Slot.{Slot as SlotValue};
+ghost use Rattle.slot_table.specs.Placing.{IsPlaced};
 
 use crate::StoreFault;
-use crate::reference::Ref;
-use slot_table::SlotTable;
-use std::thread;
+use crate::reference::{NodeId, Ref};
+use slot_table::{Placed, Refusal, SlotTable};
+use std::alloc::Global;
 use std::thread::Threads;
+use std::{mem, thread};
 
 /// What watches the threads of a call come to their shards.
 pub trait Watch: Sync {
@@ -21,11 +24,24 @@ pub trait Watch: Sync {
 // A node takes 16 bytes in its shard's vector, which keeps room to grow, and 8 to 16 in the slots.
 const _: () = prove!(size_of::<(Ref, Ref)>() == 16);
 
-/// A shard, the children of its nodes by place, and why the last list was not added whole.
+/// A shard, the children of its nodes by place, why the last list was not added whole, and the references that a thread has noted
+/// for its pairs.
 #[derive(Drop)]
 pub(crate) struct Slot {
     pub(crate) shard: SlotTable<(Ref, Ref)>,
     pub(crate) fault: Option<StoreFault>,
+    pub(crate) found: Vec<Ref>,
+}
+
+const _: () = prove!(size_of::<Vec<Ref>>() == 24);
+
+/// Finds a pair in a shard, or adds it where the shard alone holds fewer than `limit` pairs.
+fn place(shard: &mut SlotTable<(Ref, Ref)>, pair: (Ref, Ref), limit: u64) -> Result<Placed, Refusal>
+    requires { limit < 2 ^ 32 }
+    ensures { IsPlaced (limit - length shard.old) pair shard.old result shard.new }
+{
+    let room = limit.saturating_sub(shard.len() as u64);
+    shard.find_or_add(pair, room)
 }
 
 impl Slot {
@@ -38,12 +54,64 @@ impl Slot {
     {
         self.fault = None;
         for pair in list {
-            let room = limit.saturating_sub(self.shard.len() as u64);
-            if let Err(refusal) = self.shard.find_or_add(*pair, room) {
+            if let Err(refusal) = place(&mut self.shard, *pair, limit) {
                 self.fault = Some(StoreFault::from(refusal));
                 return;
             }
         }
+    }
+
+    /// Adds a node for each pair that has none, as `add_list` does, and notes the references of all behind those that are noted.
+    fn make_list(
+        &mut self,
+        list: &[(Ref, Ref)],
+        limit: u64,
+        level: u16,
+        shard: u8,
+    ) -> Result<(), StoreFault>
+        requires { limit < 2 ^ 32 }
+        ensures grows { Grows list.now self.old.shard self.new.shard }
+        ensures within { length self.old.shard ≤ limit → length self.new.shard ≤ limit }
+        ensures noted { MatchResult result (λ _. (refs : List RefValue) × (self.new.found.items ≡ self.old.found.items ++ refs) × AllZip (Names level shard self.new.shard) list.now refs) (λ f. IsHalted limit list.now self.new.shard f) }
+    {
+        if self.found.reserve(list.len()).is_err() {
+            return Err(StoreFault::OutOfMemory);
+        }
+        for pair in list {
+            let index = match place(&mut self.shard, *pair, limit)? {
+                Placed::Found(index) => index,
+                Placed::Added(index) => index,
+            };
+            self.found.push_reserved(Ref::node(NodeId {
+                level,
+                shard,
+                index,
+            }));
+        }
+        Ok(())
+    }
+
+    /// Adds a node for each pair of the parts' lists for a shard that has none, and notes the references of all, part by part.
+    fn make_lists(
+        &mut self,
+        parts: &[Vec<Vec<(Ref, Ref)>>],
+        limit: u64,
+        level: u16,
+        shard: u8,
+    ) -> Result<(), StoreFault>
+        requires limit { limit < 2 ^ 32 }
+        requires lists { All (λ part. length part.items ≡ 16) parts.now }
+        requires shard { shard < 16 }
+        ensures grows { Grows (all_at parts.now shard) self.old.shard self.new.shard }
+        ensures within { length self.old.shard ≤ limit → length self.new.shard ≤ limit }
+        ensures noted { MatchResult result (λ _. AllZip (Names level shard self.new.shard) (all_at parts.now shard) self.new.found.items) (λ f. IsHalted limit (all_at parts.now shard) self.new.shard f) }
+    {
+        self.found.clear();
+        for part in parts {
+            let list = part[shard as usize].as_slice();
+            self.make_list(list, limit, level, shard)?;
+        }
+        Ok(())
     }
 }
 
@@ -69,6 +137,44 @@ pub(crate) fn add_lists<R: Threads + Sync, H: Watch>(
         slot.add_list(lists[shard].as_slice(), limit);
     };
     thread::for_each_mut(rt, slots, 4, &add);
+}
+
+/// Adds list i of each part to slot i, for the sixteen slots of a level, and notes the references of its pairs. Four threads share the
+/// slots, four in a row for each.
+pub(crate) fn make_parts<R: Threads + Sync, H: Watch>(
+    rt: &R,
+    slots: &mut [Slot],
+    level: u16,
+    parts: &[Vec<Vec<(Ref, Ref)>>],
+    limit: u64,
+    watch: &H,
+)
+    requires slots { length slots.old ≡ 16 }
+    requires lists { All (λ part. length part.items ≡ 16) parts.now }
+    requires limit { limit < 2 ^ 32 }
+    ensures { (s : ℕ) (d : SlotValue) → s < 16 → IsNoted limit level s (all_at parts.now s) (slice_index_or slots.old s d) (slice_index_or slots.new s d) }
+{
+    let make = |shard: usize, slot: &mut Slot|
+        requires { (shard < 16) × All (λ part. length part.items ≡ 16) parts.now × (limit < 2 ^ 32) }
+        ensures { IsNoted limit level shard (all_at parts.entry.now shard) slot.entry.now slot.exit.now }
+    {
+        watch.at_shard(shard as u8, level);
+        slot.fault = slot.make_lists(parts, limit, level, shard as u8).err();
+    };
+    thread::for_each_mut(rt, slots, 4, &make);
+}
+
+/// Takes the references out of the slots.
+pub(crate) fn take_found(alloc: Global, slots: &mut [Slot], refs: &mut Vec<Vec<Ref>>)
+    requires empty { refs.old.items ≡ [] }
+    requires room { length slots.old ≤ vec_capacity refs.old }
+    ensures found { refs.new.items ≡ map (λ (c : SlotValue). c.found) slots.old }
+    ensures shards { pairs_of slots.new ≡ pairs_of slots.old }
+{
+    for place in 0..slots.len() {
+        let found = mem::replace(&mut slots[place].found, Vec::new(alloc));
+        refs.push_reserved(found);
+    }
 }
 
 /// How many nodes the shards of a level hold.

@@ -1,16 +1,17 @@
 //! The store: the nodes of shared diagrams by level and shard, with each pair of children at most once in a level,
 //! so that equal functions have equal references (Bryant 1986).
-ghost use Rattle.std.specs.Prelude.{None, Some, ◌≡◌, ◌<◌, ◌≤◌, ◌^◌, ℕ, List, length, Bool, true, false, IfOk, IfErr, IfSome, OnOk, OnErr, IsSome, MatchResult};
+ghost use Rattle.std.specs.Prelude.{None, Some, ◌≡◌, ◌<◌, ◌≤◌, ◌^◌, ℕ, List, [], length, Bool, true, false, All, IfOk, IfErr, IfSome, IfNone, OnOk, OnErr, IsSome, MatchResult, vec_capacity};
+ghost use Rattle.std.specs.List.{AllZip};
 ghost use Rattle.dd_store.specs.declared.reference.NodeId.{NodeId};
 ghost use Rattle.dd_store.specs.Graph.{top, bit, IsRef, Pair};
-ghost use Rattle.dd_store.specs.Levels.{list_at};
+ghost use Rattle.dd_store.specs.Levels.{list_at, all_at, refs_at};
 ghost use Rattle.dd_store.specs.View.{IsMade, IsFull};
-ghost use Rattle.dd_store.specs.Adding.{AreReady, GrowsLevel, IsLevelFault};
-ghost use Rattle.dd_store.specs.Nodes.{Nodes, node, count_of, children, low_of, high_of, cofactor_of, IsSound, IsFound, Extends, IsBranch, IsCanonical, Makes, empty_nodes, den, shard_at};
+ghost use Rattle.dd_store.specs.Adding.{AreReady, GrowsLevel, IsLevelFault, IsMakeFault};
+ghost use Rattle.dd_store.specs.Nodes.{Nodes, node, count_of, children, low_of, high_of, cofactor_of, IsSound, IsFound, IsThere, Extends, IsBranch, IsCanonical, Makes, empty_nodes, den, shard_at};
 ghost use Rattle.slot_table.specs.Probes.{IsSlotCount};
 
 use crate::StoreFault;
-use crate::level::{Slot, Watch, add_lists, level_count, level_fault};
+use crate::level::{Slot, Watch, add_lists, level_count, level_fault, make_parts, take_found};
 use crate::reference::{NodeId, Ref, Reference, SHARDS, shard_of};
 use slot_table::{Placed, SlotTable};
 use std::alloc::{AllocError, Global};
@@ -52,6 +53,7 @@ impl Store {
             slots.push(Slot {
                 shard: SlotTable::new(alloc),
                 fault: None,
+                found: Vec::new(alloc),
             })?;
         }
         Ok(Store {
@@ -318,6 +320,66 @@ impl Store {
         match self.grow_level(rt, level, lists, watch) {
             None => Ok(()),
             Some(fault) => Err(fault),
+        }
+    }
+
+    /// Adds the lists of several parts to the shards of a level, and says why references are missing.
+    fn make_level<R: Threads + Sync, H: Watch>(
+        &mut self,
+        rt: &R,
+        level: u16,
+        parts: &[Vec<Vec<(Ref, Ref)>>],
+        watch: &H,
+        refs: &mut Vec<Vec<Ref>>,
+    ) -> Option<StoreFault>
+        requires lists { All (λ part. length part.items ≡ 16) parts.now }
+        requires ready { AreReady self.old level (all_at parts.now) }
+        requires empty { refs.old.items ≡ [] }
+        requires room { 16 ≤ vec_capacity refs.old }
+        ensures grows { GrowsLevel self.old self.new level (all_at parts.now) }
+        ensures sound { IsSound self.new }
+        ensures sixteen { length refs.new.items ≡ 16 }
+        ensures answers { IfNone result ((s : ℕ) → s < 16 → AllZip (λ p r. IsThere self.new level p.0 p.1 r) (all_at parts.now s) (refs_at refs.new.items s)) }
+        ensures fault { IfSome result (λ f. IsMakeFault self.new level (all_at parts.now) f) }
+    {
+        let first = SHARDS * level as usize;
+        let limit = self.limit;
+        let slots = &mut self.slots[first..first + SHARDS];
+        let before = level_count(slots, limit);
+        make_parts(rt, slots, level, parts, limit, watch);
+        let after = level_count(slots, limit);
+        let halted = level_fault(slots);
+        take_found(self.alloc, slots, refs);
+        self.count = self.count - before + after;
+        halted
+    }
+
+    /// The references of pairs of different children at a level; missing nodes are made. Each part has sixteen lists, one for each
+    /// shard. The answer has a list for each shard: the references of the first part's pairs, then those of the second's, and so on.
+    /// Four threads share the shards, and each pair is sought once. Full is answered only where a shard alone holds as many nodes as
+    /// the limit and lacks a pair of its lists. After a refusal some of the nodes may stand.
+    pub fn make_all<R: Threads + Sync, H: Watch>(
+        &mut self,
+        rt: &R,
+        level: u16,
+        parts: &[Vec<Vec<(Ref, Ref)>>],
+        watch: &H,
+    ) -> Result<Vec<Vec<Ref>>, StoreFault>
+        requires lists { All (λ part. length part.items ≡ 16) parts.now }
+        requires ready { AreReady self.old level (all_at parts.now) }
+        ensures grows { GrowsLevel self.old self.new level (all_at parts.now) }
+        ensures sound { IsSound self.new }
+        ensures extends { Extends self.old self.new }
+        ensures sixteen { IfOk result (λ refs. length refs.items ≡ 16) }
+        ensures answers { IfOk result (λ refs. (s : ℕ) → s < 16 → AllZip (λ p r. IsThere self.new level p.0 p.1 r) (all_at parts.now s) (refs_at refs.items s)) }
+        ensures fault { IfErr result (λ f. IsMakeFault self.new level (all_at parts.now) f) }
+    {
+        let Ok(mut refs) = Vec::with_capacity(self.alloc, SHARDS) else {
+            return Err(StoreFault::OutOfMemory);
+        };
+        match self.make_level(rt, level, parts, watch, &mut refs) {
+            None => Ok(refs),
+            Some(halted) => Err(halted),
         }
     }
 }

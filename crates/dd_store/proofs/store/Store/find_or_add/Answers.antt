@@ -18,7 +18,7 @@ abbrev old : After-find_or_add → Nodes
 old c = record { levels = c.self.inside.levels; limit = c.self.inside.limit; shards = pairs_of c.self.inside.slots.items }
 
 abbrev slot : After-find_or_add → Slot
-slot c = record { shard = c.find_or_add.new.self; fault = c.index_mut-slot.result.now.fault }
+slot c = record { shard = c.find_or_add.new.self; fault = c.index_mut-slot.result.now.fault; found = c.index_mut-slot.result.now.found }
 
 abbrev new : After-find_or_add → Nodes
 new c = record {
