@@ -2,7 +2,7 @@
 //! addressing.
 #![tactic(auto)]
 
-ghost use Rattle.std.specs.Prelude.{◌≡◌, ◌<◌, ◌≤◌, ◌*◌, ◌+◌, ◌==◌, ◌++◌, ◌∷◌, [], ◌^◌, ℕ, true, length, slice_get, Some, MatchOption, IfOk, OnOk, OnErr, vec_capacity, if◌then◌else◌};
+ghost use Rattle.std.specs.Prelude.{◌≡◌, ◌<◌, ◌≤◌, ◌*◌, ◌+◌, ◌==◌, ◌++◌, ◌∷◌, [], ◌^◌, ℕ, true, length, slice_get, Some, MatchOption, IfOk, OnOk, OnErr, if◌then◌else◌};
 ghost use Rattle.slot_table.specs.Probes.{home_of, IsFree, IsFreeFor, HasFree, IsSlotCount, IsSought};
 ghost use Rattle.slot_table.specs.Stamps.{Finds, IsPower, stamp_of, tag_of};
 ghost use Rattle.slot_table.specs.Mixing.{mix_of};
@@ -103,9 +103,6 @@ enum Sought {
 
 /// How many slots the first item makes.
 const FIRST_SLOTS: usize = 8;
-
-/// For how many items more a list gets room at least.
-const FEWEST_MORE: usize = 4;
 
 /// The slot, of `count`, in which the search for an item begins.
 fn home<T: Spread>(item: T, count: usize) -> usize
@@ -231,19 +228,6 @@ fn slot_for<T: Spread>(
     Ok(free_slot(slots.as_slice(), home(item, more)))
 }
 
-/// Makes room for an item more: for a quarter more than there are, since a list that grows by doubling is a quarter empty in the mean.
-/// After an error the list is as before.
-fn make_room<T>(items: &mut Vec<T>) -> Result<(), AllocError>
-    ensures same { items.new.items ≡ items.old.items }
-    ensures room { OnOk result (length items.new.items < vec_capacity items.new) }
-{
-    let count = items.len();
-    if count < items.capacity() {
-        return Ok(());
-    }
-    items.reserve_exact(count / 4 + FEWEST_MORE)
-}
-
 /// Adds an item at the end, whose search ended at `slot`. After an error all is as before.
 fn add_at<T: Spread>(
     items: &mut Vec<T>,
@@ -263,7 +247,7 @@ fn add_at<T: Spread>(
     ensures added { OnOk result (items.new.items ≡ items.old.items ++ item ∷ []) }
     ensures refused { OnErr result (items.new.items ≡ items.old.items) }
 {
-    make_room(items)?;
+    items.reserve(1)?;
     let slot = slot_for(items.as_slice(), slots, item, slot)?;
     slots[slot] = stamp(item, slots.len(), items.len());
     items.push_reserved(item);
