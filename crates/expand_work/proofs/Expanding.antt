@@ -30,7 +30,8 @@ use Rattle.expand_work.specs.Expanded.{IsSettledFor, AreByNumber, put_by, bundle
 use Rattle.expand_work.specs.Gathered.{AreParts, noted_of}
 use Rattle.expand_work.specs.Work.{at}
 use Rattle.expand_work.specs.Lean.{lean_row, records_of, recorded, AreLean}
-use Rattle.req_table.specs.declared.placed.Placed.{Placed}
+use Rattle.expand_work.specs.declared.space.Space.{Space}
+use Rattle.expand_work.specs.Spaces.{records_in, rows_in, noted_in}
 use Rattle.expand_work.proofs.Leaning.{recorded-at, keys_of_records}
 use Rattle.expand_work.proofs.Parting.{parts_settle}
 use Rattle.expand_work.proofs.Counting.{sum_add, sum_const}
@@ -117,28 +118,32 @@ module _ (S : Nodes) (l : LanesView) (roots : List Key) (parts : List Part) (wor
         )),
   )
 
-  -- each worker has a table for each level, with keys of the store
-  pub parts_tables : (P : List (List Key) → Type 0) → ((k : ℕ) (p : Part) → IsWorked l S roots k p → P p.tables) → (tables : List (List (List Key))) → tables ≡ map (λ (p : Part). p.tables) parts → All P tables
-  parts_tables P h tables is = subst (All P) (sym is) (λ i d b.
-      let long : i < length parts = (let k = length-map parts (λ (p : Part). p.tables) in omega (arith, b, k)) in
+  -- what all workers ended with, in what they filled
+  pub parts_spaces : (P : Space → Type 0) → ((k : ℕ) (p : Part) → IsWorked l S roots k p → P p.space) → (spaces : List Space) → spaces ≡ map (λ (p : Part). p.space) parts → All P spaces
+  parts_spaces P h spaces is = subst (All P) (sym is) (λ i d b.
+      let long : i < length parts = (let k = length-map parts (λ (p : Part). p.space) in omega (arith, b, k)) in
       let e = first_of parts (omega (arith, long)) in
-      subst P (sym (get_or-map (λ (p : Part). p.tables) parts i e d long)) (h i (slice_index_or parts i e) (worked.each i e (let k = worked.long in omega (arith, long, k)))))
+      subst P (sym (get_or-map (λ (p : Part). p.space) parts i e d long)) (h i (slice_index_or parts i e) (worked.each i e (let k = worked.long in omega (arith, long, k)))))
 
 -- the records of a part
 abbrev pub part_records : Nodes → Part → List (List Record)
-part_records S p = recorded S p.tables
+part_records S p = records_in S p.space
 
--- the records of all tables, told of the parts
-pub records_as : (S : Nodes) (parts : List Part) (tables : List (List (List Key))) → tables ≡ map (λ (p : Part). p.tables) parts → map (recorded S) tables ≡ map (part_records S) parts
-records_as S parts tables is = ap (map (recorded S)) is ∙ map-map (recorded S) (λ (p : Part). p.tables) parts
+-- the records of all workers, told of the parts
+pub records_as : (S : Nodes) (parts : List Part) (spaces : List Space) → spaces ≡ map (λ (p : Part). p.space) parts → map (records_in S) spaces ≡ map (part_records S) parts
+records_as S parts spaces is = ap (map (records_in S)) is ∙ map-map (records_in S) (λ (p : Part). p.space) parts
+
+-- and the places that they noted
+pub noted_as : (parts : List Part) (spaces : List Space) → spaces ≡ map (λ (p : Part). p.space) parts → map noted_in spaces ≡ map (λ (p : Part). p.space.noted) parts
+noted_as parts spaces is = ap (map noted_in) is ∙ map-map noted_in (λ (p : Part). p.space) parts
 
 -- the merged records, told of the parts
-pub merged_as : (S : Nodes) (parts : List Part) (tables : List (List (List Key))) (records : List (List Record)) → tables ≡ map (λ (p : Part). p.tables) parts
-    → ((v : ℕ) → v < S.levels → row_at records v ≡ level_of_rows (length tables) (row_of (map (recorded S) tables)) v) → (v : ℕ) → v < S.levels
+pub merged_as : (S : Nodes) (parts : List Part) (spaces : List Space) (records : List (List Record)) → spaces ≡ map (λ (p : Part). p.space) parts
+    → ((v : ℕ) → v < S.levels → row_at records v ≡ level_of_rows (length spaces) (row_of (map (records_in S) spaces)) v) → (v : ℕ) → v < S.levels
     → row_at records v ≡ level_of_rows (length (map (part_records S) parts)) (row_of (map (part_records S) parts)) v
-merged_as S parts tables records is h v b =
-    let same = records_as S parts tables is in
-    let long : length tables ≡ length (map (part_records S) parts) = sym (length-map tables (recorded S)) ∙ ap (λ (rs : List (List (List Record))). length rs) same in
+merged_as S parts spaces records is h v b =
+    let same = records_as S parts spaces is in
+    let long : length spaces ≡ length (map (part_records S) parts) = sym (length-map spaces (records_in S)) ∙ ap (λ (rs : List (List (List Record))). length rs) same in
     h v b ∙ (λ j. level_of_rows (long j) (row_of (same j)) v)
 
 -- two functions that are the same on the elements of a list
@@ -147,14 +152,13 @@ map_same f g [] h = refl
 map_same f g (x ∷ xs) h = λ j. h 0 x (omega arith) j ∷ map_same f g xs (λ i d b. h (suc i) d (omega (arith, b))) j
 
 -- the rows of all workers are the children of their records
-pub parts_lean : (S : Nodes) (l : LanesView) (roots : List Key) (parts : List Part) → AreWorked l S roots parts → (tables : List (List (List Key))) (rows : List (List (List (Placed × Placed)))) → tables ≡ map (λ (p : Part). p.tables) parts → rows ≡ map (λ (p : Part). p.rows) parts
-    → AreLean (map (recorded S) tables) rows
-parts_lean S l roots parts worked tables rows tables-is rows-is =
-    let n = length (map (recorded S) tables) in
-    let wide : length l.lanes ≡ n = sym (length-map tables (recorded S) ∙ ap (λ (ts : List (List (List Key))). length ts) tables-is ∙ length-map parts (λ (p : Part). p.tables) ∙ worked.long) in
-    rows-is
-    ∙ map_same (λ (p : Part). p.rows) (λ (p : Part). map (lean_row n) (part_records S p)) parts (λ i d b. (worked.each i d (let k = worked.long in omega (arith, b, k))).lean ∙ ap (λ m. map (lean_row m) (part_records S (slice_index_or parts i d))) wide)
-    ∙ sym (map-map (map (lean_row n)) (part_records S) parts) ∙ ap (map (map (lean_row n))) (sym (records_as S parts tables tables-is))
+pub parts_lean : (S : Nodes) (l : LanesView) (roots : List Key) (parts : List Part) → AreWorked l S roots parts → (spaces : List Space) → spaces ≡ map (λ (p : Part). p.space) parts → AreLean (map (records_in S) spaces) (map rows_in spaces)
+parts_lean S l roots parts worked spaces is =
+    let n = length (map (records_in S) spaces) in
+    let wide : length l.lanes ≡ n = sym (length-map spaces (records_in S) ∙ ap (λ (xs : List Space). length xs) is ∙ length-map parts (λ (p : Part). p.space) ∙ worked.long) in
+    ap (map rows_in) is ∙ map-map rows_in (λ (p : Part). p.space) parts
+    ∙ map_same (λ (p : Part). p.space.rows) (λ (p : Part). map (lean_row n) (part_records S p)) parts (λ i d b. (worked.each i d (let k = worked.long in omega (arith, b, k))).lean ∙ ap (λ m. map (lean_row m) (part_records S (slice_index_or parts i d))) wide)
+    ∙ sym (map-map (map (lean_row n)) (part_records S) parts) ∙ ap (map (map (lean_row n))) (sym (records_as S parts spaces is))
 
 module _ (S : Nodes) (sound : IsSound S) (l : LanesView) (sizes : l.sizes ≡ sizes_of S) (some : 0 < length l.lanes) (roots : List Key) (parts : List Part) (worked : AreWorked l S roots parts)
     (ports : List PortView) (gone : AreRetired (length l.lanes) (map (λ (p : Part). p.port) parts) ports) (left : List (List Load)) (law : LawOfAll (length l.lanes) l.sizes ports left) where
@@ -228,26 +232,26 @@ module _ (S : Nodes) (sound : IsSound S) (l : LanesView) (sizes : l.sizes ≡ si
 
   -- ---- without putting the records together
   abbrev notes : List (List (List ℕ))
-  notes = map (λ (p : Part). p.noted) parts
+  notes = map (λ (p : Part). p.space.noted) parts
 
-  noted_at : (k : ℕ) (b : k < length l.lanes) → (part_at k b).noted ≡ slice_index_or notes k []
-  noted_at k b = sym (get_or-map (λ (p : Part). p.noted) parts k (first_of parts (let n = worked.long in omega (arith, b, n))) [] (let n = worked.long in omega (arith, b, n)))
+  noted_at : (k : ℕ) (b : k < length l.lanes) → (part_at k b).space.noted ≡ slice_index_or notes k []
+  noted_at k b = sym (get_or-map (λ (p : Part). p.space.noted) parts k (first_of parts (let n = worked.long in omega (arith, b, n))) [] (let n = worked.long in omega (arith, b, n)))
 
   places_at : (s k : ℕ) → s < length l.lanes → k < length l.lanes → AllZip (λ x n. slice_get (map key_of (row_of rows k (level_of S x))) n ≡ Some x) (owed w roots (row_of rows s) s k) (noted_of notes k s)
   places_at s k sb kb =
       subst (λ (ns : List (List ℕ)). AllZip (λ x n. slice_get (map key_of (row_of rows k (level_of S x))) n ≡ Some x) (owed w roots (row_of rows s) s k) (at ns s)) (noted_at k kb)
-      (subst (λ (r : List (List Record)). AllZip (λ x n. slice_get (map key_of (row_at r (level_of S x))) n ≡ Some x) (owed w roots (row_of rows s) s k) (at (part_at k kb).noted s)) (records_at k kb)
-      (subst (λ (keys : ℕ → List Key). AllZip (λ x n. slice_get (keys (level_of S x)) n ≡ Some x) (owed w roots (row_of rows s) s k) (at (part_at k kb).noted s)) (λ i u. sym (level_keys S (part_at k kb).tables u) i)
-      (subst (λ (xs : List Key). AllZip (λ x n. slice_get (at (part_at k kb).tables (level_of S x)) n ≡ Some x) xs (at (part_at k kb).noted s))
+      (subst (λ (r : List (List Record)). AllZip (λ x n. slice_get (map key_of (row_at r (level_of S x))) n ≡ Some x) (owed w roots (row_of rows s) s k) (at (part_at k kb).space.noted s)) (records_at k kb)
+      (subst (λ (keys : ℕ → List Key). AllZip (λ x n. slice_get (keys (level_of S x)) n ≡ Some x) (owed w roots (row_of rows s) s k) (at (part_at k kb).space.noted s)) (λ i u. sym (level_keys S (part_at k kb).space.tables u) i)
+      (subst (λ (xs : List Key). AllZip (λ x n. slice_get (at (part_at k kb).space.tables (level_of S x)) n ≡ Some x) xs (at (part_at k kb).space.noted s))
       (ap (λ (t : List Item). asks (sent_by s t)) (takes k kb) ∙ ap asks (settles.all_taken s k sb kb) ∙ settles.all_sent s k sb kb)
       ((worked_at k kb).noted.each s sb))))
 
-  pub are_parts : (workers : ℕ) → length l.lanes ≡ workers → (rs : List (List (List Record))) (ns : List (List (List ℕ))) → rs ≡ map (part_records S) parts → ns ≡ map (λ (p : Part). p.noted) parts
+  pub are_parts : (workers : ℕ) → length l.lanes ≡ workers → (rs : List (List (List Record))) (ns : List (List (List ℕ))) → rs ≡ map (part_records S) parts → ns ≡ map (λ (p : Part). p.space.noted) parts
       → AreParts S workers roots (record { rows = rs; noted = ns })
   are_parts workers wide rs ns rs-is ns-is = subst (λ (y : ℕ × List (List (List Record)) × List (List (List ℕ))). AreParts S y.0 roots (record { rows = y.1; noted = y.2 })) (λ i. (wide i, sym rs-is i, sym ns-is i)) (record {
     many_rows = length-map parts (part_records S) ∙ worked.long;
-    levels = λ k b. ap (λ (r : List (List Record)). length r) (sym (records_at k b)) ∙ length-map (part_at k b).tables (records_of S) ∙ (worked_at k b).levels;
-    many_noted = length-map parts (λ (p : Part). p.noted) ∙ worked.long;
+    levels = λ k b. ap (λ (r : List (List Record)). length r) (sym (records_at k b)) ∙ length-map (part_at k b).space.tables (records_of S) ∙ (worked_at k b).levels;
+    many_noted = length-map parts (λ (p : Part). p.space.noted) ∙ worked.long;
     senders = λ k b. ap (λ (n : List (List ℕ)). length n) (sym (noted_at k b)) ∙ (worked_at k b).noted.long;
     closure = lanes_close S sound (length l.lanes) some roots ports left (row_of rows) laws part_in;
     places = places_at;

@@ -1,6 +1,6 @@
 -- The records of keys, told by the keys alone.
 use Rattle.std.proofs.Common.{◌≡◌, ℕ, suc, ◌+◌, ◌<◌, List, [], ◌∷◌, ◌++◌, length, get_or, map, take, filter, All, refl, sym, ap, ◌∙◌, arith}
-use Rattle.std.proofs.lemmas.List.{map_more, map_push, get_or-map}
+use Rattle.std.proofs.lemmas.List.{map_more, map_push, get_or-map, length-map}
 use Rattle.std.proofs.lemmas.List.Elements.{All-nil, All-cons}
 use Rattle.std.proofs.Math.ListN as listn
 use Rattle.dd_store.specs.Nodes.{Nodes}
@@ -10,8 +10,10 @@ use Rattle.req_table.specs.declared.placed.Placed.{Placed}
 use Rattle.req_table.specs.Keys.{record_of, wave_of}
 use Rattle.req_table.specs.Settled.{IsSplit, key_of, asked, asked_by, level_of_rows}
 use Rattle.expand_work.specs.Work.{at, owned_by}
-use Rattle.expand_work.specs.Lean.{lean, lean_row, records_of, recorded}
+use Rattle.expand_work.specs.Lean.{lean, lean_row, records_of, recorded, AreLean}
 use Rattle.expand_work.specs.Expanded.{row_of}
+use Rattle.expand_work.specs.declared.space.Space.{Space}
+use Rattle.expand_work.specs.Spaces.{records_in, rows_in}
 use Rattle.expand_work.proofs.Owing.{asks_more}
 
 pub keys_of_records : (S : Nodes) (keys : List Key) → map key_of (records_of S keys) ≡ keys
@@ -41,9 +43,21 @@ row_more S n ps qs x r low high keys i xs ys zs l h x-is r-is g low-is high-is l
     )
 
 -- one more worker's records of a level
-pub level_more : (S : Nodes) (tables : List (List (List Key))) (i v : ℕ) (own : List (List Key)) (rs qs : List Record) → i < length tables → own ≡ get_or tables i own → rs ≡ level_of_rows i (row_of (map (recorded S) tables)) v
-    → qs ≡ rs ++ records_of S (at own v) → qs ≡ level_of_rows (i + 1) (row_of (map (recorded S) tables)) v
-level_more S tables i v own rs qs l is e g =
+pub level_more : (S : Nodes) (spaces : List Space) (i v : ℕ) (own : Space) (rs qs : List Record) → i < length spaces → own ≡ get_or spaces i own → rs ≡ level_of_rows i (row_of (map (records_in S) spaces)) v
+    → qs ≡ rs ++ records_of S (at own.tables v) → qs ≡ level_of_rows (i + 1) (row_of (map (records_in S) spaces)) v
+level_more S spaces i v own rs qs l is e g =
     let up : suc i ≡ i + 1 = omega arith in
-    let here : records_of S (at own v) ≡ row_of (map (recorded S) tables) i v = sym (recorded-at S own v) ∙ ap (λ (r : List (List Record)). at r v) (ap (recorded S) is ∙ sym (get_or-map (recorded S) tables i own [] l)) in
-    g ∙ (λ j. e j ++ here j) ∙ ap (λ n. level_of_rows n (row_of (map (recorded S) tables)) v) up
+    let here : records_of S (at own.tables v) ≡ row_of (map (records_in S) spaces) i v = sym (recorded-at S own.tables v) ∙ ap (λ (r : List (List Record)). at r v) (ap (records_in S) is ∙ sym (get_or-map (records_in S) spaces i own [] l)) in
+    g ∙ (λ j. e j ++ here j) ∙ ap (λ n. level_of_rows n (row_of (map (records_in S) spaces)) v) up
+
+-- a worker's children of a level, among those of all workers
+pub row_of_all : (rs : List (List (List Record))) (spaces : List Space) (k v : ℕ) (own : Space) → AreLean rs (map rows_in spaces) → k < length rs → v < length (get_or rs k []) → own ≡ get_or spaces k own
+    → (v < length own.rows) × (at own.rows v ≡ lean_row (length rs) (row_of rs k v))
+row_of_all rs spaces k v own all kb vb is =
+    let n = length rs in
+    let long : length spaces ≡ n = sym (length-map spaces rows_in) ∙ ap (λ (ls : List (List (List (Placed × Placed)))). length ls) all ∙ length-map rs (map (lean_row n)) in
+    let here : own.rows ≡ map (lean_row n) (get_or rs k []) =
+    ap rows_in is ∙ sym (get_or-map rows_in spaces k own [] (omega (arith, kb, long))) ∙ ap (λ (ls : List (List (List (Placed × Placed)))). get_or ls k []) all ∙ listn.get_or-map (map (lean_row n)) rs k [] in (
+      (let e = ap (λ (r : List (List (Placed × Placed))). length r) here ∙ length-map (get_or rs k []) (lean_row n) in omega (arith, e, vb)),
+      ap (λ (r : List (List (Placed × Placed))). at r v) here ∙ listn.get_or-map (lean_row n) (get_or rs k []) v [],
+    )

@@ -103,25 +103,28 @@ module _ (l : LanesView) (s : Nodes) (roots : List Key) (v : ℕ) (w : Worker) (
         ∙ (let a = h.level.ended k kb in let z = ends-items s w.port.number (at w.due k) in omega (arith, a, z))
 
     -- ---- the level's Ends were sent, and it was closed
-    module _ (p2 p3 : PortView) (clock : Counts) (heldt tables : List (List Key)) (row : List (Placed × Placed)) (due : List (List Key)) (rows : List (List (Placed × Placed)))
+    module _ (p2 p3 : PortView) (clock : Counts) (heldt tables : List (List Key)) (row : List (Placed × Placed)) (due next : List (List Key)) (taken rows : List (List (Placed × Placed)))
         (vb : v < s.levels) (stay1 : StaysClosed (lanes_scope l) p.taken q.taken w.tables heldt)
         (s2 : SentToAll q p2 (length l.lanes) (λ k. End q.number v ∷ []) (λ k. 1))
         (s3 : p3 ≡ record p2 { popped = p3.popped; taken = p3.taken })
         (heard : IsHeard (lanes_scope l) p3.taken clock tables) (stay2 : StaysClosed (lanes_scope l) p2.taken p3.taken heldt tables)
         (closed : IsClosed (lanes_scope l) v p3.taken)
-        (row-is : row ≡ lean_row (length l.lanes) (records_of s (at tables v))) (many : length due ≡ length l.lanes)
-        (owed : (k : ℕ) → k < length l.lanes → at due k ≡ filter (owned_by (length l.lanes) k) (asked_by (records_of s (at tables v)))) (rows-is : rows ≡ set w.rows v row) (noted : List (List ℕ)) (noting : IsNoted (length l.lanes) p3.taken tables noted) where
+        (row-is : row ≡ lean_row (length l.lanes) (records_of s (at tables v))) (many : length due ≡ length l.lanes) (many-next : length next ≡ length l.lanes)
+        (owed : (k : ℕ) → k < length l.lanes → at due k ≡ filter (owned_by (length l.lanes) k) (asked_by (records_of s (at tables v)))) (taken-is : taken ≡ set w.rows v []) (rows-is : rows ≡ set taken v row) (noted : List (List ℕ)) (noting : IsNoted (length l.lanes) p3.taken tables noted) where
       pub number_same : p3.number ≡ w.port.number
       number_same = ap (λ (q : PortView). q.number) s3 ∙ s2.port.0 ∙ number_kept
 
       stays : StaysClosed (lanes_scope l) w.port.taken p3.taken w.tables tables
       stays = stays_on (lanes_scope l) w.port.taken q.taken p3.taken w.tables heldt tables (subst (λ xs. StaysClosed (lanes_scope l) xs q.taken w.tables heldt) s1.taken stay1) (subst (λ xs. StaysClosed (lanes_scope l) xs p3.taken heldt tables) s2.taken stay2)
 
+      many_taken : length taken ≡ length w.rows
+      many_taken = ap (λ m. length m) taken-is ∙ length-set w.rows v []
+
       row_here : at rows v ≡ row
-      row_here = ap (λ m. get_or m v []) rows-is ∙ get_or-set_same w.rows v row [] (let z = h.many_rows in omega (arith, z, vb))
+      row_here = ap (λ m. get_or m v []) rows-is ∙ get_or-set_same taken v row [] (let z = h.many_rows in let y = many_taken in omega (arith, y, z, vb))
 
       row_other : (u : ℕ) → u ≢ v → at rows u ≡ at w.rows u
-      row_other u m = ap (λ n. get_or n u []) rows-is ∙ get_or-set_other w.rows v u row [] m
+      row_other u m = ap (λ n. get_or n u []) rows-is ∙ get_or-set_other taken v u row [] m ∙ ap (λ n. get_or n u []) taken-is ∙ get_or-set_other w.rows v u [] [] m
 
       heard' : IsHeard (scope_of (length l.lanes) (sizes_of s)) p3.taken clock tables
       heard' = subst (λ z. IsHeard (scope_of (length l.lanes) z) p3.taken clock tables) h.sizes heard
@@ -161,7 +164,7 @@ module _ (l : LanesView) (s : Nodes) (roots : List Key) (v : ℕ) (w : Worker) (
           ∙ sym (loads-more (lanes_wave s (length l.lanes)) w.port.number k v (sent_to w.port k) (at w.due k) (h.level.ended k kb) (h.level.none_in k kb))
           ∙ (λ j. loads_of (up j) (sym number_same j) k (sym (sends k kb) j))
 
-      pub level_next : IsWorking l s roots (v + 1) (record { port = p3; clock = clock; tables = tables; noted = noted; rows = rows; due = due })
+      pub level_next : IsWorking l s roots (v + 1) (record { port = p3; clock = clock; tables = tables; noted = noted; rows = rows; due = due; next = next })
       level_next =
           let some : 0 < length l.lanes = (let z = h.within in omega (arith, z)) in
           let next = advances (lanes_wave s (length l.lanes)) (lanes_laws s h.sound (length l.lanes) some) roots w.port.number v (sent_to w.port) w.port.taken (at w.due) (at w.tables) (at (recorded s w.tables)) (sent_to p3) p3.taken (at due) (at tables) (at (recorded s tables)) vb h.level done in
@@ -173,9 +176,10 @@ module _ (l : LanesView) (s : Nodes) (roots : List Key) (v : ℕ) (w : Worker) (
             sound = h.sound;
             heard = heard;
             noted = noting;
-            many_rows = ap (λ m. length m) rows-is ∙ length-set w.rows v row ∙ h.many_rows;
+            many_rows = ap (λ m. length m) rows-is ∙ length-set taken v row ∙ many_taken ∙ h.many_rows;
             lean = lean_next;
             many_due = many;
+            many_next = many-next;
             level = subst (λ n. IsAt (lanes_wave s (length l.lanes)) roots n (v + 1) (sent_to p3) p3.taken (at due) (at tables) (at (recorded s tables))) (sym number_same)
                 (subst (λ n. IsAt (lanes_wave s (length l.lanes)) roots w.port.number n (sent_to p3) p3.taken (at due) (at tables) (at (recorded s tables))) up next);
             put = puts;

@@ -67,12 +67,12 @@ starts_heard c taken clock tables nothing clock-is tables-is = record {
   tabled = λ u ub. subst (λ xs. IsDistinctOf (asks_at u xs) (at tables u)) (sym nothing) (sym (ap (λ ts. get_or ts u []) tables-is ∙ get_or-replicate c.levels u [] [] ub));
 }
 
-pub starts_working : (l : LanesView) (S : Nodes) (roots : List Key) (p : PortView) (clock : Counts) (tables : List (List Key)) (noted : List (List ℕ)) (rows : List (List (Placed × Placed))) (due : List (List Key))
+pub starts_working : (l : LanesView) (S : Nodes) (roots : List Key) (p : PortView) (clock : Counts) (tables : List (List Key)) (noted : List (List ℕ)) (rows : List (List (Placed × Placed))) (due next : List (List Key))
     → IsPortOf l p → p.number < length l.lanes → IsFresh p → l.sizes ≡ sizes_of S → IsSound S → All (IsKey S) roots
-    → clock ≡ record { levels = S.levels; ended = replicate (length l.lanes) 0 } → tables ≡ replicate S.levels [] → noted ≡ replicate (length l.lanes) [] → rows ≡ replicate S.levels [] → length due ≡ length l.lanes
+    → clock ≡ record { levels = S.levels; ended = replicate (length l.lanes) 0 } → tables ≡ replicate S.levels [] → noted ≡ replicate (length l.lanes) [] → rows ≡ replicate S.levels [] → length due ≡ length l.lanes → length next ≡ length l.lanes
     → ((k : ℕ) → k < length l.lanes → at due k ≡ filter (owned_by (length l.lanes) k) (dealt_from (length l.lanes) p.number 0 roots))
-    → IsWorking l S roots 0 (record { port = p; clock = clock; tables = tables; noted = noted; rows = rows; due = due })
-starts_working l S roots p clock tables noted rows due o b fresh sizes sound held clock-is tables-is noted-is rows-is many e = record {
+    → IsWorking l S roots 0 (record { port = p; clock = clock; tables = tables; noted = noted; rows = rows; due = due; next = next })
+starts_working l S roots p clock tables noted rows due next o b fresh sizes sound held clock-is tables-is noted-is rows-is many many-next e = record {
   port = o;
   within = b;
   sizes = sizes;
@@ -82,13 +82,14 @@ starts_working l S roots p clock tables noted rows due o b fresh sizes sound hel
   many_rows = ap (λ m. length m) rows-is ∙ length-replicate S.levels [];
   lean = λ u ub. absurd (omega (arith, ub));
   many_due = many;
+  many_next = many-next;
   level = starts_at (lanes_wave S (length l.lanes)) roots p.number (sent_to p) p.taken (at due) (at tables) (at (recorded S tables))
       (all_of (IsKeyOf (sizes_of S)) roots (λ x h. sizes_of_key S x (each (IsKey S) roots x held h))) fresh.0 fresh.1
       (λ u ub. ap (λ ts. get_or ts u []) tables-is ∙ get_or-replicate S.levels u [] [] ub) e;
   put = λ k kb. fresh.2 k ∙ sym (loads-none p.number k (sent_to p k));
 }
 
-pub ends_worked : (l : LanesView) (S : Nodes) (roots : List Key) (n : ℕ) (w : Worker) (p : Part) → IsWorking l S roots S.levels w → length w.port.put ≡ length l.lanes → w.port.number ≡ n → p ≡ record { port = w.port; tables = w.tables; rows = w.rows; noted = w.noted } → IsWorked l S roots n p
+pub ends_worked : (l : LanesView) (S : Nodes) (roots : List Key) (n : ℕ) (w : Worker) (p : Part) → IsWorking l S roots S.levels w → length w.port.put ≡ length l.lanes → w.port.number ≡ n → p ≡ record { port = w.port; space = record { tables = w.tables; rows = w.rows; noted = w.noted; due = w.due; next = w.next } } → IsWorked l S roots n p
 ends_worked l S roots n w p h lists num is =
     let some : 0 < length l.lanes = (let z = h.within in omega (arith, z)) in
     let many : length w.tables ≡ S.levels = h.heard.many ∙ ap (λ (c : Sizes). c.levels) h.sizes in

@@ -8,4 +8,5 @@ pub mod Team
 pub mod Expanded
 pub mod Gathered
 pub mod Lean
+pub mod Spaces
 pub mod Bounds

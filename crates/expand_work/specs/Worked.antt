@@ -21,9 +21,9 @@ pub record IsWorked (l : LanesView) (S : Nodes) (roots : List Key) (s : ℕ) (p 
   pub ports : IsPortOf l p.port
   pub number : p.port.number ≡ s
   pub lists : length p.port.put ≡ length l.lanes
-  pub levels : length p.tables ≡ S.levels
-  pub keys : (u : ℕ) → u < S.levels → All (IsKey S) (at p.tables u)
-  pub lean : p.rows ≡ map (lean_row (length l.lanes)) (recorded S p.tables)
-  pub part : IsPart (wave_of S (length l.lanes)) roots s (sent_to p.port) p.port.taken (row_at (recorded S p.tables))
-  pub noted : ArePlaces (level_of S) (length l.lanes) p.port.taken (at p.tables) p.noted
+  pub levels : length p.space.tables ≡ S.levels
+  pub keys : (u : ℕ) → u < S.levels → All (IsKey S) (at p.space.tables u)
+  pub lean : p.space.rows ≡ map (lean_row (length l.lanes)) (recorded S p.space.tables)
+  pub part : IsPart (wave_of S (length l.lanes)) roots s (sent_to p.port) p.port.taken (row_at (recorded S p.space.tables))
+  pub noted : ArePlaces (level_of S) (length l.lanes) p.port.taken (at p.space.tables) p.space.noted
   pub put : (k : ℕ) → k < length l.lanes → put_to p.port k ≡ loads_of S.levels s k (sent_to p.port k)

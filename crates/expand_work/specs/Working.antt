@@ -21,5 +21,6 @@ pub record IsWorking (l : LanesView) (S : Nodes) (roots : List Key) (v : ℕ) (w
   pub many_rows : length w.rows ≡ S.levels
   pub lean : (u : ℕ) → u < v → at w.rows u ≡ lean_row (length l.lanes) (records_of S (at w.tables u))
   pub many_due : length w.due ≡ length l.lanes
+  pub many_next : length w.next ≡ length l.lanes
   pub level : IsAt (lanes_wave S (length l.lanes)) roots w.port.number v (sent_to w.port) w.port.taken (at w.due) (at w.tables) (at (recorded S w.tables))
   pub put : (k : ℕ) → k < length l.lanes → put_to w.port k ≡ loads_of v w.port.number k (sent_to w.port k)

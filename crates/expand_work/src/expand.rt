@@ -1,5 +1,5 @@
 //! What a worker keeps of its requests' children, and what becomes due by that.
-ghost use Rattle.std.specs.Prelude.{◌≡◌, ℕ, ◌<◌, [], ◌∷◌, ◌++◌, length, filter, All, IfOk, OnOk};
+ghost use Rattle.std.specs.Prelude.{◌≡◌, ℕ, ◌<◌, [], ◌∷◌, ◌++◌, length, filter, replicate, All, IfOk, OnOk};
 ghost use Rattle.req_table.specs.Keys.{IsKey, owner as owner_spec};
 ghost use Rattle.req_table.specs.Settled.{asked, asked_by, dealt_from};
 ghost use Rattle.expand_work.specs.Lean.{lean, lean_row, records_of};
@@ -9,7 +9,7 @@ use crate::lists::KeyLists;
 use dd_store::Store;
 use req_table::requests::{owner, split};
 use req_table::{Child, Key, Placed};
-use std::alloc::{AllocError, Global};
+use std::alloc::AllocError;
 
 // The key becomes due from its owner, which is answered.
 fn push_key(due: &mut KeyLists, key: Key, workers: u32) -> Result<u32, AllocError>
@@ -43,22 +43,26 @@ fn push_child(due: &mut KeyLists, child: Child, workers: u32) -> Result<Placed, 
     }
 }
 
-/// The children of the keys, and the keys that they ask for, by owner.
+/// The children of the keys, and the keys that they ask for, by owner. Both are put in the memory that is handed in.
 pub fn expand_row(
-    alloc: Global,
     store: &Store,
     keys: &[Key],
     workers: u32,
+    row: Vec<(Placed, Placed)>,
+    due: KeyLists,
 ) -> Result<(Vec<(Placed, Placed)>, KeyLists), AllocError>
     requires keys { All (IsKey store.now) keys.now }
     requires some { 0 < workers }
+    requires empty { row.items ≡ [] }
+    requires none { due ≡ replicate workers [] }
     ensures row { IfOk result (λ r. r.0.items ≡ lean_row workers (records_of store.now keys.now)) }
     ensures long { IfOk result (λ r. length r.1 ≡ workers) }
     ensures due { IfOk result (λ r. (k : ℕ) → k < workers
         → at r.1 k ≡ filter (owned_by workers k) (asked_by (records_of store.now keys.now))) }
 {
-    let mut row = Vec::with_capacity(alloc, keys.len())?;
-    let mut due = KeyLists::new(alloc, workers)?;
+    let mut row = row;
+    let mut due = due;
+    row.reserve_exact(keys.len())?;
     for key in keys {
         let record = split(store, *key);
         let low = push_child(&mut due, record.low, workers)?;
@@ -70,17 +74,18 @@ pub fn expand_row(
 
 /// The roots that the worker has to ask for, by owner: those at the places that are its number modulo the workers.
 pub fn deal_roots(
-    alloc: Global,
     roots: &[Key],
     number: u32,
     workers: u32,
+    due: KeyLists,
 ) -> Result<KeyLists, AllocError>
-    requires { number < workers }
+    requires number { number < workers }
+    requires none { due ≡ replicate workers [] }
     ensures long { IfOk result (λ d. length d ≡ workers) }
     ensures due { IfOk result (λ d. (k : ℕ) → k < workers
         → at d k ≡ filter (owned_by workers k) (dealt_from workers number 0 roots.now)) }
 {
-    let mut due = KeyLists::new(alloc, workers)?;
+    let mut due = due;
     for (place, key) in roots.iter().enumerate() {
         if place % workers as usize == number as usize {
             push_key(&mut due, *key, workers)?;

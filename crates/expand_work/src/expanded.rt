@@ -6,9 +6,9 @@ ghost use Rattle.req_table.specs.Tables.{row_at};
 ghost use Rattle.lane_queue.specs.Joining.{sent_from};
 ghost use Rattle.expand_work.specs.Expanded.{IsSettledFor, AreByNumber, put_by, bundles_between};
 
-use crate::merge::{Team, merge_rows, split_parts};
+use crate::merge::{merge_rows, split_parts};
 use crate::team::{Wave, run_workers};
-use crate::{Gate, WaveFault};
+use crate::{Gate, Spaces, WaveFault};
 use dd_store::Store;
 use lane_queue::{Lanes, Port};
 use req_table::{Key, Records};
@@ -82,9 +82,9 @@ pub fn expand_all<R: Threads + Wait + Sync, G: Gate>(
         store,
         roots,
     };
-    let parts = run_workers(rt, wave, ports, gate)?;
-    let Team { ports, tables, .. } = split_parts(alloc, parts)?;
-    let records = merge_rows(alloc, store, tables.as_slice())?;
+    let parts = run_workers(rt, wave, ports, Spaces::new(alloc), gate)?;
+    let (ports, spaces) = split_parts(alloc, parts)?;
+    let records = merge_rows(alloc, store, spaces.as_slice())?;
     let settled = lanes.settle(rt, ports)?;
     Ok(Expanded {
         records,

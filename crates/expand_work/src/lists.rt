@@ -1,5 +1,5 @@
 //! Lists of keys and of places by worker, tables and rows by level.
-ghost use Rattle.std.specs.Prelude.{◌≡◌, ◌<◌, [], ◌∷◌, ◌++◌, length, replicate, slice_set, IfOk, OnOk};
+ghost use Rattle.std.specs.Prelude.{◌≡◌, ◌<◌, [], ◌∷◌, ◌++◌, length, map, replicate, slice_set, IfOk, OnOk};
 ghost use Rattle.expand_work.specs.Noted.{EntersAt};
 ghost use Rattle.expand_work.specs.Work.{at};
 
@@ -7,6 +7,25 @@ use crate::table::Table;
 use req_table::{Key, Placed};
 use std::alloc::{AllocError, Global};
 use std::marker::Model;
+use std::mem;
+
+// Removes all elements of each list, and keeps the memory.
+fn clear_all<T: Copy>(lists: &mut Vec<Vec<T>>)
+    ensures { map (λ v. v.items) lists.new.items ≡ replicate (length lists.old.items) [] }
+{
+    for place in 0..lists.len() {
+        lists[place].clear();
+    }
+}
+
+// Removes all keys of each table, and keeps the memory.
+fn clear_tables(tables: &mut Vec<Table>)
+    ensures { tables.new.items ≡ replicate (length tables.old.items) [] }
+{
+    for place in 0..tables.len() {
+        tables[place].clear();
+    }
+}
 
 /// One list of keys for each worker.
 #[derive(Drop)]
@@ -33,6 +52,25 @@ impl KeyLists {
             lists.push(Vec::new(alloc))?;
         }
         Ok(KeyLists { lists })
+    }
+
+    /// So many empty lists, in the memory of these where there are as many.
+    pub fn emptied(self, alloc: Global, count: u32) -> Result<KeyLists, AllocError>
+        ensures { IfOk result (λ l. l ≡ replicate count []) }
+    {
+        let mut lists = self.lists;
+        if lists.len() != count as usize {
+            return KeyLists::new(alloc, count);
+        }
+        clear_all(&mut lists);
+        Ok(KeyLists { lists })
+    }
+
+    /// Removes all keys, and keeps the memory.
+    pub fn clear(&mut self)
+        ensures { self.new ≡ replicate (length self.old) [] }
+    {
+        clear_all(&mut self.lists);
     }
 
     /// Puts the key at the end of the worker's list.
@@ -79,6 +117,18 @@ impl Noted {
         Ok(Noted { lists })
     }
 
+    /// So many empty lists, in the memory of these where there are as many.
+    pub fn emptied(self, alloc: Global, count: u32) -> Result<Noted, AllocError>
+        ensures { IfOk result (λ l. l ≡ replicate count []) }
+    {
+        let mut lists = self.lists;
+        if lists.len() != count as usize {
+            return Noted::new(alloc, count);
+        }
+        clear_all(&mut lists);
+        Ok(Noted { lists })
+    }
+
     /// Puts the place at the end of the worker's list.
     pub fn push(&mut self, from: u32, place: u32) -> Result<(), AllocError>
         requires { from < length self.old }
@@ -121,6 +171,18 @@ impl Tables {
         for made in 0..count {
             tables.push(Table::new(alloc))?;
         }
+        Ok(Tables { tables })
+    }
+
+    /// So many empty tables, in the memory of these where there are as many.
+    pub fn emptied(self, alloc: Global, count: u16) -> Result<Tables, AllocError>
+        ensures { IfOk result (λ l. l ≡ replicate count []) }
+    {
+        let mut tables = self.tables;
+        if tables.len() != count as usize {
+            return Tables::new(alloc, count);
+        }
+        clear_tables(&mut tables);
         Ok(Tables { tables })
     }
 
@@ -171,6 +233,29 @@ impl Rows {
             rows.push(Vec::new(alloc))?;
         }
         Ok(Rows { rows })
+    }
+
+    /// So many empty rows, in the memory of these where there are as many.
+    pub fn emptied(self, alloc: Global, count: u16) -> Result<Rows, AllocError>
+        ensures { IfOk result (λ l. l ≡ replicate count []) }
+    {
+        let mut rows = self.rows;
+        if rows.len() != count as usize {
+            return Rows::new(alloc, count);
+        }
+        clear_all(&mut rows);
+        Ok(Rows { rows })
+    }
+
+    /// An empty row, in the memory of that of a level, which is taken out.
+    pub fn take(&mut self, alloc: Global, level: u16) -> Vec<(Placed, Placed)>
+        requires { level < length self.old }
+        ensures rows { self.new ≡ slice_set self.old level [] }
+        ensures empty { result.items ≡ [] }
+    {
+        let mut row = mem::replace(&mut self.rows[level as usize], Vec::new(alloc));
+        row.clear();
+        row
     }
 
     /// Puts the row of a level in.

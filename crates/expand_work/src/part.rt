@@ -1,14 +1,12 @@
 //! What a worker ends with.
 
-use crate::lists::{Noted, Rows, Tables};
+use crate::Space;
 use lane_queue::Port;
 
-/// What a worker ends with: its port, the requests that it was asked for, by level in order of admission, the children of each, and
-/// by sender the places of the requests that it took, in the order in which it took them.
+/// What a worker ends with: its port, and what it filled, of which the tables stand in order of admission and the noted places in the
+/// order in which it took the requests.
 #[derive(Drop)]
 pub struct Part {
     pub port: Port,
-    pub tables: Tables,
-    pub rows: Rows,
-    pub noted: Noted,
+    pub space: Space,
 }

@@ -5,15 +5,15 @@ ghost use Rattle.expand_work.specs.Expanded.{row_of};
 ghost use Rattle.expand_work.specs.Gathered.{AreParts, noted_of};
 ghost use Rattle.expand_work.specs.Lean.{lean_row};
 
-use crate::lists::{Noted, Rows, Tables};
-use crate::merge::{Team, split_parts};
+use crate::merge::split_parts;
 use crate::team::{Wave, run_workers};
-use crate::{Gate, WaveFault};
+use crate::{Gate, Space, Spaces, WaveFault};
 use dd_store::Store;
 use lane_queue::Lanes;
 use req_table::{Key, Placed};
 use std::alloc::Global;
 use std::marker::Model;
+use std::mem;
 use std::snapshot::Snapshot;
 use std::sync::Wait;
 use std::thread::Threads;
@@ -21,22 +21,21 @@ use std::thread::Threads;
 /// What each worker of a wave was asked for, and where it put what each other asked of it.
 #[derive(Drop)]
 pub struct Parts {
-    tables: Vec<Tables>,
-    rows: Vec<Rows>,
-    noted: Vec<Noted>,
+    spaces: Vec<Space>,
     store: Snapshot<Store>,
 }
 
 impl Model for Parts {
-    ghost use Rattle.std.specs.Prelude.{◌≡◌, length, map};
+    ghost use Rattle.std.specs.Prelude.{map};
     ghost use Rattle.expand_work.specs.Gathered.{PartsView};
-    ghost use Rattle.expand_work.specs.Lean.{recorded, AreLean};
+    ghost use Rattle.expand_work.specs.Lean.{AreLean};
+    ghost use Rattle.expand_work.specs.Spaces.{records_in, rows_in, noted_in};
 
     ghost Value = { PartsView };
 
-    ghost view = { λ p. record { rows = map (recorded p.store.value) p.tables.items; noted = p.noted.items } };
+    ghost view = { λ p. record { rows = map (records_in p.store.value) p.spaces.items; noted = map noted_in p.spaces.items } };
 
-    ghost invariant = { λ p. AreLean (map (recorded p.store.value) p.tables.items) p.rows.items };
+    ghost invariant = { λ p. AreLean (map (records_in p.store.value) p.spaces.items) (map rows_in p.spaces.items) };
 }
 
 impl Parts {
@@ -47,7 +46,7 @@ impl Parts {
         requires level { level < length (slice_index_or self.now.rows worker []) }
         ensures { result.now ≡ lean_row (length self.now.rows) (row_of self.now.rows worker level) }
     {
-        self.rows[worker as usize].row(level)
+        self.spaces[worker as usize].rows.row(level)
     }
 
     /// The places at which a worker put the requests that a sender asked of it, in the order in which they were sent.
@@ -56,12 +55,18 @@ impl Parts {
         requires sender { sender < length (slice_index_or self.now.noted worker []) }
         ensures { result.now ≡ noted_of self.now.noted worker sender }
     {
-        self.noted[worker as usize].list(sender)
+        self.spaces[worker as usize].noted.list(sender)
+    }
+
+    /// The memory of the workers, for the next wave.
+    pub fn into_spaces(self) -> Spaces {
+        Spaces::of(self.spaces)
     }
 }
 
 /// The same as `expand_all`, without putting the workers' records together. The request that a worker asked another for as its
-/// n-th is found again by this number.
+/// n-th is found again by this number. The workers work in the memory of an earlier wave as far as there is some; after a refusal it is
+/// given back.
 pub fn expand_parts<R: Threads + Wait + Sync, G: Gate>(
     rt: &R,
     alloc: Global,
@@ -69,6 +74,7 @@ pub fn expand_parts<R: Threads + Wait + Sync, G: Gate>(
     roots: &[Key],
     workers: u32,
     gate: &G,
+    spaces: &mut Spaces,
 ) -> Result<Parts, WaveFault>
     requires workers { (0 < workers) × (workers ≤ 16) }
     requires roots { All (IsKey store.now) roots.now }
@@ -84,18 +90,12 @@ pub fn expand_parts<R: Threads + Wait + Sync, G: Gate>(
         store,
         roots,
     };
-    let parts = run_workers(rt, wave, ports, gate)?;
-    let Team {
-        ports,
-        tables,
-        rows,
-        noted,
-    } = split_parts(alloc, parts)?;
+    let used = mem::replace(spaces, Spaces::new(alloc));
+    let parts = run_workers(rt, wave, ports, used, gate)?;
+    let (ports, filled) = split_parts(alloc, parts)?;
     let _ = lanes.settle(rt, ports)?;
     Ok(Parts {
-        tables,
-        rows,
-        noted,
+        spaces: filled,
         store: Snapshot::of(store),
     })
 }

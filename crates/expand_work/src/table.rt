@@ -43,6 +43,13 @@ impl Table {
         }
     }
 
+    /// Removes all keys, and keeps the memory.
+    pub fn clear(&mut self)
+        ensures { self.new ≡ [] }
+    {
+        self.keys.clear();
+    }
+
     /// All keys, by place.
     pub fn keys(&self) -> &[Key]
         ensures { result.now ≡ self.now }

@@ -9,7 +9,7 @@ ghost use Rattle.expand_work.specs.Worked.{IsFresh, IsWorked};
 ghost use Rattle.expand_work.specs.Team.{AreNew, AreWorked, IsPromised};
 
 use crate::worker::work;
-use crate::{Gate, Part, WaveFault, WorkFault};
+use crate::{Gate, Part, Site, Spaces, WaveFault, WorkFault};
 use dd_store::Store;
 use lane_queue::{Lanes, Port};
 use req_table::Key;
@@ -86,6 +86,7 @@ pub fn run_workers<R: Threads + Wait + Sync, G: Gate>(
     rt: &R,
     wave: Wave<'_>,
     ports: Vec<Port>,
+    used: Spaces,
     gate: &G,
 ) -> Result<Vec<Part>, WaveFault>
     requires ports { AreNew wave.lanes.now ports.items }
@@ -115,11 +116,13 @@ pub fn run_workers<R: Threads + Wait + Sync, G: Gate>(
             ensures fault { IfErr result (λ f. f ≢ WaveFault.Full) }
             ensures unbounded { IfErr result (λ f. f ≢ WaveFault.TooManyRequests) }
         {
+            let mut used = used;
             let count = ports.len();
             let mut children = Vec::with_capacity(alloc, count)?;
             let parts = Vec::with_capacity(alloc, count)?;
             for port in ports {
                 let number = port.number();
+                let space = used.take();
                 match scope.spawn_with(
                     PartOf {
                         lanes,
@@ -133,7 +136,16 @@ pub fn run_workers<R: Threads + Wait + Sync, G: Gate>(
                         requires sizes { lanes.now.sizes ≡ sizes_of store.now }
                         requires roots { All (IsKey store.now) roots.now }
                         ensures { IfOk result (λ p. IsWorked lanes.entry.now store.entry.now roots.entry.now port.number p) }
-                    { work(rt, alloc, lanes, port, store, roots, gate, flag) },
+                    {
+                        let site = Site {
+                            alloc,
+                            lanes,
+                            store,
+                            roots,
+                            stop: flag,
+                        };
+                        work(rt, site, port, space, gate)
+                    },
                 ) {
                     Ok(child) => children.push_reserved(child),
                     Err(_) => {

@@ -10,18 +10,15 @@ use crate::expand::{deal_roots, expand_row};
 use crate::listen::{Senders, keep_own, take_until_closed};
 use crate::lists::{KeyLists, Noted, Rows, Tables};
 use crate::say::{send_due, send_ends};
-use crate::site::Site;
-use crate::{Gate, Part, WorkFault};
-use dd_store::Store;
-use lane_queue::{Lanes, Port};
+use crate::{Gate, Part, Site, Space, WorkFault};
+use lane_queue::Port;
 use level_close::Clock;
-use req_table::Key;
-use std::alloc::Global;
 use std::sync::Wait;
-use std::sync::atomic::{AtomicBool, Ordering};
+use std::sync::atomic::Ordering;
 
 /// What a worker has between two levels: its port, how many levels each sender has ended, the keys that it was asked
-/// for, by level, and where it put them, by sender, the children of each, by level, and the keys that it has to ask for next, by owner.
+/// for, by level, and where it put them, by sender, the children of each, by level, the keys that it has to ask for next, by owner, and
+/// the memory for those that come after them.
 #[derive(Drop)]
 pub struct Worker {
     pub port: Port,
@@ -30,6 +27,7 @@ pub struct Worker {
     pub noted: Noted,
     pub rows: Rows,
     pub due: KeyLists,
+    pub next: KeyLists,
 }
 
 // Sends what is due, keeps what it owns itself, and ends the level; takes until the level is closed, tells the gate, and
@@ -53,6 +51,7 @@ fn do_level<R: Wait, G: Gate>(
         mut noted,
         mut rows,
         due,
+        mut next,
     } = worker;
     send_due(rt, site, &mut port, &due)?;
     let own = port.number();
@@ -69,7 +68,9 @@ fn do_level<R: Wait, G: Gate>(
     take_until_closed(rt, site, &mut port, &mut senders, &mut tables, level)?;
     gate.at_level(own, level);
     let workers = site.lanes.count();
-    let Ok((row, due)) = expand_row(site.alloc, site.store, tables.keys(level), workers) else {
+    let row = rows.take(site.alloc, level);
+    next.clear();
+    let Ok((row, next)) = expand_row(site.store, tables.keys(level), workers, row, next) else {
         return Err(WorkFault::OutOfMemory);
     };
     rows.put(level, row);
@@ -80,7 +81,8 @@ fn do_level<R: Wait, G: Gate>(
         tables,
         noted,
         rows,
-        due,
+        due: next,
+        next: due,
     })
 }
 
@@ -89,6 +91,7 @@ fn run_levels<R: Wait, G: Gate>(
     rt: &R,
     site: Site<'_>,
     port: Port,
+    used: Option<Space>,
     gate: &G,
 ) -> Result<Part, WorkFault>
     requires port { IsPortOf site.lanes.now port }
@@ -108,10 +111,14 @@ fn run_levels<R: Wait, G: Gate>(
     let number = port.number();
     let levels = store.levels();
     let clock = Clock::new(alloc, workers, levels)?;
-    let tables = Tables::new(alloc, levels)?;
-    let noted = Noted::new(alloc, workers)?;
-    let rows = Rows::new(alloc, levels)?;
-    let due = deal_roots(alloc, roots, number, workers)?;
+    let Space {
+        tables,
+        rows,
+        noted,
+        due,
+        next,
+    } = Space::open(alloc, used, levels, workers)?;
+    let due = deal_roots(roots, number, workers, due)?;
     let mut worker = Worker {
         port,
         clock,
@@ -119,6 +126,7 @@ fn run_levels<R: Wait, G: Gate>(
         noted,
         rows,
         due,
+        next,
     };
     for level in 0..levels {
         if stop.load(Ordering::SeqCst) {
@@ -127,11 +135,24 @@ fn run_levels<R: Wait, G: Gate>(
         worker = do_level(rt, site, worker, level, gate)?;
     }
     let own = worker.port.number();
+    let Worker {
+        port,
+        tables,
+        noted,
+        rows,
+        due,
+        next,
+        ..
+    } = worker;
     Ok(Part {
-        port: worker.port,
-        tables: worker.tables,
-        rows: worker.rows,
-        noted: worker.noted,
+        port,
+        space: Space {
+            tables,
+            rows,
+            noted,
+            due,
+            next,
+        },
     })
 }
 
@@ -141,33 +162,24 @@ fn run_levels<R: Wait, G: Gate>(
 /// and splits the distinct keys that it was asked for at that level.
 ///
 /// The flag is read when a level begins and whenever the lane is empty; once it is set the answer is Stopped. A worker
-/// that meets want of memory sets it before it answers. After a refusal the port is gone.
+/// that meets want of memory sets it before it answers. After a refusal the port is gone, and so is the memory of an earlier wave that
+/// it was given.
 pub fn work<R: Wait, G: Gate>(
     rt: &R,
-    alloc: Global,
-    lanes: &Lanes,
+    site: Site<'_>,
     port: Port,
-    store: &Store,
-    roots: &[Key],
+    used: Option<Space>,
     gate: &G,
-    stop: &AtomicBool,
 ) -> Result<Part, WorkFault>
-    requires port { IsPortOf lanes.now port }
+    requires port { IsPortOf site.lanes.now port }
     requires fresh { IsFresh port }
-    requires sizes { lanes.now.sizes ≡ sizes_of store.now }
-    requires roots { All (IsKey store.now) roots.now }
-    ensures { IfOk result (λ p. IsWorked lanes.now store.now roots.now port.number p) }
+    requires sizes { site.lanes.now.sizes ≡ sizes_of site.store.now }
+    requires roots { All (IsKey site.store.now) site.roots.now }
+    ensures { IfOk result (λ p. IsWorked site.entry.lanes.now site.entry.store.now site.entry.roots.now port.number p) }
 {
-    let site = Site {
-        alloc,
-        lanes,
-        store,
-        roots,
-        stop,
-    };
-    let result = run_levels(rt, site, port, gate);
+    let result = run_levels(rt, site, port, used, gate);
     if matches!(result, Err(WorkFault::OutOfMemory)) {
-        stop.store(true, Ordering::SeqCst);
+        site.stop.store(true, Ordering::SeqCst);
     }
     result
 }

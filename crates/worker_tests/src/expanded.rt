@@ -1,12 +1,12 @@
 //! Waves expanded by threads: their records, how many loads were put, and workers that meet at a level.
-ghost use Rattle.std.specs.Prelude.{◌≡◌, ◌≤◌, ◌<◌, All};
+ghost use Rattle.std.specs.Prelude.{◌≡◌, ◌≤◌, ◌<◌, ℕ, [], length, slice_index_or, All};
 ghost use Rattle.reduce_up.specs.Waves.{IsEntry};
 ghost use Rattle.req_table.specs.Keys.{IsKey};
 
 use crate::meeting::{Meeting, TURNS, wait_for};
 use crate::requests::{request, store_of, variable};
 use dd_store::{Ref, Store, Watch};
-use expand_work::{Free, Gate, expand_all};
+use expand_work::{Free, Gate, Parts, Spaces, expand_all, expand_parts};
 use lane_queue::Port;
 use req_table::requests::owner;
 use req_table::{Child, Key, Memo, Op, Record};
@@ -165,6 +165,45 @@ fn two_at_a_level(rt: HostRuntime) -> Result<(), Fail> {
     let not_d = store.find(3, Ref::TRUE, Ref::FALSE);
     assert!(rt; both.is_some() && both == answers.first().copied());
     assert!(rt; not_d.is_some() && not_d == answers.last().copied());
+    Ok(())
+}
+
+/// How many requests the workers have at a level.
+fn count_at(parts: &Parts, workers: u32, level: u16) -> usize
+    requires workers { length parts.now.rows ≡ workers }
+    requires levels { (k : ℕ) → k < workers → level < length (slice_index_or parts.now.rows k []) }
+{
+    let mut count: usize = 0;
+    for worker in 0..workers {
+        count = count.saturating_add(parts.children(worker, level).len());
+    }
+    count
+}
+
+/// Waves of one root each: its operation, the levels of the store, and the workers.
+const WAVES: [(Op, u16, u32); 5] = [
+    (Op::And, 4, 2),
+    (Op::Or, 4, 2),
+    (Op::And, 4, 3),
+    (Op::Or, 3, 3),
+    (Op::And, 4, 2),
+];
+
+// What a wave leaves in the memory of its workers is not seen by the next one, whether that has as many levels and workers or not.
+#[test]
+fn waves_in_one_memory(rt: HostRuntime) -> Result<(), Fail> {
+    let mut spaces = Spaces::new(rt.alloc());
+    for (op, levels, workers) in WAVES {
+        assert!(rt; 3 <= levels && levels <= 4);
+        assert!(rt; 0 < workers && workers <= 16);
+        let store = store_of(&rt, rt.alloc(), levels);
+        let root = request(&rt, &store, op, 0, 2);
+        let alloc = rt.alloc();
+        let parts = expand_parts(&rt, alloc, &store, &[root], workers, &Free, &mut spaces)?;
+        assert_eq!(rt; count_at(&parts, workers, 0), 1);
+        assert_eq!(rt; count_at(&parts, workers, 2), 0);
+        spaces = parts.into_spaces();
+    }
     Ok(())
 }
 

@@ -9,7 +9,7 @@ ghost use Rattle.expand_work.specs.Worked.{IsFresh, IsWorked};
 use crate::lanes::end;
 use crate::meeting::{TURNS, wait_for};
 use dd_store::{Ref, Store, Watch};
-use expand_work::{Free, Gate, Part, WorkFault, work};
+use expand_work::{Free, Gate, Part, Site, Space, WorkFault, work};
 use lane_queue::{Lanes, Port};
 use req_table::requests::{normal, short};
 use req_table::{Key, Op, Placed, PlacedChild};
@@ -144,12 +144,19 @@ fn work_alone<R: Wait + Abort, G: Gate>(
     stop: &AtomicBool,
 ) -> Result<Part, WorkFault>
     requires { IsKey store.now root }
-    ensures tables { IfOk result (λ p. length p.tables ≡ store.now.levels) }
-    ensures rows { IfOk result (λ p. length p.rows ≡ store.now.levels) }
+    ensures tables { IfOk result (λ p. length p.space.tables ≡ store.now.levels) }
+    ensures rows { IfOk result (λ p. length p.space.rows ≡ store.now.levels) }
 {
     let (lanes, mut ports) = open(alloc, store, 1)?;
     let port = ports.pop().expect(rt, "no port");
-    work(rt, alloc, &lanes, port, store, &[root], gate, stop)
+    let site = Site {
+        alloc,
+        lanes: &lanes,
+        store,
+        roots: &[root],
+        stop,
+    };
+    work(rt, site, port, None, gate)
 }
 
 /// Whether a level has this one request with these children.
@@ -178,9 +185,8 @@ fn one_worker_records_what_it_is_asked_for(rt: HostRuntime) -> Result<(), Fail> 
     let b = found(&rt, &store, 1);
     let c = found(&rt, &store, 2);
     let child = conjunction(&rt, &store, b, c);
-    let Part {
-        port, tables, rows, ..
-    } = part;
+    let Part { port, space } = part;
+    let Space { tables, rows, .. } = space;
     assert!(rt; is_row(tables.keys(0), rows.row(0), root, Err((1, 0)), Ok(Ref::TRUE)));
     assert!(rt; is_row(tables.keys(1), rows.row(1), child, Ok(Ref::FALSE), Ok(c)));
     assert!(rt; tables.keys(2).is_empty());
@@ -232,7 +238,14 @@ fn work_until_told<R: Wait>(
     requires fresh { IsFresh port }
     requires sizes { lanes.now.sizes ≡ sizes_of store.now }
 {
-    let fault = work(rt, alloc, lanes, port, store, &[], &Free, stop).err();
+    let site = Site {
+        alloc,
+        lanes,
+        store,
+        roots: &[],
+        stop,
+    };
+    let fault = work(rt, site, port, None, &Free).err();
     ended.store(true, Ordering::SeqCst);
     fault
 }

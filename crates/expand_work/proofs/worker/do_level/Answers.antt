@@ -1,4 +1,4 @@
-use Rattle.std.proofs.Common.{◌≡◌, ℕ, ◌<◌, List, filter, map, length, subst, sym, ◌∙◌, All}
+use Rattle.std.proofs.Common.{◌≡◌, ℕ, ◌<◌, List, filter, map, length, subst, sym, ap, ◌∙◌, All, replicate, []}
 use Rattle.req_table.specs.Keys.{IsKey}
 use Rattle.req_table.specs.Settled.{asked_by}
 use Rattle.req_table.specs.declared.Key.{Key}
@@ -27,16 +27,16 @@ expand_row-requires-clause-keys g c =
 
 pub returns : goal.returns
 returns g c =
-    let take = c.in_ok-take_until_closed.ensures in
+    let took = c.in_ok-take_until_closed.ensures in
     let n = length c.args.site.lanes.now.lanes in
     let s = c.args.site.store.now in
     let tables = c.take_until_closed.new.tables in
     let kept = subst (λ ks. HasKept c.send_due.new.port c.keep_own.new.port (map (item_of s c.send_due.new.port.number) ks)) c.list.ensures c.in_ok-keep_own.ensures.kept in
     let row : c.in-Ok.row.items ≡ lean_row n (records_of s (at tables c.args.level)) = c.in-Ok.ensures.row ∙ (λ i. lean_row (c.count-workers.ensures.count i) (records_of s (c.keys.ensures i))) in
-    let owed = subst (λ (y : ℕ × List Key). (k : ℕ) → k < y.0 → at c.in-Ok.due k ≡ filter (owned_by y.0 k) (asked_by (records_of s y.1))) (λ i. (c.count-workers.ensures.count i, c.keys.ensures i)) c.in-Ok.ensures.due in
+    let owed = subst (λ (y : ℕ × List Key). (k : ℕ) → k < y.0 → at c.in-Ok.next k ≡ filter (owned_by y.0 k) (asked_by (records_of s y.1))) (λ i. (c.count-workers.ensures.count i, c.keys.ensures i)) c.in-Ok.ensures.due in
     let long = c.in-Ok.ensures.long ∙ c.count-workers.ensures.count in (
-      level_next c.args.site.lanes.now s c.args.site.roots.now c.args.level c.args.worker c.requires.working c.send_due.new.port c.in_ok-send_due.ensures c.number-own.result c.number-own.ensures.number c.keep_own.new.port kept c.send_ends.new.port c.take_until_closed.new.port c.take_until_closed.new.senders.clock c.keep_own.new.tables tables c.in-Ok.row.items c.in-Ok.due c.put.new.self c.requires.level c.in_ok-keep_own.ensures.stays c.in_ok-send_ends.ensures take.same take.heard take.stays take.closed row long owed c.put.ensures c.take_until_closed.new.senders.noted take.noted,
-      number_same c.args.site.lanes.now s c.args.site.roots.now c.args.level c.args.worker c.requires.working c.send_due.new.port c.in_ok-send_due.ensures c.number-own.result c.number-own.ensures.number c.keep_own.new.port kept c.send_ends.new.port c.take_until_closed.new.port c.take_until_closed.new.senders.clock c.keep_own.new.tables tables c.in-Ok.row.items c.in-Ok.due c.put.new.self c.requires.level c.in_ok-keep_own.ensures.stays c.in_ok-send_ends.ensures take.same take.heard take.stays take.closed row long owed c.put.ensures c.take_until_closed.new.senders.noted take.noted,
+      level_next c.args.site.lanes.now s c.args.site.roots.now c.args.level c.args.worker c.requires.working c.send_due.new.port c.in_ok-send_due.ensures c.number-own.result c.number-own.ensures.number c.keep_own.new.port kept c.send_ends.new.port c.take_until_closed.new.port c.take_until_closed.new.senders.clock c.keep_own.new.tables tables c.in-Ok.row.items c.in-Ok.next c.args.worker.due c.take-row.new.self c.put.new.self c.requires.level c.in_ok-keep_own.ensures.stays c.in_ok-send_ends.ensures took.same took.heard took.stays took.closed row long c.requires.working.many_due owed c.take-row.ensures.rows c.put.ensures c.take_until_closed.new.senders.noted took.noted,
+      number_same c.args.site.lanes.now s c.args.site.roots.now c.args.level c.args.worker c.requires.working c.send_due.new.port c.in_ok-send_due.ensures c.number-own.result c.number-own.ensures.number c.keep_own.new.port kept c.send_ends.new.port c.take_until_closed.new.port c.take_until_closed.new.senders.clock c.keep_own.new.tables tables c.in-Ok.row.items c.in-Ok.next c.args.worker.due c.take-row.new.self c.put.new.self c.requires.level c.in_ok-keep_own.ensures.stays c.in_ok-send_ends.ensures took.same took.heard took.stays took.closed row long c.requires.working.many_due owed c.take-row.ensures.rows c.put.ensures c.take_until_closed.new.senders.noted took.noted,
     )
 
 pub keep_own-requires-clause-noted : goal.keep_own-requires-clause-noted
@@ -44,3 +44,6 @@ keep_own-requires-clause-noted g c = subst (λ xs. IsNoted (length c.args.site.l
 
 pub take_until_closed-requires-clause-noted : goal.take_until_closed-requires-clause-noted
 take_until_closed-requires-clause-noted g c = subst (λ xs. IsNoted (length c.args.site.lanes.now.lanes) xs c.keep_own.new.tables c.keep_own.new.noted) (sym c.in_ok-send_ends.ensures.taken) c.in_ok-keep_own.ensures.noted
+
+pub expand_row-requires-clause-none : goal.expand_row-requires-clause-none
+expand_row-requires-clause-none g c = c.clear.ensures ∙ ap (λ n. replicate n []) (c.requires.working.many_next ∙ sym c.count-workers.ensures.count)
