@@ -1,14 +1,17 @@
 //! Worked examples, which call every public function with ample memory.
-ghost use Rattle.std.specs.Prelude.{◌≡◌, ℕ, length, Ok, IfOk};
-ghost use Rattle.dd_store.specs.Graph.{Pair};
+ghost use Rattle.std.specs.Prelude.{◌≡◌, ◌<◌, ◌⊎◌, ℕ, length, Ok, IfOk, All};
+ghost use Rattle.dd_store.specs.Codes.{shard_of_pair};
+ghost use Rattle.dd_store.specs.Graph.{Pair, IsRef, top};
 ghost use Rattle.dd_store.specs.Growing.{IsIn};
-ghost use Rattle.dd_store.specs.Levels.{list_at};
+ghost use Rattle.dd_store.specs.Levels.{list_at, all_at};
+ghost use Rattle.dd_store.specs.Nodes.{node};
 
 use super::*;
 use std::alloc::{AllocError, Global};
 use std::process::Abort;
 use std::sync::atomic::{AtomicBool, Ordering};
 use std::test::Fail;
+use std::thread::Threads;
 
 fn ok(rt: &impl Abort, answer: Result<Ref, StoreFault>) -> Ref
     ensures { answer ≡ Ok result }
@@ -191,5 +194,89 @@ fn two_at_shards(rt: HostRuntime) -> Result<(), Fail> {
     assert!(rt; store.find(0, Ref::FALSE, b).is_some());
     assert!(rt; watch.first.load(Ordering::SeqCst) && watch.last.load(Ordering::SeqCst));
     assert!(rt; !watch.missed.load(Ordering::SeqCst));
+    Ok(())
+}
+
+/// Parts that have a pair twice, another twice, nothing, and the first twice again.
+fn four_parts(
+    alloc: Global,
+    shard: usize,
+    first: (Ref, Ref),
+    second: (Ref, Ref),
+) -> Result<Vec<Vec<Vec<(Ref, Ref)>>>, AllocError>
+    ensures count { IfOk result (λ parts. All (λ part. length part.items ≡ 16) parts.items) }
+    ensures only { IfOk result (λ parts. (s : ℕ) (p : Pair) → IsIn (all_at parts.items s) p → (s < 16 → s ≡ shard) × ((p ≡ first) ⊎ (p ≡ second))) }
+{
+    let (lo, hi) = first;
+    let one = twice_in_one(alloc, shard, (lo, hi))?;
+    let two = twice_in_one(alloc, shard, second)?;
+    let none = twice_in_one(alloc, SHARDS, (lo, hi))?;
+    let last = twice_in_one(alloc, shard, (lo, hi))?;
+    let mut parts = Vec::new(alloc);
+    parts.push(one)?;
+    parts.push(two)?;
+    parts.push(none)?;
+    parts.push(last)?;
+    Ok(parts)
+}
+
+/// What is made of four parts with two pairs of one shard: of True and the variable of level 1, and of the terminals.
+fn make_four<R: Threads + Sync + Abort>(
+    rt: &R,
+    alloc: Global,
+    store: &mut Store,
+    b: Ref,
+) -> Result<Result<Vec<Vec<Ref>>, StoreFault>, AllocError>
+    requires levels { store.old.levels ≡ 2 }
+    requires here { IsRef (node store.old) b }
+    requires top { top store.old.levels b ≡ 1 }
+    requires shard { shard_of_pair Reference.True b ≡ 3 }
+    ensures sixteen { IfOk result (λ made. IfOk made (λ refs. length refs.items ≡ 16)) }
+{
+    let first = (Ref::TRUE, b);
+    let second = (Ref::FALSE, Ref::TRUE);
+    let parts = four_parts(alloc, 3, first, second)?;
+    let watch = Meeting {
+        first: AtomicBool::new(false),
+        last: AtomicBool::new(false),
+        missed: AtomicBool::new(false),
+    };
+    let made = store.make_all(rt, 0, parts.as_slice(), &watch);
+    assert!(rt; !watch.missed.load(Ordering::SeqCst));
+    Ok(made)
+}
+
+#[test]
+fn made_part_by_part(rt: HostRuntime) -> Result<(), Fail> {
+    let mut store = Store::new(rt.alloc(), 2, 3)?;
+    let b = ok(&rt, store.variable(1));
+    let old = ok(&rt, store.make(0, Ref::TRUE, b));
+    assert!(rt; store.top(b) == 1);
+    assert!(rt; shard_of(Ref::TRUE, b) == 3);
+    let refs = make_four(&rt, rt.alloc(), &mut store, b)?.expect(&rt, "refused");
+    assert_eq!(rt; store.count(), 3);
+    let new = store.find(0, Ref::FALSE, Ref::TRUE).expect(&rt, "no node");
+    for shard in 0..16 {
+        if shard == 3 {
+            let wanted = [old, old, new, new, old, old];
+            assert!(rt; refs[shard].as_slice() == wanted.as_slice());
+        } else {
+            assert!(rt; refs[shard].is_empty());
+        }
+    }
+    Ok(())
+}
+
+#[test]
+fn made_up_to_the_limit(rt: HostRuntime) -> Result<(), Fail> {
+    let mut store = Store::new(rt.alloc(), 2, 1)?;
+    let b = ok(&rt, store.variable(1));
+    assert!(rt; store.top(b) == 1);
+    assert!(rt; shard_of(Ref::TRUE, b) == 3);
+    let made = make_four(&rt, rt.alloc(), &mut store, b)?;
+    assert!(rt; made.err() == Some(StoreFault::Full));
+    assert_eq!(rt; store.count(), 2);
+    assert!(rt; store.find(0, Ref::TRUE, b).is_some());
+    assert_eq!(rt; store.find(0, Ref::FALSE, Ref::TRUE), None);
     Ok(())
 }
