@@ -1,5 +1,5 @@
 -- A store with a level to which threads have added pairs.
-use Rattle.std.proofs.Common.{◌≡◌, ℕ, ◌+◌, ◌-◌, ◌*◌, ◌^◌, ◌<◌, ◌≤◌, List, [], length, get_or, map, Option, Some, None, refl, sym, ◌∙◌, ap, subst, arith, inr}
+use Rattle.std.proofs.Common.{◌≡◌, ℕ, ◌+◌, ◌-◌, ◌^◌, ◌<◌, ◌≤◌, List, [], length, get_or, map, Option, Some, None, refl, ◌∙◌, ap, subst, arith, inr}
 use Rattle.std.specs.List.{sum_by, AllZip}
 use Rattle.std.specs.Option.{IfNone, IfSome}
 use Rattle.std.specs.Global.{Vec}

@@ -25,7 +25,7 @@ pub trait Watch: Sync {
 const _: () = prove!(size_of::<(Ref, Ref)>() == 16);
 
 /// A shard, the children of its nodes by place, why the last list was not added whole, and the references that a thread has noted
-/// for its pairs.
+/// for its pairs, which are taken out before a call ends.
 #[derive(Drop)]
 pub(crate) struct Slot {
     pub(crate) shard: SlotTable<(Ref, Ref)>,
@@ -33,7 +33,8 @@ pub(crate) struct Slot {
     pub(crate) found: Vec<Ref>,
 }
 
-const _: () = prove!(size_of::<Vec<Ref>>() == 24);
+// A third of it is the list of references.
+const _: () = prove!(size_of::<Slot>() == 80);
 
 /// Finds a pair in a shard, or adds it where the shard alone holds fewer than `limit` pairs.
 fn place(shard: &mut SlotTable<(Ref, Ref)>, pair: (Ref, Ref), limit: u64) -> Result<Placed, Refusal>

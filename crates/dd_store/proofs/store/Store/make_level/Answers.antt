@@ -1,10 +1,10 @@
-use Rattle.std.proofs.Common.{◌≡◌, ◌<◌, ◌≤◌, ◌*◌, length, ℕ, ◌+◌, ◌-◌, List, sym, subst, ap, rules, arith}
+use Rattle.std.proofs.Common.{◌≡◌, ◌<◌, ◌*◌, length, ℕ, ◌+◌, ◌-◌, List, sym, subst, ap, rules, arith}
 use Rattle.std.specs.Vec.{vec_len}
 use Rattle.dd_store.specs.declared.level.Slot.{Slot}
 use Rattle.dd_store.specs.Graph.{Pair}
 use Rattle.dd_store.specs.Nodes.{Nodes}
 use Rattle.dd_store.specs.Adding.{AreReady}
-use Rattle.std.proofs.Common.{◌∙◌, Option, map}
+use Rattle.std.proofs.Common.{◌∙◌, Option}
 use Rattle.std.specs.List.{sum_by}
 use Rattle.std.proofs.lemmas.List.{length-map}
 use Rattle.dd_store.specs.declared.StoreFault.{StoreFault}

@@ -1,4 +1,3 @@
-use Rattle.std.proofs.Common.{◌≡◌}
 use Rattle.dd_store.specs.Levels.{all_at}
 use Rattle.dd_store.proofs.Noting.{noted_fault}
 use Rattle.dd_store.proofs.level.fn.make_parts.make.Goals as goal
