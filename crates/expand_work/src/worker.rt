@@ -13,6 +13,7 @@ use crate::say::{send_due, send_ends};
 use crate::{Gate, Part, Site, Space, WorkFault};
 use lane_queue::Port;
 use level_close::Clock;
+use std::alloc::AllocError;
 use std::sync::Wait;
 use std::sync::atomic::Ordering;
 
@@ -86,6 +87,45 @@ fn do_level<R: Wait, G: Gate>(
     })
 }
 
+// A worker before its first level, which has to ask for its roots.
+fn begin(site: Site<'_>, port: Port, used: Option<Space>) -> Result<Worker, AllocError>
+    requires port { IsPortOf site.lanes.now port }
+    requires fresh { IsFresh port }
+    requires sizes { site.lanes.now.sizes ≡ sizes_of site.store.now }
+    requires roots { All (IsKey site.store.now) site.roots.now }
+    ensures { IfOk result (λ w. IsWorking site.entry.lanes.now site.entry.store.now site.entry.roots.now 0 w
+        × (w.port.number ≡ port.number)) }
+{
+    let Site {
+        alloc,
+        lanes,
+        store,
+        roots,
+        ..
+    } = site;
+    let workers = lanes.count();
+    let number = port.number();
+    let levels = store.levels();
+    let clock = Clock::new(alloc, workers, levels)?;
+    let Space {
+        tables,
+        rows,
+        noted,
+        due,
+        next,
+    } = Space::open(alloc, used, levels, workers)?;
+    let due = deal_roots(roots, number, workers, due)?;
+    Ok(Worker {
+        port,
+        clock,
+        tables,
+        noted,
+        rows,
+        due,
+        next,
+    })
+}
+
 // Goes through the levels.
 fn run_levels<R: Wait, G: Gate>(
     rt: &R,
@@ -100,36 +140,9 @@ fn run_levels<R: Wait, G: Gate>(
     requires roots { All (IsKey site.store.now) site.roots.now }
     ensures { IfOk result (λ p. IsWorked site.entry.lanes.now site.entry.store.now site.entry.roots.now port.number p) }
 {
-    let Site {
-        alloc,
-        lanes,
-        store,
-        roots,
-        stop,
-    } = site;
-    let workers = lanes.count();
-    let number = port.number();
-    let levels = store.levels();
-    let clock = Clock::new(alloc, workers, levels)?;
-    let Space {
-        tables,
-        rows,
-        noted,
-        due,
-        next,
-    } = Space::open(alloc, used, levels, workers)?;
-    let due = deal_roots(roots, number, workers, due)?;
-    let mut worker = Worker {
-        port,
-        clock,
-        tables,
-        noted,
-        rows,
-        due,
-        next,
-    };
-    for level in 0..levels {
-        if stop.load(Ordering::SeqCst) {
+    let mut worker = begin(site, port, used)?;
+    for level in 0..site.store.levels() {
+        if site.stop.load(Ordering::SeqCst) {
             return Err(WorkFault::Stopped);
         }
         worker = do_level(rt, site, worker, level, gate)?;

@@ -1,0 +1,29 @@
+use Rattle.std.proofs.Common.{◌≡◌, ℕ, ◌<◌, List, [], length, replicate, filter, refl, ap, subst, ◌∙◌}
+use Rattle.std.proofs.lemmas.List.{length-replicate}
+use Rattle.req_table.specs.declared.Key.{Key}
+use Rattle.expand_work.specs.Spaces.{IsEmptySpace}
+use Rattle.req_table.specs.Settled.{dealt_from}
+use Rattle.expand_work.specs.Work.{at, owned_by}
+use Rattle.expand_work.proofs.Starting.{starts_working, width}
+use Rattle.expand_work.proofs.worker.begin.Goals as goal
+
+pub returns : goal.returns
+returns c =
+    let l = c.args.site.lanes.now in
+    let s = c.args.site.store.now in
+    let p = c.args.port in
+    let w-is = c.count-workers.ensures.count in
+    let n-is = c.levels-levels.ensures.value in
+    let wide = width l p c.requires.port in
+    let clock = c.in_ok-clock.clock in
+    let clock-is : clock ≡ record { levels = s.levels; ended = replicate (length l.lanes) 0 } =
+    subst (λ (n : ℕ). clock ≡ record { levels = n; ended = replicate (length l.lanes) 0 }) n-is
+    (subst (λ (m : ℕ). clock ≡ record { levels = c.levels-levels.result; ended = replicate m 0 }) w-is c.in_ok-clock.ensures) in
+    let space = c.in_ok-tables.field-0 in
+    let empty : IsEmptySpace s.levels (length l.lanes) space = subst (λ (y : ℕ × ℕ). IsEmptySpace y.0 y.1 space) (λ i. (n-is i, w-is i)) c.in_ok-tables.ensures in
+    let dealt = subst (λ n. (k : ℕ) → k < length l.lanes → at c.in_ok-due.due k ≡ filter (owned_by (length l.lanes) k) (dealt_from (length l.lanes) n 0 c.args.site.roots.now)) c.number-number.ensures.number
+    (subst (λ m. (k : ℕ) → k < m → at c.in_ok-due.due k ≡ filter (owned_by m k) (dealt_from m c.number-number.result 0 c.args.site.roots.now)) w-is c.in_ok-due.ensures.due) in (
+      starts_working l s c.args.site.roots.now p clock space.tables space.noted space.rows c.in_ok-due.due space.next c.requires.port (subst (λ n. p.number < n) wide c.number-number.ensures.within) c.requires.fresh c.requires.sizes c.levels-levels.ensures.sound c.requires.roots
+          clock-is empty.tables empty.noted empty.rows (c.in_ok-due.ensures.long ∙ w-is) (ap (λ (n : List (List Key)). length n) empty.next ∙ length-replicate (length l.lanes) []) dealt,
+      refl,
+    )
