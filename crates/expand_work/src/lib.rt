@@ -23,6 +23,5 @@ pub use gate::{Free, Gate};
 pub use lists::{Noted, Rows, Tables};
 pub use part::Part;
 pub use parts::{Parts, expand_parts};
-pub use site::Site;
 pub use space::{Space, Spaces};
 pub use worker::work;

@@ -6,8 +6,9 @@ ghost use Rattle.req_table.specs.Lanes.{sent_by};
 ghost use Rattle.expand_work.specs.Work.{item_of, with_levels, MaySend, HasKept, Offered, IsHeard, StaysClosed};
 ghost use Rattle.expand_work.specs.Noted.{IsNoted, Notes};
 
+use crate::WorkFault;
 use crate::lists::{Noted, Tables};
-use crate::{Site, WorkFault};
+use crate::site::Site;
 use crossbeam_utils::Backoff;
 use dd_store::Store;
 use lane_queue::{Lanes, Load, Port};

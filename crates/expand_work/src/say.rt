@@ -7,8 +7,8 @@ ghost use Rattle.lane_queue.specs.PortView.{sent_to, IsPortOf, MayLeave, lanes_s
 ghost use Rattle.expand_work.specs.Parts.{bundles};
 ghost use Rattle.expand_work.specs.Work.{at, item_of, MaySend, SentTo, SentToAll, put_items, put_loads};
 
-use crate::Site;
 use crate::lists::KeyLists;
+use crate::site::Site;
 use lane_queue::{Bundle, Lanes, Load, Port};
 use req_table::Key;
 use req_table::requests::level_of;

@@ -8,8 +8,9 @@ ghost use Rattle.lane_queue.specs.PortView.{IsPortOf};
 ghost use Rattle.expand_work.specs.Worked.{IsFresh, IsWorked};
 ghost use Rattle.expand_work.specs.Team.{AreNew, AreWorked, IsPromised};
 
-use crate::worker::work;
-use crate::{Gate, Part, Site, Spaces, WaveFault, WorkFault};
+use crate::site::Site;
+use crate::worker::work_in;
+use crate::{Gate, Part, Spaces, WaveFault, WorkFault};
 use dd_store::Store;
 use lane_queue::{Lanes, Port};
 use req_table::Key;
@@ -144,7 +145,7 @@ pub fn run_workers<R: Threads + Wait + Sync, G: Gate>(
                             roots,
                             stop: flag,
                         };
-                        work(rt, site, port, space, gate)
+                        work_in(rt, site, port, space, gate)
                     },
                 ) {
                     Ok(child) => children.push_reserved(child),

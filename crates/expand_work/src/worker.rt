@@ -10,12 +10,15 @@ use crate::expand::{deal_roots, expand_row};
 use crate::listen::{Senders, keep_own, take_until_closed};
 use crate::lists::{KeyLists, Noted, Rows, Tables};
 use crate::say::{send_due, send_ends};
-use crate::{Gate, Part, Site, Space, WorkFault};
-use lane_queue::Port;
+use crate::site::Site;
+use crate::{Gate, Part, Space, WorkFault};
+use dd_store::Store;
+use lane_queue::{Lanes, Port};
 use level_close::Clock;
-use std::alloc::AllocError;
+use req_table::Key;
+use std::alloc::{AllocError, Global};
 use std::sync::Wait;
-use std::sync::atomic::Ordering;
+use std::sync::atomic::{AtomicBool, Ordering};
 
 /// What a worker has between two levels: its port, how many levels each sender has ended, the keys that it was asked
 /// for, by level, and where it put them, by sender, the children of each, by level, the keys that it has to ask for next, by owner, and
@@ -169,15 +172,8 @@ fn run_levels<R: Wait, G: Gate>(
     })
 }
 
-/// Does one worker's part of a wave over the lanes' store. At each level it sends all that is due (its roots at level
-/// 0, the children of the level before at each other) to the other workers, in bundles of 64 and then one with the rest,
-/// and keeps what it owns itself; it ends the level on every lane, takes until every sender has ended it, tells the gate,
-/// and splits the distinct keys that it was asked for at that level.
-///
-/// The flag is read when a level begins and whenever the lane is empty; once it is set the answer is Stopped. A worker
-/// that meets want of memory sets it before it answers. After a refusal the port is gone, and so is the memory of an earlier wave that
-/// it was given.
-pub fn work<R: Wait, G: Gate>(
+/// Does one worker's part of a wave, as `work` does, in the memory of an earlier wave where there is some, which is gone after a refusal.
+pub fn work_in<R: Wait, G: Gate>(
     rt: &R,
     site: Site<'_>,
     port: Port,
@@ -195,4 +191,37 @@ pub fn work<R: Wait, G: Gate>(
         site.stop.store(true, Ordering::SeqCst);
     }
     result
+}
+
+/// Does one worker's part of a wave over the lanes' store. At each level it sends all that is due (its roots at level
+/// 0, the children of the level before at each other) to the other workers, in bundles of 64 and then one with the rest,
+/// and keeps what it owns itself; it ends the level on every lane, takes until every sender has ended it, tells the gate,
+/// and splits the distinct keys that it was asked for at that level.
+///
+/// The flag is read when a level begins and whenever the lane is empty; once it is set the answer is Stopped. A worker
+/// that meets want of memory sets it before it answers. After a refusal the port is gone.
+pub fn work<R: Wait, G: Gate>(
+    rt: &R,
+    alloc: Global,
+    lanes: &Lanes,
+    port: Port,
+    store: &Store,
+    roots: &[Key],
+    gate: &G,
+    stop: &AtomicBool,
+) -> Result<Part, WorkFault>
+    requires port { IsPortOf lanes.now port }
+    requires fresh { IsFresh port }
+    requires sizes { lanes.now.sizes ≡ sizes_of store.now }
+    requires roots { All (IsKey store.now) roots.now }
+    ensures { IfOk result (λ p. IsWorked lanes.now store.now roots.now port.number p) }
+{
+    let site = Site {
+        alloc,
+        lanes,
+        store,
+        roots,
+        stop,
+    };
+    work_in(rt, site, port, None, gate)
 }
