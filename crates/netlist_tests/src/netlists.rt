@@ -1,9 +1,10 @@
 // Of the reader, what no contract says: the worked texts, the printed faults, and that each call succeeds with ample memory.
 use crate::devices::{Endless, OneByte, Refusing};
-use net_bench::device::{Failed, Sink, Source, Through};
+use net_bench::device::{Failed, InMemory, Sink, Source, TextFault, Through, read_text};
 use net_bench::name_table::NameTable;
-use net_bench::netlist::{BenchFault, GateLine, Kind, Role, Signal};
+use net_bench::netlist::{BenchFault, GateLine, Kind, Operands, Role, Signal};
 use net_bench::reader::{Netlist, parse_bench, read_bench};
+use net_bench::scan::{Scanner, Token};
 use std::alloc::{AllocError, Global};
 use std::test::Fail;
 
@@ -262,6 +263,21 @@ fn printed_faults(rt: HostRuntime) -> Result<(), Fail> {
     Ok(())
 }
 
+#[test]
+fn printed_text_faults(rt: HostRuntime) -> Result<(), Fail> {
+    let table = [
+        (TextFault::Read, "cannot be read"),
+        (TextFault::TooLong, "too long"),
+        (TextFault::OutOfMemory, "out of memory"),
+    ];
+    for (fault, want) in table {
+        assert_eq!(rt; format!(in rt.alloc(); "{fault}")?.as_str(), want);
+    }
+    let failed = format!(in rt.alloc(); "{}", Failed)?;
+    assert_eq!(rt; failed.as_str(), "the device has failed");
+    Ok(())
+}
+
 /// The name of a signal of the netlist.
 fn name_of(net: &Netlist, signal: Signal) -> &[u8] {
     if (signal.number() as usize) < net.count() {
@@ -440,6 +456,57 @@ fn gate_words(rt: HostRuntime) -> Result<(), Fail> {
     Ok(())
 }
 
+#[test]
+fn parts(rt: HostRuntime) -> Result<(), Fail> {
+    let mut signals = Vec::new(rt.alloc());
+    for number in [2, 0, 2] {
+        signals.push(Signal::of(number))?;
+    }
+    let operands = Operands::of(signals);
+    let found = operands.as_slice();
+    assert_eq!(rt;
+        found,
+        [Signal::of(2), Signal::of(0), Signal::of(2)].as_slice()
+    );
+    assert!(rt; Kind::Dff.is_register());
+    assert!(rt; !Kind::Buff.is_register());
+    Ok(())
+}
+
+/// How a token is written, a stray byte as `?` and the end as nothing.
+fn written(token: Token<'_>) -> &[u8] {
+    match token {
+        Token::Open => b"(",
+        Token::Close => b")",
+        Token::Comma => b",",
+        Token::Equals => b"=",
+        Token::Name(name) => name,
+        Token::Unknown(_) => b"?",
+        Token::End => b"",
+    }
+}
+
+#[test]
+fn tokens(rt: HostRuntime) -> Result<(), Fail> {
+    let mut scanner = Scanner::new(b"ab=c # ,\n(\t)\r\n, \x01");
+    let table: [(u32, &[u8]); 9] = [
+        (1, b"ab"),
+        (1, b"="),
+        (1, b"c"),
+        (2, b"("),
+        (2, b")"),
+        (3, b","),
+        (3, b"?"),
+        (3, b""),
+        (3, b""),
+    ];
+    for want in table {
+        let (line, token) = scanner.next();
+        assert_eq!(rt; (line, written(token)), want);
+    }
+    Ok(())
+}
+
 /// The fault of a text that drips from a device, which fails where so many bytes are left.
 fn dripping_fault(alloc: Global, text: &str, fails_at: usize) -> Option<BenchFault> {
     let mut device = OneByte {
@@ -470,6 +537,29 @@ fn devices(rt: HostRuntime) -> Result<(), Fail> {
 }
 
 #[test]
+fn texts_in_memory(rt: HostRuntime) -> Result<(), Fail> {
+    let alloc = rt.alloc();
+    for (text, limit) in [("", 0), ("abc", 3), (C17, 1000)] {
+        let mut device = InMemory::new(text.as_bytes());
+        let found = read_text(alloc, &mut device, limit)?;
+        assert_eq!(rt; found.as_slice(), text.as_bytes());
+    }
+    let mut device = InMemory::new(b"abc");
+    assert_eq!(rt;
+        read_text(alloc, &mut device, 2).err(),
+        Some(TextFault::TooLong)
+    );
+    let mut bytes = [0u8; 2];
+    let mut left = InMemory::new(b"abc");
+    assert_eq!(rt; left.read(&mut bytes), Ok(2));
+    assert_eq!(rt; bytes, *b"ab");
+    assert_eq!(rt; left.read(&mut bytes), Ok(1));
+    assert_eq!(rt; bytes, *b"cb");
+    assert_eq!(rt; left.read(&mut bytes), Ok(0));
+    Ok(())
+}
+
+#[test]
 fn failing_devices(rt: HostRuntime) -> Result<(), Fail> {
     let mut source = Through::new(Refusing);
     assert_eq!(rt;
@@ -494,6 +584,14 @@ fn endless_device(rt: HostRuntime) -> Result<(), Fail> {
     Ok(())
 }
 
+/// The name at the second place, and that of number 1.
+fn second_name(table: &NameTable) -> Option<(&[u8], &[u8])> {
+    if table.len() > 1 {
+        return Some((table.name_at(1), table.name(1)));
+    }
+    None
+}
+
 #[test]
 fn name_tables(rt: HostRuntime) -> Result<(), Fail> {
     let alloc = rt.alloc();
@@ -505,6 +603,11 @@ fn name_tables(rt: HostRuntime) -> Result<(), Fail> {
     assert_eq!(rt; table.find(b"a"), Some(1));
     assert_eq!(rt; table.find(b"c"), None);
     assert!(rt; table.has(b"b"));
+    assert!(rt; !table.has(b"c"));
+    assert_eq!(rt;
+        second_name(&table),
+        Some((b"a".as_slice(), b"a".as_slice()))
+    );
     let names = table.to_names(alloc)?;
     assert_eq!(rt; names.len(), 3);
     assert_eq!(rt; names[1].as_slice(), b"a".as_slice());

@@ -5,7 +5,7 @@ use net_bench::netlist::Signal;
 use net_bench::reader::{Netlist, parse_bench};
 use net_order::names::Names;
 use net_order::order::{Match, Order, OrderFault};
-use net_order::order_file::read_order;
+use net_order::order_file::{order_text, read_order};
 use net_order::pairing::{Pairing, pair};
 use std::alloc::{AllocError, Global};
 use std::test::Fail;
@@ -110,6 +110,16 @@ fn refused_lists(rt: HostRuntime) -> Result<(), Fail> {
     ];
     for (file, fault) in refused {
         assert_eq!(rt; names_listed(alloc, &net, file).err(), Some(fault));
+    }
+    Ok(())
+}
+
+#[test]
+fn written_lists(rt: HostRuntime) -> Result<(), Fail> {
+    let alloc = rt.alloc();
+    for (file, written) in [("", ""), ("b a # c\n\tb", "b\na\nb\n")] {
+        let names = read_order(alloc, &mut Through::new(file.as_bytes()))?;
+        assert_eq!(rt; order_text(alloc, &names)?.as_slice(), written.as_bytes());
     }
     Ok(())
 }
