@@ -14,3 +14,4 @@ pub mod Determined
 pub mod Tokens
 pub mod Trying
 pub mod Printing
+pub mod Widening

@@ -1,5 +1,5 @@
 -- Which orders are tried for a comparison, within how many nodes, and which attempt it ends with.
-use Rattle.std.specs.Prelude.{◌≡◌, ℕ, ◌*◌, ◌^◌, ◌<◌, ◌⊎◌, List, Option, Some, None, ⊤, codes}
+use Rattle.std.specs.Prelude.{◌≡◌, ℕ, ◌*◌, ◌^◌, ◌<◌, ◌⊎◌, List, Option, Some, None, IsSomeAnd, ⊤, codes}
 use Rattle.net_order.specs.declared.order.Match.{Match}
 use Rattle.net_order.specs.declared.order.Order.{Order}
 use Rattle.net_order.specs.declared.order.Order.TheVariants as orders
@@ -9,6 +9,7 @@ use Rattle.check_report.specs.declared.choice.Candidate.{Candidate}
 use Rattle.check_report.specs.declared.choice.Candidate.TheVariants.{Interleave, Depth, Declared}
 use Rattle.check_report.specs.declared.choice.Attempt.{Attempt}
 use Rattle.check_report.specs.Limits.{AreWithin, AreBeyond}
+use Rattle.check_report.specs.Widths.{AreTooWide}
 
 -- the order that a candidate is
 abbrev pub order_of : Candidate → Order
@@ -40,6 +41,20 @@ IsChosen one two given how Best limit None order = ⊥
 IsChosen one two given how Best limit (Some t) order =
     (order ≡ order_of t.order) × IsBudget limit t.budget × AreWithin one two given how order t.budget
     × (t.budget ≡ limit → AllBefore t.order (λ c. AreBeyond one two given how (order_of c) limit))
+
+-- An attempt within so many nodes was passed over: a comparison in this order needs more, or one wave of it reaches more requests than
+-- its bound, where there is one.
+abbrev pub IsPassed : (one two : Option (List ℕ)) → Option (Option (List ℕ)) → Match → (budget : ℕ) → (bound : Option ℕ) → Candidate → Type 0
+IsPassed one two given how budget bound c = AreBeyond one two given how (order_of c) budget ⊎ IsSomeAnd bound (AreTooWide one two given how (order_of c))
+
+-- the same, within a limit: below it a wave may reach eight requests for each node
+abbrev pub IsGivenUp : (one two : Option (List ℕ)) → Option (Option (List ℕ)) → Match → (limit budget : ℕ) → Candidate → Type 0
+IsGivenUp one two given how limit budget c = AreBeyond one two given how (order_of c) budget ⊎ ((budget < limit) × AreTooWide one two given how (order_of c) (8 * budget))
+
+-- Each attempt before this one was given up: those of all candidates within smaller budgets, and within its own those before it.
+pub record AreGivenUp (one two : Option (List ℕ)) (given : Option (Option (List ℕ))) (how : Match) (limit : ℕ) (t : Attempt) : Type 0 where
+  pub smaller : (budget : ℕ) → IsBudget limit budget → budget < t.budget → (c : Candidate) → IsGivenUp one two given how limit budget c
+  pub same : AllBefore t.order (IsGivenUp one two given how limit t.budget)
 
 -- the order of the attempt that a comparison ended with, or the one that was given
 abbrev pub tried_order : Choice → Option Attempt → Order

@@ -6,6 +6,7 @@ pub mod Report
 pub mod Comparing
 pub mod Check
 pub mod Limits
+pub mod Widths
 pub mod Best
 pub mod Texts
 pub mod Listing

@@ -1,13 +1,14 @@
 //! The attempts of a comparison: an order, and the nodes within which it is to stay.
-ghost use Rattle.std.specs.Prelude.{min, None, ◌≡◌, ◌≢◌, ◌≤◌, ◌<◌, ◌^◌, ◌*◌, ◌⊎◌, ℕ, List, Option, Some, true, false, IfOk, IfErr, OnOk, IsTrue, Err};
+ghost use Rattle.std.specs.Prelude.{min, None, ◌≡◌, ◌≢◌, ◌≤◌, ◌<◌, ◌-◌, ◌^◌, ◌*◌, ◌⊎◌, ℕ, List, Option, Some, true, false, IfOk, IfErr, IfSome, IsSomeAnd, OnOk, IsTrue, Err};
 ghost use Rattle.expand_work.specs.Bounds.{most_of};
 ghost use Rattle.net_bench.specs.Circuit.{circuit};
 ghost use Rattle.net_order.specs.Order.{condition};
 ghost use Rattle.check_report.specs.declared.choice.Candidate.{Candidate as CandidateValue};
 ghost use Rattle.net_order.specs.declared.order.Order.{Order as OrderValue};
-ghost use Rattle.check_report.specs.Best.{AllBefore, IsAllowed, IsBudget, IsChosen, order_of};
+ghost use Rattle.check_report.specs.Best.{AllBefore, AreGivenUp, IsAllowed, IsBudget, IsChosen, IsPassed, order_of};
 ghost use Rattle.check_report.specs.Check.{AreGiven, IsJudged, IsCheckFault};
 ghost use Rattle.check_report.specs.Limits.{AreWithin, AreBeyond};
+ghost use Rattle.check_report.specs.Widths.{AreTooWide};
 
 use crate::checking::{Task, compare};
 use crate::choice::{Attempt, Candidate, Choice};
@@ -76,7 +77,9 @@ fn attempt<H: Threads + Wait + Sync, G: Gate>(
     ensures fault { (one two : Option (List ℕ)) (three : Option (Option (List ℕ))) → AreGiven one two three (circuit task.now.first.now) (circuit task.now.second.now) (condition task.now.given) →
         IfErr result (IsCheckFault one two three ⊥ ⊥ ⊥ task.now.settings.now.matching order.now) }
     ensures unwritten { result ≢ Err CheckFault.Write }
-    ensures unbounded { G.bound gate.now ≡ None → result ≢ Err (CheckFault.Wave WaveFault.TooManyRequests) }
+    ensures past { (one two : Option (List ℕ)) (three : Option (Option (List ℕ))) → AreGiven one two three (circuit task.now.first.now) (circuit task.now.second.now) (condition task.now.given) →
+        result ≡ Err (CheckFault.Wave WaveFault.TooManyRequests) → IsSomeAnd (G.bound gate.now) (AreTooWide one two three task.now.settings.now.matching order.now) }
+    ensures alone { most_of (G.bound gate.now) < 2 ^ 64 - 1 → result ≢ Err (CheckFault.Wave WaveFault.NoWorker) }
 {
     let _ = task.first.inputs();
     let pairing = match pair(
@@ -98,6 +101,7 @@ fn is_kept(fault: CheckFault, bounded: bool) -> bool
     ensures kept { result ≡ true → fault ≢ CheckFault.Wave WaveFault.Full }
     ensures passed { bounded ≡ true → result ≡ true → fault ≢ CheckFault.Wave WaveFault.TooManyRequests }
     ensures full { bounded ≡ false → result ≡ false → fault ≡ CheckFault.Wave WaveFault.Full }
+    ensures dropped { result ≡ false → (fault ≡ CheckFault.Wave WaveFault.Full) ⊎ (fault ≡ CheckFault.Wave WaveFault.TooManyRequests) }
 {
     match fault {
         CheckFault::Wave(WaveFault::Full) => false,
@@ -126,7 +130,13 @@ fn try_candidates<H: Threads + Wait + Sync, G: Gate>(
     ensures fault { (one two : Option (List ℕ)) (three : Option (Option (List ℕ))) → AreGiven one two three (circuit task.now.first.now) (circuit task.now.second.now) (condition task.now.given) →
         IfErr result (λ fault. (c : CandidateValue) × IsCheckFault one two three ⊥ ⊥ ⊥ task.now.settings.now.matching (order_of c) fault) }
     ensures unwritten { result ≢ Err CheckFault.Write }
-    ensures unbounded { G.bound gate.now ≡ None → result ≢ Err (CheckFault.Wave WaveFault.TooManyRequests) }
+    ensures past { (one two : Option (List ℕ)) (three : Option (Option (List ℕ))) → AreGiven one two three (circuit task.now.first.now) (circuit task.now.second.now) (condition task.now.given) →
+        result ≡ Err (CheckFault.Wave WaveFault.TooManyRequests) → (c : CandidateValue) × IsSomeAnd (G.bound gate.now) (AreTooWide one two three task.now.settings.now.matching (order_of c)) }
+    ensures passed { (one two : Option (List ℕ)) (three : Option (Option (List ℕ))) → AreGiven one two three (circuit task.now.first.now) (circuit task.now.second.now) (condition task.now.given) →
+        IfOk result (λ r. AllBefore r.1 (IsPassed one two three task.now.settings.now.matching limit (G.bound gate.now))) }
+    ensures refused { (one two : Option (List ℕ)) (three : Option (Option (List ℕ))) → AreGiven one two three (circuit task.now.first.now) (circuit task.now.second.now) (condition task.now.given) →
+        bounded ≡ true → (result ≡ Err (CheckFault.Wave WaveFault.Full)) ⊎ (result ≡ Err (CheckFault.Wave WaveFault.TooManyRequests)) → (c : CandidateValue) → IsPassed one two three task.now.settings.now.matching limit (G.bound gate.now) c }
+    ensures alone { most_of (G.bound gate.now) < 2 ^ 64 - 1 → result ≢ Err (CheckFault.Wave WaveFault.NoWorker) }
 {
     match attempt(task, &Order::Interleave, limit, gate) {
         Ok(verdicts) => return Ok((verdicts, Candidate::Interleave)),
@@ -160,7 +170,11 @@ pub fn find_best<H: Threads + Wait + Sync, G: Gate>(
     ensures fault { (one two : Option (List ℕ)) (three : Option (Option (List ℕ))) → AreGiven one two three (circuit task.now.first.now) (circuit task.now.second.now) (condition task.now.given) →
         IfErr result (λ fault. (c : CandidateValue) × IsCheckFault one two three ⊥ ⊥ ⊥ task.now.settings.now.matching (order_of c) fault) }
     ensures unwritten { result ≢ Err CheckFault.Write }
-    ensures unbounded { G.bound gate.now ≡ None → result ≢ Err (CheckFault.Wave WaveFault.TooManyRequests) }
+    ensures past { (one two : Option (List ℕ)) (three : Option (Option (List ℕ))) → AreGiven one two three (circuit task.now.first.now) (circuit task.now.second.now) (condition task.now.given) →
+        result ≡ Err (CheckFault.Wave WaveFault.TooManyRequests) → (c : CandidateValue) × IsSomeAnd (G.bound gate.now) (AreTooWide one two three task.now.settings.now.matching (order_of c)) }
+    ensures passed { G.bound gate.now ≡ None → (one two : Option (List ℕ)) (three : Option (Option (List ℕ))) → AreGiven one two three (circuit task.now.first.now) (circuit task.now.second.now) (condition task.now.given) →
+        IfOk result (λ r. AreGivenUp one two three task.now.settings.now.matching task.now.settings.now.limit r.1) }
+    ensures alone { most_of (G.bound gate.now) < 2 ^ 64 - 1 → result ≢ Err (CheckFault.Wave WaveFault.NoWorker) }
 {
     let limit = task.settings.limit;
     let mut budget = FIRST_BUDGET;
@@ -203,7 +217,11 @@ fn by_order<H: Threads + Wait + Sync, G: Gate>(
     ensures fault { (one two : Option (List ℕ)) (three : Option (Option (List ℕ))) → AreGiven one two three (circuit task.now.first.now) (circuit task.now.second.now) (condition task.now.given) →
         IfErr result (λ fault. (o : OrderValue) × IsAllowed (Choice.One order.now) o × IsCheckFault one two three ⊥ ⊥ ⊥ task.now.settings.now.matching o fault) }
     ensures unwritten { result ≢ Err CheckFault.Write }
-    ensures unbounded { G.bound gate.now ≡ None → result ≢ Err (CheckFault.Wave WaveFault.TooManyRequests) }
+    ensures past { (one two : Option (List ℕ)) (three : Option (Option (List ℕ))) → AreGiven one two three (circuit task.now.first.now) (circuit task.now.second.now) (condition task.now.given) →
+        result ≡ Err (CheckFault.Wave WaveFault.TooManyRequests) → (o : OrderValue) × IsAllowed (Choice.One order.now) o × IsSomeAnd (G.bound gate.now) (AreTooWide one two three task.now.settings.now.matching o) }
+    ensures passed { G.bound gate.now ≡ None → (one two : Option (List ℕ)) (three : Option (Option (List ℕ))) → AreGiven one two three (circuit task.now.first.now) (circuit task.now.second.now) (condition task.now.given) →
+        IfOk result (λ r. IfSome r.1 (AreGivenUp one two three task.now.settings.now.matching task.now.settings.now.limit)) }
+    ensures alone { most_of (G.bound gate.now) < 2 ^ 64 - 1 → result ≢ Err (CheckFault.Wave WaveFault.NoWorker) }
 {
     match attempt(task, order, task.settings.limit, gate) {
         Ok(verdicts) => Ok((verdicts, None)),
@@ -224,7 +242,11 @@ fn by_best<H: Threads + Wait + Sync, G: Gate>(
     ensures fault { (one two : Option (List ℕ)) (three : Option (Option (List ℕ))) → AreGiven one two three (circuit task.now.first.now) (circuit task.now.second.now) (condition task.now.given) →
         IfErr result (λ fault. (o : OrderValue) × IsAllowed Choice.Best o × IsCheckFault one two three ⊥ ⊥ ⊥ task.now.settings.now.matching o fault) }
     ensures unwritten { result ≢ Err CheckFault.Write }
-    ensures unbounded { G.bound gate.now ≡ None → result ≢ Err (CheckFault.Wave WaveFault.TooManyRequests) }
+    ensures past { (one two : Option (List ℕ)) (three : Option (Option (List ℕ))) → AreGiven one two three (circuit task.now.first.now) (circuit task.now.second.now) (condition task.now.given) →
+        result ≡ Err (CheckFault.Wave WaveFault.TooManyRequests) → (o : OrderValue) × IsAllowed Choice.Best o × IsSomeAnd (G.bound gate.now) (AreTooWide one two three task.now.settings.now.matching o) }
+    ensures passed { G.bound gate.now ≡ None → (one two : Option (List ℕ)) (three : Option (Option (List ℕ))) → AreGiven one two three (circuit task.now.first.now) (circuit task.now.second.now) (condition task.now.given) →
+        IfOk result (λ r. IfSome r.1 (AreGivenUp one two three task.now.settings.now.matching task.now.settings.now.limit)) }
+    ensures alone { most_of (G.bound gate.now) < 2 ^ 64 - 1 → result ≢ Err (CheckFault.Wave WaveFault.NoWorker) }
 {
     match find_best(task, gate) {
         Ok((verdicts, found)) => Ok((verdicts, Some(found))),
@@ -245,7 +267,11 @@ pub fn decide<H: Threads + Wait + Sync, G: Gate>(
     ensures fault { (one two : Option (List ℕ)) (three : Option (Option (List ℕ))) → AreGiven one two three (circuit task.now.first.now) (circuit task.now.second.now) (condition task.now.given) →
         IfErr result (λ fault. (order : OrderValue) × IsAllowed task.now.settings.now.order order × IsCheckFault one two three ⊥ ⊥ ⊥ task.now.settings.now.matching order fault) }
     ensures unwritten { result ≢ Err CheckFault.Write }
-    ensures unbounded { G.bound gate.now ≡ None → result ≢ Err (CheckFault.Wave WaveFault.TooManyRequests) }
+    ensures past { (one two : Option (List ℕ)) (three : Option (Option (List ℕ))) → AreGiven one two three (circuit task.now.first.now) (circuit task.now.second.now) (condition task.now.given) →
+        result ≡ Err (CheckFault.Wave WaveFault.TooManyRequests) → (o : OrderValue) × IsAllowed task.now.settings.now.order o × IsSomeAnd (G.bound gate.now) (AreTooWide one two three task.now.settings.now.matching o) }
+    ensures passed { G.bound gate.now ≡ None → (one two : Option (List ℕ)) (three : Option (Option (List ℕ))) → AreGiven one two three (circuit task.now.first.now) (circuit task.now.second.now) (condition task.now.given) →
+        IfOk result (λ r. IfSome r.1 (AreGivenUp one two three task.now.settings.now.matching task.now.settings.now.limit)) }
+    ensures alone { most_of (G.bound gate.now) < 2 ^ 64 - 1 → result ≢ Err (CheckFault.Wave WaveFault.NoWorker) }
 {
     match &task.settings.order {
         Choice::One(order) => by_order(task, order, gate),

@@ -1,18 +1,20 @@
 //! From readers to a report.
-ghost use Rattle.std.specs.Prelude.{None, ◌≡◌, ◌≢◌, ◌<◌, ◌^◌, ℕ, List, Option, IfOk, IfErr, IfSome, OnOk, OnErr, IsTrue};
+ghost use Rattle.std.specs.Prelude.{None, ◌≡◌, ◌≢◌, ◌<◌, ◌-◌, ◌^◌, ℕ, List, Option, IfOk, IfErr, IfSome, IsSomeAnd, OnOk, OnErr, IsTrue};
 ghost use Rattle.std.specs.Io.KnownBytes.{Appends};
+ghost use Rattle.expand_work.specs.Bounds.{most_of};
 ghost use Rattle.net_bench.specs.Circuit.{circuit};
 ghost use Rattle.net_order.specs.declared.order.Order.{Order as OrderValue};
 ghost use Rattle.net_order.specs.Order.{condition};
 ghost use Rattle.gate_plan.specs.Building.{IsPaired};
 ghost use Rattle.check_report.specs.declared.choice.Attempt.{Attempt as AttemptValue};
-ghost use Rattle.check_report.specs.Best.{IsAllowed, IsChosen};
+ghost use Rattle.check_report.specs.Best.{AreGivenUp, IsAllowed, IsChosen};
 ghost use Rattle.check_report.specs.declared.outcome.Outcome.{Outcome};
 ghost use Rattle.check_report.specs.Report.{AreVerdicts};
 ghost use Rattle.check_report.specs.Check.{IsChecked, IsJudged, IsCheckFault, IsLate};
 ghost use Rattle.check_report.specs.Conditions.{HasOneOutput, one_output-prop};
 ghost use Rattle.check_report.specs.Devices.{told_by, HasFailedIn};
 ghost use Rattle.check_report.specs.Limits.{FitsWithin, Exceeds, AreBeyond};
+ghost use Rattle.check_report.specs.Widths.{AreTooWide, IsTooWide};
 ghost use Rattle.check_report.specs.Writing.{AppendsFront};
 
 use crate::attempts::decide;
@@ -61,7 +63,8 @@ pub fn compare<H: Threads + Wait + Sync, G: Gate>(
     ensures err { IfErr result IsLate }
     ensures within { OnOk result (FitsWithin limit (circuit task.now.first.now) (circuit task.now.second.now) (condition task.now.given) pairing) }
     ensures full { result ≡ Err (CheckFault.Wave WaveFault.Full) → Exceeds limit (circuit task.now.first.now) (circuit task.now.second.now) (condition task.now.given) pairing }
-    ensures unbounded { G.bound gate.now ≡ None → result ≢ Err (CheckFault.Wave WaveFault.TooManyRequests) }
+    ensures past { result ≡ Err (CheckFault.Wave WaveFault.TooManyRequests) → IsSomeAnd (G.bound gate.now) (λ n. IsTooWide n (circuit task.now.first.now) (circuit task.now.second.now) (condition task.now.given) pairing) }
+    ensures alone { most_of (G.bound gate.now) < 2 ^ 64 - 1 → result ≢ Err (CheckFault.Wave WaveFault.NoWorker) }
 {
     let _ = task.first.inputs();
     let _ = task.second.inputs();
@@ -120,11 +123,17 @@ pub fn judge<'a, H: Threads + Wait + Sync, R1: Source, R2: Source, R3: Source, G
     // order are within the limit, and within the budget of the attempt.
     ensures verdicts { IfOk result (λ r. (order : OrderValue) × IsJudged (R1.remaining first.old) (R2.remaining second.old) (told_by R3.remaining given.old) settings.now.matching order settings.now.sizes r.0
         × IsChosen (R1.remaining first.old) (R2.remaining second.old) (told_by R3.remaining given.old) settings.now.matching settings.now.order settings.now.limit r.1 order) }
+    // Where the gate sets no bound, each attempt before the one that is told was given up: it needs more nodes than its budget, or one wave
+    // of it reaches more requests than eight for each of them.
+    ensures passed { G.bound gate.now ≡ None → IfOk result (λ r. IfSome r.1 (AreGivenUp (R1.remaining first.old) (R2.remaining second.old) (told_by R3.remaining given.old) settings.now.matching settings.now.limit)) }
     // Full comes only where they are not within the limit, in each order that the settings allow.
     ensures full { result ≡ Err (CheckFault.Wave WaveFault.Full) → (order : OrderValue) → IsAllowed settings.now.order order →
         AreBeyond (R1.remaining first.old) (R2.remaining second.old) (told_by R3.remaining given.old) settings.now.matching order settings.now.limit }
-    // Where the gate sets no bound, no comparison is refused for its requests.
-    ensures unbounded { G.bound gate.now ≡ None → result ≢ Err (CheckFault.Wave WaveFault.TooManyRequests) }
+    // TooManyRequests comes only where one wave reaches more than the gate allows, in an order that the settings allow.
+    ensures past { result ≡ Err (CheckFault.Wave WaveFault.TooManyRequests) → (order : OrderValue) × IsAllowed settings.now.order order
+        × IsSomeAnd (G.bound gate.now) (AreTooWide (R1.remaining first.old) (R2.remaining second.old) (told_by R3.remaining given.old) settings.now.matching order) }
+    // Where the gate sets a bound, no worker is wanted.
+    ensures alone { most_of (G.bound gate.now) < 2 ^ 64 - 1 → result ≢ Err (CheckFault.Wave WaveFault.NoWorker) }
     // A fault has its cause, and what comes before it was accepted.
     ensures fault { IfErr result (λ fault. (order : OrderValue) × IsAllowed settings.now.order order
         × IsCheckFault (R1.remaining first.old) (R2.remaining second.old) (told_by R3.remaining given.old) (IsTrue (R1.has_failed first.new)) (IsTrue (R2.has_failed second.new)) (HasFailedIn R3.has_failed given.new) settings.now.matching order fault) }
@@ -171,11 +180,17 @@ pub fn check<'a, H: Threads + Wait + Sync, R1: Source, R2: Source, R3: Source, G
     // are needed in this order are within the limit, and within the budget of the attempt.
     ensures report { IfOk result (λ r. (order : OrderValue) × (bytes : List ℕ) × IsChecked settings.now.json (R1.remaining first.old) (R2.remaining second.old) (told_by R3.remaining given.old) settings.now.matching order settings.now.sizes r.0 bytes
         × IsChosen (R1.remaining first.old) (R2.remaining second.old) (told_by R3.remaining given.old) settings.now.matching settings.now.order settings.now.limit r.1 order × Appends (W.contents out.old) (W.contents out.new) bytes) }
+    // Where the gate sets no bound, each attempt before the one that is told was given up: it needs more nodes than its budget, or one wave
+    // of it reaches more requests than eight for each of them.
+    ensures passed { G.bound gate.now ≡ None → IfOk result (λ r. IfSome r.1 (AreGivenUp (R1.remaining first.old) (R2.remaining second.old) (told_by R3.remaining given.old) settings.now.matching settings.now.limit)) }
     // Full comes only where they are not within the limit, in each order that the settings allow.
     ensures full { result ≡ Err (CheckFault.Wave WaveFault.Full) → (order : OrderValue) → IsAllowed settings.now.order order →
         AreBeyond (R1.remaining first.old) (R2.remaining second.old) (told_by R3.remaining given.old) settings.now.matching order settings.now.limit }
-    // Where the gate sets no bound, no comparison is refused for its requests.
-    ensures unbounded { G.bound gate.now ≡ None → result ≢ Err (CheckFault.Wave WaveFault.TooManyRequests) }
+    // TooManyRequests comes only where one wave reaches more than the gate allows, in an order that the settings allow.
+    ensures past { result ≡ Err (CheckFault.Wave WaveFault.TooManyRequests) → (order : OrderValue) × IsAllowed settings.now.order order
+        × IsSomeAnd (G.bound gate.now) (AreTooWide (R1.remaining first.old) (R2.remaining second.old) (told_by R3.remaining given.old) settings.now.matching order) }
+    // Where the gate sets a bound, no worker is wanted.
+    ensures alone { most_of (G.bound gate.now) < 2 ^ 64 - 1 → result ≢ Err (CheckFault.Wave WaveFault.NoWorker) }
     // A fault has its cause, and what comes before it was accepted.
     ensures fault { IfErr result (λ fault. (order : OrderValue) × IsAllowed settings.now.order order
         × IsCheckFault (R1.remaining first.old) (R2.remaining second.old) (told_by R3.remaining given.old) (IsTrue (R1.has_failed first.new)) (IsTrue (R2.has_failed second.new)) (HasFailedIn R3.has_failed given.new) settings.now.matching order fault) }

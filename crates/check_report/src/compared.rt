@@ -1,5 +1,6 @@
 //! What is compared, and its diagrams where the condition holds.
-ghost use Rattle.std.specs.Prelude.{None, ◌≡◌, ◌≢◌, ◌++◌, ◌<◌, length, map, All, OnOk, IfOk, IfErr};
+ghost use Rattle.std.specs.Prelude.{◌≡◌, ◌≢◌, ◌++◌, ◌-◌, ◌^◌, ◌<◌, length, map, All, OnOk, IfOk, IfErr, IsSomeAnd};
+ghost use Rattle.expand_work.specs.Bounds.{most_of};
 ghost use Rattle.net_bench.specs.Circuit.{circuit};
 ghost use Rattle.net_order.specs.Order.{condition};
 ghost use Rattle.dd_store.specs.Nodes.{IsSound};
@@ -9,6 +10,7 @@ ghost use Rattle.gate_plan.specs.Needing.{HasNeed};
 ghost use Rattle.check_report.specs.Check.{IsLate};
 ghost use Rattle.check_report.specs.Comparing.{AreBuilt, AreCompared, references};
 ghost use Rattle.check_report.specs.Limits.{HasAll, IsOver};
+ghost use Rattle.check_report.specs.Widths.{IsWideWhere};
 ghost use Rattle.check_report.specs.Report.{next_of, next_subject, output_subject, subjects};
 
 use crate::checking::Task;
@@ -157,7 +159,8 @@ pub fn shown_of<H: Threads + Wait + Sync, G: Gate>(
         OnOk result (HasAll (circuit task.now.first.now) (circuit task.now.second.now) (condition task.now.given) pairing.now store.new) }
     ensures full { HasNeed (circuit task.now.first.now) (circuit task.now.second.now) (condition task.now.given) pairing.now store.old →
         result ≡ Err (CheckFault.Wave WaveFault.Full) → IsOver (circuit task.now.first.now) (circuit task.now.second.now) (condition task.now.given) pairing.now store.new }
-    ensures unbounded { G.bound gate.now ≡ None → result ≢ Err (CheckFault.Wave WaveFault.TooManyRequests) }
+    ensures past { result ≡ Err (CheckFault.Wave WaveFault.TooManyRequests) → IsSomeAnd (G.bound gate.now) (λ n. IsSomeAnd (condition task.now.given) (λ c. IsWideWhere n (circuit task.now.first.now) (circuit task.now.second.now) c pairing.now)) }
+    ensures alone { most_of (G.bound gate.now) < 2 ^ 64 - 1 → result ≢ Err (CheckFault.Wave WaveFault.NoWorker) }
     ensures err { IfErr result IsLate }
 {
     let _ = store.levels();

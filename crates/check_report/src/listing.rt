@@ -1,17 +1,19 @@
 //! From two readers to the order of their variables.
-ghost use Rattle.std.specs.Prelude.{None, ◌≡◌, ◌≢◌, ℕ, List, Option, IfOk, IfErr, OnOk, OnErr, IsTrue, Err};
+ghost use Rattle.std.specs.Prelude.{None, ◌≡◌, ◌≢◌, ◌<◌, ◌-◌, ◌^◌, ℕ, List, Option, IfOk, IfErr, IfSome, IsSomeAnd, OnOk, OnErr, IsTrue, Err};
 ghost use Rattle.std.specs.Io.KnownBytes.{Appends};
-ghost use Rattle.expand_work.specs.declared.fault.WaveFault.TheVariants.{Full, TooManyRequests};
+ghost use Rattle.expand_work.specs.declared.fault.WaveFault.TheVariants.{Full, NoWorker, TooManyRequests};
+ghost use Rattle.expand_work.specs.Bounds.{most_of};
 ghost use Rattle.net_bench.specs.Circuit.{circuit};
 ghost use Rattle.net_order.specs.declared.order.Order.{Order as OrderValue};
 ghost use Rattle.net_order.specs.Order.{condition};
 ghost use Rattle.net_order.specs.OrderText.{order_text};
 ghost use Rattle.check_report.specs.declared.choice.Attempt.{Attempt as AttemptValue};
-ghost use Rattle.check_report.specs.Best.{IsAllowed, IsFound};
+ghost use Rattle.check_report.specs.Best.{AreGivenUp, IsAllowed, IsFound};
 ghost use Rattle.check_report.specs.Check.{AreGiven, IsCheckFault};
 ghost use Rattle.check_report.specs.Devices.{told_by, HasFailedIn};
 ghost use Rattle.check_report.specs.Limits.{AreBeyond};
 ghost use Rattle.check_report.specs.Listing.{IsOrderPrinted};
+ghost use Rattle.check_report.specs.Widths.{AreTooWide};
 ghost use Rattle.check_report.specs.Writing.{AppendsFront};
 
 use crate::attempts::find_best;
@@ -51,6 +53,7 @@ fn text_by<H>(task: &Task<'_, H>, order: &Order) -> Result<Vec<u8>, CheckFault>
         IfErr result (IsCheckFault one two three ⊥ ⊥ ⊥ task.now.settings.now.matching order.now) }
     ensures unbuilt { result ≢ Err (CheckFault.Wave Full) }
     ensures unbounded { result ≢ Err (CheckFault.Wave TooManyRequests) }
+    ensures alone { result ≢ Err (CheckFault.Wave NoWorker) }
     ensures unwritten { result ≢ Err CheckFault.Write }
 {
     match pair(
@@ -78,6 +81,9 @@ fn given_text<H>(
         IfErr result (λ fault. (o : OrderValue) × IsAllowed (Choice.One order.now) o × IsCheckFault one two three ⊥ ⊥ ⊥ task.now.settings.now.matching o fault) }
     ensures unbuilt { result ≢ Err (CheckFault.Wave Full) }
     ensures unbounded { result ≢ Err (CheckFault.Wave TooManyRequests) }
+    ensures passed { (one two : Option (List ℕ)) (three : Option (Option (List ℕ))) → AreGiven one two three (circuit task.now.first.now) (circuit task.now.second.now) (condition task.now.given) →
+        IfOk result (λ r. IfSome r.1 (AreGivenUp one two three task.now.settings.now.matching task.now.settings.now.limit)) }
+    ensures alone { result ≢ Err (CheckFault.Wave NoWorker) }
     ensures unwritten { result ≢ Err CheckFault.Write }
 {
     match text_by(task, order) {
@@ -99,7 +105,11 @@ fn best_text<H: Threads + Wait + Sync, G: Gate>(
     ensures fault { (one two : Option (List ℕ)) (three : Option (Option (List ℕ))) → AreGiven one two three (circuit task.now.first.now) (circuit task.now.second.now) (condition task.now.given) →
         IfErr result (λ fault. (o : OrderValue) × IsAllowed Choice.Best o × IsCheckFault one two three ⊥ ⊥ ⊥ task.now.settings.now.matching o fault) }
     ensures unwritten { result ≢ Err CheckFault.Write }
-    ensures unbounded { G.bound gate.now ≡ None → result ≢ Err (CheckFault.Wave TooManyRequests) }
+    ensures past { (one two : Option (List ℕ)) (three : Option (Option (List ℕ))) → AreGiven one two three (circuit task.now.first.now) (circuit task.now.second.now) (condition task.now.given) →
+        result ≡ Err (CheckFault.Wave TooManyRequests) → (o : OrderValue) × IsAllowed Choice.Best o × IsSomeAnd (G.bound gate.now) (AreTooWide one two three task.now.settings.now.matching o) }
+    ensures passed { G.bound gate.now ≡ None → (one two : Option (List ℕ)) (three : Option (Option (List ℕ))) → AreGiven one two three (circuit task.now.first.now) (circuit task.now.second.now) (condition task.now.given) →
+        IfOk result (λ r. IfSome r.1 (AreGivenUp one two three task.now.settings.now.matching task.now.settings.now.limit)) }
+    ensures alone { most_of (G.bound gate.now) < 2 ^ 64 - 1 → result ≢ Err (CheckFault.Wave NoWorker) }
 {
     match find_best(task, gate) {
         Ok((verdicts, found)) => match text_of(task.alloc, verdicts.variables()) {
@@ -123,7 +133,11 @@ fn text_for<H: Threads + Wait + Sync, G: Gate>(
     ensures fault { (one two : Option (List ℕ)) (three : Option (Option (List ℕ))) → AreGiven one two three (circuit task.now.first.now) (circuit task.now.second.now) (condition task.now.given) →
         IfErr result (λ fault. (order : OrderValue) × IsAllowed task.now.settings.now.order order × IsCheckFault one two three ⊥ ⊥ ⊥ task.now.settings.now.matching order fault) }
     ensures unwritten { result ≢ Err CheckFault.Write }
-    ensures unbounded { G.bound gate.now ≡ None → result ≢ Err (CheckFault.Wave TooManyRequests) }
+    ensures past { (one two : Option (List ℕ)) (three : Option (Option (List ℕ))) → AreGiven one two three (circuit task.now.first.now) (circuit task.now.second.now) (condition task.now.given) →
+        result ≡ Err (CheckFault.Wave TooManyRequests) → (o : OrderValue) × IsAllowed task.now.settings.now.order o × IsSomeAnd (G.bound gate.now) (AreTooWide one two three task.now.settings.now.matching o) }
+    ensures passed { G.bound gate.now ≡ None → (one two : Option (List ℕ)) (three : Option (Option (List ℕ))) → AreGiven one two three (circuit task.now.first.now) (circuit task.now.second.now) (condition task.now.given) →
+        IfOk result (λ r. IfSome r.1 (AreGivenUp one two three task.now.settings.now.matching task.now.settings.now.limit)) }
+    ensures alone { most_of (G.bound gate.now) < 2 ^ 64 - 1 → result ≢ Err (CheckFault.Wave NoWorker) }
 {
     match &task.settings.order {
         Choice::One(order) => given_text(task, order),
@@ -154,11 +168,17 @@ pub fn print_order<
     // What was written is an order of what was read that the settings allow, and nothing else.
     ensures order { IfOk result (λ tried. (order : OrderValue) × (bytes : List ℕ) × IsOrderPrinted (R1.remaining first.old) (R2.remaining second.old) (told_by R3.remaining given.old) settings.now.matching order bytes
         × IsFound (R1.remaining first.old) (R2.remaining second.old) (told_by R3.remaining given.old) settings.now.matching settings.now.order settings.now.limit tried order × Appends (W.contents out.old) (W.contents out.new) bytes) }
+    // Where the gate sets no bound, each attempt before the one that is told was given up: it needs more nodes than its budget, or one wave
+    // of it reaches more requests than eight for each of them.
+    ensures passed { G.bound gate.now ≡ None → IfOk result (λ tried. IfSome tried (AreGivenUp (R1.remaining first.old) (R2.remaining second.old) (told_by R3.remaining given.old) settings.now.matching settings.now.limit)) }
     // Full comes only where the netlists need more nodes than the limit, in each order that the settings allow.
     ensures full { result ≡ Err (CheckFault.Wave Full) → (order : OrderValue) → IsAllowed settings.now.order order →
         AreBeyond (R1.remaining first.old) (R2.remaining second.old) (told_by R3.remaining given.old) settings.now.matching order settings.now.limit }
-    // Where the gate sets no bound, no attempt is refused for its requests.
-    ensures unbounded { G.bound gate.now ≡ None → result ≢ Err (CheckFault.Wave TooManyRequests) }
+    // TooManyRequests comes only where one wave reaches more than the gate allows, in an order that the settings allow.
+    ensures past { result ≡ Err (CheckFault.Wave TooManyRequests) → (order : OrderValue) × IsAllowed settings.now.order order
+        × IsSomeAnd (G.bound gate.now) (AreTooWide (R1.remaining first.old) (R2.remaining second.old) (told_by R3.remaining given.old) settings.now.matching order) }
+    // Where the gate sets a bound, no worker is wanted.
+    ensures alone { most_of (G.bound gate.now) < 2 ^ 64 - 1 → result ≢ Err (CheckFault.Wave NoWorker) }
     // A fault has its cause, and what comes before it was accepted.
     ensures fault { IfErr result (λ fault. (order : OrderValue) × IsAllowed settings.now.order order
         × IsCheckFault (R1.remaining first.old) (R2.remaining second.old) (told_by R3.remaining given.old) (IsTrue (R1.has_failed first.new)) (IsTrue (R2.has_failed second.new)) (HasFailedIn R3.has_failed given.new) settings.now.matching order fault) }

@@ -1,5 +1,5 @@
 -- Where a build leaves a store over its limit, no step of a gate had to be asked for.
-use Rattle.std.proofs.Common.{◌≡◌, ◌≢◌, ℕ, ◌+◌, ◌-◌, ◌<◌, ◌≤◌, inl, inr, Bool, true, false, cond, min, List, [], length, map, get_or, Option, Some, None, sym, ◌∙◌, ap, subst, arith, eq-eqb}
+use Rattle.std.proofs.Common.{◌≡◌, ◌≢◌, ℕ, ◌+◌, ◌-◌, ◌<◌, ◌≤◌, inl, inr, Bool, true, false, cond, min, List, [], length, map, get_or, Option, Some, None, refl, sym, ◌∙◌, ap, subst, arith, eq-eqb}
 use Rattle.std.specs.Prelude.{Contains, slice_index, unwrap_or}
 use Rattle.std.proofs.lemmas.Bool.{ne_eqb}
 use Rattle.dd_store.specs.declared.reference.Ref.{Ref}
@@ -15,17 +15,18 @@ use Rattle.req_table.specs.declared.Op.{Op}
 use Rattle.req_table.specs.Short.{short_of}
 use Rattle.req_table.specs.Memos.{Held, IsRight}
 use Rattle.reduce_up.specs.Known.{unknown, IsKeptWave}
-use Rattle.reduce_up.specs.Waves.{HasRequest, IsWithinLimit}
-use Rattle.reduce_up.proofs.Known.{request_unknown, kept_none}
+use Rattle.reduce_up.specs.Waves.{Entry, HasRequest, IsWithinLimit}
+use Rattle.reduce_up.proofs.Known.{request_unknown, kept_none, unknown_is}
+use Rattle.wave_engine.specs.Bounds.{ArePast}
 use Rattle.gate_plan.specs.declared.steps.Step.{Step}
 use Rattle.gate_plan.specs.Plans.{operand_at, folds_of, step_of, step_at, rank_of, plan_steps, plan_folds, IsPlan}
 use Rattle.gate_plan.specs.Building.{Placed, input_level, reference_of, first_operand, entry_of, Denotes, value_after, AreFolded, AllFolded, ArePlaced, Levelled, levelled_of, asked}
 use Rattle.gate_plan.specs.Needing.{IsStillWithin}
-use Rattle.gate_plan.specs.Asking.{first_taken, second_taken, IsAsked, Asks, AnyAsks, AnyAsksAt, AnyAsksIn, IsWithinOrUnasked, IsHeldWithin}
+use Rattle.gate_plan.specs.Asking.{first_taken, second_taken, IsAsked, Asks, AnyAsks, AnyAsksAt, AnyAsksIn, IsWithinOrUnasked, IsHeldWithin, IsEntryOf, IsEntryAt, IsPast}
 use Rattle.gate_plan.proofs.Lists.{same_number}
-use Rattle.gate_plan.proofs.Together.{image, of_map, refs_there, asked_has}
+use Rattle.gate_plan.proofs.Together.{image, of_map, refs_there, asked_has, asked_holds}
 use Rattle.gate_plan.proofs.Ranks.{above_none, operand_lower, some_operand, operand_below, rank_top}
-use Rattle.gate_plan.proofs.Picking.{has_pick, folds_within, has_step_of, step_one, step_many, folds_one, folds_many, among_operands}
+use Rattle.gate_plan.proofs.Picking.{has_pick, in_picks, step_is, folds_within, has_step_of, step_one, step_many, folds_one, folds_many, among_operands}
 
 module _ (net : Net) (h : IsNet net) (level : ℕ → ℕ) where
   -- references that denote one value by the labels are one
@@ -104,6 +105,50 @@ module _ (net : Net) (h : IsNet net) (level : ℕ → ℕ) where
         image (entry_of refs) (plan_steps net net.gates r j) s (has_pick net r (λ g. step_of g j) net.gates g s among rank (has_step_of g j a.step)),
         subst (λ z. short_of s.op (reference_of refs (first_operand s)) z ≡ None) second (subst (λ z. short_of s.op z a.second ≡ None) first a.long),
       )
+
+  -- what is asked for is a step of a gate
+  pub step_entry : (S : Nodes) (refs : List Ref) (r j : ℕ) → AreFolded net level S refs r j → (e : Entry) → Contains (map (entry_of refs) (plan_steps net net.gates r j)) e →
+      (g : GateLine) × Contains net.gates g × (rank_of net g ≡ r) × IsEntryOf (circuit net) level S g j e
+  step_entry S refs r j w e c =
+      let m = of_map (entry_of refs) (plan_steps net net.gates r j) e c in
+      let p = in_picks net r (λ g. step_of g j) net.gates m.0 m.1 in
+      let q = step_is p.0 j m.0 p.3 in (
+        p.0,
+        p.1,
+        p.2,
+        subst (IsEntryOf (circuit net) level S p.0 j) (ap (entry_of refs) (sym q.1) ∙ m.2) (record {
+          step = q.0;
+          op = refl;
+          has_first = w.right.known (first_operand (step_at p.0 j));
+          has_second = w.right.known (step_at p.0 j).second;
+          takes_first = takes_first S refs r j w p.0 p.1 p.2 q.0;
+          takes_second = takes_second S refs r j w p.0 p.1 p.2 q.0;
+        }),
+      )
+
+-- a wave of the steps of all netlists that reaches more requests than the bound
+pub wave_past : (sides : List Placed) → ((one : Placed) → Contains sides one → IsPlan one.net one.plan) → (S : Nodes) → IsSound S → (built : List (List Ref)) (r j : ℕ) (entries : List Entry) →
+    AllFolded sides S built r j → entries ≡ asked sides built r j → (m : Held) (o : Option ℕ) → ArePast o S (unknown m entries) → IsPast o S.levels (map levelled_of sides)
+wave_past sides plans S sound built r j entries h e m None past = past
+wave_past sides plans S sound built r j entries h e m (Some n) past = record {
+  store = S;
+  sound = sound;
+  levels = refl;
+  rank = r;
+  step = j;
+  entries = unknown m entries;
+  asked = λ x c. by x (subst (λ xs. Contains xs x) e (unknown_is m entries x c).0);
+  more = past;
+}
+  where
+    by : (x : Entry) → Contains (asked sides built r j) x → IsEntryAt (map levelled_of sides) S r j x
+    by = asked_holds (IsEntryAt (map levelled_of sides) S r j) r j sides built (
+      h.0,
+      λ k one refs lt at there x c.
+          let sound_net = (plans one (k, lt, at)).sound in
+          let w = step_entry one.net sound_net (input_level one) S refs r j (h.1 k one refs lt at there) x c in
+          (levelled_of one, image levelled_of sides one (k, lt, at), (w.0, w.1, (one.net.ranks, sound_net.ranks, w.2), w.3)),
+    )
 
 -- what a wave of the steps of all netlists leaves
 pub wave_unasked : (sides : List Placed) → ((one : Placed) → Contains sides one → IsPlan one.net one.plan) → (S T : Nodes) → IsSound S → (built : List (List Ref)) (r j : ℕ) (entries : List (Op × Ref × Ref)) →

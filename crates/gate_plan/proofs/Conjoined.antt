@@ -1,12 +1,21 @@
 -- The answers of a wave of conjunctions.
-use Rattle.std.proofs.Common.{◌≡◌, ◌∙◌, ap, sym, ℕ, ◌+◌, ◌<◌, List, [], ◌∷◌, ◌++◌, length, get_or, drop, append_assoc, All}
+use Rattle.std.proofs.Common.{◌≡◌, ◌∙◌, ap, sym, ℕ, ◌+◌, ◌<◌, List, [], ◌∷◌, ◌++◌, length, get_or, drop, append_assoc, All, subst, Option, None, Some}
 use Rattle.std.specs.Prelude.{Contains}
 use Rattle.std.proofs.lemmas.List.{drop_more}
 use Rattle.dd_store.specs.declared.reference.Ref.{Ref}
 use Rattle.dd_store.specs.Nodes.{Nodes}
 use Rattle.dd_store.specs.View.{Has}
 use Rattle.req_table.specs.declared.Op.TheVariants.{And}
-use Rattle.reduce_up.specs.Waves.{Entry, IsEntry, AnswersEach}
+use Rattle.req_table.specs.declared.Key.{Key}
+use Rattle.req_table.specs.Keys.{wave_of}
+use Rattle.req_table.specs.Memos.{Held}
+use Rattle.req_table.specs.Reached.{IsReached, root, child}
+use Rattle.req_table.specs.Wave.{Wave}
+use Rattle.reduce_up.specs.Known.{unknown}
+use Rattle.reduce_up.specs.Waves.{Entry, IsEntry, AnswersEach, requests_of}
+use Rattle.reduce_up.proofs.Known.{unknown_is}
+use Rattle.reduce_up.proofs.Rooted.{of_entry, to_request}
+use Rattle.wave_engine.specs.Bounds.{ArePast}
 use Rattle.gate_plan.specs.Conjoining.{conjunctions, AreConjoined}
 use Rattle.gate_plan.proofs.Picking.{all_of}
 use Rattle.gate_plan.proofs.Together.{of_map}
@@ -33,3 +42,23 @@ entries_known S refs given entries h g e =
   where
     by : (x : Entry) → (r : Ref) × Contains refs r × ((And, r, given) ≡ x) → IsEntry S x
     by x m = rw (← m.2) (of_place S refs h m.0 m.1, g)
+
+-- the requests of the entries of which nothing is known are requests of all
+unknown_requests : (m : Held) (es : List Entry) (k : Key) → Contains (requests_of (unknown m es)) k → Contains (requests_of es) k
+unknown_requests m es k c =
+    let e = of_entry (unknown m es) k c in
+    subst (Contains (requests_of es)) (sym e.3) (to_request es e.0 (unknown_is m es e.0 e.1).0 e.2)
+
+reached_more : (w : Wave) (few all : List Key) → ((k : Key) → Contains few k → Contains all k) → (k : Key) → IsReached w few k → IsReached w all k
+reached_more w few all more k (root c) = root (more k c)
+reached_more w few all more k (child b l r asks) = child b l (reached_more w few all more _ r) asks
+
+-- more requests than the bound are reached from all entries, where they are from those of which nothing is known
+pub past_all : (o : Option ℕ) (S : Nodes) (m : Held) (es : List Entry) → ArePast o S (unknown m es) → ArePast o S es
+past_all None S m es past = past
+past_all (Some n) S m es past = record {
+  requests = past.requests;
+  once = past.once;
+  reached = λ k c. reached_more (wave_of S 1) (requests_of (unknown m es)) (requests_of es) (unknown_requests m es) k (past.reached k c);
+  more = past.more;
+}

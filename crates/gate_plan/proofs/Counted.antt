@@ -23,7 +23,6 @@ use Rattle.expand_work.specs.declared.fault.WaveFault.{WaveFault}
 use Rattle.expand_work.specs.declared.fault.WaveFault.TheVariants as wave_faults
 use Rattle.reduce_up.specs.Reducing.{AddsDescribed}
 use Rattle.reduce_up.specs.Waves.{Entry, entry_value, IsWanted, IsWaveFault}
-use Rattle.wave_engine.specs.Bounds.{ArePast}
 use Rattle.gate_plan.specs.Building.{wave_fault_of}
 use Rattle.gate_plan.specs.Folds.{IsVariable}
 use Rattle.gate_plan.specs.Need.{IsCounted, IsLean, IsComplete, HasNode}
@@ -100,11 +99,6 @@ module _ (S T : Nodes) (entries : List Entry) (Values : (List Bool → Bool) →
   wave_fault kept wave_faults.Full (asked, inl over) = inl over
   wave_fault kept wave_faults.Full (asked, inr full) =
       inr (full.0, (full.1.0, full.1.1, wanted_counted full.1.0 full.1.1 full.1.2, λ r h agree. full.1.3 r h (subst (λ n. Agree n (den T r) full.1.1) (sym kept.levels) agree)))
-
--- where there is no bound, it is never passed
-pub not_past : (o : Option ℕ) (S : Nodes) (entries : List Entry) → o ≡ None → ArePast o S entries → ⊥
-not_past None S entries e past = past
-not_past (Some n) S entries e past = absurd (cc)
 
 -- ---- variables
 

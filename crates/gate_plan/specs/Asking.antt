@@ -1,14 +1,16 @@
--- Whether the steps of gates ask for anything: a step does where it has no short answer.
-use Rattle.std.specs.Prelude.{◌≡◌, ℕ, ◌+◌, ◌<◌, ◌≤◌, ◌==◌, ◌⊎◌, Bool, cond, List, [], Option, None, Contains}
+-- Whether the steps of gates ask for anything, which they do where a step has no short answer; and whether they ask for more than a bound.
+use Rattle.std.specs.Prelude.{◌≡◌, ℕ, ◌+◌, ◌<◌, ◌≤◌, ◌==◌, ◌⊎◌, Bool, cond, List, [], Option, None, Some, Contains, slice_index}
 use Rattle.dd_store.specs.declared.reference.Ref.{Ref}
-use Rattle.dd_store.specs.Nodes.{Nodes, count_of}
+use Rattle.dd_store.specs.Nodes.{Nodes, IsSound, count_of}
 use Rattle.dd_store.specs.View.{Has}
 use Rattle.net_bench.specs.declared.netlist.GateLine.{GateLine}
-use Rattle.net_bench.specs.Circuit.{Circuit, circuit}
+use Rattle.net_bench.specs.Circuit.{Circuit, circuit, AreRanks}
 use Rattle.net_bench.specs.Labels.{bit_of}
 use Rattle.net_order.specs.Order.{Paired}
 use Rattle.req_table.specs.Memos.{Held, IsRight}
 use Rattle.req_table.specs.Short.{short_of}
+use Rattle.reduce_up.specs.Waves.{Entry}
+use Rattle.wave_engine.specs.Bounds.{AreMoreThan}
 use Rattle.gate_plan.specs.Building.{Placed, Levelled, levelled, input_level, Denotes, value_after}
 use Rattle.gate_plan.specs.Plans.{rank_of, folds_of, step_at, operand_at}
 
@@ -59,3 +61,39 @@ IsWithinOrUnasked asked old new = (count_of new ≤ new.limit) ⊎ ((asked → �
 pub record IsHeldWithin (S : Nodes) (m : Held) : Type 0 where
   pub right : IsRight S m
   pub within : (m.pairs ≡ []) ⊎ (count_of S ≤ S.limit)
+
+-- ---- more than a bound
+
+-- the entry asks for step j of the gate: for its operation, on references of the store that denote what the step takes in
+pub record IsEntryOf (c : Circuit) (level : ℕ → ℕ) (S : Nodes) (g : GateLine) (j : ℕ) (e : Entry) : Type 0 where
+  pub step : j < folds_of g
+  pub op : e.0 ≡ (step_at g j).op
+  pub has_first : Has S e.1
+  pub has_second : Has S e.2
+  pub takes_first : Denotes c level S e.1 (first_taken g j)
+  pub takes_second : Denotes c level S e.2 (second_taken g j)
+
+-- the gate has this rank
+abbrev pub HasRank : Circuit → GateLine → ℕ → Type 0
+HasRank c g r = (ranks : List ℕ) × AreRanks c ranks × (slice_index ranks g.out ≡ r)
+
+-- the entry asks for step j of a gate of rank r of one of the netlists
+abbrev pub IsEntryAt : List Levelled → Nodes → (r j : ℕ) → Entry → Type 0
+IsEntryAt netlists S r j e =
+    (one : Levelled) × Contains netlists one × ((g : GateLine) × Contains one.netlist.gates g × HasRank one.netlist g r × IsEntryOf one.netlist one.level S g j e)
+
+-- In some store over so many levels, one wave of the netlists' building reaches more than n requests: that of a step of the gates of one rank.
+pub record IsWide (n depth : ℕ) (netlists : List Levelled) : Type 0 where
+  pub store : Nodes
+  pub sound : IsSound store
+  pub levels : store.levels ≡ depth
+  pub rank : ℕ
+  pub step : ℕ
+  pub entries : List Entry
+  pub asked : (e : Entry) → Contains entries e → IsEntryAt netlists store rank step e
+  pub more : AreMoreThan n store entries
+
+-- one wave of the building reaches more requests than the bound, where there is one
+abbrev pub IsPast : Option ℕ → (depth : ℕ) → List Levelled → Type 0
+IsPast None depth netlists = ⊥
+IsPast (Some n) depth netlists = IsWide n depth netlists

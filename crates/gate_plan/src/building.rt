@@ -1,15 +1,16 @@
 //! The building of netlists' diagrams in one store, rank by rank.
-ghost use Rattle.std.specs.Prelude.{◌≡◌, ◌≢◌, ◌+◌, ◌<◌, ◌≤◌, None, Err, [], Contains, length, IfOk, IfErr, IfSome, OnOk, slice_get, slice_index_or, Some};
+ghost use Rattle.std.specs.Prelude.{◌≡◌, ◌≢◌, ◌+◌, ◌-◌, ◌^◌, ◌<◌, ◌≤◌, Err, [], Contains, length, map, IfOk, IfErr, IfSome, OnOk, slice_get, slice_index_or, Some};
 ghost use Rattle.dd_store.specs.Nodes.{IsSound, count_of};
 ghost use Rattle.dd_store.specs.View.{Keeps};
 ghost use Rattle.net_bench.specs.Circuit.{circuit};
 ghost use Rattle.net_order.specs.Order.{condition, first_level, second_level, given_level};
+ghost use Rattle.expand_work.specs.Bounds.{most_of};
 ghost use Rattle.reduce_up.specs.Reducing.{AddsDescribed};
 ghost use Rattle.gate_plan.specs.Need.{IsCounted};
 ghost use Rattle.gate_plan.specs.Needing.{IsNeeded, IsNeededValue, HasNeed, IsBuildFault, IsPlacedValue};
-ghost use Rattle.gate_plan.specs.Asking.{AnyAsks, AnyAsksAt, AnyAsksIn, IsWithinOrUnasked, IsHeldWithin};
+ghost use Rattle.gate_plan.specs.Asking.{AnyAsks, AnyAsksAt, AnyAsksIn, IsWithinOrUnasked, IsHeldWithin, IsPast};
 ghost use Rattle.gate_plan.specs.Plans.{IsPlan};
-ghost use Rattle.gate_plan.specs.Building.{Placed, IsPaired, AreDiagrams, AllRight, AllFolded};
+ghost use Rattle.gate_plan.specs.Building.{Placed, IsPaired, AreDiagrams, AllRight, AllFolded, levelled, levelled_of};
 
 use crate::inputs::make_variables;
 use crate::sides::{Diagrams, Side, copy_rank, entries_of, last_rank, most_folds, sides_of, start};
@@ -98,7 +99,8 @@ fn build_fold<R: Threads + Wait + Sync, G: Gate>(
     ensures next { OnOk result (AllFolded sides.now store.new built.new rank (fold + 1)) }
     ensures within { OnOk result (IsWithinOrUnasked (AnyAsksAt sides.now store.new rank fold) store.old store.new) }
     ensures fault { IfErr result (IsBuildFault store.old.levels (IsPlacedValue store.old.levels sides.now) store.new) }
-    ensures unbounded { engine.old.bound ≡ None → result ≢ Err WaveFault.TooManyRequests }
+    ensures past { result ≡ Err WaveFault.TooManyRequests → IsPast engine.old.bound store.old.levels (map levelled_of sides.now) }
+    ensures alone { most_of engine.old.bound < 2 ^ 64 - 1 → result ≢ Err WaveFault.NoWorker }
 {
     let _ = store.levels();
     let entries = match entries_of(engine.alloc(), sides, built, rank, fold) {
@@ -137,7 +139,8 @@ fn build_rank<R: Threads + Wait + Sync, G: Gate>(
     ensures next { OnOk result (AllRight sides.now store.new built.new (rank + 1)) }
     ensures within { OnOk result (IsWithinOrUnasked (AnyAsksIn sides.now store.new rank) store.old store.new) }
     ensures fault { IfErr result (IsBuildFault store.old.levels (IsPlacedValue store.old.levels sides.now) store.new) }
-    ensures unbounded { engine.old.bound ≡ None → result ≢ Err WaveFault.TooManyRequests }
+    ensures past { result ≡ Err WaveFault.TooManyRequests → IsPast engine.old.bound store.old.levels (map levelled_of sides.now) }
+    ensures alone { most_of engine.old.bound < 2 ^ 64 - 1 → result ≢ Err WaveFault.NoWorker }
 {
     let _ = store.levels();
     copy_rank(sides, built, rank);
@@ -185,8 +188,10 @@ pub fn build<R: Threads + Wait + Sync, G: Gate>(
     ensures need { count_of store.old ≡ 0 → OnOk result (HasNeed (circuit first.now) (circuit second.now) (condition given.entry) pairing.now store.new) }
     // Full is answered only where the store has more nodes than its limit, or as many and lacks one that is needed.
     ensures fault { IfErr result (IsBuildFault (length pairing.now.names) (IsNeededValue (circuit first.now) (circuit second.now) (condition given.entry) pairing.now) store.new) }
-    // Where the gate sets no bound, the build is not refused for its requests.
-    ensures unbounded { G.bound gate.now ≡ None → result ≢ Err WaveFault.TooManyRequests }
+    // The build is refused for its requests only where one of its waves reaches more than the gate allows.
+    ensures past { result ≡ Err WaveFault.TooManyRequests → IsPast (G.bound gate.now) (length pairing.now.names) (levelled (circuit first.now) (circuit second.now) (condition given.entry) pairing.now) }
+    // Where the gate sets a bound, no worker is wanted.
+    ensures alone { most_of (G.bound gate.now) < 2 ^ 64 - 1 → result ≢ Err WaveFault.NoWorker }
 {
     let variables = make_variables(alloc, store)?;
     let Ok(sides) = sides_of(alloc, first, second, given, pairing) else {

@@ -1,9 +1,11 @@
 //! Functions where a condition holds.
-ghost use Rattle.std.specs.Prelude.{◌≡◌, ◌≢◌, ◌++◌, ◌≤◌, None, Err, IfOk, IfErr, OnOk, All};
+ghost use Rattle.std.specs.Prelude.{◌≡◌, ◌≢◌, ◌++◌, ◌-◌, ◌^◌, ◌<◌, ◌≤◌, Err, IfOk, IfErr, OnOk, All};
 ghost use Rattle.dd_store.specs.Nodes.{IsSound};
 ghost use Rattle.dd_store.specs.View.{Has};
+ghost use Rattle.expand_work.specs.Bounds.{most_of};
 ghost use Rattle.reduce_up.specs.Reducing.{AddsDescribed};
 ghost use Rattle.reduce_up.specs.Waves.{IsWanted, IsWaveFault, IsWithinLimit};
+ghost use Rattle.wave_engine.specs.Bounds.{ArePast};
 ghost use Rattle.gate_plan.specs.Conjoining.{AreConjoined, conjunctions};
 
 use dd_store::{Ref, Store};
@@ -52,8 +54,10 @@ pub fn conjoin<R: Threads + Wait + Sync, G: Gate>(
     ensures within { OnOk result (IsWithinLimit store.old (conjunctions references.now given) store.new) }
     // Full is answered only where the store has more nodes than its limit, or as many and lacks one that is wanted.
     ensures fault { IfErr result (IsWaveFault store.old (conjunctions references.now given) store.new) }
-    // Where the gate sets no bound, the wave is not refused for its requests.
-    ensures unbounded { G.bound gate.now ≡ None → result ≢ Err WaveFault.TooManyRequests }
+    // The wave is refused for its requests only where it reaches more than the gate allows.
+    ensures past { result ≡ Err WaveFault.TooManyRequests → ArePast (G.bound gate.now) store.old (conjunctions references.now given) }
+    // Where the gate sets a bound, no worker is wanted.
+    ensures alone { most_of (G.bound gate.now) < 2 ^ 64 - 1 → result ≢ Err WaveFault.NoWorker }
 {
     let _ = store.levels();
     let Ok(entries) = conjunctions(alloc, references, given) else {

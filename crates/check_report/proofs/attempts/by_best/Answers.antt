@@ -1,5 +1,5 @@
 use Rattle.std.proofs.Common.{◌≡◌, ap, sym, subst, refl, Err}
-use Rattle.expand_work.specs.declared.fault.WaveFault.TheVariants.{Full}
+use Rattle.expand_work.specs.declared.fault.WaveFault.TheVariants.{Full, TooManyRequests}
 use Rattle.check_report.specs.declared.fault.CheckFault.TheVariants.{Wave}
 use Rattle.check_report.specs.Best.{order_of}
 use Rattle.check_report.specs.Limits.{AreBeyond}
@@ -16,4 +16,10 @@ returns-in-Err-clause-full g c = λ one two three ga e o allowed.
 pub returns-in-Err-clause-fault : goal.returns-in-Err-clause-fault
 returns-in-Err-clause-fault g c = λ one two three ga.
     let w = c.in-Err.ensures.fault one two three ga in
+    (order_of w.0, (w.0, refl), w.1)
+
+pub returns-in-Err-clause-past : goal.returns-in-Err-clause-past
+returns-in-Err-clause-past g c = λ one two three ga e.
+    let same : c.in-Err.fault ≡ Wave TooManyRequests = cc in
+    let w = c.in-Err.ensures.past one two three ga (ap Err same) in
     (order_of w.0, (w.0, refl), w.1)

@@ -11,3 +11,9 @@ returns-in-Best-clause-chosen g c = λ one two three ga. rw c.in-Best.is (c.by_b
 
 pub returns-in-Best-clause-fault : goal.returns-in-Best-clause-fault
 returns-in-Best-clause-fault g c = λ one two three ga. rw c.in-Best.is (c.by_best.ensures.fault one two three ga)
+
+pub returns-in-One-clause-past : goal.returns-in-One-clause-past
+returns-in-One-clause-past g c = λ one two three ga. rw c.in-One.is (c.by_order.ensures.past one two three ga)
+
+pub returns-in-Best-clause-past : goal.returns-in-Best-clause-past
+returns-in-Best-clause-past g c = λ one two three ga. rw c.in-Best.is (c.by_best.ensures.past one two three ga)

@@ -1,10 +1,11 @@
 use Rattle.std.proofs.Common.{◌≡◌, ap, Err}
-use Rattle.expand_work.specs.declared.fault.WaveFault.TheVariants.{Full}
+use Rattle.expand_work.specs.declared.fault.WaveFault.TheVariants.{Full, TooManyRequests}
 use Rattle.check_report.specs.declared.fault.CheckFault.TheVariants.{Wave}
 use Rattle.check_report.specs.declared.choice.Candidate.TheVariants.{Interleave, Depth, Declared}
-use Rattle.check_report.specs.Best.{order_of}
+use Rattle.check_report.specs.Best.{IsPassed, order_of}
 use Rattle.check_report.specs.Limits.{AreBeyond}
 use Rattle.check_report.proofs.Trying.{each_candidate}
+use Rattle.check_report.proofs.Widening.{passed_over, not_dropped, which_fault}
 use Rattle.check_report.proofs.attempts.try_candidates.Goals as goal
 
 pub returns-then-is_kept-clause-full : goal.returns-then-is_kept-clause-full
@@ -33,3 +34,49 @@ returns-then-is_kept-clause-fault g c = λ one two three ga. (Interleave, c.in-E
 
 pub returns-then-is_kept-2-clause-fault : goal.returns-then-is_kept-2-clause-fault
 returns-then-is_kept-2-clause-fault g c = λ one two three ga. (Depth, c.in-Err-attempt.ensures.fault one two three ga)
+
+pub returns-in-Ok-attempt-clause-passed : goal.returns-in-Ok-attempt-clause-passed
+returns-in-Ok-attempt-clause-passed g c = λ one two three ga.
+    passed_over one two three c.args.task.now.settings.now.matching c.args.limit Interleave (g.G.Gate.bound c.args.gate.now) c.in-Err.fault (c.is_kept.ensures.dropped c.if-is_kept.false)
+    (λ e. c.in-Err.ensures.full one two three ga (ap Err e)) (λ e. c.in-Err.ensures.past one two three ga (ap Err e))
+
+pub returns-in-Ok-attempt-2-clause-passed : goal.returns-in-Ok-attempt-2-clause-passed
+returns-in-Ok-attempt-2-clause-passed g c = λ one two three ga. (
+  passed_over one two three c.args.task.now.settings.now.matching c.args.limit Interleave (g.G.Gate.bound c.args.gate.now) c.in-Err.fault (c.is_kept.ensures.dropped c.if-is_kept.false)
+      (λ e. c.in-Err.ensures.full one two three ga (ap Err e)) (λ e. c.in-Err.ensures.past one two three ga (ap Err e)),
+  passed_over one two three c.args.task.now.settings.now.matching c.args.limit Depth (g.G.Gate.bound c.args.gate.now) c.in-Err-attempt.fault (c.is_kept-in-Err-attempt.ensures.dropped c.if-is_kept-2.false)
+      (λ e. c.in-Err-attempt.ensures.full one two three ga (ap Err e)) (λ e. c.in-Err-attempt.ensures.past one two three ga (ap Err e)),
+)
+
+pub returns-then-is_kept-clause-refused : goal.returns-then-is_kept-clause-refused
+returns-then-is_kept-clause-refused g c = λ one two three ga bounded refused.
+    absurd (not_dropped c.in-Err.fault refused (c.is_kept.ensures.kept c.if-is_kept.true) (c.is_kept.ensures.passed bounded c.if-is_kept.true))
+
+pub returns-then-is_kept-2-clause-refused : goal.returns-then-is_kept-2-clause-refused
+returns-then-is_kept-2-clause-refused g c = λ one two three ga bounded refused.
+    absurd (not_dropped c.in-Err-attempt.fault refused (c.is_kept-in-Err-attempt.ensures.kept c.if-is_kept-2.true) (c.is_kept-in-Err-attempt.ensures.passed bounded c.if-is_kept-2.true))
+
+pub returns-in-Err-attempt-2-clause-refused : goal.returns-in-Err-attempt-2-clause-refused
+returns-in-Err-attempt-2-clause-refused g c = λ one two three ga bounded refused.
+    each_candidate (IsPassed one two three c.args.task.now.settings.now.matching c.args.limit (g.G.Gate.bound c.args.gate.now))
+    (passed_over one two three c.args.task.now.settings.now.matching c.args.limit Interleave (g.G.Gate.bound c.args.gate.now) c.in-Err.fault (c.is_kept.ensures.dropped c.if-is_kept.false)
+    (λ e. c.in-Err.ensures.full one two three ga (ap Err e)) (λ e. c.in-Err.ensures.past one two three ga (ap Err e)))
+    (passed_over one two three c.args.task.now.settings.now.matching c.args.limit Depth (g.G.Gate.bound c.args.gate.now) c.in-Err-attempt.fault (c.is_kept-in-Err-attempt.ensures.dropped c.if-is_kept-2.false)
+    (λ e. c.in-Err-attempt.ensures.full one two three ga (ap Err e)) (λ e. c.in-Err-attempt.ensures.past one two three ga (ap Err e)))
+    (passed_over one two three c.args.task.now.settings.now.matching c.args.limit Declared (g.G.Gate.bound c.args.gate.now) c.in-Err-attempt-2.fault (which_fault c.in-Err-attempt-2.fault refused)
+    (λ e. c.in-Err-attempt-2.ensures.full one two three ga (ap Err e)) (λ e. c.in-Err-attempt-2.ensures.past one two three ga (ap Err e)))
+
+pub returns-then-is_kept-clause-past : goal.returns-then-is_kept-clause-past
+returns-then-is_kept-clause-past g c = λ one two three ga e.
+    let same : c.in-Err.fault ≡ Wave TooManyRequests = cc in
+    (Interleave, c.in-Err.ensures.past one two three ga (ap Err same))
+
+pub returns-then-is_kept-2-clause-past : goal.returns-then-is_kept-2-clause-past
+returns-then-is_kept-2-clause-past g c = λ one two three ga e.
+    let same : c.in-Err-attempt.fault ≡ Wave TooManyRequests = cc in
+    (Depth, c.in-Err-attempt.ensures.past one two three ga (ap Err same))
+
+pub returns-in-Err-attempt-2-clause-past : goal.returns-in-Err-attempt-2-clause-past
+returns-in-Err-attempt-2-clause-past g c = λ one two three ga e.
+    let same : c.in-Err-attempt-2.fault ≡ Wave TooManyRequests = cc in
+    (Declared, c.in-Err-attempt-2.ensures.past one two three ga (ap Err same))

@@ -2,11 +2,12 @@ use Rattle.std.proofs.Common.{◌∙◌, ◌≡◌, ap, length, Err}
 use Rattle.dd_store.specs.Nodes.{Nodes, count_of}
 use Rattle.net_bench.specs.Circuit.{circuit}
 use Rattle.net_order.specs.Order.{condition}
-use Rattle.expand_work.specs.declared.fault.WaveFault.TheVariants.{Full}
+use Rattle.expand_work.specs.declared.fault.WaveFault.TheVariants.{Full, TooManyRequests}
 use Rattle.gate_plan.proofs.Needed.{lean_left}
 use Rattle.check_report.specs.declared.fault.CheckFault.TheVariants.{Wave}
 use Rattle.check_report.proofs.Limiting.{none_before, exceeds, fits, over}
 use Rattle.check_report.proofs.Subjects.{all_signals}
+use Rattle.check_report.proofs.Widening.{wide_build, wide_compared}
 use Rattle.check_report.proofs.checking.compare.Goals as goal
 
 pub shown_of-requires : goal.shown_of-requires
@@ -60,3 +61,13 @@ returns-in-Ok-verdicts_of-clause-within g c =
     fits c.args.limit (circuit c.args.task.now.first.now) (circuit c.args.task.now.second.now) (condition c.args.task.now.given) c.args.pairing U c.shown_of.ensures.sound
     (c.shown_of.ensures.keeps.levels ∙ levels ∙ c.len-levels.ensures.value ∙ ap length c.names.ensures.value) (c.shown_of.ensures.keeps.limit ∙ limit)
     (c.in-Ok-shown_of.ensures.need (c.in-Ok-build.ensures.need none))
+
+pub returns-in-Err-clause-past : goal.returns-in-Err-clause-past
+returns-in-Err-clause-past g c = λ e.
+    let refused : c.in-Err.fault ≡ TooManyRequests = cc in
+    wide_build (circuit c.args.task.now.first.now) (circuit c.args.task.now.second.now) (condition c.args.task.now.given) c.args.pairing (g.G.Gate.bound c.args.gate.now) (c.build.ensures.past (c.in-Err.is ∙ ap Err refused))
+
+pub returns-in-Err-shown_of-clause-past : goal.returns-in-Err-shown_of-clause-past
+returns-in-Err-shown_of-clause-past g c = λ e.
+    let refused : c.in-Err-shown_of.fault ≡ Wave TooManyRequests = cc in
+    wide_compared (circuit c.args.task.now.first.now) (circuit c.args.task.now.second.now) (condition c.args.task.now.given) c.args.pairing (g.G.Gate.bound c.args.gate.now) (c.in-Err-shown_of.ensures.past (ap Err refused))

@@ -28,3 +28,9 @@ returns-clause-full g c = c.decide.ensures.full _ _ _ (c.in-Ok.ensures.accepted,
 
 pub returns-clause-fault : goal.returns-clause-fault
 returns-clause-fault g c = none_failed_in _ _ _ _ _ _ _ _ c.decide.result (c.decide.ensures.fault _ _ _ (c.in-Ok.ensures.accepted, c.in-Ok-read_bench.ensures.accepted, subst (IsCondition (told_by g.R3.Source.remaining c.args.given.now)) (as_condition _ _ c.as_ref-condition.ensures.value) c.in-Ok-read_condition.ensures.condition))
+
+pub returns-clause-passed : goal.returns-clause-passed
+returns-clause-passed g c = λ none. c.decide.ensures.passed none _ _ _ (c.in-Ok.ensures.accepted, c.in-Ok-read_bench.ensures.accepted, subst (IsCondition (told_by g.R3.Source.remaining c.args.given.now)) (as_condition _ _ c.as_ref-condition.ensures.value) c.in-Ok-read_condition.ensures.condition)
+
+pub returns-clause-past : goal.returns-clause-past
+returns-clause-past g c = c.decide.ensures.past _ _ _ (c.in-Ok.ensures.accepted, c.in-Ok-read_bench.ensures.accepted, subst (IsCondition (told_by g.R3.Source.remaining c.args.given.now)) (as_condition _ _ c.as_ref-condition.ensures.value) c.in-Ok-read_condition.ensures.condition)

@@ -1,14 +1,16 @@
-use Rattle.std.proofs.Common.{◌≡◌, ◌<◌, ap, sym, subst, arith, length, None}
-use Rattle.std.specs.Prelude.{IfSome}
-use Rattle.expand_work.specs.declared.fault.WaveFault.TheVariants.{Full}
+use Rattle.std.proofs.Common.{◌≡◌, ◌<◌, ◌∙◌, ap, sym, subst, arith, length, None, Err}
+use Rattle.std.specs.Prelude.{IfSome, IsSomeAnd}
+use Rattle.expand_work.specs.declared.fault.WaveFault.TheVariants.{Full, TooManyRequests}
 use Rattle.gate_plan.specs.Needing.{HasNeed}
 use Rattle.net_bench.specs.Circuit.{Net, circuit}
 use Rattle.net_order.specs.Order.{condition}
 use Rattle.check_report.specs.Conditions.{HasOneOutput}
 use Rattle.check_report.specs.Comparing.{AreBuilt, AreCompared}
 use Rattle.check_report.specs.Limits.{HasAll, IsOver}
+use Rattle.check_report.specs.Widths.{IsWideWhere}
 use Rattle.check_report.proofs.Determined.{output_inside}
 use Rattle.check_report.proofs.Conditional.{made, handed, given_is, all_known, compared_plain, all_plain, condition_known, compared_by_wave, all_by_wave, over_by_wave, no_other}
+use Rattle.check_report.proofs.Widening.{wide_where}
 use Rattle.check_report.proofs.compared.shown_of.Goals as goal
 
 pub returns-in_default-given-clause-compared : goal.returns-in_default-given-clause-compared
@@ -95,3 +97,19 @@ returns-in-Err-clause-full g c = λ need e.
     (handed c.args.built.now c.in-Ok.subjects.items _ _ _ c.as_slice-2.ensures.value c.in-Ok-references_of.ensures c.as_slice.ensures.value)
     (given_is c.args.built.now.given c.outputs.result.now k.outputs c.index-outputs-0.result c.given-holds.result c.index-outputs-0.is c.outputs.ensures.value some c.given-holds.ensures)
     c.levels.ensures.sound c.conjoin.ensures.sound c.conjoin.ensures.adds c.in-Err.fault c.in-Err.ensures.fault full (subst (λ o. HasNeed a b (condition o) c.args.pairing.now c.args.store.now) c.in-Some.is need))
+
+pub returns-in-Err-clause-past : goal.returns-in-Err-clause-past
+returns-in-Err-clause-past g c = λ e.
+    let a = circuit c.args.task.now.first.now in
+    let b = circuit c.args.task.now.second.now in
+    let k : Net = c.in-Some.given.now in
+    let of = c.in-Ok.subjects.items in
+    let built = subst (λ o. AreBuilt a b (condition o) c.args.pairing.now c.args.store.now c.args.built.now) c.in-Some.is c.requires.built in
+    let one : length k.outputs ≡ 1 = subst (λ o. IfSome (condition o) HasOneOutput) c.in-Some.is c.args.task.now.one_output in
+    let some : 0 < length c.outputs.result.now = (let e = ap length c.outputs.ensures.value in omega (arith, one, e)) in
+    let refused : c.in-Err.fault ≡ TooManyRequests = cc in
+    subst (λ o. IsSomeAnd (g.G.Gate.bound c.args.gate.now) (λ n. IsSomeAnd (condition o) (λ x. IsWideWhere n a b x c.args.pairing.now))) (sym c.in-Some.is)
+    (wide_where a b (circuit k) c.args.pairing.now c.args.store.now c.args.built.now c.levels.ensures.sound built of c.in-Ok.ensures c.as_slice-2.result.now
+    (handed c.args.built.now c.in-Ok.subjects.items _ _ _ c.as_slice-2.ensures.value c.in-Ok-references_of.ensures c.as_slice.ensures.value) c.given-holds.result
+    (given_is c.args.built.now.given c.outputs.result.now k.outputs c.index-outputs-0.result c.given-holds.result c.index-outputs-0.is c.outputs.ensures.value some c.given-holds.ensures)
+    (g.G.Gate.bound c.args.gate.now) (c.conjoin.ensures.past (c.in-Err.is ∙ ap Err refused)))

@@ -1,5 +1,5 @@
 use Rattle.std.proofs.Common.{◌≡◌, ◌∙◌, ap, sym, subst, refl, Err}
-use Rattle.expand_work.specs.declared.fault.WaveFault.TheVariants.{Full}
+use Rattle.expand_work.specs.declared.fault.WaveFault.TheVariants.{Full, TooManyRequests}
 use Rattle.net_order.specs.OrderText.{order_text}
 use Rattle.check_report.specs.declared.fault.CheckFault.TheVariants.{Wave}
 use Rattle.check_report.specs.Best.{order_of}
@@ -32,4 +32,10 @@ returns-clause-full g c = λ one two three ga e o allowed.
 pub returns-clause-fault : goal.returns-clause-fault
 returns-clause-fault g c = λ one two three ga.
     let w = c.in-Err.ensures.fault one two three ga in
+    (order_of w.0, (w.0, refl), w.1)
+
+pub returns-clause-past : goal.returns-clause-past
+returns-clause-past g c = λ one two three ga e.
+    let same : c.in-Err.fault ≡ Wave TooManyRequests = cc in
+    let w = c.in-Err.ensures.past one two three ga (ap Err same) in
     (order_of w.0, (w.0, refl), w.1)

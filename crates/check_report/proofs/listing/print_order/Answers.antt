@@ -1,5 +1,5 @@
 use Rattle.std.proofs.Common.{◌≡◌, ◌∙◌, ap, subst, Err}
-use Rattle.expand_work.specs.declared.fault.WaveFault.TheVariants.{Full}
+use Rattle.expand_work.specs.declared.fault.WaveFault.TheVariants.{Full, TooManyRequests}
 use Rattle.check_report.specs.declared.fault.CheckFault.TheVariants.{Wave}
 use Rattle.std.specs.Io.KnownBytes.{Appends}
 use Rattle.net_bench.specs.Circuit.{circuit}
@@ -49,3 +49,11 @@ pub returns-in-Err-text_for-clause-full : goal.returns-in-Err-text_for-clause-fu
 returns-in-Err-text_for-clause-full g c = λ e order allowed.
     let same : c.in-Err-text_for.fault ≡ Wave Full = cc in
     c.in-Err-text_for.ensures.full _ _ _ (c.in-Ok.ensures.accepted, c.in-Ok-read_bench.ensures.accepted, subst (IsCondition (told_by g.R3.Source.remaining c.args.given.now)) (as_condition _ _ c.as_ref-condition.ensures.value) c.in-Ok-read_condition.ensures.condition) (ap Err same) order allowed
+
+pub returns-in-Ok-write_whole-clause-passed : goal.returns-in-Ok-write_whole-clause-passed
+returns-in-Ok-write_whole-clause-passed g c = λ none. c.in-Ok-text_for.ensures.passed none _ _ _ (c.in-Ok.ensures.accepted, c.in-Ok-read_bench.ensures.accepted, subst (IsCondition (told_by g.R3.Source.remaining c.args.given.now)) (as_condition _ _ c.as_ref-condition.ensures.value) c.in-Ok-read_condition.ensures.condition)
+
+pub returns-in-Err-text_for-clause-past : goal.returns-in-Err-text_for-clause-past
+returns-in-Err-text_for-clause-past g c = λ e.
+    let same : c.in-Err-text_for.fault ≡ Wave TooManyRequests = cc in
+    c.in-Err-text_for.ensures.past _ _ _ (c.in-Ok.ensures.accepted, c.in-Ok-read_bench.ensures.accepted, subst (IsCondition (told_by g.R3.Source.remaining c.args.given.now)) (as_condition _ _ c.as_ref-condition.ensures.value) c.in-Ok-read_condition.ensures.condition) (ap Err same)

@@ -11,3 +11,6 @@ returns-in-Best-clause-text g c = λ one two three ga. rw c.in-Best.is (c.best_t
 
 pub returns-in-Best-clause-fault : goal.returns-in-Best-clause-fault
 returns-in-Best-clause-fault g c = λ one two three ga. rw c.in-Best.is (c.best_text.ensures.fault one two three ga)
+
+pub returns-in-Best-clause-past : goal.returns-in-Best-clause-past
+returns-in-Best-clause-past g c = λ one two three ga. rw c.in-Best.is (c.best_text.ensures.past one two three ga)

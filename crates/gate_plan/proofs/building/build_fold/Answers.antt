@@ -1,14 +1,14 @@
-use Rattle.std.proofs.Common.{rules, arith, ◌∙◌, ◌≡◌, ◌≢◌, ◌+◌, ◌<◌, length, get_or, sym, refl, [], None, Err}
+use Rattle.std.proofs.Common.{rules, arith, ◌∙◌, ◌≡◌, ◌+◌, ◌<◌, length, get_or, sym, refl, [], map, Err}
 use Rattle.std.proofs.lemmas.Result.{err_from_is_err_and}
 use Rattle.std.proofs.lemmas.List.{length-set}
-use Rattle.gate_plan.specs.Building.{input_level, AreFolded}
+use Rattle.gate_plan.specs.Building.{input_level, levelled_of, AreFolded}
 use Rattle.gate_plan.specs.Needing.{IsPlacedValue}
 use Rattle.gate_plan.specs.Plans.{plan_steps}
-use Rattle.gate_plan.proofs.Asked.{wave_unasked, wave_held}
+use Rattle.gate_plan.specs.Asking.{IsPast}
+use Rattle.gate_plan.proofs.Asked.{wave_unasked, wave_held, wave_past}
 use Rattle.expand_work.specs.declared.fault.WaveFault.TheVariants.{TooManyRequests}
-use Rattle.reduce_up.specs.Known.{unknown}
 use Rattle.reduce_up.proofs.Known.{fault_of_all}
-use Rattle.gate_plan.proofs.Counted.{wave_adds, wave_fault, not_past}
+use Rattle.gate_plan.proofs.Counted.{wave_adds, wave_fault}
 use Rattle.gate_plan.proofs.Running.{steps_fit, fold_next, all_entries, all_asked}
 use Rattle.gate_plan.proofs.Together.{refs_there, there_at, set_left, set_each, answers_long, answers_own, answers_rest}
 use Rattle.gate_plan.proofs.building.build_fold.Goals as goal
@@ -104,8 +104,9 @@ pub returns-clause-held : goal.returns-clause-held
 returns-clause-held g c =
     wave_held c.args.store.now c.wave.new.store c.args.engine.now.held c.as_slice.result.now c.in_ok-answers.answers.items c.wave.new.self.held c.requires.held c.in_ok-answers.ensures.within c.in_ok-answers.ensures.kept c.wave.ensures.right
 
-pub returns-in_err-answers-clause-unbounded : goal.returns-in_err-answers-clause-unbounded
-returns-in_err-answers-clause-unbounded g c =
-    let never : c.args.engine.now.bound ≡ None → c.wave.result ≢ Err TooManyRequests = λ none refused.
-    not_past c.args.engine.now.bound c.args.store.now (unknown c.args.engine.now.held c.as_slice.result.now) none (c.wave.ensures.past refused) in
-    search (rules, never)
+pub returns-in_err-answers-clause-past : goal.returns-in_err-answers-clause-past
+returns-in_err-answers-clause-past g c =
+    let past : c.wave.result ≡ Err TooManyRequests → IsPast c.args.engine.now.bound c.args.store.now.levels (map levelled_of c.args.sides.now) = λ refused.
+    wave_past c.args.sides.now c.requires.plans c.args.store.now c.levels.ensures.sound c.args.built.now c.args.rank c.args.fold c.as_slice.result.now c.requires.folded (c.as_slice.ensures.value ∙ c.in-Ok.ensures)
+    c.args.engine.now.held c.args.engine.now.bound (c.wave.ensures.past refused) in
+    search (rules, past)

@@ -1,9 +1,9 @@
-use Rattle.std.proofs.Common.{rules, ◌≡◌, ◌≢◌, ◌∙◌, List, None, Err, subst}
+use Rattle.std.proofs.Common.{rules, ◌≡◌, ◌∙◌, List, Err, subst}
 use Rattle.expand_work.specs.declared.fault.WaveFault.TheVariants.{TooManyRequests}
-use Rattle.reduce_up.specs.Known.{unknown}
+use Rattle.wave_engine.specs.Bounds.{ArePast}
+use Rattle.gate_plan.specs.Conjoining.{conjunctions}
 use Rattle.reduce_up.specs.Waves.{Entry, AnswersEach, IsWaveFault, IsWithinLimit}
-use Rattle.gate_plan.proofs.Counted.{not_past}
-use Rattle.gate_plan.proofs.Conjoined.{conjoined, entries_known}
+use Rattle.gate_plan.proofs.Conjoined.{conjoined, entries_known, past_all}
 use Rattle.reduce_up.proofs.Known.{fault_of_all, within_all}
 use Rattle.gate_plan.proofs.conjoining.conjoin.Goals as goal
 
@@ -26,8 +26,9 @@ returns-clause-fault g c =
     subst (λ z. IsWaveFault c.args.store.now z c.wave.new.store c.in-Err.fault) (c.as_slice.ensures.value ∙ c.in-Ok.ensures)
     (fault_of_all c.args.store.now c.wave.new.store c.in-Ok-new.engine.held c.as_slice.result.now _ c.in-Err.ensures.fault)
 
-pub returns-clause-unbounded : goal.returns-clause-unbounded
-returns-clause-unbounded g c =
-    let never : c.in-Ok-new.engine.bound ≡ None → c.wave.result ≢ Err TooManyRequests = λ none refused.
-    not_past c.in-Ok-new.engine.bound c.args.store.now (unknown c.in-Ok-new.engine.held c.as_slice.result.now) none (c.wave.ensures.past refused) in
-    search (rules, never)
+pub returns-clause-past : goal.returns-clause-past
+returns-clause-past g c =
+    let past : c.wave.result ≡ Err TooManyRequests → ArePast c.in-Ok-new.engine.bound c.args.store.now (conjunctions c.args.references.now c.args.given) = λ refused.
+    subst (ArePast c.in-Ok-new.engine.bound c.args.store.now) (c.as_slice.ensures.value ∙ c.in-Ok.ensures)
+    (past_all c.in-Ok-new.engine.bound c.args.store.now c.in-Ok-new.engine.held c.as_slice.result.now (c.wave.ensures.past refused)) in
+    search (rules, past)
