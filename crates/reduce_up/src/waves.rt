@@ -16,7 +16,7 @@ use crate::roots::team_answers;
 use crate::seeking::Sought;
 use crate::team::{Field, Progress, Team, begin, reduce_team};
 use dd_store::{Ref, Store, Watch};
-use expand_work::{Free, Gate, WaveFault, expand_parts};
+use expand_work::{Free, Gate, Spaces, WaveFault, expand_parts};
 use req_table::requests::{normal, short};
 use req_table::{Key, Memo, Op, Records};
 use std::alloc::{AllocError, Global};
@@ -232,7 +232,8 @@ fn answer_team<R: Threads + Sync, H: Watch>(
 ///
 /// The requests of all operations together are expanded by workers in threads, and reduced from the last level up (Ochi,
 /// Yasuoka and Yajima 1993). NoWorker is answered where a worker's thread could not be started;
-/// what no other thread could be started for, the caller's thread does.
+/// what no other thread could be started for, the caller's thread does. The workers work in the memory of an earlier wave as far as there
+/// is some, and leave theirs for the next; after a refusal it is given back.
 pub fn shared_wave<R: Threads + Wait + Sync, G: Gate>(
     rt: &R,
     alloc: Global,
@@ -240,6 +241,7 @@ pub fn shared_wave<R: Threads + Wait + Sync, G: Gate>(
     entries: &[(Op, Ref, Ref)],
     workers: u32,
     gate: &G,
+    spaces: &mut Spaces,
 ) -> Result<Vec<Ref>, WaveFault>
     requires operands { All (IsEntry store.old) entries.now }
     requires workers { (0 < workers) × (workers ≤ 16) }
@@ -255,7 +257,7 @@ pub fn shared_wave<R: Threads + Wait + Sync, G: Gate>(
     let Ok(roots) = requests_of(alloc, entries) else {
         return Err(WaveFault::OutOfMemory);
     };
-    let parts = match expand_parts(rt, alloc, store, roots.as_slice(), workers, gate) {
+    let parts = match expand_parts(rt, alloc, store, roots.as_slice(), workers, gate, spaces) {
         Ok(parts) => parts,
         Err(fault) => return Err(fault),
     };
@@ -265,5 +267,7 @@ pub fn shared_wave<R: Threads + Wait + Sync, G: Gate>(
         roots: roots.as_slice(),
         workers,
     };
-    answer_team(rt, store, entries, field, gate)
+    let answers = answer_team(rt, store, entries, field, gate)?;
+    *spaces = parts.into_spaces();
+    Ok(answers)
 }

@@ -11,7 +11,7 @@ use crate::lists::Answers;
 use crate::requests::Requests;
 use crate::team::Team;
 use dd_store::{Ref, Store};
-use expand_work::{Gate, WaveFault};
+use expand_work::{Gate, Spaces, WaveFault};
 use reduce_up::shared_wave;
 use req_table::{Key, Op};
 use std::alloc::{AllocError, Global};
@@ -82,9 +82,11 @@ fn put_answers(
     Ok(())
 }
 
-/// Has the requests from a level on answered by the workers, in one wave, and puts the answers in their places.
+/// Has the requests from a level on answered by the workers, in one wave, and puts the answers in their places. The workers work in
+/// the memory of an earlier wave as far as there is some.
 pub(crate) fn hand_over<R: Threads + Wait + Sync, G: Gate>(
     team: &Team<'_, R, G>,
+    spaces: &mut Spaces,
     store: &mut Store,
     entries: &[(Op, Ref, Ref)],
     requests: &Requests,
@@ -113,7 +115,9 @@ pub(crate) fn hand_over<R: Threads + Wait + Sync, G: Gate>(
         return Ok(());
     }
     let workers = team.workers.count();
-    let found = match shared_wave(team.rt, team.alloc, store, asked, workers, team.gate) {
+    let found = match shared_wave(
+        team.rt, team.alloc, store, asked, workers, team.gate, spaces,
+    ) {
         Ok(found) => found,
         Err(fault) => return Err(fault),
     };

@@ -17,7 +17,7 @@ use crate::requests::Requests;
 use crate::team::{Team, Workers};
 use crate::up::{reduce, resolve};
 use dd_store::{Ref, Store};
-use expand_work::{Gate, WaveFault};
+use expand_work::{Gate, Spaces, WaveFault};
 use req_table::{Op, Placed};
 use std::alloc::{AllocError, Global};
 use std::sync::Wait;
@@ -120,6 +120,8 @@ pub(crate) struct Workspace<'a, R, G> {
     pub(crate) team: Team<'a, R, G>,
     down: Down,
     answers: Vec<Answers>,
+    /// The memory of the workers.
+    spaces: Spaces,
 }
 
 impl<'a, R: Threads + Wait + Sync, G: Gate> Workspace<'a, R, G> {
@@ -140,6 +142,7 @@ impl<'a, R: Threads + Wait + Sync, G: Gate> Workspace<'a, R, G> {
                 roots: Vec::new(alloc),
             },
             answers: Vec::new(alloc),
+            spaces: Spaces::new(alloc),
         }
     }
 
@@ -188,6 +191,7 @@ impl<'a, R: Threads + Wait + Sync, G: Gate> Workspace<'a, R, G> {
         };
         hand_over(
             &self.team,
+            &mut self.spaces,
             store,
             entries,
             &self.down.requests,
