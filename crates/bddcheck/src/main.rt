@@ -1,25 +1,23 @@
 //! The program: two netlists in, a report and a status out.
 #![tactic(auto)]
 
-mod done;
-mod fault;
-mod folder;
-mod help;
-mod process;
-mod progress;
-mod run;
-mod split;
-#[cfg(test)]
-mod tests;
-mod tool;
+ghost use Rattle.std.specs.Prelude.{◌≡◌};
+ghost use Rattle.std.specs.Process.{exit_status};
 
-use folder::Disk;
+use check_tool::folder::Disk;
+use check_tool::process::{arguments, status_of};
 use net_bench::device::Through;
-use process::{arguments, status_of};
 use std::process::ExitCode;
 
+/// The exit code of a run.
+fn code_of(status: u8) -> ExitCode
+    ensures { exit_status result ≡ status }
+{
+    ExitCode::from(status)
+}
+
 fn main(rt: HostRuntime) -> ExitCode {
-    ExitCode::from(status_of(
+    code_of(status_of(
         &rt,
         arguments(&rt),
         &mut Disk::new(&rt),

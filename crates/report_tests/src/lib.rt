@@ -1,4 +1,5 @@
-//! Tests of a whole check, with a condition, and over devices that fail. They stand apart, since a crate with tests is proved twice.
+//! Tests of a whole check, with a condition, and over devices that fail, and of the program's runs. They stand apart, since a crate with tests is
+//! proved twice.
 #![tactic(auto)]
 
 #[cfg(test)]
@@ -7,3 +8,5 @@ mod conditions;
 mod devices;
 #[cfg(test)]
 mod failing;
+#[cfg(test)]
+mod runs;

@@ -1,0 +1,240 @@
+-- What a run does, from what its parts do.
+use Rattle.std.proofs.Common.{◌≡◌, ◌∙◌, ◌++◌, ◌⊎◌, inl, inr, ℕ, Bool, true, false, List, [], ◌∷◌, Option, Some, None, Result, Ok, Err, IfOk, IfErr, OnOk, refl, sym, ap, subst, append-nil}
+use Rattle.std.specs.Prelude.{IfSome, option_map}
+use Rattle.std.specs.Borrow.{Bor}
+use Rattle.std.specs.Io.KnownBytes.{Appends, Keeps}
+use Rattle.std.proofs.lemmas.List.{append_assoc}
+use Rattle.check_tool.specs.declared.done.Done.{Done}
+use Rattle.check_report.specs.Limits.{AreBeyond}
+use Rattle.check_report.specs.Best.{IsAllowed}
+use Rattle.check_report.specs.declared.choice.Choice.{Choice}
+use Rattle.check_report.specs.Writing.{AppendsFront}
+use Rattle.net_order.specs.declared.order.Order.{Order}
+use Rattle.command_line.specs.declared.options.Options.{Options}
+use Rattle.command_line.specs.declared.options.Texts.{Texts}
+use Rattle.command_line.specs.declared.options.Texts.TheVariants.{Input, Files, InputAndFile, FileAndInput, InputTwice, One}
+use Rattle.check_tool.specs.declared.fault.Place.TheVariants.{First, Second, Given as GivenFile, Order as OrderFile}
+use Rattle.check_tool.specs.declared.fault.ToolFault.{ToolFault}
+use Rattle.check_tool.specs.declared.fault.ToolFault.TheVariants.{OneFile, InputTwice as DashTwice, CannotOpen, InputUnread, InputTooLong, InputUndivided, BadOrder, Check, OutOfMemory}
+use Rattle.check_tool.specs.Splitting.{IsSplit}
+use Rattle.check_tool.specs.Opening.{Try, Extends, opened, AreTried}
+use Rattle.check_tool.specs.Running.{IsOpenFault, first_paths, second_paths, text_paths, order_paths, given_paths, later_paths, paths_of, IsShort, AreTexts, HasTexts, IsGivenOf, IsOrderOf, IsOrderFaultBehind, IsGivenFault, IsLaterFault, IsCompared, HasReported, HasReportedFront, HasFirstFailed, HasSecondFailed, HasGivenFailed, IsBeyond, IsCompareFault, IsToolFault}
+use Rattle.check_tool.proofs.Failing.{check_fault}
+
+-- ---- tries
+
+pub extends_none : (a : Option (List Try)) → Extends a a []
+extends_none None = tt
+extends_none (Some xs) = sym (append-nil xs)
+
+pub extends_more : (a b c : Option (List Try)) (ts us : List Try) → Extends a b ts → Extends b c us → Extends a c (ts ++ us)
+extends_more None b c ts us e f = tt
+extends_more (Some x) None c ts us e f = absurd e
+extends_more (Some x) (Some y) None ts us e f = absurd f
+extends_more (Some x) (Some y) (Some z) ts us e f = f ∙ ap (λ l. l ++ us) e ∙ append_assoc x ts us
+
+pub opened_more : (ps qs : List (List ℕ)) → opened (ps ++ qs) ≡ opened ps ++ opened qs
+opened_more [] qs = refl
+opened_more (p ∷ ps) qs = ap (λ l. (p, true) ∷ l) (opened_more ps qs)
+
+pub tried_more : (ps qs : List (List ℕ)) (ts : List Try) → AreTried qs ts → AreTried (ps ++ qs) (opened ps ++ ts)
+tried_more [] qs ts t = t
+tried_more (p ∷ ps) qs ts t = (refl, tried_more ps qs ts t)
+
+-- what was tried of some paths alone was tried of these and more
+pub tried_first : (ps qs : List (List ℕ)) (ts : List Try) → AreTried ps ts → AreTried (ps ++ qs) ts
+tried_first ps qs [] t = tt
+tried_first [] qs (t ∷ ts) a = absurd a
+tried_first (p ∷ ps) qs ((asked, true) ∷ ts) a = (a.0, tried_first ps qs ts a.1)
+tried_first (p ∷ ps) qs ((asked, false) ∷ ts) a = a
+
+pub opened_twice : (ps qs : List (List ℕ)) (ts : List Try) → opened ps ++ (opened qs ++ ts) ≡ opened (ps ++ qs) ++ ts
+opened_twice ps qs ts = sym (append_assoc (opened ps) (opened qs) ts) ∙ ap (λ l. l ++ ts) (sym (opened_more ps qs))
+
+pub keeps_own : (a : Option (List ℕ)) → Keeps a a
+keeps_own None = tt
+keeps_own (Some xs) = refl
+
+-- either more is asked for, or it is not
+pub asked_or : {A B : Type 0} (verbose : Bool) → (verbose ≡ true → A) → (verbose ≡ false → B) → A ⊎ B
+asked_or true f g = inl (f refl)
+asked_or false f g = inr (g refl)
+
+-- ---- the two texts
+
+pub input_texts : (told : List ℕ → Option (List ℕ)) (input : Option (List ℕ)) (o : Options) → o.texts ≡ Input → (text one two : List ℕ) (first second : Option (List ℕ)) → first ≡ Some one → second ≡ Some two
+    → IfSome input (λ t. text ≡ t) → IsShort text → IsSplit text (Some (one, two)) → AreTexts told input o.texts first second
+input_texts told input o is text one two first second f g e short s = subst (λ t. AreTexts told input t first second) (sym is) (by input e)
+  where
+    by : (input : Option (List ℕ)) → IfSome input (λ t. text ≡ t) → AreTexts told input Input first second
+    by None e = tt
+    by (Some t) e = (subst IsShort e short, (one, two), subst (λ z. IsSplit z (Some (one, two))) e s, f, g)
+
+pub files_texts : (told told' : List ℕ → Option (List ℕ)) → told' ≡ told → (input : Option (List ℕ)) (o : Options) (first second : Bor (List ℕ)) → o.texts ≡ Files first second → (one two : Option (List ℕ))
+    → IfSome (told first.now) (λ text. one ≡ Some text) → IfSome (told' second.now) (λ text. two ≡ Some text) → AreTexts told input o.texts one two
+files_texts told told' kept input o first second is one two e f =
+    subst (λ t. AreTexts told input t one two) (sym is) (e, subst (λ t. IfSome (t second.now) (λ text. two ≡ Some text)) kept f)
+
+pub file_and_input : (told : List ℕ → Option (List ℕ)) (input : Option (List ℕ)) (o : Options) (first : Bor (List ℕ)) → o.texts ≡ FileAndInput first → (one : Option (List ℕ)) → IfSome (told first.now) (λ text. one ≡ Some text)
+    → AreTexts told input o.texts one input
+file_and_input told input o first is one e = subst (λ t. AreTexts told input t one input) (sym is) (e, refl)
+
+pub input_and_file : (told : List ℕ → Option (List ℕ)) (input : Option (List ℕ)) (o : Options) (second : Bor (List ℕ)) → o.texts ≡ InputAndFile second → (two : Option (List ℕ)) → IfSome (told second.now) (λ text. two ≡ Some text)
+    → AreTexts told input o.texts input two
+input_and_file told input o second is two e = subst (λ t. AreTexts told input t input two) (sym is) (refl, e)
+
+pub split_parts : (text slice : List ℕ) (r : Option (Bor (List ℕ) × Bor (List ℕ))) (one two : Bor (List ℕ)) → slice ≡ text → r ≡ Some (one, two) → IsSplit slice (option_map (λ parts. (parts.0.now, parts.1.now)) r)
+    → IsSplit text (Some (one.now, two.now))
+split_parts text slice r one two e f s =
+    subst (λ z. IsSplit text (option_map (λ parts. (parts.0.now, parts.1.now)) z)) f (subst (λ z. IsSplit z (option_map (λ parts. (parts.0.now, parts.1.now)) r)) e s)
+
+pub split_none : (slice text : List ℕ) → slice ≡ text → IsSplit slice None → IsSplit text None
+split_none slice text e s = subst (λ z. IsSplit z None) e s
+
+pub undivided : (input : Option (List ℕ)) (text : List ℕ) → IfSome input (λ t. text ≡ t) → IsShort text → IsSplit text None → IfSome input (λ t. IsShort t × IsSplit t None)
+undivided None text e short s = tt
+undivided (Some t) text e short s = (subst IsShort e short, subst (λ z. IsSplit z None) e s)
+
+has_texts : (told : List ℕ → Option (List ℕ)) (input : Option (List ℕ)) (t : Texts) (one two : Option (List ℕ)) → AreTexts told input t one two → HasTexts input t
+has_texts told input (Files first second) one two a = tt
+has_texts told None Input one two a = tt
+has_texts told (Some text) Input one two a = (a.0, a.1, a.2)
+has_texts told input (FileAndInput first) one two a = tt
+has_texts told input (InputAndFile second) one two a = tt
+has_texts told input InputTwice one two a = absurd a
+has_texts told input One one two a = absurd a
+
+-- ---- the whole of a run
+
+module _ (told : List ℕ → Option (List ℕ)) (input : Option (List ℕ)) (o : Options) (one two : Option (List ℕ)) (texts : AreTexts told input o.texts one two) where
+  pub whole_report : (told' : List ℕ → Option (List ℕ)) → told' ≡ told → (before now : Option (List ℕ)) (r : Result Done ToolFault) → IfOk r (λ done. (bytes : List ℕ) × IsCompared told' one two o done bytes × Appends before now bytes) → IfOk r (HasReported told input o before now)
+  whole_report told' e before now (Ok done) h =
+      (h.0, record { one = one; two = two; texts = texts; compared = subst (λ t. IsCompared t one two o done h.0) e h.1 }, h.2)
+  whole_report told' e before now (Err fault) h = tt
+
+  pub whole_front : (told' : List ℕ → Option (List ℕ)) → told' ≡ told → (before now : Option (List ℕ)) (has_failed has_stopped : Bool)
+      → (done : Done) × (bytes : List ℕ) × IsCompared told' one two o done bytes × AppendsFront before now has_failed has_stopped bytes
+      → HasReportedFront told input o before now has_failed has_stopped
+  whole_front told' e before now has_failed has_stopped h =
+      (h.0, h.1, record { one = one; two = two; texts = texts; compared = subst (λ t. IsCompared t one two o h.0 h.1) e h.2 }, h.3)
+
+  pub whole_beyond : (told' : List ℕ → Option (List ℕ)) → told' ≡ told → (given : Option (Option (List ℕ))) × (choice : Choice) × IsGivenOf told' o.given given × IsOrderOf told' o.order choice × ((order : Order) → IsAllowed choice order → AreBeyond one two given o.matching order o.limit) → IsBeyond told input o
+  whole_beyond told' e h = (one, two, h.0, h.1, texts, subst (λ t. IsGivenOf t o.given h.0) e h.2, subst (λ t. IsOrderOf t o.order h.1) e h.3, h.4)
+
+  module _ (broken : List ℕ → Type 0) (input_broken first_failed second_failed : Type 0) (first : first_failed → HasFirstFailed broken input_broken o.texts) (second : second_failed → HasSecondFailed broken input_broken o.texts) where
+    -- the files behind those of the texts, with these before them
+    later_fault : (tries : List Try) (fault : ToolFault) → IsLaterFault told broken o tries fault → IsToolFault told broken input_broken input o (opened (text_paths o.texts) ++ tries) fault
+    later_fault tries OneFile (inl f) = absurd f
+    later_fault tries OneFile (inr f) = absurd f.2
+    later_fault tries DashTwice (inl f) = absurd f
+    later_fault tries DashTwice (inr f) = absurd f.2
+    later_fault tries InputUnread (inl f) = absurd f
+    later_fault tries InputUnread (inr f) = absurd f.2
+    later_fault tries InputTooLong (inl f) = absurd f
+    later_fault tries InputTooLong (inr f) = absurd f.2
+    later_fault tries InputUndivided (inl f) = absurd f
+    later_fault tries InputUndivided (inr f) = absurd f.2
+    later_fault tries (Check fault) (inl f) = absurd f
+    later_fault tries (Check fault) (inr f) = absurd f.2
+    later_fault tries (CannotOpen First obstacle) (inl f) = absurd f
+    later_fault tries (CannotOpen First obstacle) (inr f) = absurd f.2
+    later_fault tries (CannotOpen Second obstacle) (inl f) = absurd f
+    later_fault tries (CannotOpen Second obstacle) (inr f) = absurd f.2
+    later_fault tries (CannotOpen GivenFile obstacle) (inl f) =
+        (f.0, f.1, has_texts told input o.texts one two texts, ap (λ l. opened (text_paths o.texts) ++ l) f.2)
+    later_fault tries (CannotOpen GivenFile obstacle) (inr f) = absurd f.2
+    later_fault tries (CannotOpen OrderFile obstacle) (inl f) = absurd f
+    later_fault tries (CannotOpen OrderFile obstacle) (inr f) =
+        (f.2.0, f.2.1, has_texts told input o.texts one two texts, ap (λ l. opened (text_paths o.texts) ++ l) (f.1 ∙ ap (λ l. opened (given_paths o.given) ++ l) f.2.2) ∙ opened_twice (text_paths o.texts) (given_paths o.given) ((f.2.0.now, false) ∷ []))
+    later_fault tries (BadOrder fault) (inl f) = absurd f
+    later_fault tries (BadOrder fault) (inr f) =
+        (f.2.0, f.2.1, has_texts told input o.texts one two texts, ap (λ l. opened (text_paths o.texts) ++ l) (f.1 ∙ ap (λ l. opened (given_paths o.given) ++ l) f.2.2 ∙ sym (opened_more (given_paths o.given) (order_paths o.order))) ∙ sym (opened_more (text_paths o.texts) (later_paths o)), f.2.3)
+    later_fault tries OutOfMemory (inl f) = tried_more (text_paths o.texts) (later_paths o) tries (tried_first (given_paths o.given) (order_paths o.order) tries f)
+    later_fault tries OutOfMemory (inr f) =
+        tried_more (text_paths o.texts) (later_paths o) tries (subst (λ l. AreTried (later_paths o) l) (sym f.1) (tried_more (given_paths o.given) (order_paths o.order) f.0 f.2))
+
+    whole_fault : (tries : List Try) (fault : ToolFault) → IsCompareFault told broken one two first_failed second_failed o tries fault → IsToolFault told broken input_broken input o (opened (text_paths o.texts) ++ tries) fault
+    whole_fault tries OneFile f = absurd f
+    whole_fault tries DashTwice f = absurd f
+    whole_fault tries InputUnread f = absurd f
+    whole_fault tries InputTooLong f = absurd f
+    whole_fault tries InputUndivided f = absurd f
+    whole_fault tries OutOfMemory f = later_fault tries OutOfMemory f
+    whole_fault tries (CannotOpen place obstacle) f = later_fault tries (CannotOpen place obstacle) f
+    whole_fault tries (BadOrder fault) f = later_fault tries (BadOrder fault) f
+    whole_fault tries (Check fault) f =
+        (one, two, f.0, f.1, texts, f.2, f.3, ap (λ l. opened (text_paths o.texts) ++ l) f.4 ∙ sym (opened_more (text_paths o.texts) (later_paths o)), (f.5.0, f.5.1, check_fault one two f.0 first_failed second_failed (HasGivenFailed broken o.given) (HasFirstFailed broken input_broken o.texts) (HasSecondFailed broken input_broken o.texts) (HasGivenFailed broken o.given) o.matching f.5.0 first second (λ x. x) fault f.5.2))
+
+    pub whole_faults : (told' : List ℕ → Option (List ℕ)) → told' ≡ told → (a b c : Option (List Try)) → Extends a b (opened (text_paths o.texts)) → (r : Result Done ToolFault)
+        → IfErr r (λ fault. (tries : List Try) × Extends b c tries × IsCompareFault told' broken one two first_failed second_failed o tries fault)
+        → IfErr r (λ fault. (tries : List Try) × Extends a c tries × IsToolFault told broken input_broken input o tries fault)
+    whole_faults told' e a b c before (Ok done) h = tt
+    whole_faults told' e a b c before (Err fault) h = (
+      opened (text_paths o.texts) ++ h.0,
+      extends_more a b c (opened (text_paths o.texts)) h.0 before h.1,
+      whole_fault h.0 fault (subst (λ t. IsCompareFault t broken one two first_failed second_failed o h.0 fault) e h.2),
+    )
+
+-- ---- two files
+
+module _ (o : Options) (first second : Bor (List ℕ)) (files : o.texts ≡ Files first second) where
+  pub both_opened : (a b c : Option (List Try)) → Extends a b ((first.now, true) ∷ []) → Extends b c ((second.now, true) ∷ []) → Extends a c (opened (text_paths o.texts))
+  both_opened a b c e f = subst (λ t. Extends a c (opened (text_paths t))) (sym files) (extends_more a b c ((first.now, true) ∷ []) ((second.now, true) ∷ []) e f)
+
+  pub all_opened : (a b c d : Option (List Try)) (r : Result Done ToolFault) → Extends a b ((first.now, true) ∷ []) → Extends b c ((second.now, true) ∷ []) → OnOk r (Extends c d (opened (later_paths o)))
+      → OnOk r (Extends a d (opened (paths_of o)))
+  all_opened a b c d (Ok done) e f h =
+      subst (λ l. Extends a d l) (sym (opened_more (text_paths o.texts) (later_paths o))) (extends_more a c d (opened (text_paths o.texts)) (opened (later_paths o)) (both_opened a b c e f) h)
+  all_opened a b c d (Err fault) e f h = tt
+
+  pub second_unopened : (told : List ℕ → Option (List ℕ)) (broken : List ℕ → Type 0) (input_broken : Type 0) (input : Option (List ℕ)) (fault : ToolFault) (a b c : Option (List Try)) → IsOpenFault Second fault
+      → Extends a b ((first.now, true) ∷ []) → Extends b c ((second.now, false) ∷ []) → (tries : List Try) × Extends a c tries × IsToolFault told broken input_broken input o tries fault
+  second_unopened told broken input_broken input fault a b c (inl (obstacle, is)) e f = (
+    (first.now, true) ∷ (second.now, false) ∷ [],
+    extends_more a b c ((first.now, true) ∷ []) ((second.now, false) ∷ []) e f,
+    subst (λ x. IsToolFault told broken input_broken input o ((first.now, true) ∷ (second.now, false) ∷ []) x) (sym is) (second.now, ap second_paths files, sym (ap (λ t. opened (first_paths t) ++ (second.now, false) ∷ []) files)),
+  )
+  second_unopened told broken input_broken input fault a b c (inr is) e f = (
+    (first.now, true) ∷ (second.now, false) ∷ [],
+    extends_more a b c ((first.now, true) ∷ []) ((second.now, false) ∷ []) e f,
+    subst (λ x. IsToolFault told broken input_broken input o ((first.now, true) ∷ (second.now, false) ∷ []) x) (sym is)
+        (subst (λ t. AreTried (text_paths t ++ later_paths o) ((first.now, true) ∷ (second.now, false) ∷ [])) (sym files) (refl, (refl, refl))),
+  )
+
+-- ---- a first file that is not opened
+
+pub first_unopened : (o : Options) (path : List ℕ) → first_paths o.texts ≡ path ∷ [] → (told : List ℕ → Option (List ℕ)) (broken : List ℕ → Type 0) (input_broken : Type 0) (input : Option (List ℕ)) (fault : ToolFault) (a b : Option (List Try))
+    → IsOpenFault First fault → Extends a b ((path, false) ∷ []) → (tries : List Try) × Extends a b tries × IsToolFault told broken input_broken input o tries fault
+first_unopened o path named told broken input_broken input fault a b (inl (obstacle, is)) e =
+    ((path, false) ∷ [], e, subst (λ x. IsToolFault told broken input_broken input o ((path, false) ∷ []) x) (sym is) (path, named, refl))
+first_unopened o path named told broken input_broken input fault a b (inr is) e = (
+  (path, false) ∷ [],
+  e,
+  subst (λ x. IsToolFault told broken input_broken input o ((path, false) ∷ []) x) (sym is)
+      (subst (λ ps. AreTried ((ps ++ second_paths o.texts) ++ later_paths o) ((path, false) ∷ [])) (sym named) (refl, refl)),
+)
+
+-- ---- one file beside the input
+
+module _ (o : Options) (path : List ℕ) (named : text_paths o.texts ≡ path ∷ []) where
+  pub one_opened : (a b : Option (List Try)) → Extends a b ((path, true) ∷ []) → Extends a b (opened (text_paths o.texts))
+  one_opened a b e = subst (λ ps. Extends a b (opened ps)) (sym named) e
+
+  pub all_opened_beside : (a b c : Option (List Try)) (r : Result Done ToolFault) → Extends a b ((path, true) ∷ []) → OnOk r (Extends b c (opened (later_paths o))) → OnOk r (Extends a c (opened (paths_of o)))
+  all_opened_beside a b c (Ok done) e h =
+      subst (λ l. Extends a c l) (sym (opened_more (text_paths o.texts) (later_paths o))) (extends_more a b c (opened (text_paths o.texts)) (opened (later_paths o)) (one_opened a b e) h)
+  all_opened_beside a b c (Err fault) e h = tt
+
+pub second_unopened_beside : (o : Options) (second : Bor (List ℕ)) → o.texts ≡ InputAndFile second → (told : List ℕ → Option (List ℕ)) (broken : List ℕ → Type 0) (input_broken : Type 0) (input : Option (List ℕ)) (fault : ToolFault) (a b : Option (List Try))
+    → IsOpenFault Second fault → Extends a b ((second.now, false) ∷ []) → (tries : List Try) × Extends a b tries × IsToolFault told broken input_broken input o tries fault
+second_unopened_beside o second beside told broken input_broken input fault a b (inl (obstacle, is)) e = (
+  (second.now, false) ∷ [],
+  e,
+  subst (λ x. IsToolFault told broken input_broken input o ((second.now, false) ∷ []) x) (sym is) (second.now, ap second_paths beside, sym (ap (λ t. opened (first_paths t) ++ (second.now, false) ∷ []) beside)),
+)
+second_unopened_beside o second beside told broken input_broken input fault a b (inr is) e = (
+  (second.now, false) ∷ [],
+  e,
+  subst (λ x. IsToolFault told broken input_broken input o ((second.now, false) ∷ []) x) (sym is)
+      (subst (λ t. AreTried (text_paths t ++ later_paths o) ((second.now, false) ∷ [])) (sym beside) (refl, refl)),
+)

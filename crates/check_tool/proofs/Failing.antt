@@ -1,0 +1,72 @@
+-- Devices that have failed, from the parts of a run to the run.
+use Rattle.std.proofs.Common.{◌≡◌, ◌⊎◌, inl, inr, ℕ, Bool, false, List, Option, Some, None, ◌∙◌, sym, subst, IsTrue}
+use Rattle.std.specs.Prelude.{IfSome}
+use Rattle.check_report.specs.declared.fault.CheckFault.{CheckFault}
+use Rattle.check_report.specs.declared.fault.CheckFault.TheVariants.{First, Second, Given, GivenOutputs, Order as OrderRefused, Wave, Write, OutOfMemory}
+use Rattle.check_report.specs.Check.{IsCheckFault}
+use Rattle.net_order.specs.declared.order.Match.{Match}
+use Rattle.net_order.specs.declared.order.Order.{Order}
+use Rattle.net_order.specs.declared.order.OrderFault.{OrderFault}
+use Rattle.net_order.specs.declared.order.OrderFault.TheVariants.{Read as OrderReadFailed, OutOfMemory as NoOrderMemory}
+use Rattle.net_order.specs.OrderText.{IsBadText}
+use Rattle.command_line.specs.declared.options.Texts.{Texts}
+use Rattle.check_tool.specs.Opening.{HasFailedAt}
+use Rattle.check_report.specs.Devices.{told_by, HasFailedIn}
+use Rattle.std.specs.Borrow.{Bor}
+use Rattle.check_tool.specs.Running.{HasFirstFailed, HasSecondFailed, HasGivenFailed, IsGivenFrom, IsOrderRefused}
+
+-- what a failure of the devices implies stands in the cause of a fault in its place
+pub check_fault : (one two : Option (List ℕ)) (given : Option (Option (List ℕ))) (first_failed second_failed given_failed first second condition : Type 0) (how : Match) (order : Order) → (first_failed → first) → (second_failed → second) → (given_failed → condition) → (fault : CheckFault) →
+    IsCheckFault one two given first_failed second_failed given_failed how order fault → IsCheckFault one two given first second condition how order fault
+check_fault one two given first_failed second_failed given_failed first second condition how order f g h (First fault) c = record { cause = c.cause; read = λ e. f (c.read e) }
+check_fault one two given first_failed second_failed given_failed first second condition how order f g h (Second fault) c = (c.0, c.1, record { cause = c.2.cause; read = λ e. g (c.2.read e) })
+check_fault one two None first_failed second_failed given_failed first second condition how order f g h (Given fault) c = c
+check_fault one two (Some told) first_failed second_failed given_failed first second condition how order f g h (Given fault) c = (c.0, c.1, c.2, c.3, record { cause = c.4.cause; read = λ e. h (c.4.read e) })
+check_fault one two given first_failed second_failed given_failed first second condition how order f g h GivenOutputs c = c
+check_fault one two given first_failed second_failed given_failed first second condition how order f g h (OrderRefused fault) c = c
+check_fault one two given first_failed second_failed given_failed first second condition how order f g h (Wave fault) c = c
+check_fault one two given first_failed second_failed given_failed first second condition how order f g h Write c = c
+check_fault one two given first_failed second_failed given_failed first second condition how order f g h OutOfMemory c = c
+
+-- a file keeps where it was opened while it is read
+pub failed_at : {File : Type 0} (origin : File → Option (List ℕ)) (has_failed : File → Bool) (path : List ℕ) (before after : File) → IfSome (origin before) (λ from. from ≡ path) → origin after ≡ origin before
+    → IsTrue (has_failed after) → HasFailedAt origin has_failed path
+failed_at origin has_failed path before after named same failed = (after, subst (λ o. IfSome o (λ from. from ≡ path)) (sym same) named, failed)
+
+-- the condition's file too
+pub given_failed : {File : Type 0} (origin : File → Option (List ℕ)) (has_failed : File → Bool) (path : Option (Bor (List ℕ))) (before after : Option File) → IsGivenFrom path (told_by origin before) → told_by origin after ≡ told_by origin before
+    → HasFailedIn has_failed after → HasGivenFailed (HasFailedAt origin has_failed) path
+given_failed origin has_failed path before None named same failed = absurd failed
+given_failed origin has_failed None before (Some file) named same failed = let none : Some (origin file) ≡ None = same ∙ named in cc
+given_failed origin has_failed (Some path) before (Some file) named same failed =
+    let is : Some (origin file) ≡ Some named.0 = same ∙ named.1 in
+    let from : origin file ≡ named.0 = cc in
+    (file, subst (λ o. IfSome o (λ p. p ≡ path.now)) (sym from) named.2, failed)
+
+pub first_failed : (broken : List ℕ → Type 0) (input_broken : Type 0) (texts known : Texts) → texts ≡ known → HasFirstFailed broken input_broken known → HasFirstFailed broken input_broken texts
+first_failed broken input_broken texts known is b = subst (λ t. HasFirstFailed broken input_broken t) (sym is) b
+
+pub second_failed : (broken : List ℕ → Type 0) (input_broken : Type 0) (texts known : Texts) → texts ≡ known → HasSecondFailed broken input_broken known → HasSecondFailed broken input_broken texts
+second_failed broken input_broken texts known is b = subst (λ t. HasSecondFailed broken input_broken t) (sym is) b
+
+-- a text in memory never fails
+pub never : (A : Type 0) → IsTrue false → A
+never A e = cc
+
+-- why the text of a file was refused is why the file at its path was
+refused_as : (told given : Option (List ℕ)) (fault : OrderFault) → IfSome told (λ text. given ≡ Some text) → (fault ≡ NoOrderMemory) ⊎ (fault ≡ OrderReadFailed) ⊎ IfSome given (λ text. IsBadText text fault)
+    → (fault ≡ NoOrderMemory) ⊎ (fault ≡ OrderReadFailed) ⊎ IfSome told (λ text. IsBadText text fault)
+refused_as None given fault same (inl e) = inl e
+refused_as None given fault same (inr (inl e)) = inr (inl e)
+refused_as None given fault same (inr (inr bad)) = inr (inr tt)
+refused_as (Some text) given fault same (inl e) = inl e
+refused_as (Some text) given fault same (inr (inl e)) = inr (inl e)
+refused_as (Some text) given fault same (inr (inr bad)) = inr (inr (subst (λ g. IfSome g (λ t. IsBadText t fault)) same bad))
+
+pub order_refused : {File : Type 0} (origin : File → Option (List ℕ)) (has_failed : File → Bool) (path : List ℕ) (before after : File) (told given : Option (List ℕ)) (fault : OrderFault) → IfSome told (λ text. given ≡ Some text)
+    → (fault ≡ NoOrderMemory) ⊎ (fault ≡ OrderReadFailed) ⊎ IfSome given (λ text. IsBadText text fault) → IfSome (origin before) (λ from. from ≡ path) → origin after ≡ origin before → (fault ≡ OrderReadFailed → IsTrue (has_failed after))
+    → IsOrderRefused told (HasFailedAt origin has_failed path) fault
+order_refused origin has_failed path before after told given fault tells cause named same read = record {
+  cause = refused_as told given fault tells cause;
+  read = λ e. failed_at origin has_failed path before after named same (read e);
+}

@@ -1,0 +1,50 @@
+-- The files behind those of the texts: the condition's and the order's.
+use Rattle.std.proofs.Common.{◌≡◌, ◌++◌, inl, inr, ℕ, false, List, [], ◌∷◌, Option, Some, refl, sym, subst}
+use Rattle.std.specs.Borrow.{Bor}
+use Rattle.check_report.specs.declared.choice.Choice.{Choice}
+use Rattle.check_report.specs.declared.fault.CheckFault.{CheckFault}
+use Rattle.check_report.specs.Best.{IsAllowed}
+use Rattle.check_report.specs.Check.{IsCheckFault}
+use Rattle.net_order.specs.declared.order.Order.{Order}
+use Rattle.command_line.specs.declared.options.Options.{Options}
+use Rattle.check_tool.specs.declared.fault.Place.TheVariants.{Given}
+use Rattle.check_tool.specs.declared.fault.ToolFault.{ToolFault}
+use Rattle.check_tool.specs.declared.fault.ToolFault.TheVariants.{Check}
+use Rattle.check_tool.specs.Opening.{Try, Extends, opened, AreTried}
+use Rattle.check_tool.specs.Running.{IsOpenFault, given_paths, order_paths, later_paths, IsGivenOf, IsOrderOf, IsGivenFault, IsOrderFault, IsLaterFault, HasGivenFailed, IsCompareFault}
+use Rattle.check_tool.proofs.Composing.{extends_more, opened_more}
+use Rattle.check_tool.proofs.Failing.{check_fault}
+
+pub given_unopened : (given : Option (Bor (List ℕ))) (path : Bor (List ℕ)) → given ≡ Some path → (fault : ToolFault) (a b : Option (List Try)) → IsOpenFault Given fault → Extends a b ((path.now, false) ∷ [])
+    → (tries : List Try) × Extends a b tries × IsGivenFault given tries fault
+given_unopened given path is fault a b (inl (obstacle, e)) x =
+    ((path.now, false) ∷ [], x, subst (λ f. IsGivenFault given ((path.now, false) ∷ []) f) (sym e) (path, is, refl))
+given_unopened given path is fault a b (inr e) x =
+    ((path.now, false) ∷ [], x, subst (λ f. IsGivenFault given ((path.now, false) ∷ []) f) (sym e) (subst (λ g. AreTried (given_paths g) ((path.now, false) ∷ [])) (sym is) (refl, refl)))
+
+pub given_unhad : (told : List ℕ → Option (List ℕ)) (broken : List ℕ → Type 0) (o : Options) (fault : ToolFault) (a b : Option (List Try)) → (tries : List Try) × Extends a b tries × IsGivenFault o.given tries fault
+    → (tries : List Try) × Extends a b tries × IsLaterFault told broken o tries fault
+given_unhad told broken o fault a b h = (h.0, h.1, inl h.2)
+
+pub order_unhad : (told told' : List ℕ → Option (List ℕ)) (broken : List ℕ → Type 0) (o : Options) (fault : ToolFault) (a b c : Option (List Try)) → told' ≡ told → Extends a b (opened (given_paths o.given))
+    → (tries : List Try) × Extends b c tries × IsOrderFault told' broken o.order tries fault → (tries : List Try) × Extends a c tries × IsLaterFault told broken o tries fault
+order_unhad told told' broken o fault a b c same e h = (
+  opened (given_paths o.given) ++ h.0,
+  extends_more a b c (opened (given_paths o.given)) h.0 e h.1,
+  inr (h.0, refl, subst (λ t. IsOrderFault t broken o.order h.0 fault) same h.2),
+)
+
+pub later_opened : (o : Options) (a b c : Option (List Try)) → Extends a b (opened (given_paths o.given)) → Extends b c (opened (order_paths o.order)) → Extends a c (opened (later_paths o))
+later_opened o a b c e f =
+    subst (λ l. Extends a c l) (sym (opened_more (given_paths o.given) (order_paths o.order))) (extends_more a b c (opened (given_paths o.given)) (opened (order_paths o.order)) e f)
+
+-- why a check failed, once these files were opened
+pub checked_fault : (told : List ℕ → Option (List ℕ)) (broken : List ℕ → Type 0) (one two : Option (List ℕ)) (given : Option (Option (List ℕ))) (first_failed second_failed given_failed : Type 0) (o : Options) (choice : Choice) (fault : CheckFault) (a b : Option (List Try))
+    → Extends a b (opened (later_paths o)) → IsGivenOf told o.given given → IsOrderOf told o.order choice → (given_failed → HasGivenFailed broken o.given)
+    → (order : Order) × IsAllowed choice order × IsCheckFault one two given first_failed second_failed given_failed o.matching order fault
+    → (tries : List Try) × Extends a b tries × IsCompareFault told broken one two first_failed second_failed o tries (Check fault)
+checked_fault told broken one two given first_failed second_failed given_failed o choice fault a b e conditioned ordered to h = (
+  opened (later_paths o),
+  e,
+  (given, choice, conditioned, ordered, refl, (h.0, h.1, check_fault one two given first_failed second_failed given_failed first_failed second_failed (HasGivenFailed broken o.given) o.matching h.0 (λ x. x) (λ x. x) to fault h.2)),
+)

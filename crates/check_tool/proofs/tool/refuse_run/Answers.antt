@@ -1,0 +1,15 @@
+use Rattle.std.proofs.Common.{sym, subst}
+use Rattle.check_tool.specs.Ending.{Written, IsSaidOf}
+use Rattle.check_tool.proofs.tool.refuse_run.Goals as goal
+
+pub returns-then-options-clause-said : goal.returns-then-options-clause-said
+returns-then-options-clause-said g c =
+    let before = c.args.errors.now in
+    let between = c.refuse-status.new.errors in
+    let after = c.help.new.errors in
+    let w : Written = record { held = g.E.Sink.contents before; holds = g.E.Sink.contents after; has_failed = g.E.Sink.has_failed after; has_stopped = g.E.Sink.has_stopped after } in
+    subst (λ v. IsSaidOf v c.args.options.now w c.args.fault c.refuse-status.result) (sym c.if-options.true) (
+      record { holds = g.E.Sink.contents between; has_failed = g.E.Sink.has_failed between; has_stopped = g.E.Sink.has_stopped between },
+      c.refuse-status.ensures.said,
+      c.help.ensures,
+    )

@@ -1,0 +1,58 @@
+use Rattle.std.proofs.Common.{◌≡◌, ◌≢◌, ◌∙◌, ap, sym, subst, inl, inr, Result, Ok, Err, OnErr}
+use Rattle.std.specs.Io.KnownBytes.{Keeps}
+use Rattle.check_tool.specs.declared.done.Done.{Done}
+use Rattle.check_report.specs.declared.fault.CheckFault.TheVariants.{Write}
+use Rattle.check_tool.specs.declared.fault.ToolFault.{ToolFault}
+use Rattle.check_tool.specs.declared.fault.ToolFault.TheVariants.{Check, OutOfMemory}
+use Rattle.check_tool.proofs.Composing.{keeps_own, asked_or}
+use Rattle.check_tool.proofs.tool.run_tool.Goals as goal
+
+-- the fault of an answer that has one
+abbrev fault_in : Result Done ToolFault → ToolFault
+fault_in (Ok done) = OutOfMemory
+fault_in (Err fault) = fault
+
+pub returns-in-Ok-run_options-clause-ending : goal.returns-in-Ok-run_options-clause-ending
+returns-in-Ok-run_options-clause-ending g c =
+    inl (
+      c.in-Ok.options,
+      c.in-Ok.ensures.options,
+      inl (
+        c.in-Ok-run_options.done,
+        record {
+          report = c.in-Ok-run_options.ensures.report;
+          opened_all = c.in-Ok-run_options.ensures.opened;
+          said = c.tell.ensures.said;
+          code = c.status_of_done.ensures.status;
+        },
+      ),
+      c.run_options.ensures.unasked,
+    )
+
+pub returns-in-Err-run_options-clause-ending : goal.returns-in-Err-run_options-clause-ending
+returns-in-Err-run_options-clause-ending g c =
+    let cause = c.in-Err-run_options.ensures.fault in
+    inl (
+      c.in-Ok.options,
+      c.in-Ok.ensures.options,
+      inr (
+        c.in-Err-run_options.fault,
+        record {
+          tries = cause.0;
+          tried = cause.1;
+          cause = cause.2;
+          unread = λ e. c.run_options.ensures.read (c.in-Err-run_options.is ∙ ap Err e);
+          full = λ e. c.run_options.ensures.full (c.in-Err-run_options.is ∙ ap Err e);
+          line = c.refuse_run.ensures.said;
+          front = λ e. c.run_options.ensures.unwritten (c.in-Err-run_options.is ∙ ap Err e);
+          nothing = λ other.
+              let same = subst (λ r. OnErr r (r ≢ Err (Check Write) → c.run_options.new.out ≡ c.args.out.now)) c.in-Err-run_options.is c.run_options.ensures.untouched (λ e. other (ap fault_in e)) in
+              subst (λ w. Keeps (g.W.Sink.contents c.args.out.now) (g.W.Sink.contents w)) (sym same) (keeps_own (g.W.Sink.contents c.args.out.now));
+        },
+      ),
+      c.run_options.ensures.unasked,
+    )
+
+pub returns-in-Ok-run_options-clause-silent : goal.returns-in-Ok-run_options-clause-silent
+returns-in-Ok-run_options-clause-silent g c =
+    asked_or c.in-Ok.options.verbose (λ e. (c.in-Ok.options, c.in-Ok.ensures.options, e)) (λ e low. c.tell.ensures.silent e)

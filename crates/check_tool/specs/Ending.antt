@@ -1,0 +1,154 @@
+-- How a run ends: what it has written, what it says, and its status.
+use Rattle.std.specs.Prelude.{◌≡◌, ◌≢◌, ◌≤◌, ◌⊎◌, ◌↔◌, ℕ, Bool, true, false, List, ◌++◌, Option, Some, None, IsTrue, string_bytes, codes, decimal}
+use Rattle.std.specs.Io.KnownBytes.{Appends, Keeps}
+use Rattle.check_report.specs.declared.outcome.Outcome.{Outcome}
+use Rattle.check_report.specs.declared.choice.Attempt.{Attempt}
+use Rattle.check_report.specs.Best.{candidate_text}
+use Rattle.check_report.specs.declared.fault.CheckFault.TheVariants.{Wave, Write}
+use Rattle.check_report.specs.Writing.{AppendsFront}
+use Rattle.command_line.specs.declared.options.Options.{Options}
+use Rattle.command_line.specs.declared.reading.Refused.{Refused}
+use Rattle.command_line.specs.declared.reading.Refused.TheVariants.{Help, Mistake, OutOfMemory as NoWordMemory}
+use Rattle.command_line.specs.Words.{AskFor, IsRefusal}
+use Rattle.expand_work.specs.declared.fault.WaveFault.TheVariants.{Full}
+use Rattle.check_tool.specs.declared.done.Done.{Done}
+use Rattle.check_tool.specs.declared.done.Done.TheVariants.{Compared, OrderPrinted}
+use Rattle.check_tool.specs.declared.fault.ToolFault.{ToolFault}
+use Rattle.check_tool.specs.declared.fault.ToolFault.TheVariants.{Check, InputUnread, OutOfMemory}
+use Rattle.check_tool.specs.declared.process.NoWords.{NoWords}
+use Rattle.check_tool.specs.declared.process.NoWords.TheVariants.{OutOfMemory as NoArguments, NoText}
+use Rattle.check_tool.specs.Faults.{fault_line, fault_status}
+use Rattle.check_tool.specs.Helping.{help_text}
+use Rattle.check_tool.specs.Opening.{Try, Extends, opened}
+use Rattle.check_tool.specs.Running.{paths_of, HasReported, HasReportedFront, IsBeyond, IsToolFault, StandOnInput}
+
+-- what a device held and holds now, and whether it has failed by now, and whether a write has taken nothing of some bytes
+pub record Written : Type 0 where
+  pub held : Option (List ℕ)
+  pub holds : Option (List ℕ)
+  pub has_failed : Bool
+  pub has_stopped : Bool
+
+-- a front part of the bytes was written, for a cause
+abbrev pub HasFront : Written → List ℕ → Type 0
+HasFront w bytes = AppendsFront w.held w.holds w.has_failed w.has_stopped bytes
+
+-- a device has taken this text; or a front part of it, and it has failed or taken nothing of the rest
+abbrev pub Says : Written → List ℕ → Type 0
+Says w text = Appends w.held w.holds text ⊎ HasFront w text
+
+-- the line of this fault was said, and this is its status; where there was no memory for the line, those of want of memory
+pub record IsSaid (w : Written) (fault : ToolFault) (status : ℕ) : Type 0 where
+  pub said : ToolFault
+  pub which : (said ≡ fault) ⊎ (said ≡ OutOfMemory)
+  pub line : Says w (fault_line said)
+  pub code : status ≡ fault_status said
+
+-- a device has taken this text, or a front part of it for a cause; or nothing, where there was no memory for it
+abbrev pub MaySay : Written → List ℕ → Type 0
+MaySay w text = Says w text ⊎ Keeps w.held w.holds
+
+-- what a device holds between two texts, and whether it has failed or stopped by then
+pub record Between : Type 0 where
+  pub holds : Option (List ℕ)
+  pub has_failed : Bool
+  pub has_stopped : Bool
+
+-- what was written until then
+abbrev pub until : Written → Between → Written
+until w b = record { held = w.held; holds = b.holds; has_failed = b.has_failed; has_stopped = b.has_stopped }
+
+-- what was written from then on
+abbrev pub from : Written → Between → Written
+from w b = record { held = b.holds; holds = w.holds; has_failed = w.has_failed; has_stopped = w.has_stopped }
+
+-- what is said of a fault of a run: its line, and behind it, where more is asked for, what helps
+abbrev pub IsSaidOf : (verbose : Bool) → Options → Written → ToolFault → (status : ℕ) → Type 0
+IsSaidOf false o w fault status = IsSaid w fault status
+IsSaidOf true o w fault status = (b : Between) × IsSaid (until w b) fault status × MaySay (from w b) (help_text o fault)
+
+-- the line that names an attempt
+abbrev pub attempt_line : Attempt → List ℕ
+attempt_line t = codes "bddcheck: order " ++ candidate_text t.order ++ codes ", budget " ++ decimal t.budget ++ codes "\n"
+
+-- what is said of the attempt that a run ended with, where the best order was to be found
+abbrev pub IsAttemptSaid : Option Attempt → Written → Type 0
+IsAttemptSaid None w = Keeps w.held w.holds
+IsAttemptSaid (Some t) w = MaySay w (attempt_line t)
+
+-- what is said of a run that has done this: nothing, or its attempt where more is asked for
+abbrev pub IsDoneSaid : (verbose : Bool) → Done → Written → Type 0
+IsDoneSaid false done w = Keeps w.held w.holds
+IsDoneSaid true (Compared outcome tried) w = IsAttemptSaid tried w
+IsDoneSaid true (OrderPrinted tried) w = IsAttemptSaid tried w
+
+-- the words ask for more on standard error than faults
+abbrev pub AskForMore : List (List ℕ) → Type 0
+AskForMore words = (o : Options) × AskFor words o × (o.verbose ≡ true)
+
+-- the status of a report: 0 where all outputs and next states are paired and equal, else 1
+pub record IsReportStatus (outcome : Outcome) (status : ℕ) : Type 0 where
+  pub bound : status ≤ 1
+  pub zero : (status ≡ 0) ↔ ((outcome.different ≡ 0) × (outcome.unmatched ≡ 0))
+
+-- the status of what a run has done: 0 for an order that was printed
+abbrev pub IsDoneStatus : Done → (status : ℕ) → Type 0
+IsDoneStatus (Compared outcome tried) status = IsReportStatus outcome status
+IsDoneStatus (OrderPrinted tried) status = status ≡ 0
+
+-- what a run is given and leaves: the files that are told, the tries before and now, the bytes of the input and whether it has failed
+-- now, and what was written to the output and to the error device
+pub record Scene : Type 0 where
+  pub told : List ℕ → Option (List ℕ)
+  pub tried : Option (List Try)
+  pub tries : Option (List Try)
+  pub input : Option (List ℕ)
+  pub input_failed : Bool
+  pub output : Written
+  pub errors : Written
+
+-- What the options ask for of what they name was written, and all files were opened. Nothing was said without `--verbose`.
+pub record Reports (s : Scene) (o : Options) (done : Done) (status : ℕ) : Type 0 where
+  pub report : HasReported s.told s.input o s.output.held s.output.holds done
+  pub opened_all : Extends s.tried s.tries (opened (paths_of o))
+  pub said : IsDoneSaid o.verbose done s.errors
+  pub code : IsDoneStatus done status
+
+-- There is a fault: its line was said, and nothing was written but for a front part of the report where the writing failed.
+pub record Refuses (broken : List ℕ → Type 0) (s : Scene) (o : Options) (fault : ToolFault) (status : ℕ) : Type 0 where
+  pub tries : List Try
+  pub tried : Extends s.tried s.tries tries
+  pub cause : IsToolFault s.told broken (IsTrue s.input_failed) s.input o tries fault
+  pub unread : fault ≡ InputUnread → IsTrue s.input_failed
+  pub full : fault ≡ Check (Wave Full) → IsBeyond s.told s.input o
+  pub line : IsSaidOf o.verbose o s.errors fault status
+  pub front : fault ≡ Check Write → HasReportedFront s.told s.input o s.output.held s.output.holds s.output.has_failed s.output.has_stopped
+  pub nothing : fault ≢ Check Write → Keeps s.output.held s.output.holds
+
+-- How a run of some options ends. `broken` says of a path that a file that was opened there has failed.
+abbrev pub IsEnding : (broken : List ℕ → Type 0) → Scene → Options → ℕ → Type 0
+IsEnding broken s o status = ((done : Done) × Reports s o done status) ⊎ ((fault : ToolFault) × Refuses broken s o fault status)
+
+-- what is told of words that ask for no options: help on the output, a mistake, or want of memory
+abbrev pub IsWordEnd : (output errors : Written) → Refused → ℕ → Type 0
+IsWordEnd output errors (Help text) status =
+    Keeps errors.held errors.holds
+    × ((Appends output.held output.holds (string_bytes text) × (status ≡ 0)) ⊎ (HasFront output (string_bytes text) × (status ≡ 3)))
+IsWordEnd output errors (Mistake text) status = Keeps output.held output.holds × Says errors (string_bytes text) × (status ≡ 2)
+IsWordEnd output errors NoWordMemory status = Keeps output.held output.holds × IsSaid errors OutOfMemory status
+
+-- the words are refused for a cause, which is told
+abbrev pub IsWordEnding : Scene → List (List ℕ) → ℕ → Type 0
+IsWordEnding s words status = (refused : Refused) × IsRefusal words refused × IsWordEnd s.output s.errors refused status
+
+-- How a run of the program on some words ends. They ask for options, whose run ends as above, and the input stays unread unless a
+-- text stands on it; or they are refused, no file is asked for, and the input stays unread.
+abbrev pub IsRun : (broken : List ℕ → Type 0) → Scene → (unopened unread : Type 0) → List (List ℕ) → ℕ → Type 0
+IsRun broken s unopened unread words status =
+    ((o : Options) × AskFor words o × IsEnding broken s o status × ((StandOnInput o.texts → ⊥) → unread))
+    ⊎ (IsWordEnding s words status × unopened × unread)
+
+-- what is told where the process has no words for the program
+abbrev pub IsWordless : (errors : Written) → NoWords → ℕ → Type 0
+IsWordless errors NoArguments status = IsSaid errors OutOfMemory status
+IsWordless errors NoText status = Says errors (codes "bddcheck: a word of the command line is no UTF-8\n") × (status ≡ 2)

@@ -1,0 +1,84 @@
+-- What the program's faults are called in print, and its statuses.
+use Rattle.std.specs.Prelude.{ℕ, List, ◌++◌, codes}
+use Rattle.net_bench.specs.declared.netlist.BenchFault.{BenchFault}
+use Rattle.net_bench.specs.declared.netlist.BenchFault.TheVariants.{TooLong as LongText, BadByte, BadStatement, UnknownGate, WrongOperands, Redefined, TooMany, Undefined, Cycle, Read as ReadFailed, OutOfMemory as NoTextMemory}
+use Rattle.net_order.specs.declared.order.OrderFault.{OrderFault}
+use Rattle.net_order.specs.declared.order.OrderFault.TheVariants.{CountsDiffer, NotAPermutation, TooManyInputs, OutOfMemory as NoOrderMemory, BadName, TooLong as LongOrder, Read as OrderReadFailed}
+use Rattle.net_order.specs.Fault.{order_fault_text}
+use Rattle.check_report.specs.declared.fault.CheckFault.{CheckFault}
+use Rattle.check_report.specs.declared.fault.CheckFault.TheVariants.{First, Second, Given, GivenOutputs, Order, Wave, Write, OutOfMemory as NoCheckMemory}
+use Rattle.check_report.specs.Texts.{check_fault_text}
+use Rattle.check_tool.specs.declared.fault.Place.{Place}
+use Rattle.check_tool.specs.declared.fault.Place.TheVariants.{First as FirstFile, Second as SecondFile, Given as GivenFile, Order as OrderFile}
+use Rattle.check_tool.specs.declared.fault.ToolFault.{ToolFault}
+use Rattle.check_tool.specs.declared.fault.ToolFault.TheVariants.{OneFile, InputTwice, CannotOpen, InputUnread, InputTooLong, InputUndivided, BadOrder, Check, OutOfMemory}
+
+-- what a file is
+abbrev pub place_text : Place → List ℕ
+place_text FirstFile = codes "first"
+place_text SecondFile = codes "second"
+place_text GivenFile = codes "given"
+place_text OrderFile = codes "order"
+
+-- the text of a fault, without the program's name before it
+abbrev pub tool_fault_text : ToolFault → List ℕ
+tool_fault_text OneFile = codes "give two files or none"
+tool_fault_text InputTwice = codes "standard input: given twice"
+tool_fault_text (CannotOpen place obstacle) = place_text place ++ codes ": cannot be opened"
+tool_fault_text InputUnread = codes "standard input: cannot be read"
+tool_fault_text InputTooLong = codes "standard input: too long"
+tool_fault_text InputUndivided = codes "standard input: no line %%"
+tool_fault_text (BadOrder fault) = codes "order: " ++ order_fault_text fault
+tool_fault_text (Check fault) = check_fault_text fault
+tool_fault_text OutOfMemory = codes "out of memory"
+
+-- the line that is printed for a fault
+abbrev pub fault_line : ToolFault → List ℕ
+fault_line fault = codes "bddcheck: " ++ tool_fault_text fault ++ codes "\n"
+
+-- the status of a text that is refused: 3 where memory ran out
+abbrev pub text_status : BenchFault → ℕ
+text_status NoTextMemory = 3
+text_status LongText = 2
+text_status (BadByte line) = 2
+text_status (BadStatement line) = 2
+text_status (UnknownGate line) = 2
+text_status (WrongOperands line) = 2
+text_status (Redefined line) = 2
+text_status (TooMany line) = 2
+text_status (Undefined line) = 2
+text_status (Cycle line) = 2
+text_status ReadFailed = 2
+
+-- the same of an order
+abbrev pub order_status : OrderFault → ℕ
+order_status NoOrderMemory = 3
+order_status CountsDiffer = 2
+order_status (NotAPermutation place) = 2
+order_status TooManyInputs = 2
+order_status (BadName line) = 2
+order_status LongOrder = 2
+order_status OrderReadFailed = 2
+
+-- the same of a check: 3 also where the building or the writing failed
+abbrev pub check_status : CheckFault → ℕ
+check_status (First fault) = text_status fault
+check_status (Second fault) = text_status fault
+check_status (Given fault) = text_status fault
+check_status GivenOutputs = 2
+check_status (Order fault) = order_status fault
+check_status (Wave fault) = 3
+check_status Write = 3
+check_status NoCheckMemory = 3
+
+-- the program's status for a fault
+abbrev pub fault_status : ToolFault → ℕ
+fault_status OneFile = 2
+fault_status InputTwice = 2
+fault_status (CannotOpen place obstacle) = 2
+fault_status InputUnread = 2
+fault_status InputTooLong = 2
+fault_status InputUndivided = 2
+fault_status (BadOrder fault) = order_status fault
+fault_status (Check fault) = check_status fault
+fault_status OutOfMemory = 3

@@ -1,0 +1,194 @@
+-- What is said behind a fault's line where more is asked for: where the fault stands, and what helps.
+use Rattle.std.specs.Prelude.{ℕ, List, ◌++◌, Option, Some, None, codes, decimal}
+use Rattle.std.specs.Borrow.{Bor}
+use Rattle.net_bench.specs.declared.netlist.BenchFault.{BenchFault}
+use Rattle.net_bench.specs.declared.netlist.BenchFault.TheVariants.{TooLong as LongText, BadByte, BadStatement, UnknownGate, WrongOperands, Redefined, TooMany, Undefined, Cycle, Read as ReadFailed, OutOfMemory as NoTextMemory}
+use Rattle.net_order.specs.declared.order.OrderFault.{OrderFault}
+use Rattle.net_order.specs.declared.order.OrderFault.TheVariants.{CountsDiffer, NotAPermutation, TooManyInputs, OutOfMemory as NoOrderMemory, BadName, TooLong as LongOrder, Read as OrderReadFailed}
+use Rattle.expand_work.specs.declared.fault.WaveFault.{WaveFault}
+use Rattle.expand_work.specs.declared.fault.WaveFault.TheVariants.{OutOfMemory as NoWaveMemory, NoWorker, Full, TooManyRequests}
+use Rattle.check_report.specs.declared.fault.CheckFault.{CheckFault}
+use Rattle.check_report.specs.declared.fault.CheckFault.TheVariants.{First, Second, Given, GivenOutputs, Order, Wave, Write, OutOfMemory as NoCheckMemory}
+use Rattle.command_line.specs.declared.options.Options.{Options}
+use Rattle.command_line.specs.declared.options.OrderChoice.{OrderChoice}
+use Rattle.command_line.specs.declared.options.OrderChoice.TheVariants.{Declared, Depth, Interleave, Best, File}
+use Rattle.command_line.specs.declared.options.Texts.{Texts}
+use Rattle.command_line.specs.declared.options.Texts.TheVariants.{Input, Files, InputAndFile, FileAndInput, InputTwice, One}
+use Rattle.check_tool.specs.declared.fault.Place.TheVariants.{First as FirstFile, Second as SecondFile, Given as GivenFile, Order as OrderFile}
+use Rattle.check_tool.specs.declared.fault.ToolFault.{ToolFault}
+use Rattle.check_tool.specs.declared.fault.ToolFault.TheVariants.{OneFile, InputTwice as DashTwice, CannotOpen, InputUnread, InputTooLong, InputUndivided, BadOrder, Check, OutOfMemory}
+use Rattle.check_tool.specs.declared.folder.Obstacle.{Obstacle}
+use Rattle.check_tool.specs.declared.folder.Obstacle.TheVariants.{Missing, Forbidden, NoFolder, Links, Other}
+use Rattle.check_tool.specs.declared.help.Spot.{Spot}
+use Rattle.check_tool.specs.declared.help.Spot.TheVariants.{Nowhere, Text, Line}
+
+-- what the first text is called: the path of its file, or what it is
+abbrev pub first_name : Texts → List ℕ
+first_name (Files first second) = first.now
+first_name (FileAndInput first) = first.now
+first_name (InputAndFile second) = codes "standard input"
+first_name Input = codes "first text of standard input"
+first_name InputTwice = codes "first text of standard input"
+first_name One = codes "first text of standard input"
+
+-- the same of the second
+abbrev pub second_name : Texts → List ℕ
+second_name (Files first second) = second.now
+second_name (InputAndFile second) = second.now
+second_name (FileAndInput first) = codes "standard input"
+second_name Input = codes "second text of standard input"
+second_name InputTwice = codes "second text of standard input"
+second_name One = codes "second text of standard input"
+
+-- a place: nowhere, in a text of this name, or in a line of it
+abbrev pub Where : Type 0
+Where = Option (List ℕ × Option ℕ)
+
+-- the whole of a text
+abbrev pub in_text : List ℕ → Where
+in_text name = Some (name, None)
+
+-- a line of it
+abbrev pub on_line : List ℕ → ℕ → Where
+on_line name line = Some (name, Some line)
+
+-- the place that a spot is
+abbrev pub where_of : Spot → Where
+where_of Nowhere = None
+where_of (Text name) = in_text name.now
+where_of (Line name line) = on_line name.now line
+
+-- where a refused text is at fault
+abbrev pub text_spot : List ℕ → BenchFault → Where
+text_spot name LongText = in_text name
+text_spot name (BadByte line) = on_line name line
+text_spot name (BadStatement line) = on_line name line
+text_spot name (UnknownGate line) = on_line name line
+text_spot name (WrongOperands line) = on_line name line
+text_spot name (Redefined line) = on_line name line
+text_spot name (TooMany line) = on_line name line
+text_spot name (Undefined line) = on_line name line
+text_spot name (Cycle line) = on_line name line
+text_spot name ReadFailed = in_text name
+text_spot name NoTextMemory = in_text name
+
+-- where the file of an order is at fault: in the line of a name that is none, or as a whole
+abbrev pub order_spot : OrderChoice → OrderFault → Where
+order_spot (File path) (BadName line) = on_line path.now line
+order_spot (File path) (NotAPermutation place) = in_text path.now
+order_spot (File path) LongOrder = in_text path.now
+order_spot (File path) OrderReadFailed = in_text path.now
+order_spot (File path) NoOrderMemory = in_text path.now
+order_spot (File path) CountsDiffer = None
+order_spot (File path) TooManyInputs = None
+order_spot Declared fault = None
+order_spot Depth fault = None
+order_spot Interleave fault = None
+order_spot Best fault = None
+
+-- where the condition is at fault: in the line of a refused text, or as a whole
+abbrev pub given_spot : Option (Bor (List ℕ)) → BenchFault → Where
+given_spot None fault = None
+given_spot (Some path) fault = text_spot path.now fault
+
+-- the place of a fault that stands in a file, or in a text of standard input
+abbrev pub fault_spot : Texts → Option (Bor (List ℕ)) → OrderChoice → ToolFault → Where
+fault_spot texts given choice (CannotOpen FirstFile obstacle) = in_text (first_name texts)
+fault_spot texts given choice (CannotOpen SecondFile obstacle) = in_text (second_name texts)
+fault_spot texts given choice (CannotOpen GivenFile obstacle) = given_spot given ReadFailed
+fault_spot texts given choice (CannotOpen OrderFile obstacle) = order_spot choice OrderReadFailed
+fault_spot texts given choice (BadOrder fault) = order_spot choice fault
+fault_spot texts given choice (Check (First fault)) = text_spot (first_name texts) fault
+fault_spot texts given choice (Check (Second fault)) = text_spot (second_name texts) fault
+fault_spot texts given choice (Check (Given fault)) = given_spot given fault
+fault_spot texts given choice (Check GivenOutputs) = given_spot given ReadFailed
+fault_spot texts given choice (Check (Order fault)) = order_spot choice fault
+fault_spot texts given choice (Check (Wave fault)) = None
+fault_spot texts given choice (Check Write) = None
+fault_spot texts given choice (Check NoCheckMemory) = None
+fault_spot texts given choice OneFile = None
+fault_spot texts given choice DashTwice = None
+fault_spot texts given choice InputUnread = None
+fault_spot texts given choice InputTooLong = None
+fault_spot texts given choice InputUndivided = None
+fault_spot texts given choice OutOfMemory = None
+
+-- what helps where a text is refused
+abbrev pub text_help : BenchFault → List ℕ
+text_help LongText = codes "a text has at most 67108864 bytes"
+text_help (BadByte line) = codes "outside comments only printable ASCII stands"
+text_help (BadStatement line) = codes "a statement is INPUT(a), OUTPUT(a) or a = GATE(b, c)"
+text_help (UnknownGate line) = codes "abc writes no LUT lines by write_bench -l; for vdd and gnd see docs/FLOWS.md"
+text_help (WrongOperands line) = codes "NOT, BUFF and DFF take one operand"
+text_help (Redefined line) = codes "a signal has one INPUT, gate or register"
+text_help (TooMany line) = codes "at most 1000000 signals, 4000000 operands, and names of 255 bytes"
+text_help (Undefined line) = codes "the signal has no INPUT, gate or register"
+text_help (Cycle line) = codes "only through a register may a gate depend on itself"
+text_help ReadFailed = codes "the device failed, or is a folder"
+text_help NoTextMemory = codes "more memory, or a smaller netlist"
+
+-- the same of an order
+abbrev pub order_help : OrderFault → List ℕ
+order_help CountsDiffer = codes "--match name pairs by names"
+order_help (NotAPermutation place) = codes "--print-order writes a list that fits"
+order_help TooManyInputs = codes "compare parts that have fewer inputs"
+order_help NoOrderMemory = codes "more memory, or a smaller netlist"
+order_help (BadName line) = codes "a list has names and blanks alone, as --print-order writes it"
+order_help LongOrder = codes "a text has at most 67108864 bytes"
+order_help OrderReadFailed = codes "the device failed, or is a folder"
+
+-- what helps where diagrams grow too large in this order
+abbrev pub fewer_nodes : OrderChoice → List ℕ
+fewer_nodes Best = codes "interleave, depth and declared were tried; a list by --order-file may need fewer nodes"
+fewer_nodes Declared = codes "another order may need fewer nodes: try --order best"
+fewer_nodes Depth = codes "another order may need fewer nodes: try --order best"
+fewer_nodes Interleave = codes "another order may need fewer nodes: try --order best"
+fewer_nodes (File path) = codes "another order may need fewer nodes: try --order best"
+
+-- what helps where they are not built
+abbrev pub wave_help : OrderChoice → WaveFault → List ℕ
+wave_help choice NoWorker = codes "--workers 1 starts none"
+wave_help choice NoWaveMemory = fewer_nodes choice
+wave_help choice Full = fewer_nodes choice
+wave_help choice TooManyRequests = fewer_nodes choice
+
+-- why a file was not opened
+abbrev pub opening_help : Obstacle → List ℕ
+opening_help Missing = codes "no such file or folder"
+opening_help Forbidden = codes "permission denied"
+opening_help NoFolder = codes "a part of the path is no folder"
+opening_help Links = codes "a loop of links"
+opening_help Other = codes "the system refused it"
+
+-- what helps where a check has no report
+abbrev pub check_help : OrderChoice → CheckFault → List ℕ
+check_help choice (First fault) = text_help fault
+check_help choice (Second fault) = text_help fault
+check_help choice (Given fault) = text_help fault
+check_help choice GivenOutputs = codes "a condition is a netlist of one output"
+check_help choice (Order fault) = order_help fault
+check_help choice (Wave fault) = wave_help choice fault
+check_help choice Write = codes "standard output is full, or closed"
+check_help choice NoCheckMemory = fewer_nodes choice
+
+-- what helps against a fault
+abbrev pub fault_help : OrderChoice → ToolFault → List ℕ
+fault_help choice OneFile = codes "- as the other file is standard input"
+fault_help choice DashTwice = codes "name a file as one of the two"
+fault_help choice (CannotOpen place obstacle) = opening_help obstacle
+fault_help choice InputUnread = codes "the device failed, or is a folder"
+fault_help choice InputTooLong = codes "a text has at most 67108864 bytes"
+fault_help choice InputUndivided = codes "a line %% stands between two texts; one text beside a file is -"
+fault_help choice (BadOrder fault) = order_help fault
+fault_help choice (Check fault) = check_help choice fault
+fault_help choice OutOfMemory = codes "more memory"
+
+-- the line of a place and of what helps there
+abbrev pub help_line : Where → List ℕ → List ℕ
+help_line None help = codes "bddcheck: " ++ help ++ codes "\n"
+help_line (Some (name, None)) help = codes "bddcheck: " ++ (name ++ (codes ": " ++ (help ++ codes "\n")))
+help_line (Some (name, Some line)) help = codes "bddcheck: " ++ (name ++ (codes ":" ++ (decimal line ++ (codes ": " ++ (help ++ codes "\n")))))
+
+-- the line that is said behind a fault's own
+abbrev pub help_text : Options → ToolFault → List ℕ
+help_text o fault = help_line (fault_spot o.texts o.given o.order fault) (fault_help o.order fault)

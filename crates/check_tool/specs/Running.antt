@@ -1,0 +1,297 @@
+-- What a run compares, what it writes, and why it writes no report.
+use Rattle.std.specs.Prelude.{◌≡◌, ◌<◌, ◌≤◌, ◌⊎◌, ℕ, Bool, true, false, List, [], ◌∷◌, ◌++◌, length, Option, Some, None, IfSome, ⊤}
+use Rattle.std.specs.Borrow.{Bor}
+use Rattle.std.specs.Io.KnownBytes.{Appends}
+use Rattle.check_report.specs.Writing.{AppendsFront}
+use Rattle.net_order.specs.declared.order.Order.{Order}
+use Rattle.net_order.specs.declared.order.Order.TheVariants.{Declared as declared, Depth as depth, Interleave as interleave, Listed}
+use Rattle.net_order.specs.declared.order.OrderFault.{OrderFault}
+use Rattle.net_order.specs.declared.order.OrderFault.TheVariants.{Read as OrderReadFailed, OutOfMemory as NoOrderMemory}
+use Rattle.net_order.specs.OrderText.{IsOrderText, IsBadText}
+use Rattle.check_report.specs.Listing.{IsOrderPrinted}
+use Rattle.check_report.specs.Check.{IsChecked, IsCheckFault}
+use Rattle.check_report.specs.declared.fault.CheckFault.{CheckFault}
+use Rattle.check_report.specs.Limits.{AreBeyond}
+use Rattle.check_report.specs.Best.{IsAllowed, IsChosen, IsFound}
+use Rattle.check_report.specs.declared.choice.Choice.{Choice}
+use Rattle.check_report.specs.declared.choice.Choice.TheVariants.{One as Ordered, Best as TheBest}
+use Rattle.command_line.specs.declared.options.Options.{Options}
+use Rattle.command_line.specs.declared.options.OrderChoice.{OrderChoice}
+use Rattle.command_line.specs.declared.options.OrderChoice.TheVariants.{Declared, Depth, Interleave, Best, File}
+use Rattle.command_line.specs.declared.options.Texts.{Texts}
+use Rattle.command_line.specs.declared.options.Texts.TheVariants.{Input, Files, InputAndFile, FileAndInput, InputTwice, One}
+use Rattle.check_tool.specs.declared.done.Done.{Done}
+use Rattle.check_tool.specs.declared.done.Done.TheVariants.{Compared, OrderPrinted}
+use Rattle.check_tool.specs.declared.fault.Place.{Place}
+use Rattle.check_tool.specs.declared.fault.Place.TheVariants.{First, Second, Given as GivenFile, Order as OrderFile}
+use Rattle.check_tool.specs.declared.fault.ToolFault.{ToolFault}
+use Rattle.check_tool.specs.declared.fault.ToolFault.TheVariants.{OneFile, InputTwice as DashTwice, CannotOpen, InputUnread, InputTooLong, InputUndivided, BadOrder, Check, OutOfMemory}
+use Rattle.check_tool.specs.declared.folder.Obstacle.{Obstacle}
+use Rattle.check_tool.specs.Splitting.{IsSplit}
+use Rattle.check_tool.specs.Opening.{Try, opened, AreTried}
+
+-- a file at this place was not opened
+abbrev pub IsOpenFault : Place → ToolFault → Type 0
+IsOpenFault place fault = ((obstacle : Obstacle) × (fault ≡ CannotOpen place obstacle)) ⊎ (fault ≡ OutOfMemory)
+
+-- the file that is opened for the first text
+abbrev pub first_paths : Texts → List (List ℕ)
+first_paths (Files first second) = first.now ∷ []
+first_paths (FileAndInput first) = first.now ∷ []
+first_paths (InputAndFile second) = []
+first_paths Input = []
+first_paths InputTwice = []
+first_paths One = []
+
+-- the same of the second
+abbrev pub second_paths : Texts → List (List ℕ)
+second_paths (Files first second) = second.now ∷ []
+second_paths (InputAndFile second) = second.now ∷ []
+second_paths (FileAndInput first) = []
+second_paths Input = []
+second_paths InputTwice = []
+second_paths One = []
+
+-- the files that are opened for the texts, in this order
+abbrev pub text_paths : Texts → List (List ℕ)
+text_paths texts = first_paths texts ++ second_paths texts
+
+-- a text stands on the input, or both
+abbrev pub StandOnInput : Texts → Type 0
+StandOnInput Input = ⊤
+StandOnInput (InputAndFile second) = ⊤
+StandOnInput (FileAndInput first) = ⊤
+StandOnInput (Files first second) = ⊥
+StandOnInput InputTwice = ⊥
+StandOnInput One = ⊥
+
+-- the file that is opened for the order
+abbrev pub order_paths : OrderChoice → List (List ℕ)
+order_paths (File path) = path.now ∷ []
+order_paths Declared = []
+order_paths Depth = []
+order_paths Interleave = []
+order_paths Best = []
+
+-- the file that is opened for the condition
+abbrev pub given_paths : Option (Bor (List ℕ)) → List (List ℕ)
+given_paths None = []
+given_paths (Some path) = path.now ∷ []
+
+-- the files that are opened behind those of the texts, in this order
+abbrev pub later_paths : Options → List (List ℕ)
+later_paths o = given_paths o.given ++ order_paths o.order
+
+-- all files that are opened, in this order
+abbrev pub paths_of : Options → List (List ℕ)
+paths_of o = text_paths o.texts ++ later_paths o
+
+-- what was told of a file is what is read of it
+abbrev pub IsReadOf : Option (List ℕ) → Option (List ℕ) → Type 0
+IsReadOf told read = IfSome told (λ text. read ≡ Some text)
+
+-- an input of two texts and the line between them, with its end, or of less
+abbrev pub IsShort : List ℕ → Type 0
+IsShort text = length text ≤ 134221824
+
+-- the two texts: of two files, of a file and the whole input, or the parts of the input
+abbrev pub AreTexts : (List ℕ → Option (List ℕ)) → Option (List ℕ) → Texts → Option (List ℕ) → Option (List ℕ) → Type 0
+AreTexts told input (Files first second) one two = IsReadOf (told first.now) one × IsReadOf (told second.now) two
+AreTexts told input Input one two = IfSome input (λ text. IsShort text × (parts : List ℕ × List ℕ) × IsSplit text (Some parts) × (one ≡ Some parts.0) × (two ≡ Some parts.1))
+AreTexts told input (InputAndFile second) one two = (one ≡ input) × IsReadOf (told second.now) two
+AreTexts told input (FileAndInput first) one two = IsReadOf (told first.now) one × (two ≡ input)
+AreTexts told input InputTwice one two = ⊥
+AreTexts told input One one two = ⊥
+
+-- what the device of the condition tells: its file, where there is one
+abbrev pub IsGivenOf : (List ℕ → Option (List ℕ)) → Option (Bor (List ℕ)) → Option (Option (List ℕ)) → Type 0
+IsGivenOf told None given = given ≡ None
+IsGivenOf told (Some path) given = (read : Option (List ℕ)) × (given ≡ Some read) × IsReadOf (told path.now) read
+
+-- the device of the condition tells where it was opened, where it tells that
+abbrev pub IsGivenFrom : Option (Bor (List ℕ)) → Option (Option (List ℕ)) → Type 0
+IsGivenFrom None origin = origin ≡ None
+IsGivenFrom (Some path) origin = (from : Option (List ℕ)) × (origin ≡ Some from) × IfSome from (λ p. p ≡ path.now)
+
+-- the order that is asked for, or the best; a file of names has been read
+abbrev pub IsOrderOf : (List ℕ → Option (List ℕ)) → OrderChoice → Choice → Type 0
+IsOrderOf told Declared choice = choice ≡ Ordered declared
+IsOrderOf told Depth choice = choice ≡ Ordered depth
+IsOrderOf told Interleave choice = choice ≡ Ordered interleave
+IsOrderOf told Best choice = choice ≡ TheBest
+IsOrderOf told (File path) choice = (names : List (List ℕ)) × (choice ≡ Ordered (Listed names)) × IfSome (told path.now) (λ text. IsOrderText text names)
+
+-- The bytes are what the options ask for of these two texts, and the condition's, in an order of this choice: the report in the form that they ask for, with its counts, or the order
+-- itself. The nodes that are needed in this order are within the limit of the options.
+abbrev pub IsMade : (one two : Option (List ℕ)) → (given : Option (Option (List ℕ))) → Options → Choice → Done → (bytes : List ℕ) → Type 0
+IsMade one two given o choice (Compared outcome tried) bytes =
+    (o.print_order ≡ false) × (order : Order) × IsChecked o.json one two given o.matching order o.sizes outcome bytes × IsChosen one two given o.matching choice o.limit tried order
+IsMade one two given o choice (OrderPrinted tried) bytes =
+    (o.print_order ≡ true) × (order : Order) × IsOrderPrinted one two given o.matching order bytes × IsFound one two given o.matching choice o.limit tried order
+
+-- the bytes are what the options ask for of these two texts
+pub record IsCompared (told : List ℕ → Option (List ℕ)) (one two : Option (List ℕ)) (o : Options) (done : Done) (bytes : List ℕ) : Type 0 where
+  pub given : Option (Option (List ℕ))
+  pub choice : Choice
+  pub conditioned : IsGivenOf told o.given given
+  pub ordered : IsOrderOf told o.order choice
+  pub made : IsMade one two given o choice done bytes
+
+-- The bytes are what the options ask for of the texts that they name.
+pub record IsReported (told : List ℕ → Option (List ℕ)) (input : Option (List ℕ)) (o : Options) (done : Done) (bytes : List ℕ) : Type 0 where
+  pub one : Option (List ℕ)
+  pub two : Option (List ℕ)
+  pub texts : AreTexts told input o.texts one two
+  pub compared : IsCompared told one two o done bytes
+
+-- a device has taken what is asked for, and nothing else
+abbrev pub HasReported : (List ℕ → Option (List ℕ)) → Option (List ℕ) → Options → Option (List ℕ) → Option (List ℕ) → Done → Type 0
+HasReported told input o before now done = (bytes : List ℕ) × IsReported told input o done bytes × Appends before now bytes
+
+-- a device has taken a front part of it, and has failed or taken nothing of the rest
+abbrev pub HasReportedFront : (List ℕ → Option (List ℕ)) → Option (List ℕ) → Options → (before now : Option (List ℕ)) → (has_failed has_stopped : Bool) → Type 0
+HasReportedFront told input o before now has_failed has_stopped =
+    (done : Done) × (bytes : List ℕ) × IsReported told input o done bytes × AppendsFront before now has_failed has_stopped bytes
+
+-- this holds of the texts, the condition and the order that the options name
+abbrev pub AreNamed : (List ℕ → Option (List ℕ)) → Option (List ℕ) → Options → (Option (List ℕ) → Option (List ℕ) → Option (Option (List ℕ)) → Choice → Type 0) → Type 0
+AreNamed told input o P =
+    (one two : Option (List ℕ)) × (given : Option (Option (List ℕ))) × (choice : Choice) × AreTexts told input o.texts one two × IsGivenOf told o.given given × IsOrderOf told o.order choice × P one two given choice
+
+-- the nodes that the texts need are not within the limit of the options, in any order that is asked for
+abbrev pub IsBeyond : (List ℕ → Option (List ℕ)) → Option (List ℕ) → Options → Type 0
+IsBeyond told input o = AreNamed told input o (λ one two given choice. (order : Order) → IsAllowed choice order → AreBeyond one two given o.matching order o.limit)
+
+-- why the check of two texts failed, in an order of this choice
+abbrev pub IsFailedCheck : (one two : Option (List ℕ)) → (given : Option (Option (List ℕ))) → (first_failed second_failed given_failed : Type 0) → Options → Choice → CheckFault → Type 0
+IsFailedCheck one two given first_failed second_failed given_failed o choice fault =
+    (order : Order) × IsAllowed choice order × IsCheckFault one two given first_failed second_failed given_failed o.matching order fault
+
+-- both texts are at hand
+abbrev pub HasTexts : Option (List ℕ) → Texts → Type 0
+HasTexts input (Files first second) = ⊤
+HasTexts input Input = IfSome input (λ text. IsShort text × (parts : List ℕ × List ℕ) × IsSplit text (Some parts))
+HasTexts input (InputAndFile second) = ⊤
+HasTexts input (FileAndInput first) = ⊤
+HasTexts input InputTwice = ⊥
+HasTexts input One = ⊥
+
+-- Why the order file was refused: want of memory, a file that has failed, or what stands in it.
+pub record IsOrderRefused (told : Option (List ℕ)) (has_failed : Type 0) (fault : OrderFault) : Type 0 where
+  pub cause : (fault ≡ NoOrderMemory) ⊎ (fault ≡ OrderReadFailed) ⊎ IfSome told (λ text. IsBadText text fault)
+  pub read : fault ≡ OrderReadFailed → has_failed
+
+-- Why the order that is asked for was not had, and which files were tried for it. `broken` says of a path that a file that was
+-- opened there has failed.
+abbrev pub IsOrderFault : (List ℕ → Option (List ℕ)) → (broken : List ℕ → Type 0) → OrderChoice → List Try → ToolFault → Type 0
+IsOrderFault told broken choice tries (CannotOpen OrderFile obstacle) = (path : Bor (List ℕ)) × (choice ≡ File path) × (tries ≡ (path.now, false) ∷ [])
+IsOrderFault told broken choice tries (BadOrder fault) =
+    (path : Bor (List ℕ)) × (choice ≡ File path) × (tries ≡ opened (order_paths choice)) × IsOrderRefused (told path.now) (broken path.now) fault
+IsOrderFault told broken choice tries OutOfMemory = AreTried (order_paths choice) tries
+IsOrderFault told broken choice tries (CannotOpen First obstacle) = ⊥
+IsOrderFault told broken choice tries (CannotOpen Second obstacle) = ⊥
+IsOrderFault told broken choice tries (CannotOpen GivenFile obstacle) = ⊥
+IsOrderFault told broken choice tries OneFile = ⊥
+IsOrderFault told broken choice tries DashTwice = ⊥
+IsOrderFault told broken choice tries InputUnread = ⊥
+IsOrderFault told broken choice tries InputTooLong = ⊥
+IsOrderFault told broken choice tries InputUndivided = ⊥
+IsOrderFault told broken choice tries (Check fault) = ⊥
+
+-- Why the condition's file was not opened, and whether it was tried.
+abbrev pub IsGivenFault : Option (Bor (List ℕ)) → List Try → ToolFault → Type 0
+IsGivenFault given tries (CannotOpen GivenFile obstacle) = (path : Bor (List ℕ)) × (given ≡ Some path) × (tries ≡ (path.now, false) ∷ [])
+IsGivenFault given tries OutOfMemory = AreTried (given_paths given) tries
+IsGivenFault given tries (CannotOpen First obstacle) = ⊥
+IsGivenFault given tries (CannotOpen Second obstacle) = ⊥
+IsGivenFault given tries (CannotOpen OrderFile obstacle) = ⊥
+IsGivenFault given tries (BadOrder fault) = ⊥
+IsGivenFault given tries OneFile = ⊥
+IsGivenFault given tries DashTwice = ⊥
+IsGivenFault given tries InputUnread = ⊥
+IsGivenFault given tries InputTooLong = ⊥
+IsGivenFault given tries InputUndivided = ⊥
+IsGivenFault given tries (Check fault) = ⊥
+
+-- why the order that is asked for was not had, where the condition's file was opened before
+abbrev pub IsOrderFaultBehind : (List ℕ → Option (List ℕ)) → (broken : List ℕ → Type 0) → Options → List Try → ToolFault → Type 0
+IsOrderFaultBehind told broken o tries fault = (ts : List Try) × (tries ≡ opened (given_paths o.given) ++ ts) × IsOrderFault told broken o.order ts fault
+
+-- Why the files behind those of the texts were not had.
+abbrev pub IsLaterFault : (List ℕ → Option (List ℕ)) → (broken : List ℕ → Type 0) → Options → List Try → ToolFault → Type 0
+IsLaterFault told broken o tries fault = IsGivenFault o.given tries fault ⊎ IsOrderFaultBehind told broken o tries fault
+
+-- the device of the condition has failed: its file
+abbrev pub HasGivenFailed : (broken : List ℕ → Type 0) → Option (Bor (List ℕ)) → Type 0
+HasGivenFailed broken None = ⊥
+HasGivenFailed broken (Some path) = broken path.now
+
+-- Why two texts have no report: for their condition or order, or by the check. The devices of the texts may have failed.
+abbrev pub IsCompareFault : (List ℕ → Option (List ℕ)) → (broken : List ℕ → Type 0) → (one two : Option (List ℕ)) → (first_failed second_failed : Type 0) → Options → List Try → ToolFault → Type 0
+IsCompareFault told broken one two first_failed second_failed o tries (Check fault) =
+    (given : Option (Option (List ℕ))) × (choice : Choice) × IsGivenOf told o.given given × IsOrderOf told o.order choice × (tries ≡ opened (later_paths o))
+    × IsFailedCheck one two given first_failed second_failed (HasGivenFailed broken o.given) o choice fault
+IsCompareFault told broken one two first_failed second_failed o tries (CannotOpen place obstacle) = IsLaterFault told broken o tries (CannotOpen place obstacle)
+IsCompareFault told broken one two first_failed second_failed o tries (BadOrder fault) = IsLaterFault told broken o tries (BadOrder fault)
+IsCompareFault told broken one two first_failed second_failed o tries OutOfMemory = IsLaterFault told broken o tries OutOfMemory
+IsCompareFault told broken one two first_failed second_failed o tries OneFile = ⊥
+IsCompareFault told broken one two first_failed second_failed o tries DashTwice = ⊥
+IsCompareFault told broken one two first_failed second_failed o tries InputUnread = ⊥
+IsCompareFault told broken one two first_failed second_failed o tries InputTooLong = ⊥
+IsCompareFault told broken one two first_failed second_failed o tries InputUndivided = ⊥
+
+-- why the input has no text
+abbrev pub IsInputFault : Option (List ℕ) → ToolFault → Type 0
+IsInputFault input InputTooLong = IfSome input (λ text. 134221824 < length text)
+IsInputFault input InputUnread = ⊤
+IsInputFault input OutOfMemory = ⊤
+IsInputFault input (Check fault) = ⊥
+IsInputFault input (CannotOpen place obstacle) = ⊥
+IsInputFault input (BadOrder fault) = ⊥
+IsInputFault input OneFile = ⊥
+IsInputFault input DashTwice = ⊥
+IsInputFault input InputUndivided = ⊥
+
+-- why a file was not opened, with all that was tried before
+abbrev pub IsUnopened : Option (List ℕ) → Options → List Try → Place → Type 0
+IsUnopened input o tries First = (path : List ℕ) × (first_paths o.texts ≡ path ∷ []) × (tries ≡ (path, false) ∷ [])
+IsUnopened input o tries Second = (path : List ℕ) × (second_paths o.texts ≡ path ∷ []) × (tries ≡ opened (first_paths o.texts) ++ (path, false) ∷ [])
+IsUnopened input o tries GivenFile =
+    (path : Bor (List ℕ)) × (o.given ≡ Some path) × HasTexts input o.texts × (tries ≡ opened (text_paths o.texts) ++ (path.now, false) ∷ [])
+IsUnopened input o tries OrderFile =
+    (path : Bor (List ℕ)) × (o.order ≡ File path) × HasTexts input o.texts × (tries ≡ opened (text_paths o.texts ++ given_paths o.given) ++ (path.now, false) ∷ [])
+
+-- the device of the first text has failed: its file, or the input where it is the whole text; the parts of a divided input are read
+-- from memory, which cannot fail
+abbrev pub HasFirstFailed : (broken : List ℕ → Type 0) → (input_broken : Type 0) → Texts → Type 0
+HasFirstFailed broken input_broken (Files first second) = broken first.now
+HasFirstFailed broken input_broken (FileAndInput first) = broken first.now
+HasFirstFailed broken input_broken (InputAndFile second) = input_broken
+HasFirstFailed broken input_broken Input = ⊥
+HasFirstFailed broken input_broken InputTwice = ⊥
+HasFirstFailed broken input_broken One = ⊥
+
+-- the same of the second
+abbrev pub HasSecondFailed : (broken : List ℕ → Type 0) → (input_broken : Type 0) → Texts → Type 0
+HasSecondFailed broken input_broken (Files first second) = broken second.now
+HasSecondFailed broken input_broken (InputAndFile second) = broken second.now
+HasSecondFailed broken input_broken (FileAndInput first) = input_broken
+HasSecondFailed broken input_broken Input = ⊥
+HasSecondFailed broken input_broken InputTwice = ⊥
+HasSecondFailed broken input_broken One = ⊥
+
+-- Why there is no report, and which files were tried until then. What comes before in the order of the checks was accepted.
+-- `broken` says of a path that a file that was opened there has failed, and `input_broken` that the input has.
+abbrev pub IsToolFault : (List ℕ → Option (List ℕ)) → (broken : List ℕ → Type 0) → (input_broken : Type 0) → Option (List ℕ) → Options → List Try → ToolFault → Type 0
+IsToolFault told broken input_broken input o tries OneFile = (o.texts ≡ One) × (tries ≡ [])
+IsToolFault told broken input_broken input o tries DashTwice = (o.texts ≡ InputTwice) × (tries ≡ [])
+IsToolFault told broken input_broken input o tries (CannotOpen place obstacle) = IsUnopened input o tries place
+IsToolFault told broken input_broken input o tries InputUnread = (o.texts ≡ Input) × (tries ≡ [])
+IsToolFault told broken input_broken input o tries InputTooLong = (o.texts ≡ Input) × (tries ≡ []) × IfSome input (λ text. 134221824 < length text)
+IsToolFault told broken input_broken input o tries InputUndivided = (o.texts ≡ Input) × (tries ≡ []) × IfSome input (λ text. IsShort text × IsSplit text None)
+IsToolFault told broken input_broken input o tries (BadOrder fault) =
+    (path : Bor (List ℕ)) × (o.order ≡ File path) × HasTexts input o.texts × (tries ≡ opened (paths_of o)) × IsOrderRefused (told path.now) (broken path.now) fault
+IsToolFault told broken input_broken input o tries (Check fault) =
+    (one two : Option (List ℕ)) × (given : Option (Option (List ℕ))) × (choice : Choice) × AreTexts told input o.texts one two × IsGivenOf told o.given given × IsOrderOf told o.order choice
+    × (tries ≡ opened (paths_of o)) × IsFailedCheck one two given (HasFirstFailed broken input_broken o.texts) (HasSecondFailed broken input_broken o.texts) (HasGivenFailed broken o.given) o choice fault
+IsToolFault told broken input_broken input o tries OutOfMemory = AreTried (paths_of o) tries

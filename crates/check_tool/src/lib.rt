@@ -1,0 +1,12 @@
+//! A run of the program: its words, its files and its devices to a status.
+#![tactic(auto)]
+
+pub mod done;
+pub mod fault;
+pub mod folder;
+pub mod help;
+pub mod process;
+pub mod progress;
+pub mod run;
+pub mod split;
+pub mod tool;

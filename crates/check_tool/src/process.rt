@@ -1,0 +1,106 @@
+//! A run over the arguments, the files and the devices of a process.
+ghost use Rattle.std.specs.Prelude.{◌≡◌, ◌≤◌, ◌⊎◌, IsOkAnd, MatchResult, drop, map, string_bytes};
+ghost use Rattle.check_tool.specs.Ending.{Written, Scene, AskForMore, IsRun, IsWordless};
+ghost use Rattle.check_tool.specs.Opening.{HasFailedAt};
+
+use crate::fault::ToolFault;
+use crate::folder::Folder;
+use crate::tool::{refuse, run_tool, say};
+use net_bench::device::{Sink, Source};
+use std::alloc::Global;
+use std::io;
+use std::rt::{Clock, Env};
+use std::sync::Wait;
+use std::thread::Threads;
+
+/// Why a process has no arguments.
+#[derive(Clone, Copy, Drop, Debug, PartialEq, Eq)]
+pub enum NoWords {
+    /// A growth was refused.
+    OutOfMemory,
+    /// One of them is no UTF-8.
+    NoText,
+}
+
+/// The arguments of a process, the program's name first.
+pub fn arguments<H: Env + AllocGlobal>(rt: &H) -> Result<Vec<String>, NoWords> {
+    match std::env::args(rt) {
+        Ok(words) => words.collect(rt.alloc()).map_err(|_| NoWords::OutOfMemory),
+        Err(error) if error.kind() == io::ErrorKind::OutOfMemory => Err(NoWords::OutOfMemory),
+        Err(_) => Err(NoWords::NoText),
+    }
+}
+
+/// The words behind the first, which is the program's name.
+fn behind_name(words: &[String]) -> &[String]
+    ensures { result.now ≡ drop 1 words.now }
+{
+    match words {
+        [] => &[],
+        [_, behind @ ..] => behind,
+    }
+}
+
+/// Says why there are no words, and answers the status.
+fn wordless<E: Sink>(alloc: Global, why: NoWords, errors: &mut E) -> u8
+    ensures told { IsWordless (record { held = E.contents errors.old; holds = E.contents errors.new; has_failed = E.has_failed errors.new; has_stopped = E.has_stopped errors.new }) why result }
+    ensures bound { result ≤ 3 }
+    ensures refused { 2 ≤ result }
+{
+    match why {
+        NoWords::OutOfMemory => refuse(alloc, ToolFault::OutOfMemory, errors),
+        NoWords::NoText => {
+            say(
+                errors,
+                b"bddcheck: a word of the command line is no UTF-8\n",
+            );
+            2
+        }
+    }
+}
+
+/// The status of a run over the arguments and the devices of a process.
+pub fn status_of<
+    H: AllocGlobal + Eprint + Clock + Threads + Wait + Sync,
+    F: Folder,
+    R: Source,
+    W: Sink,
+    E: Sink,
+>(
+    rt: &H,
+    arguments: Result<Vec<String>, NoWords>,
+    folder: &mut F,
+    input: &mut R,
+    out: &mut W,
+    errors: &mut E,
+) -> u8
+    // The program runs on the words behind its name; where there are none to be had, that is told.
+    ensures ending { let scene : Scene = record {
+      told = F.told folder.old;
+      tried = F.tries folder.old;
+      tries = F.tries folder.new;
+      input = R.remaining input.old;
+      input_failed = R.has_failed input.new;
+      output = record { held = W.contents out.old; holds = W.contents out.new; has_failed = W.has_failed out.new; has_stopped = W.has_stopped out.new };
+      errors = record { held = E.contents errors.old; holds = E.contents errors.new; has_failed = E.has_failed errors.new; has_stopped = E.has_stopped errors.new };
+    } in MatchResult arguments
+        (λ all. IsRun (HasFailedAt F.File.origin F.File.has_failed) scene (folder.new ≡ folder.old) (input.new ≡ input.old) (map string_bytes (drop 1 all.items)) result)
+        (λ why. IsWordless scene.errors why result × (out.new ≡ out.old) × (folder.new ≡ folder.old) × (input.new ≡ input.old)) }
+    ensures bound { result ≤ 3 }
+    // Status 2 says that nothing was written, statuses 0 and 1 that nothing was said, unless more is asked for.
+    ensures untouched { result ≡ 2 → out.new ≡ out.old }
+    ensures silent { IsOkAnd arguments (λ all. AskForMore (map string_bytes (drop 1 all.items))) ⊎ (result ≤ 1 → errors.new ≡ errors.old) }
+{
+    match arguments {
+        Ok(words) => run_tool(
+            rt,
+            rt.alloc(),
+            behind_name(words.as_slice()),
+            folder,
+            input,
+            out,
+            errors,
+        ),
+        Err(why) => wordless(rt.alloc(), why, errors),
+    }
+}

@@ -1,0 +1,225 @@
+//! A run with its options, over any folder, input and output.
+ghost use Rattle.std.specs.Prelude.{◌≡◌, ◌≢◌, ◌⊎◌, ℕ, ◌∷◌, [], List, Option, IfOk, IfErr, OnOk, OnErr, IfSome, IsTrue, Some, Err, is_ok};
+ghost use Rattle.std.specs.Io.KnownBytes.{Appends};
+ghost use Rattle.check_report.specs.declared.fault.CheckFault.TheVariants.{Wave, Write};
+ghost use Rattle.check_tool.specs.declared.done.Done.{Done};
+ghost use Rattle.check_report.specs.declared.choice.Choice.{Choice as ChoiceValue};
+ghost use Rattle.check_report.specs.Best.{IsAllowed};
+ghost use Rattle.check_report.specs.Devices.{told_by};
+ghost use Rattle.check_report.specs.Limits.{AreBeyond};
+ghost use Rattle.check_report.specs.Writing.{AppendsFront};
+ghost use Rattle.expand_work.specs.declared.fault.WaveFault.TheVariants.{Full};
+ghost use Rattle.net_order.specs.declared.order.Order.{Order};
+ghost use Rattle.check_tool.specs.Opening.{Extends, HasFailedAt, Try, opened};
+ghost use Rattle.check_tool.specs.Running.{IsOpenFault, order_paths, given_paths, later_paths, paths_of, IsShort, IsGivenOf, IsGivenFrom, IsOrderOf, IsOrderFault, IsGivenFault, IsLaterFault, IsCompared, IsCompareFault, IsInputFault, IsToolFault, HasReported, HasReportedFront, IsBeyond, StandOnInput};
+
+use crate::done::Done;
+use crate::fault::{Place, ToolFault};
+use crate::folder::{Folder, OpenFault};
+use crate::progress::Progress;
+use crate::split::split_input;
+use check_report::{Choice, Settings, check, print_order};
+use command_line::{Options, OrderChoice, Texts};
+use net_bench::device::{InMemory, Sink, Source, TextFault, read_text};
+use net_order::order::Order;
+use net_order::order_file::read_order;
+use std::alloc::Global;
+use std::rt::Clock;
+use std::sync::Wait;
+use std::thread::Threads;
+
+/// The most bytes that standard input has: two texts and the line between them.
+const INPUT_LIMIT: usize = 134_221_824;
+
+/// Opens a file.
+fn open<F: Folder>(folder: &mut F, path: &str, place: Place) -> Result<F::File, ToolFault>
+    ensures tried { Extends (F.tries folder.old) (F.tries folder.new) ((path.now, is_ok result) ∷ []) }
+    ensures file { IfOk result (λ file. IfSome (F.told folder.old path.now) (λ text. F.File.remaining file ≡ Some text)) }
+    ensures named { IfOk result (λ file. IfSome (F.File.origin file) (λ from. from ≡ path.now)) }
+    ensures kept { F.told folder.new ≡ F.told folder.old }
+    ensures fault { IfErr result (λ fault. IsOpenFault place fault) }
+{
+    match folder.open(path) {
+        Ok(file) => Ok(file),
+        Err(OpenFault::Refused(obstacle)) => Err(ToolFault::CannotOpen(place, obstacle)),
+        Err(OpenFault::OutOfMemory) => Err(ToolFault::OutOfMemory),
+    }
+}
+
+/// The order that is asked for. A file of names is opened and read.
+fn order_of<F: Folder>(
+    alloc: Global,
+    folder: &mut F,
+    choice: OrderChoice<'_>,
+) -> Result<Choice, ToolFault>
+    ensures order { IfOk result (IsOrderOf (F.told folder.old) choice.entry) }
+    ensures opened { OnOk result (Extends (F.tries folder.old) (F.tries folder.new) (opened (order_paths choice.entry))) }
+    ensures fault { IfErr result (λ fault. (tries : List Try) × Extends (F.tries folder.old) (F.tries folder.new) tries × IsOrderFault (F.told folder.old) (HasFailedAt F.File.origin F.File.has_failed) choice.entry tries fault) }
+{
+    match choice {
+        OrderChoice::Declared => Ok(Choice::One(Order::Declared)),
+        OrderChoice::Depth => Ok(Choice::One(Order::Depth)),
+        OrderChoice::Interleave => Ok(Choice::One(Order::Interleave)),
+        OrderChoice::Best => Ok(Choice::Best),
+        OrderChoice::File(path) => {
+            let mut file = open(folder, path, Place::Order)?;
+            match read_order(alloc, &mut file) {
+                Ok(names) => Ok(Choice::One(Order::Listed(names))),
+                Err(fault) => Err(ToolFault::BadOrder(fault)),
+            }
+        }
+    }
+}
+
+/// Opens the condition's file, where there is a condition.
+fn open_given<F: Folder>(folder: &mut F, path: Option<&str>) -> Result<Option<F::File>, ToolFault>
+    ensures given { IfOk result (λ file. IsGivenOf (F.told folder.old) path.entry (told_by F.File.remaining file)) }
+    ensures named { IfOk result (λ file. IsGivenFrom path.entry (told_by F.File.origin file)) }
+    ensures opened { OnOk result (Extends (F.tries folder.old) (F.tries folder.new) (opened (given_paths path.entry))) }
+    ensures kept { F.told folder.new ≡ F.told folder.old }
+    ensures fault { IfErr result (λ fault. (tries : List Try) × Extends (F.tries folder.old) (F.tries folder.new) tries × IsGivenFault path.entry tries fault) }
+{
+    match path {
+        Some(path) => {
+            let file = open(folder, path, Place::Given)?;
+            Ok(Some(file))
+        }
+        None => Ok(None),
+    }
+}
+
+/// Opens the condition's file, and then has the order.
+fn prepare<F: Folder>(
+    alloc: Global,
+    folder: &mut F,
+    options: &Options<'_>,
+) -> Result<(Option<F::File>, Choice), ToolFault>
+    ensures given { IfOk result (λ r. IsGivenOf (F.told folder.old) options.now.given (told_by F.File.remaining r.0)) }
+    ensures named { IfOk result (λ r. IsGivenFrom options.now.given (told_by F.File.origin r.0)) }
+    ensures order { IfOk result (λ r. IsOrderOf (F.told folder.old) options.now.order r.1) }
+    ensures opened { OnOk result (Extends (F.tries folder.old) (F.tries folder.new) (opened (later_paths options.now))) }
+    ensures fault { IfErr result (λ fault. (tries : List Try) × Extends (F.tries folder.old) (F.tries folder.new) tries × IsLaterFault (F.told folder.old) (HasFailedAt F.File.origin F.File.has_failed) options.now tries fault) }
+{
+    let given = open_given(folder, options.given)?;
+    let order = order_of(alloc, folder, options.order)?;
+    Ok((given, order))
+}
+
+/// Compares two texts, or prints the order of their variables. The condition's file is opened, and a file of the order read, before them.
+fn compare<H: Eprint + Clock + Threads + Wait + Sync, F: Folder, R1: Source, R2: Source, W: Sink>(
+    rt: &H,
+    alloc: Global,
+    options: &Options<'_>,
+    folder: &mut F,
+    first: &mut R1,
+    second: &mut R2,
+    out: &mut W,
+) -> Result<Done, ToolFault>
+    ensures report { IfOk result (λ done. (bytes : List ℕ) × IsCompared (F.told folder.old) (R1.remaining first.old) (R2.remaining second.old) options.now done bytes × Appends (W.contents out.old) (W.contents out.new) bytes) }
+    ensures opened { OnOk result (Extends (F.tries folder.old) (F.tries folder.new) (opened (later_paths options.now))) }
+    ensures fault { IfErr result (λ fault. (tries : List Try) × Extends (F.tries folder.old) (F.tries folder.new) tries ×
+        IsCompareFault (F.told folder.old) (HasFailedAt F.File.origin F.File.has_failed) (R1.remaining first.old) (R2.remaining second.old) (IsTrue (R1.has_failed first.new)) (IsTrue (R2.has_failed second.new)) options.now tries fault) }
+    ensures full { result ≡ Err (ToolFault.Check (Wave Full)) → (given : Option (Option (List ℕ))) × (choice : ChoiceValue) × IsGivenOf (F.told folder.old) options.now.given given × IsOrderOf (F.told folder.old) options.now.order choice
+        × ((order : Order) → IsAllowed choice order → AreBeyond (R1.remaining first.old) (R2.remaining second.old) given options.now.matching order options.now.limit) }
+    ensures unwritten { result ≡ Err (ToolFault.Check Write) → (done : Done) × (bytes : List ℕ) × IsCompared (F.told folder.old) (R1.remaining first.old) (R2.remaining second.old) options.now done bytes × AppendsFront (W.contents out.old) (W.contents out.new) (W.has_failed out.new) (W.has_stopped out.new) bytes }
+    ensures untouched { OnErr result (result ≢ Err (ToolFault.Check Write) → out.new ≡ out.old) }
+    ensures written { OnOk result ((W.has_failed out.new ≡ W.has_failed out.old) × (W.has_stopped out.new ≡ W.has_stopped out.old)) }
+    ensures origins { (R1.origin first.new ≡ R1.origin first.old) × (R2.origin second.new ≡ R2.origin second.old) }
+{
+    let (mut given, order) = prepare(alloc, folder, options)?;
+    let settings = Settings {
+        matching: options.matching,
+        order,
+        workers: options.workers,
+        limit: options.limit,
+        sizes: options.sizes,
+        json: options.json,
+    };
+    let progress = Progress::new(rt, options.verbose);
+    if options.print_order {
+        return match print_order(
+            rt, alloc, first, second, &mut given, &settings, &progress, out,
+        ) {
+            Ok(tried) => Ok(Done::OrderPrinted(tried)),
+            Err(fault) => Err(ToolFault::Check(fault)),
+        };
+    }
+    match check(
+        rt, alloc, first, second, &mut given, &settings, &progress, out,
+    ) {
+        Ok((outcome, tried)) => Ok(Done::Compared(outcome, tried)),
+        Err(fault) => Err(ToolFault::Check(fault)),
+    }
+}
+
+/// The text of standard input.
+fn read_input<R: Source>(alloc: Global, input: &mut R) -> Result<Vec<u8>, ToolFault>
+    ensures text { IfOk result (λ text. IfSome (R.remaining input.old) (λ told. text.items ≡ told)) }
+    ensures short { IfOk result (λ text. IsShort text.items) }
+    ensures fault { IfErr result (λ fault. IsInputFault (R.remaining input.old) fault) }
+    ensures read { result ≡ Err ToolFault.InputUnread → IsTrue (R.has_failed input.new) }
+{
+    match read_text(alloc, input, INPUT_LIMIT) {
+        Ok(text) => Ok(text),
+        Err(TextFault::Read) => Err(ToolFault::InputUnread),
+        Err(TextFault::TooLong) => Err(ToolFault::InputTooLong),
+        Err(TextFault::OutOfMemory) => Err(ToolFault::OutOfMemory),
+    }
+}
+
+/// Compares what the options name: two files, a file and the input, or the two texts of the input. FIRST, SECOND, the condition's file
+/// and the order's are opened in this order; where the input is divided, the latter two are opened behind that.
+pub fn run_options<H: Eprint + Clock + Threads + Wait + Sync, F: Folder, R: Source, W: Sink>(
+    rt: &H,
+    alloc: Global,
+    options: &Options<'_>,
+    folder: &mut F,
+    input: &mut R,
+    out: &mut W,
+) -> Result<Done, ToolFault>
+    // What was written is the report of the two texts where the condition holds, in the order that is asked for, or this order, and nothing else.
+    ensures report { IfOk result (HasReported (F.told folder.old) (R.remaining input.old) options.now (W.contents out.old) (W.contents out.new)) }
+    // Then each file that the options name was opened, in the stated order, and no other.
+    ensures opened { OnOk result (Extends (F.tries folder.old) (F.tries folder.new) (opened (paths_of options.now))) }
+    // The nodes that the texts need are within the limit where there is a report, and Full comes only where they are not, in any order
+    // that is asked for.
+    ensures full { result ≡ Err (ToolFault.Check (Wave Full)) → IsBeyond (F.told folder.old) (R.remaining input.old) options.now }
+    // A fault has its cause, what comes before it was accepted, and no file was tried beyond it.
+    ensures fault { IfErr result (λ fault. (tries : List Try) × Extends (F.tries folder.old) (F.tries folder.new) tries × IsToolFault (F.told folder.old) (HasFailedAt F.File.origin F.File.has_failed) (IsTrue (R.has_failed input.new)) (R.remaining input.old) options.now tries fault) }
+    // Where the writing failed, a front part of the report was written, and the device has failed or taken nothing of the rest.
+    ensures unwritten { result ≡ Err (ToolFault.Check Write) → HasReportedFront (F.told folder.old) (R.remaining input.old) options.now (W.contents out.old) (W.contents out.new) (W.has_failed out.new) (W.has_stopped out.new) }
+    // At any other fault nothing was written.
+    ensures untouched { OnErr result (result ≢ Err (ToolFault.Check Write) → out.new ≡ out.old) }
+    // An input that is said to have failed has failed, and an output that took the report has not.
+    ensures read { result ≡ Err ToolFault.InputUnread → IsTrue (R.has_failed input.new) }
+    ensures written { OnOk result ((W.has_failed out.new ≡ W.has_failed out.old) × (W.has_stopped out.new ≡ W.has_stopped out.old)) }
+    // The input is read only where a text stands on it.
+    ensures unasked { (StandOnInput options.now.texts → ⊥) → input.new ≡ input.old }
+{
+    match options.texts {
+        Texts::One => Err(ToolFault::OneFile),
+        Texts::InputTwice => Err(ToolFault::InputTwice),
+        Texts::Files(first, second) => {
+            let mut first = open(folder, first, Place::First)?;
+            let mut second = open(folder, second, Place::Second)?;
+            compare(rt, alloc, options, folder, &mut first, &mut second, out)
+        }
+        Texts::InputAndFile(path) => {
+            let mut file = open(folder, path, Place::Second)?;
+            compare(rt, alloc, options, folder, input, &mut file, out)
+        }
+        Texts::FileAndInput(path) => {
+            let mut file = open(folder, path, Place::First)?;
+            compare(rt, alloc, options, folder, &mut file, input, out)
+        }
+        Texts::Input => {
+            let text = read_input(alloc, input)?;
+            let Some((one, two)) = split_input(text.as_slice()) else {
+                return Err(ToolFault::InputUndivided);
+            };
+            let mut first = InMemory::new(one);
+            let mut second = InMemory::new(two);
+            compare(rt, alloc, options, folder, &mut first, &mut second, out)
+        }
+    }
+}

@@ -1,0 +1,189 @@
+//! A run of the program: its words, its folder and its devices to a status.
+ghost use Rattle.std.specs.Prelude.{◌≡◌, ◌≤◌, ◌⊎◌, false, IfOk, map, string_bytes};
+ghost use Rattle.check_tool.specs.Ending.{Written, Says, IsSaid, MaySay, IsSaidOf, attempt_line, IsAttemptSaid, IsDoneSaid, AskForMore, IsReportStatus, IsDoneStatus, Scene, IsRun, IsWordEnd};
+ghost use Rattle.check_tool.specs.Helping.{help_text};
+ghost use Rattle.check_tool.specs.Opening.{HasFailedAt};
+
+use crate::done::Done;
+use crate::fault::{ToolFault, line_of, status_of_fault};
+use crate::folder::Folder;
+use crate::help::help_of;
+use crate::run::run_options;
+use check_report::{Attempt, Outcome, write_whole};
+use command_line::{Options, Refused, read_options};
+use net_bench::device::{Sink, Source};
+use std::alloc::{AllocError, Global};
+use std::rt::Clock;
+use std::sync::Wait;
+use std::thread::Threads;
+
+/// Writes a text as far as the device takes it. A failure is ignored.
+pub fn say<E: Sink>(errors: &mut E, text: &[u8])
+    ensures { Says (record { held = E.contents errors.old; holds = E.contents errors.new; has_failed = E.has_failed errors.new; has_stopped = E.has_stopped errors.new }) text.now }
+{
+    let _ = write_whole(errors, text);
+}
+
+/// Prints the line of a fault, and answers its status. Where there is no memory for the line, it is that of want of memory.
+pub fn refuse<E: Sink>(alloc: Global, fault: ToolFault, errors: &mut E) -> u8
+    ensures said { IsSaid (record { held = E.contents errors.old; holds = E.contents errors.new; has_failed = E.has_failed errors.new; has_stopped = E.has_stopped errors.new }) fault result }
+    ensures bound { result ≤ 3 }
+{
+    match line_of(alloc, fault) {
+        Ok(line) => {
+            say(errors, line.as_bytes());
+            status_of_fault(fault)
+        }
+        Err(_) => {
+            say(errors, b"bddcheck: out of memory\n");
+            status_of_fault(ToolFault::OutOfMemory)
+        }
+    }
+}
+
+/// Says what helps against a fault, where there is memory for it.
+fn help<E: Sink>(alloc: Global, options: &Options<'_>, fault: ToolFault, errors: &mut E)
+    ensures { MaySay (record { held = E.contents errors.old; holds = E.contents errors.new; has_failed = E.has_failed errors.new; has_stopped = E.has_stopped errors.new }) (help_text options.now fault) }
+{
+    if let Ok(line) = help_of(alloc, options, fault) {
+        say(errors, line.as_bytes());
+    }
+}
+
+/// Prints the line of a fault of a run, and what helps where more is asked for, and answers the status.
+fn refuse_run<E: Sink>(alloc: Global, options: &Options<'_>, fault: ToolFault, errors: &mut E) -> u8
+    ensures said { IsSaidOf options.now.verbose options.now (record { held = E.contents errors.old; holds = E.contents errors.new; has_failed = E.has_failed errors.new; has_stopped = E.has_stopped errors.new }) fault result }
+    ensures bound { result ≤ 3 }
+    ensures refused { 2 ≤ result }
+{
+    let status = refuse(alloc, fault, errors);
+    if options.verbose {
+        help(alloc, options, fault, errors);
+    }
+    status
+}
+
+/// The line that names an attempt.
+fn line_of_attempt(alloc: Global, attempt: Attempt) -> Result<String, AllocError>
+    ensures { IfOk result (λ line. string_bytes line ≡ attempt_line attempt) }
+{
+    let order = attempt.order;
+    let budget = attempt.budget;
+    format!(in alloc; "bddcheck: order {order}, budget {budget}\n")
+}
+
+/// Says which attempt a run ended with, where there is one, and memory for its line.
+fn tell_attempt<E: Sink>(alloc: Global, tried: Option<Attempt>, errors: &mut E)
+    ensures { IsAttemptSaid tried (record { held = E.contents errors.old; holds = E.contents errors.new; has_failed = E.has_failed errors.new; has_stopped = E.has_stopped errors.new }) }
+{
+    let Some(attempt) = tried else {
+        return;
+    };
+    if let Ok(line) = line_of_attempt(alloc, attempt) {
+        say(errors, line.as_bytes());
+    }
+}
+
+/// Says what a run has done, where more is asked for.
+fn tell<E: Sink>(alloc: Global, verbose: bool, done: Done, errors: &mut E)
+    ensures said { IsDoneSaid verbose done (record { held = E.contents errors.old; holds = E.contents errors.new; has_failed = E.has_failed errors.new; has_stopped = E.has_stopped errors.new }) }
+    ensures silent { verbose ≡ false → errors.new ≡ errors.old }
+{
+    if !verbose {
+        return;
+    }
+    match done {
+        Done::Compared(_, tried) | Done::OrderPrinted(tried) => tell_attempt(alloc, tried, errors),
+    }
+}
+
+/// Prints what the words were refused with, and answers the status: 0 for help, 2 for a mistake.
+#[tactic(auto, using(crate::proofs::Composing::keeps_own))]
+fn refuse_words<W: Sink, E: Sink>(
+    alloc: Global,
+    refused: &Refused,
+    out: &mut W,
+    errors: &mut E,
+) -> u8
+    ensures ending { IsWordEnd (record { held = W.contents out.old; holds = W.contents out.new; has_failed = W.has_failed out.new; has_stopped = W.has_stopped out.new })
+        (record { held = E.contents errors.old; holds = E.contents errors.new; has_failed = E.has_failed errors.new; has_stopped = E.has_stopped errors.new }) refused.now result }
+    ensures bound { result ≤ 3 }
+    ensures untouched { result ≡ 2 → out.new ≡ out.old }
+    ensures silent { result ≤ 1 → errors.new ≡ errors.old }
+{
+    match refused {
+        Refused::Help(text) => match write_whole(out, text.as_bytes()) {
+            Ok(()) => 0,
+            Err(_) => 3,
+        },
+        Refused::Mistake(text) => {
+            say(errors, text.as_bytes());
+            2
+        }
+        Refused::OutOfMemory => refuse(alloc, ToolFault::OutOfMemory, errors),
+    }
+}
+
+/// The status of a comparison: 0 where all outputs and next states are paired and equal.
+fn status_of(outcome: Outcome) -> u8
+    ensures status { IsReportStatus outcome result }
+    ensures bound { result ≤ 1 }
+{
+    if outcome.different == 0 && outcome.unmatched == 0 {
+        0
+    } else {
+        1
+    }
+}
+
+/// The status of what a run has done.
+fn status_of_done(done: Done) -> u8
+    ensures status { IsDoneStatus done result }
+    ensures bound { result ≤ 1 }
+{
+    match done {
+        Done::Compared(outcome, _) => status_of(outcome),
+        Done::OrderPrinted(_) => 0,
+    }
+}
+
+/// Runs the program on its words, and answers its status.
+#[tactic(auto, using(crate::proofs::Composing::keeps_own, crate::proofs::Composing::extends_none))]
+pub fn run_tool<H: Eprint + Clock + Threads + Wait + Sync, F: Folder, R: Source, W: Sink, E: Sink>(
+    rt: &H,
+    alloc: Global,
+    words: &[String],
+    folder: &mut F,
+    input: &mut R,
+    out: &mut W,
+    errors: &mut E,
+) -> u8
+    // The words ask for options, and then the run ends with their report, or their order, and status 0 or 1, or with the line and the status of a
+    // fault that has its cause, behind which stands what helps where more is asked for, and the input is read only where a text stands on it; or they are refused for a cause, no file is
+    // opened, nothing is read, and help, a mistake or want of memory is told.
+    ensures ending { let scene : Scene = record {
+      told = F.told folder.old;
+      tried = F.tries folder.old;
+      tries = F.tries folder.new;
+      input = R.remaining input.old;
+      input_failed = R.has_failed input.new;
+      output = record { held = W.contents out.old; holds = W.contents out.new; has_failed = W.has_failed out.new; has_stopped = W.has_stopped out.new };
+      errors = record { held = E.contents errors.old; holds = E.contents errors.new; has_failed = E.has_failed errors.new; has_stopped = E.has_stopped errors.new };
+    } in IsRun (HasFailedAt F.File.origin F.File.has_failed) scene (folder.new ≡ folder.old) (input.new ≡ input.old) (map string_bytes words.now) result }
+    ensures bound { result ≤ 3 }
+    // Status 2 says that nothing was written, statuses 0 and 1 that nothing was said, unless more is asked for.
+    ensures untouched { result ≡ 2 → out.new ≡ out.old }
+    ensures silent { AskForMore (map string_bytes words.now) ⊎ (result ≤ 1 → errors.new ≡ errors.old) }
+{
+    let options = match read_options(alloc, words) {
+        Ok(options) => options,
+        Err(refused) => return refuse_words(alloc, &refused, out, errors),
+    };
+    match run_options(rt, alloc, &options, folder, input, out) {
+        Ok(done) => {
+            tell(alloc, options.verbose, done, errors);
+            status_of_done(done)
+        }
+        Err(fault) => refuse_run(alloc, &options, fault, errors),
+    }
+}
