@@ -8,7 +8,6 @@ use denote.Slice.{ShrSlice}
 use denote.Struct.Tuple.{TupleAt}
 use denote.Param.Send.{IsSend, IsSync, sendable}
 use Rattle.lane_queue.proofs.Sent.{port_send, lanes_sync}
-use Rattle.req_table.proofs.records.Records.TheSendSync as records
 use Rattle.req_table.proofs.Key.TheSendSync as key
 use Rattle.dd_store.proofs.store.Store.TheSendSync as store
 use Rattle.std.proofs.Crossing.{crosses, frees, send as heap_send}
@@ -21,7 +20,7 @@ use Rattle.lane_queue.specs.contracts.port.Port as Port
 use Rattle.expand_work.specs.contracts.part.Part as Part
 
 pub part_send : IsSend Part.the_row
-part_send = search (sendable, port_send, records.the_send, crosses, frees) depth 30
+part_send = search (sendable, port_send, crosses, frees) depth 30
 
 store_sync : IsSync Store.the_row
 store_sync = store.the_sync

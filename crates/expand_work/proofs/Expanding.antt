@@ -3,6 +3,7 @@ use Rattle.std.proofs.Common.{◌≡◌, ℕ, zero, suc, ◌+◌, ◌*◌, ◌<�
 use Rattle.std.specs.List.{sum_by, AllZip}
 use Rattle.std.proofs.lemmas.List.Sums.{sum_by-cons}
 use Rattle.std.proofs.lemmas.List.{get_or-map, length-map}
+use Rattle.std.proofs.lemmas.Simd.{map-map}
 use Rattle.dd_store.specs.Nodes.{Nodes, IsSound}
 use Rattle.req_table.specs.declared.Key.{Key}
 use Rattle.req_table.specs.declared.Record.{Record}
@@ -15,9 +16,8 @@ use Rattle.req_table.specs.Keys.{level_of, wave_of}
 use Rattle.req_table.specs.Lanes.{sent_by, asks}
 use Rattle.req_table.specs.Sizes.{sizes_of}
 use Rattle.req_table.specs.Reached.{IsReached}
-use Rattle.req_table.specs.Settled.{IsSettled, IsSplit, IsClosure, level_of_rows, key_of, asked_by, owed}
+use Rattle.req_table.specs.Settled.{IsSettled, IsSplit, IsClosure, level_of_rows, key_of, owed}
 use Rattle.req_table.specs.Tables.{row_at}
-use Rattle.req_table.proofs.Waved.{is_wave}
 use Rattle.req_table.proofs.Sized.{fair_in_wave, law_in_wave}
 use Rattle.lane_queue.specs.PortView.{LanesView, PortView, sent_to, put_to}
 use Rattle.lane_queue.specs.Make.{new_port}
@@ -29,6 +29,9 @@ use Rattle.expand_work.specs.Team.{AreNew, AreWorked}
 use Rattle.expand_work.specs.Expanded.{IsSettledFor, AreByNumber, put_by, bundles_between, row_of}
 use Rattle.expand_work.specs.Gathered.{AreParts, noted_of}
 use Rattle.expand_work.specs.Work.{at}
+use Rattle.expand_work.specs.Lean.{lean_row, records_of, recorded, AreLean}
+use Rattle.req_table.specs.declared.placed.Placed.{Placed}
+use Rattle.expand_work.proofs.Leaning.{recorded-at, keys_of_records}
 use Rattle.expand_work.proofs.Parting.{parts_settle}
 use Rattle.expand_work.proofs.Counting.{sum_add, sum_const}
 use Rattle.expand_work.proofs.Chain.{lanes_close}
@@ -93,6 +96,10 @@ module _ (w : Wave) (rows records : ℕ → List Record) (same : (v : ℕ) → v
     once = λ v vb. subst (AllPairs (λ (a b : Record). ¬ (a.key ≡ b.key))) (sym (same v vb)) (c.once v vb);
   }
 
+-- the keys of a level's records
+level_keys : (S : Nodes) (tables : List (List Key)) (u : ℕ) → map key_of (row_at (recorded S tables) u) ≡ at tables u
+level_keys S tables u = ap (map key_of) (recorded-at S tables u) ∙ keys_of_records S (at tables u)
+
 -- ---- the parts of all workers
 module _ (S : Nodes) (l : LanesView) (roots : List Key) (parts : List Part) (worked : AreWorked l S roots parts) where
   -- each port is the port of its worker
@@ -110,19 +117,44 @@ module _ (S : Nodes) (l : LanesView) (roots : List Key) (parts : List Part) (wor
         )),
   )
 
-  -- each worker has a row for each level
-  pub parts_levels : (n : ℕ) (rows : List (List (List Record))) → n ≡ S.levels → rows ≡ map (λ (p : Part). p.rows) parts → All (λ (r : List (List Record)). length r ≡ n) rows
-  parts_levels n rows n-is is = subst (All (λ (r : List (List Record)). length r ≡ n)) (sym is) (λ i d b.
-      let long : i < length parts = (let k = length-map parts (λ (p : Part). p.rows) in omega (arith, b, k)) in
+  -- each worker has a table for each level, with keys of the store
+  pub parts_tables : (P : List (List Key) → Type 0) → ((k : ℕ) (p : Part) → IsWorked l S roots k p → P p.tables) → (tables : List (List (List Key))) → tables ≡ map (λ (p : Part). p.tables) parts → All P tables
+  parts_tables P h tables is = subst (All P) (sym is) (λ i d b.
+      let long : i < length parts = (let k = length-map parts (λ (p : Part). p.tables) in omega (arith, b, k)) in
       let e = first_of parts (omega (arith, long)) in
-      let w = worked.each i e (let k = worked.long in omega (arith, long, k)) in
-      ap (λ (r : List (List Record)). length r) (get_or-map (λ (p : Part). p.rows) parts i e d long) ∙ w.levels ∙ sym n-is)
+      subst P (sym (get_or-map (λ (p : Part). p.tables) parts i e d long)) (h i (slice_index_or parts i e) (worked.each i e (let k = worked.long in omega (arith, long, k)))))
+
+-- the records of a part
+abbrev pub part_records : Nodes → Part → List (List Record)
+part_records S p = recorded S p.tables
+
+-- the records of all tables, told of the parts
+pub records_as : (S : Nodes) (parts : List Part) (tables : List (List (List Key))) → tables ≡ map (λ (p : Part). p.tables) parts → map (recorded S) tables ≡ map (part_records S) parts
+records_as S parts tables is = ap (map (recorded S)) is ∙ map-map (recorded S) (λ (p : Part). p.tables) parts
 
 -- the merged records, told of the parts
-pub merged_as : (S : Nodes) (parts : List Part) (rows : List (List (List Record))) (n : ℕ) (records : List (List Record)) → n ≡ S.levels → rows ≡ map (λ (p : Part). p.rows) parts
-    → ((v : ℕ) → v < n → row_at records v ≡ level_of_rows (length rows) (row_of rows) v) → (v : ℕ) → v < S.levels
-    → row_at records v ≡ level_of_rows (length (map (λ (p : Part). p.rows) parts)) (row_of (map (λ (p : Part). p.rows) parts)) v
-merged_as S parts rows n records n-is is h v b = subst (λ (xs : List (List (List Record))). row_at records v ≡ level_of_rows (length xs) (row_of xs) v) is (h v (omega (arith, b, n-is)))
+pub merged_as : (S : Nodes) (parts : List Part) (tables : List (List (List Key))) (records : List (List Record)) → tables ≡ map (λ (p : Part). p.tables) parts
+    → ((v : ℕ) → v < S.levels → row_at records v ≡ level_of_rows (length tables) (row_of (map (recorded S) tables)) v) → (v : ℕ) → v < S.levels
+    → row_at records v ≡ level_of_rows (length (map (part_records S) parts)) (row_of (map (part_records S) parts)) v
+merged_as S parts tables records is h v b =
+    let same = records_as S parts tables is in
+    let long : length tables ≡ length (map (part_records S) parts) = sym (length-map tables (recorded S)) ∙ ap (λ (rs : List (List (List Record))). length rs) same in
+    h v b ∙ (λ j. level_of_rows (long j) (row_of (same j)) v)
+
+-- two functions that are the same on the elements of a list
+map_same : {A B : Type 0} (f g : A → B) (xs : List A) → ((i : ℕ) (d : A) → i < length xs → f (slice_index_or xs i d) ≡ g (slice_index_or xs i d)) → map f xs ≡ map g xs
+map_same f g [] h = refl
+map_same f g (x ∷ xs) h = λ j. h 0 x (omega arith) j ∷ map_same f g xs (λ i d b. h (suc i) d (omega (arith, b))) j
+
+-- the rows of all workers are the children of their records
+pub parts_lean : (S : Nodes) (l : LanesView) (roots : List Key) (parts : List Part) → AreWorked l S roots parts → (tables : List (List (List Key))) (rows : List (List (List (Placed × Placed)))) → tables ≡ map (λ (p : Part). p.tables) parts → rows ≡ map (λ (p : Part). p.rows) parts
+    → AreLean (map (recorded S) tables) rows
+parts_lean S l roots parts worked tables rows tables-is rows-is =
+    let n = length (map (recorded S) tables) in
+    let wide : length l.lanes ≡ n = sym (length-map tables (recorded S) ∙ ap (λ (ts : List (List (List Key))). length ts) tables-is ∙ length-map parts (λ (p : Part). p.tables) ∙ worked.long) in
+    rows-is
+    ∙ map_same (λ (p : Part). p.rows) (λ (p : Part). map (lean_row n) (part_records S p)) parts (λ i d b. (worked.each i d (let k = worked.long in omega (arith, b, k))).lean ∙ ap (λ m. map (lean_row m) (part_records S (slice_index_or parts i d))) wide)
+    ∙ sym (map-map (map (lean_row n)) (part_records S) parts) ∙ ap (map (map (lean_row n))) (sym (records_as S parts tables tables-is))
 
 module _ (S : Nodes) (sound : IsSound S) (l : LanesView) (sizes : l.sizes ≡ sizes_of S) (some : 0 < length l.lanes) (roots : List Key) (parts : List Part) (worked : AreWorked l S roots parts)
     (ports : List PortView) (gone : AreRetired (length l.lanes) (map (λ (p : Part). p.port) parts) ports) (left : List (List Load)) (law : LawOfAll (length l.lanes) l.sizes ports left) where
@@ -131,7 +163,7 @@ module _ (S : Nodes) (sound : IsSound S) (l : LanesView) (sizes : l.sizes ≡ si
 
   -- the rows by worker
   abbrev pub rows : List (List (List Record))
-  rows = map (λ (p : Part). p.rows) parts
+  rows = map (part_records S) parts
 
   laws : LawOfAll (length l.lanes) (sizes_of S) ports left
   laws = subst (λ (c : Sizes). LawOfAll (length l.lanes) c ports left) sizes law
@@ -154,8 +186,8 @@ module _ (S : Nodes) (sound : IsSound S) (l : LanesView) (sizes : l.sizes ≡ si
       let d = first_of ports (omega (arith, m)) in
       sym (get_or-map (λ (p : PortView). p.taken) ports s d [] m ∙ ap (λ (p : PortView). p.taken) (port_at s b d))
 
-  records_at : (s : ℕ) (b : s < length l.lanes) → (part_at s b).rows ≡ slice_index_or rows s []
-  records_at s b = sym (get_or-map (λ (p : Part). p.rows) parts s (first_of parts (let k = worked.long in omega (arith, b, k))) [] (let k = worked.long in omega (arith, b, k)))
+  records_at : (s : ℕ) (b : s < length l.lanes) → part_records S (part_at s b) ≡ slice_index_or rows s []
+  records_at s b = sym (get_or-map (part_records S) parts s (first_of parts (let k = worked.long in omega (arith, b, k))) [] (let k = worked.long in omega (arith, b, k)))
 
   worked_at : (s : ℕ) (b : s < length l.lanes) → IsWorked l S roots s (part_at s b)
   worked_at s b = worked.each s (first_of parts (let k = worked.long in omega (arith, b, k))) b
@@ -163,8 +195,8 @@ module _ (S : Nodes) (sound : IsSound S) (l : LanesView) (sizes : l.sizes ≡ si
   part_in : (s : ℕ) → s < length l.lanes → IsPart w roots s (λ k. sent_from ports k s) (taken_by ports s) (row_of rows s)
   part_in s b =
       subst (λ (r : List (List Record)). IsPart w roots s (λ k. sent_from ports k s) (taken_by ports s) (row_at r)) (records_at s b)
-      (subst (λ (t : List Item). IsPart w roots s (λ k. sent_from ports k s) t (row_at (part_at s b).rows)) (takes s b)
-      (subst (λ (f : ℕ → List Item). IsPart w roots s f (part_at s b).port.taken (row_at (part_at s b).rows)) (λ i k. sends s b k i) (worked_at s b).part))
+      (subst (λ (t : List Item). IsPart w roots s (λ k. sent_from ports k s) t (row_at (part_records S (part_at s b)))) (takes s b)
+      (subst (λ (f : ℕ → List Item). IsPart w roots s f (part_at s b).port.taken (row_at (part_records S (part_at s b)))) (λ i k. sends s b k i) (worked_at s b).part))
 
   settles : IsSettled w roots (λ s k. sent_from ports k s) (λ k. taken_by ports k) (row_of rows)
   settles =
@@ -205,15 +237,16 @@ module _ (S : Nodes) (sound : IsSound S) (l : LanesView) (sizes : l.sizes ≡ si
   places_at s k sb kb =
       subst (λ (ns : List (List ℕ)). AllZip (λ x n. slice_get (map key_of (row_of rows k (level_of S x))) n ≡ Some x) (owed w roots (row_of rows s) s k) (at ns s)) (noted_at k kb)
       (subst (λ (r : List (List Record)). AllZip (λ x n. slice_get (map key_of (row_at r (level_of S x))) n ≡ Some x) (owed w roots (row_of rows s) s k) (at (part_at k kb).noted s)) (records_at k kb)
-      (subst (λ (xs : List Key). AllZip (λ x n. slice_get (map key_of (row_at (part_at k kb).rows (level_of S x))) n ≡ Some x) xs (at (part_at k kb).noted s))
+      (subst (λ (keys : ℕ → List Key). AllZip (λ x n. slice_get (keys (level_of S x)) n ≡ Some x) (owed w roots (row_of rows s) s k) (at (part_at k kb).noted s)) (λ i u. sym (level_keys S (part_at k kb).tables u) i)
+      (subst (λ (xs : List Key). AllZip (λ x n. slice_get (at (part_at k kb).tables (level_of S x)) n ≡ Some x) xs (at (part_at k kb).noted s))
       (ap (λ (t : List Item). asks (sent_by s t)) (takes k kb) ∙ ap asks (settles.all_taken s k sb kb) ∙ settles.all_sent s k sb kb)
-      ((worked_at k kb).noted.each s sb)))
+      ((worked_at k kb).noted.each s sb))))
 
-  pub are_parts : (workers : ℕ) → length l.lanes ≡ workers → (rs : List (List (List Record))) (ns : List (List (List ℕ))) → rs ≡ map (λ (p : Part). p.rows) parts → ns ≡ map (λ (p : Part). p.noted) parts
+  pub are_parts : (workers : ℕ) → length l.lanes ≡ workers → (rs : List (List (List Record))) (ns : List (List (List ℕ))) → rs ≡ map (part_records S) parts → ns ≡ map (λ (p : Part). p.noted) parts
       → AreParts S workers roots (record { rows = rs; noted = ns })
   are_parts workers wide rs ns rs-is ns-is = subst (λ (y : ℕ × List (List (List Record)) × List (List (List ℕ))). AreParts S y.0 roots (record { rows = y.1; noted = y.2 })) (λ i. (wide i, sym rs-is i, sym ns-is i)) (record {
-    many_rows = length-map parts (λ (p : Part). p.rows) ∙ worked.long;
-    levels = λ k b. ap (λ (r : List (List Record)). length r) (sym (records_at k b)) ∙ (worked_at k b).levels;
+    many_rows = length-map parts (part_records S) ∙ worked.long;
+    levels = λ k b. ap (λ (r : List (List Record)). length r) (sym (records_at k b)) ∙ length-map (part_at k b).tables (records_of S) ∙ (worked_at k b).levels;
     many_noted = length-map parts (λ (p : Part). p.noted) ∙ worked.long;
     senders = λ k b. ap (λ (n : List (List ℕ)). length n) (sym (noted_at k b)) ∙ (worked_at k b).noted.long;
     closure = lanes_close S sound (length l.lanes) some roots ports left (row_of rows) laws part_in;
@@ -222,7 +255,7 @@ module _ (S : Nodes) (sound : IsSound S) (l : LanesView) (sizes : l.sizes ≡ si
 
   module _ (records : List (List Record)) (merged : (v : ℕ) → v < S.levels → row_at records v ≡ level_of_rows (length rows) (row_of rows) v) where
     same : (v : ℕ) → v < S.levels → row_at records v ≡ level_of_rows (length l.lanes) (row_of rows) v
-    same v b = merged v b ∙ ap (λ n. level_of_rows n (row_of rows) v) (length-map parts (λ (p : Part). p.rows) ∙ worked.long)
+    same v b = merged v b ∙ ap (λ n. level_of_rows n (row_of rows) v) (length-map parts (part_records S) ∙ worked.long)
 
     pub settled_for : (workers : ℕ) → length l.lanes ≡ workers → IsSettledFor (wave_of S workers) roots (record { records = records; ports = ports })
     settled_for workers wide = subst (λ n. IsSettledFor (wave_of S n) roots (record { records = records; ports = ports })) wide (record { rows = row_of rows; settled = settles; merged = same })

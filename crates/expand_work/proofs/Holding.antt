@@ -1,6 +1,6 @@
 -- A worker keeps the keys that it owns.
-use Rattle.std.proofs.Common.{◌≡◌, ◌≢◌, ℕ, ◌+◌, ◌-◌, ◌<◌, ◌≤◌, List, [], ◌∷◌, ◌++◌, Some, map, take, length, get_or, set, All, refl, sym, ap, ◌∙◌, subst, arith, append_assoc, append-nil}
-use Rattle.std.proofs.lemmas.List.{map_more, length-map, take_all}
+use Rattle.std.proofs.Common.{◌≡◌, ℕ, ◌+◌, ◌-◌, ◌<◌, List, [], ◌∷◌, ◌++◌, Some, map, take, length, get_or, All, refl, sym, ap, ◌∙◌, subst, arith, append_assoc, append-nil}
+use Rattle.std.proofs.lemmas.List.{map_more, length-map}
 use Rattle.dd_store.specs.Nodes.{Nodes}
 use Rattle.req_table.specs.declared.Key.{Key}
 use Rattle.req_table.specs.declared.Item.{Item}
@@ -9,7 +9,7 @@ use Rattle.req_table.specs.declared.Sizes.{Sizes}
 use Rattle.req_table.specs.Keys.{level_of}
 use Rattle.req_table.specs.Sizes.{scope_of}
 use Rattle.req_table.specs.Lanes.{sent_by, ends, MayFollow, IsFair, IsClosed}
-use Rattle.req_table.proofs.Lists.{Has, each, all_of, map_has, Has-map}
+use Rattle.req_table.proofs.Lists.{each, all_of, map_has, Has-map}
 use Rattle.req_table.proofs.Fair.{ends-append, sent_by-append, counted_of_closed}
 use Rattle.level_close.specs.Counts.{Counts}
 use Rattle.lane_queue.specs.declared.load.Load.TheVariants.{Bundle}
@@ -17,8 +17,8 @@ use Rattle.lane_queue.specs.Loads.{ask_of}
 use Rattle.lane_queue.specs.PortView.{LanesView, PortView, sent_to, has_kept, IsPortOf, lanes_scope, port_scope}
 use Rattle.lane_queue.proofs.Facts.{fair-more, load-mine, of-mine}
 use Rattle.lane_queue.proofs.Keeping.{sent-own, sent-other}
-use Rattle.expand_work.specs.Work.{at, item_of, MaySend, HasKept, with_levels, Offered, IsHeard, StaysClosed}
-use Rattle.expand_work.proofs.Saying.{ends-items, same_port, port_on, still_of}
+use Rattle.expand_work.specs.Work.{item_of, MaySend, HasKept, with_levels, Offered, IsHeard, StaysClosed}
+use Rattle.expand_work.proofs.Saying.{ends-items, same_port, port_on}
 use Rattle.expand_work.proofs.Hearing.{closed_more}
 use Rattle.expand_work.specs.Noted.{EntersAt}
 use Rattle.expand_work.proofs.Taking.{offered-more, offered-long, hear_asks, asks_stay}

@@ -1,15 +1,11 @@
 -- What becomes due goes to its owner.
-use Rattle.std.proofs.Common.{◌≡◌, ℕ, ◌+◌, ◌%◌, ◌<◌, Bool, true, false, cond, eqb, List, [], ◌∷◌, ◌++◌, length, get_or, set, map, filter, take, All, refl, sym, ap, ◌∙◌, subst, arith, append-nil, append_assoc, eqb-true, eq-eqb, get_or-set_same, get_or-set_other, inl, inr}
+use Rattle.std.proofs.Common.{◌≡◌, ℕ, ◌+◌, ◌%◌, ◌<◌, Bool, true, false, cond, eqb, List, [], ◌∷◌, ◌++◌, length, get_or, set, filter, take, refl, sym, ap, ◌∙◌, subst, arith, append-nil, append_assoc, eqb-true, eq-eqb, get_or-set_same, get_or-set_other}
 use Rattle.std.proofs.lemmas.List.{take_more, length-take}
 use Rattle.std.proofs.lemmas.List.Elements.{filter-append}
 use Rattle.req_table.specs.declared.Key.{Key}
 use Rattle.req_table.specs.declared.Record.{Record}
-use Rattle.dd_store.specs.Nodes.{Nodes}
-use Rattle.req_table.specs.Keys.{owner, record_of, wave_of}
-use Rattle.req_table.specs.Wave.{Wave}
-use Rattle.req_table.specs.Settled.{IsSplit, key_of, asked, asked_by, dealt_from}
-use Rattle.req_table.proofs.Lists.{each, all_of, Has-append_cases}
-use Rattle.req_table.proofs.Closure.{map-append_lem}
+use Rattle.req_table.specs.Keys.{owner}
+use Rattle.req_table.specs.Settled.{asked, asked_by, dealt_from}
 use Rattle.expand_work.specs.Work.{at, owned_by}
 use Rattle.expand_work.proofs.Counting.{asked_by-append}
 
@@ -30,24 +26,6 @@ asks_more p rs r xs e =
     ∙ ap (λ l. filter p (asked_by rs) ++ l) (sym (filter-append p (asked r.low) (asked r.high)))
     ∙ sym (filter-append p (asked_by rs) (asked r.low ++ asked r.high))
     ∙ ap (filter p) (sym (asked_by-append rs (r ∷ []) ∙ ap (λ l. asked_by rs ++ l) (append-nil (asked r.low ++ asked r.high))))
-
-pub split_more : (w : Wave) (rs : List Record) (r : Record) → All (IsSplit w) rs → IsSplit w r → All (IsSplit w) (rs ++ r ∷ [])
-split_more w rs r a s = all_of (IsSplit w) (rs ++ r ∷ []) (λ q h. elim (Has-append_cases rs (r ∷ []) q h) [ inl i ↦ each (IsSplit w) rs q a i | inr j ↦ elim j [ inl e ↦ subst (IsSplit w) e s | inr n ↦ absurd n ] ])
-
-pub keys_more : (rs rs' : List Record) (r : Record) (keys : List Key) (i : ℕ) → map key_of rs ≡ take i keys → rs' ≡ rs ++ r ∷ [] → r.key ≡ get_or keys i r.key → i < length keys → map key_of rs' ≡ take (i + 1) keys
-keys_more rs rs' r keys i e g k l = ap (map key_of) g ∙ map-append_lem rs (r ∷ []) ∙ ap (λ m. m ++ r.key ∷ []) e ∙ ap (λ x. take i keys ++ x ∷ []) k ∙ sym (take_more keys i r.key l)
-
-pub row_more : (S : Nodes) (n : ℕ) (rs rs' : List Record) (x : Key) (r : Record) (keys : List Key) (i : ℕ) (xs ys zs : List (List Key)) → i < length keys
-    → (map key_of rs ≡ take i keys) × All (IsSplit (wave_of S n)) rs × (length xs ≡ n) × ((k : ℕ) → k < n → at xs k ≡ filter (owned_by n k) (asked_by rs))
-    → x ≡ get_or keys i x → r ≡ record_of S x → rs' ≡ rs ++ r ∷ []
-    → ((k : ℕ) → k < n → at ys k ≡ at xs k ++ filter (owned_by n k) (asked r.low)) → length zs ≡ n → ((k : ℕ) → k < n → at zs k ≡ at ys k ++ filter (owned_by n k) (asked r.high))
-    → (map key_of rs' ≡ take (i + 1) keys) × All (IsSplit (wave_of S n)) rs' × (length zs ≡ n) × ((k : ℕ) → k < n → at zs k ≡ filter (owned_by n k) (asked_by rs'))
-row_more S n rs rs' x r keys i xs ys zs l h x-is r-is g low long high = (
-  keys_more rs rs' r keys i h.0 g (subst (λ k. k ≡ get_or keys i k) (ap (λ (q : Record). q.key) (sym r-is)) x-is) l,
-  subst (All (IsSplit (wave_of S n))) (sym g) (split_more (wave_of S n) rs r h.1 (subst (IsSplit (wave_of S n)) (sym r-is) (refl, refl))),
-  long,
-  (λ k kb. high k kb ∙ ap (λ m. m ++ filter (owned_by n k) (asked r.high)) (low k kb) ∙ asks_more (owned_by n k) rs r (at xs k) (h.3 k kb) ∙ ap (λ m. filter (owned_by n k) (asked_by m)) (sym g)),
-)
 
 -- one more root
 pub dealt-append : (m s i : ℕ) (xs : List Key) (x : Key) → dealt_from m s i (xs ++ x ∷ []) ≡ dealt_from m s i xs ++ cond (eqb ((i + length xs) % m) s) (x ∷ []) []

@@ -1,9 +1,7 @@
 -- One level of a worker, from what its calls say.
-use Rattle.std.proofs.Common.{◌≡◌, ℕ, suc, ◌+◌, ◌-◌, ◌<◌, ◌≤◌, true, false, cond, eqb, List, [], ◌∷◌, ◌++◌, map, filter, length, get_or, All, refl, sym, ap, ◌∙◌, subst, arith, eqb-true, eq-eqb, ne_eqb, append-nil}
-use Rattle.std.proofs.lemmas.List.{length-append, get_or_append_left}
-use Rattle.std.proofs.Math.Seq.{get_or-append_seam}
+use Rattle.std.proofs.Common.{◌≡◌, ◌≢◌, ℕ, suc, ◌+◌, ◌-◌, ◌<◌, ◌≤◌, true, false, cond, eqb, List, [], ◌∷◌, ◌++◌, map, filter, length, get_or, All, refl, sym, ap, ◌∙◌, subst, arith, eqb-true, eq-eqb, ne_eqb, append-nil, set, get_or-set_same, get_or-set_other}
+use Rattle.std.proofs.lemmas.List.{length-set}
 use Rattle.req_table.specs.declared.Key.{Key}
-use Rattle.req_table.specs.declared.Record.{Record}
 use Rattle.req_table.specs.declared.Item.{Item}
 use Rattle.req_table.specs.declared.Item.TheVariants.{End}
 use Rattle.req_table.specs.Lanes.{sent_by, ends, MayFollow, IsFair, IsClosed}
@@ -11,7 +9,7 @@ use Rattle.req_table.specs.Settled.{IsSplit, key_of, asked_by}
 use Rattle.req_table.proofs.Fair.{ends-append}
 use Rattle.level_close.specs.Counts.{Counts}
 use Rattle.dd_store.specs.Nodes.{Nodes}
-use Rattle.req_table.specs.Keys.{IsKey, level_of, wave_of}
+use Rattle.req_table.specs.Keys.{IsKey, level_of}
 use Rattle.req_table.specs.Sizes.{sizes_of, scope_of, IsKeyOf}
 use Rattle.req_table.proofs.Sized.{key_of_sizes}
 use Rattle.req_table.proofs.Lists.{each, all_of}
@@ -27,6 +25,9 @@ use Rattle.expand_work.proofs.Waves.{lanes_laws}
 use Rattle.expand_work.proofs.Saying.{ends-items, still_of, may_still}
 use Rattle.expand_work.proofs.Parting.{ends_of_closed}
 use Rattle.expand_work.proofs.Hearing.{stays_on}
+use Rattle.expand_work.proofs.Leaning.{keys_of_records, split_records, recorded-at}
+use Rattle.expand_work.specs.Lean.{lean_row, records_of, recorded}
+use Rattle.req_table.specs.declared.placed.Placed.{Placed}
 use mathlib.Core.Logic.{dite}
 use native.Mathlib.Decide.{ℕ_discrete}
 use Rattle.std.specs.Prelude.{slice_index_or}
@@ -102,14 +103,14 @@ module _ (l : LanesView) (s : Nodes) (roots : List Key) (v : ℕ) (w : Worker) (
         ∙ (let a = h.level.ended k kb in let z = ends-items s w.port.number (at w.due k) in omega (arith, a, z))
 
     -- ---- the level's Ends were sent, and it was closed
-    module _ (p2 p3 : PortView) (clock : Counts) (heldt tables : List (List Key)) (row : List Record) (due : List (List Key)) (rows : List (List Record))
+    module _ (p2 p3 : PortView) (clock : Counts) (heldt tables : List (List Key)) (row : List (Placed × Placed)) (due : List (List Key)) (rows : List (List (Placed × Placed)))
         (vb : v < s.levels) (stay1 : StaysClosed (lanes_scope l) p.taken q.taken w.tables heldt)
         (s2 : SentToAll q p2 (length l.lanes) (λ k. End q.number v ∷ []) (λ k. 1))
         (s3 : p3 ≡ record p2 { popped = p3.popped; taken = p3.taken })
         (heard : IsHeard (lanes_scope l) p3.taken clock tables) (stay2 : StaysClosed (lanes_scope l) p2.taken p3.taken heldt tables)
         (closed : IsClosed (lanes_scope l) v p3.taken)
-        (keys : map key_of row ≡ at tables v) (split : All (IsSplit (wave_of s (length l.lanes))) row) (many : length due ≡ length l.lanes)
-        (owed : (k : ℕ) → k < length l.lanes → at due k ≡ filter (owned_by (length l.lanes) k) (asked_by row)) (rows-is : rows ≡ w.rows ++ row ∷ []) (noted : List (List ℕ)) (noting : IsNoted (length l.lanes) p3.taken tables noted) where
+        (row-is : row ≡ lean_row (length l.lanes) (records_of s (at tables v))) (many : length due ≡ length l.lanes)
+        (owed : (k : ℕ) → k < length l.lanes → at due k ≡ filter (owned_by (length l.lanes) k) (asked_by (records_of s (at tables v)))) (rows-is : rows ≡ set w.rows v row) (noted : List (List ℕ)) (noting : IsNoted (length l.lanes) p3.taken tables noted) where
       pub number_same : p3.number ≡ w.port.number
       number_same = ap (λ (q : PortView). q.number) s3 ∙ s2.port.0 ∙ number_kept
 
@@ -117,10 +118,10 @@ module _ (l : LanesView) (s : Nodes) (roots : List Key) (v : ℕ) (w : Worker) (
       stays = stays_on (lanes_scope l) w.port.taken q.taken p3.taken w.tables heldt tables (subst (λ xs. StaysClosed (lanes_scope l) xs q.taken w.tables heldt) s1.taken stay1) (subst (λ xs. StaysClosed (lanes_scope l) xs p3.taken heldt tables) s2.taken stay2)
 
       row_here : at rows v ≡ row
-      row_here = ap (λ m. get_or m v []) rows-is ∙ ap (λ n. get_or (w.rows ++ row ∷ []) n []) (sym h.many_rows) ∙ get_or-append_seam w.rows row [] []
+      row_here = ap (λ m. get_or m v []) rows-is ∙ get_or-set_same w.rows v row [] (let z = h.many_rows in omega (arith, z, vb))
 
-      row_below : (u : ℕ) → u < v → at rows u ≡ at w.rows u
-      row_below u ub = ap (λ m. get_or m u []) rows-is ∙ get_or_append_left w.rows (row ∷ []) [] u (let z = h.many_rows in omega (arith, z, ub))
+      row_other : (u : ℕ) → u ≢ v → at rows u ≡ at w.rows u
+      row_other u m = ap (λ n. get_or n u []) rows-is ∙ get_or-set_other w.rows v u row [] m
 
       heard' : IsHeard (scope_of (length l.lanes) (sizes_of s)) p3.taken clock tables
       heard' = subst (λ z. IsHeard (scope_of (length l.lanes) z) p3.taken clock tables) h.sizes heard
@@ -131,7 +132,7 @@ module _ (l : LanesView) (s : Nodes) (roots : List Key) (v : ℕ) (w : Worker) (
       sends : (k : ℕ) → k < length l.lanes → sent_to p3 k ≡ (sent_to w.port k ++ map (item_of s w.port.number) (at w.due k)) ++ End w.port.number v ∷ []
       sends k kb = ap (λ (q : PortView). sent_to q k) s3 ∙ s2.sent k kb ∙ (λ j. sent_all k kb j ++ End (number_kept j) v ∷ [])
 
-      done : IsLevelDone (lanes_wave s (length l.lanes)) w.port.number v (sent_to w.port) w.port.taken (at w.due) (at w.tables) (at w.rows) (sent_to p3) p3.taken (at due) (at tables) (at rows)
+      done : IsLevelDone (lanes_wave s (length l.lanes)) w.port.number v (sent_to w.port) w.port.taken (at w.due) (at w.tables) (at (recorded s w.tables)) (sent_to p3) p3.taken (at due) (at tables) (at (recorded s tables))
       done = record {
         sends = sends;
         fair = heard'.fair;
@@ -142,11 +143,16 @@ module _ (l : LanesView) (s : Nodes) (roots : List Key) (v : ℕ) (w : Worker) (
         ] refl;
         tabled = heard'.tabled;
         tables_stay = λ u ub. stays.same u (was_closed u ub);
-        rows_stay = row_below;
-        rowed = ap (map key_of) row_here ∙ keys;
-        split = subst (All (IsSplit (lanes_wave s (length l.lanes)))) (sym row_here) split;
-        dues = λ k kb. owed k kb ∙ ap (λ rs. filter (owned_by (length l.lanes) k) (asked_by rs)) (sym row_here);
+        rows_stay = λ u ub. recorded-at s tables u ∙ ap (records_of s) (stays.same u (was_closed u ub)) ∙ sym (recorded-at s w.tables u);
+        rowed = ap (map key_of) (recorded-at s tables v) ∙ keys_of_records s (at tables v);
+        split = subst (All (IsSplit (lanes_wave s (length l.lanes)))) (sym (recorded-at s tables v)) (split_records s (length l.lanes) (at tables v));
+        dues = λ k kb. owed k kb ∙ ap (λ rs. filter (owned_by (length l.lanes) k) (asked_by rs)) (sym (recorded-at s tables v));
       }
+
+      lean_next : (u : ℕ) → u < v + 1 → at rows u ≡ lean_row (length l.lanes) (records_of s (at tables u))
+      lean_next u ub = dite (ℕ_discrete u v)
+          (λ e. subst (λ m. at rows m ≡ lean_row (length l.lanes) (records_of s (at tables m))) (sym e) (row_here ∙ row-is))
+          (λ m. (let less : u < v = omega (arith, ub, m) in row_other u m ∙ h.lean u less ∙ ap (λ ks. lean_row (length l.lanes) (records_of s ks)) (sym (stays.same u (was_closed u less)))))
 
       puts : (k : ℕ) → k < length l.lanes → put_to p3 k ≡ loads_of (v + 1) p3.number k (sent_to p3 k)
       puts k kb =
@@ -158,7 +164,7 @@ module _ (l : LanesView) (s : Nodes) (roots : List Key) (v : ℕ) (w : Worker) (
       pub level_next : IsWorking l s roots (v + 1) (record { port = p3; clock = clock; tables = tables; noted = noted; rows = rows; due = due })
       level_next =
           let some : 0 < length l.lanes = (let z = h.within in omega (arith, z)) in
-          let next = advances (lanes_wave s (length l.lanes)) (lanes_laws s h.sound (length l.lanes) some) roots w.port.number v (sent_to w.port) w.port.taken (at w.due) (at w.tables) (at w.rows) (sent_to p3) p3.taken (at due) (at tables) (at rows) vb h.level done in
+          let next = advances (lanes_wave s (length l.lanes)) (lanes_laws s h.sound (length l.lanes) some) roots w.port.number v (sent_to w.port) w.port.taken (at w.due) (at w.tables) (at (recorded s w.tables)) (sent_to p3) p3.taken (at due) (at tables) (at (recorded s tables)) vb h.level done in
           let up : suc v ≡ v + 1 = omega arith in
           record {
             port = (ap (λ (q : PortView). q.lanes) s3 ∙ s2.port.1 ∙ port_kept.0, ap (λ (q : PortView). q.sizes) s3 ∙ s2.port.2 ∙ port_kept.1);
@@ -167,9 +173,10 @@ module _ (l : LanesView) (s : Nodes) (roots : List Key) (v : ℕ) (w : Worker) (
             sound = h.sound;
             heard = heard;
             noted = noting;
-            many_rows = ap (λ m. length m) rows-is ∙ length-append w.rows (row ∷ []) ∙ ap (λ n. n + 1) h.many_rows;
+            many_rows = ap (λ m. length m) rows-is ∙ length-set w.rows v row ∙ h.many_rows;
+            lean = lean_next;
             many_due = many;
-            level = subst (λ n. IsAt (lanes_wave s (length l.lanes)) roots n (v + 1) (sent_to p3) p3.taken (at due) (at tables) (at rows)) (sym number_same)
-                (subst (λ n. IsAt (lanes_wave s (length l.lanes)) roots w.port.number n (sent_to p3) p3.taken (at due) (at tables) (at rows)) up next);
+            level = subst (λ n. IsAt (lanes_wave s (length l.lanes)) roots n (v + 1) (sent_to p3) p3.taken (at due) (at tables) (at (recorded s tables))) (sym number_same)
+                (subst (λ n. IsAt (lanes_wave s (length l.lanes)) roots w.port.number n (sent_to p3) p3.taken (at due) (at tables) (at (recorded s tables))) up next);
             put = puts;
           }

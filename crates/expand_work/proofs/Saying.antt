@@ -1,6 +1,6 @@
 -- A worker sends bundles, lane after lane.
-use Rattle.std.proofs.Common.{◌≡◌, ◌≢◌, ℕ, zero, suc, ◌+◌, ◌*◌, ◌/◌, ◌-◌, ◌<◌, ◌≤◌, cond, eqb, List, [], ◌∷◌, ◌++◌, map, take, length, get_or, All, refl, sym, ap, ◌∙◌, subst, arith, append_assoc, append-nil, eq-eqb, ne_eqb}
-use Rattle.std.proofs.lemmas.List.{map_more, map-append, length-map, length-append, length-take, take_more, take_all}
+use Rattle.std.proofs.Common.{◌≡◌, ◌≢◌, ℕ, zero, suc, ◌+◌, ◌*◌, ◌-◌, ◌<◌, ◌≤◌, cond, List, [], ◌∷◌, ◌++◌, map, take, length, get_or, All, refl, sym, ap, ◌∙◌, subst, arith, append_assoc, append-nil, eq-eqb, ne_eqb}
+use Rattle.std.proofs.lemmas.List.{map_more, map-append, length-map, length-append, length-take}
 use Rattle.std.proofs.lemmas.List.Elements.{All-append}
 use mathlib.Core.Logic.{dite}
 use native.Mathlib.Decide.{ℕ_discrete}
@@ -16,7 +16,7 @@ use Rattle.lane_queue.specs.declared.load.Load.{Load}
 use Rattle.lane_queue.specs.Loads.{ask_of, items_in}
 use Rattle.lane_queue.specs.PortView.{LanesView, PortView, sent_to, put_to, has_put, IsPortOf, MayLeave, lanes_scope}
 use Rattle.expand_work.specs.Parts.{bundles}
-use Rattle.expand_work.specs.Work.{at, item_of, MaySend, IsSamePort, SentTo, SentToAll, put_items, put_loads}
+use Rattle.expand_work.specs.Work.{item_of, MaySend, IsSamePort, SentTo, SentToAll, put_items, put_loads}
 
 pub ends-items : (S : Nodes) (s : ℕ) (xs : List Key) → ends (map (item_of S s) xs) ≡ 0
 ends-items S s [] = refl

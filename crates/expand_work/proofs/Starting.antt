@@ -1,13 +1,14 @@
 -- A worker before its first level, and after its last.
-use Rattle.std.proofs.Common.{◌≡◌, ℕ, ◌<◌, ◌≤◌, List, [], Some, replicate, filter, map, length, get_or, All, sym, ap, ◌∙◌, subst, arith}
-use Rattle.std.proofs.lemmas.List.{length-map, length-replicate, get_or-replicate}
+use Rattle.std.proofs.Common.{◌≡◌, ℕ, ◌<◌, ◌≤◌, List, [], Some, replicate, filter, map, length, get_or, All, refl, sym, ap, ◌∙◌, subst, arith}
+use Rattle.std.proofs.lemmas.List.{length-map, length-replicate, get_or-replicate, ext_get_or}
+use Rattle.std.proofs.Math.ListN as listn
 use Rattle.std.proofs.lemmas.List.Elements.{All-nil}
 use Rattle.req_table.specs.declared.Key.{Key}
 use Rattle.req_table.specs.declared.Record.{Record}
 use Rattle.req_table.specs.declared.Item.{Item}
 use Rattle.req_table.specs.Wave.{Scope, Wave}
 use Rattle.req_table.specs.Lanes.{from_of, sent_by, ends, asks_at, IsFair, HasSenders}
-use Rattle.req_table.specs.Settled.{IsDistinctOf, key_of, dealt_from, is_owned}
+use Rattle.req_table.specs.Settled.{IsDistinctOf, dealt_from, is_owned}
 use Rattle.req_table.proofs.Lists.{each, all_of, filter_has}
 use Rattle.req_table.proofs.Rows.{dealt_has}
 use Rattle.level_close.specs.Counts.{Counts}
@@ -24,9 +25,19 @@ use Rattle.expand_work.specs.Parts.{asks_behind, loads_of, IsAt, IsPart}
 use Rattle.expand_work.specs.Work.{at, owned_by, lanes_wave, IsHeard}
 use Rattle.expand_work.specs.Working.{IsWorking}
 use Rattle.expand_work.specs.Worked.{IsFresh, IsWorked}
+use Rattle.expand_work.specs.Lean.{lean_row, records_of, recorded}
+use Rattle.req_table.specs.declared.placed.Placed.{Placed}
 use Rattle.expand_work.proofs.Waves.{lanes_laws, part_in_wave}
 use Rattle.expand_work.proofs.Levels.{ends_whole, loads-none}
 use Rattle.expand_work.proofs.Noting.{none_noted, fair_places}
+use Rattle.expand_work.proofs.Leaning.{recorded-at}
+use Rattle.expand_work.proofs.Rounds.{keys_held}
+
+-- rows that are the children of their levels' records, one by one
+leans : (S : Nodes) (n : ℕ) (tables : List (List Key)) (rows : List (List (Placed × Placed))) → length rows ≡ length tables → ((u : ℕ) → u < length tables → at rows u ≡ lean_row n (records_of S (at tables u))) → rows ≡ map (lean_row n) (recorded S tables)
+leans S n tables rows long each =
+    ext_get_or [] rows (map (lean_row n) (recorded S tables)) (long ∙ sym (length-map (recorded S tables) (lean_row n) ∙ length-map tables (records_of S)))
+    (λ u ub. each u (omega (arith, ub, long)) ∙ ap (lean_row n) (sym (recorded-at S tables u)) ∙ sym (listn.get_or-map (lean_row n) (recorded S tables) u []))
 
 pub starts_at : (w : Wave) (roots : List Key) (s : ℕ) (sent : ℕ → List Item) (taken : List Item) (due tables : ℕ → List Key) (rows : ℕ → List Record) → All w.Holds roots
     → ((k : ℕ) → sent k ≡ []) → taken ≡ [] → ((u : ℕ) → u < w.levels → tables u ≡ []) → ((k : ℕ) → k < w.workers → due k ≡ filter (is_owned w k) (dealt_from w.workers s 0 roots))
@@ -56,9 +67,9 @@ starts_heard c taken clock tables nothing clock-is tables-is = record {
   tabled = λ u ub. subst (λ xs. IsDistinctOf (asks_at u xs) (at tables u)) (sym nothing) (sym (ap (λ ts. get_or ts u []) tables-is ∙ get_or-replicate c.levels u [] [] ub));
 }
 
-pub starts_working : (l : LanesView) (S : Nodes) (roots : List Key) (p : PortView) (clock : Counts) (tables : List (List Key)) (noted : List (List ℕ)) (rows : List (List Record)) (due : List (List Key))
+pub starts_working : (l : LanesView) (S : Nodes) (roots : List Key) (p : PortView) (clock : Counts) (tables : List (List Key)) (noted : List (List ℕ)) (rows : List (List (Placed × Placed))) (due : List (List Key))
     → IsPortOf l p → p.number < length l.lanes → IsFresh p → l.sizes ≡ sizes_of S → IsSound S → All (IsKey S) roots
-    → clock ≡ record { levels = S.levels; ended = replicate (length l.lanes) 0 } → tables ≡ replicate S.levels [] → noted ≡ replicate (length l.lanes) [] → rows ≡ [] → length due ≡ length l.lanes
+    → clock ≡ record { levels = S.levels; ended = replicate (length l.lanes) 0 } → tables ≡ replicate S.levels [] → noted ≡ replicate (length l.lanes) [] → rows ≡ replicate S.levels [] → length due ≡ length l.lanes
     → ((k : ℕ) → k < length l.lanes → at due k ≡ filter (owned_by (length l.lanes) k) (dealt_from (length l.lanes) p.number 0 roots))
     → IsWorking l S roots 0 (record { port = p; clock = clock; tables = tables; noted = noted; rows = rows; due = due })
 starts_working l S roots p clock tables noted rows due o b fresh sizes sound held clock-is tables-is noted-is rows-is many e = record {
@@ -68,30 +79,32 @@ starts_working l S roots p clock tables noted rows due o b fresh sizes sound hel
   sound = sound;
   heard = subst (λ z. IsHeard (scope_of (length l.lanes) z) p.taken clock tables) (sym sizes) (starts_heard (scope_of (length l.lanes) (sizes_of S)) p.taken clock tables fresh.1 clock-is tables-is);
   noted = none_noted (length l.lanes) p.taken tables noted fresh.1 noted-is;
-  many_rows = ap (λ m. length m) rows-is;
+  many_rows = ap (λ m. length m) rows-is ∙ length-replicate S.levels [];
+  lean = λ u ub. absurd (omega (arith, ub));
   many_due = many;
-  level = starts_at (lanes_wave S (length l.lanes)) roots p.number (sent_to p) p.taken (at due) (at tables) (at rows)
+  level = starts_at (lanes_wave S (length l.lanes)) roots p.number (sent_to p) p.taken (at due) (at tables) (at (recorded S tables))
       (all_of (IsKeyOf (sizes_of S)) roots (λ x h. sizes_of_key S x (each (IsKey S) roots x held h))) fresh.0 fresh.1
       (λ u ub. ap (λ ts. get_or ts u []) tables-is ∙ get_or-replicate S.levels u [] [] ub) e;
   put = λ k kb. fresh.2 k ∙ sym (loads-none p.number k (sent_to p k));
 }
 
-pub ends_worked : (l : LanesView) (S : Nodes) (roots : List Key) (n : ℕ) (w : Worker) (p : Part) → IsWorking l S roots S.levels w → length w.port.put ≡ length l.lanes → w.port.number ≡ n → p.port ≡ w.port → p.rows ≡ w.rows → p.noted ≡ w.noted → IsWorked l S roots n p
-ends_worked l S roots n w p h lists num port-is rows-is noted-is =
+pub ends_worked : (l : LanesView) (S : Nodes) (roots : List Key) (n : ℕ) (w : Worker) (p : Part) → IsWorking l S roots S.levels w → length w.port.put ≡ length l.lanes → w.port.number ≡ n → p ≡ record { port = w.port; tables = w.tables; rows = w.rows; noted = w.noted } → IsWorked l S roots n p
+ends_worked l S roots n w p h lists num is =
     let some : 0 < length l.lanes = (let z = h.within in omega (arith, z)) in
-    let q : Part = record { port = w.port; rows = w.rows; noted = w.noted } in
-    let same : p ≡ q = λ i. record { port = port-is i; rows = rows-is i; noted = noted-is i } in
-    subst (IsWorked l S roots n) (sym same) (record {
+    let many : length w.tables ≡ S.levels = h.heard.many ∙ ap (λ (c : Sizes). c.levels) h.sizes in
+    subst (IsWorked l S roots n) (sym is) (record {
       ports = h.port;
       number = num;
       lists = lists;
-      levels = h.many_rows;
-      part = subst (λ m. IsPart (wave_of S (length l.lanes)) roots m (sent_to w.port) w.port.taken (row_at w.rows)) num
-          (part_in_wave S (length l.lanes) roots w.port.number (sent_to w.port) w.port.taken (row_at w.rows)
-          (ends_whole (lanes_wave S (length l.lanes)) (lanes_laws S h.sound (length l.lanes) some) roots w.port.number (sent_to w.port) w.port.taken (at w.due) (at w.tables) (at w.rows) h.level));
+      levels = many;
+      keys = λ u ub. keys_held l S u w.port.taken w.clock w.tables h.sizes ub h.heard;
+      lean = leans S (length l.lanes) w.tables w.rows (h.many_rows ∙ sym many) (λ u ub. h.lean u (omega (arith, ub, many)));
+      part = subst (λ m. IsPart (wave_of S (length l.lanes)) roots m (sent_to w.port) w.port.taken (row_at (recorded S w.tables))) num
+          (part_in_wave S (length l.lanes) roots w.port.number (sent_to w.port) w.port.taken (row_at (recorded S w.tables))
+          (ends_whole (lanes_wave S (length l.lanes)) (lanes_laws S h.sound (length l.lanes) some) roots w.port.number (sent_to w.port) w.port.taken (at w.due) (at w.tables) (at (recorded S w.tables)) h.level));
       noted = record {
         long = h.noted.long;
-        each = λ t tb. fair_places (scope_of (length l.lanes) (sizes_of S)) 0 (sent_by t w.port.taken) (at w.tables) (λ u. map key_of (row_at w.rows u)) (at w.noted t) (subst (λ (c : Sizes). IsFair (scope_of (length l.lanes) c) (sent_by t w.port.taken)) h.sizes (h.heard.fair t tb)) h.level.rowed (h.noted.each t tb);
+        each = λ t tb. fair_places (scope_of (length l.lanes) (sizes_of S)) 0 (sent_by t w.port.taken) (at w.tables) (at w.tables) (at w.noted t) (subst (λ (c : Sizes). IsFair (scope_of (length l.lanes) c) (sent_by t w.port.taken)) h.sizes (h.heard.fair t tb)) (λ u ub. refl) (h.noted.each t tb);
       };
       put = λ k kb. h.put k kb ∙ ap (λ m. loads_of S.levels m k (sent_to w.port k)) num;
     })

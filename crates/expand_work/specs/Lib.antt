@@ -7,4 +7,5 @@ pub mod Working
 pub mod Team
 pub mod Expanded
 pub mod Gathered
+pub mod Lean
 pub mod Bounds

@@ -1,66 +1,69 @@
-//! What a worker records, and what becomes due by that.
-ghost use Rattle.std.specs.Prelude.{◌≡◌, ℕ, ◌<◌, [], ◌∷◌, ◌++◌, length, map, filter, All, IfOk, OnOk};
-ghost use Rattle.req_table.specs.Keys.{IsKey, wave_of};
-ghost use Rattle.req_table.specs.Settled.{IsSplit, key_of, asked, asked_by, dealt_from};
+//! What a worker keeps of its requests' children, and what becomes due by that.
+ghost use Rattle.std.specs.Prelude.{◌≡◌, ℕ, ◌<◌, [], ◌∷◌, ◌++◌, length, filter, All, IfOk, OnOk};
+ghost use Rattle.req_table.specs.Keys.{IsKey, owner as owner_spec};
+ghost use Rattle.req_table.specs.Settled.{asked, asked_by, dealt_from};
+ghost use Rattle.expand_work.specs.Lean.{lean, lean_row, records_of};
 ghost use Rattle.expand_work.specs.Work.{at, owned_by};
 
 use crate::lists::KeyLists;
 use dd_store::Store;
 use req_table::requests::{owner, split};
-use req_table::{Child, Key, Record};
+use req_table::{Child, Key, Placed};
 use std::alloc::{AllocError, Global};
 
-// The key becomes due from its owner.
-fn push_key(due: &mut KeyLists, key: Key, workers: u32) -> Result<(), AllocError>
+// The key becomes due from its owner, which is answered.
+fn push_key(due: &mut KeyLists, key: Key, workers: u32) -> Result<u32, AllocError>
     requires long { length due.old ≡ workers }
     requires some { 0 < workers }
+    ensures owner { IfOk result (λ o. o ≡ owner_spec workers key) }
     ensures long { OnOk result (length due.new ≡ workers) }
     ensures grown { OnOk result ((k : ℕ) → k < workers
         → at due.new k ≡ at due.old k ++ filter (owned_by workers k) (key ∷ [])) }
 {
-    due.push(owner(key, workers), key)?;
-    Ok(())
+    let owner = owner(key, workers);
+    due.push(owner, key)?;
+    Ok(owner)
 }
 
-// A child that is asked for becomes due from its owner.
-fn push_child(due: &mut KeyLists, child: Child, workers: u32) -> Result<(), AllocError>
+// A child in eight bytes. One that is asked for becomes due from its owner.
+fn push_child(due: &mut KeyLists, child: Child, workers: u32) -> Result<Placed, AllocError>
     requires long { length due.old ≡ workers }
     requires some { 0 < workers }
+    ensures lean { IfOk result (λ p. p ≡ lean workers child) }
     ensures long { OnOk result (length due.new ≡ workers) }
     ensures grown { OnOk result ((k : ℕ) → k < workers
         → at due.new k ≡ at due.old k ++ filter (owned_by workers k) (asked child)) }
 {
     match child {
-        Child::Done(_) => Ok(()),
+        Child::Done(answer) => Ok(Placed::done(answer)),
         Child::Ask { level, key } => {
-            let _level = level;
-            push_key(due, key, workers)
+            let owner = push_key(due, key, workers)?;
+            Ok(Placed::ask(level, owner))
         }
     }
 }
 
-/// The records of the keys, and the keys that they ask for, by owner.
+/// The children of the keys, and the keys that they ask for, by owner.
 pub fn expand_row(
     alloc: Global,
     store: &Store,
     keys: &[Key],
     workers: u32,
-) -> Result<(Vec<Record>, KeyLists), AllocError>
+) -> Result<(Vec<(Placed, Placed)>, KeyLists), AllocError>
     requires keys { All (IsKey store.now) keys.now }
     requires some { 0 < workers }
-    ensures keys { IfOk result (λ r. map key_of r.0.items ≡ keys.now) }
-    ensures split { IfOk result (λ r. All (IsSplit (wave_of store.now workers)) r.0.items) }
+    ensures row { IfOk result (λ r. r.0.items ≡ lean_row workers (records_of store.now keys.now)) }
     ensures long { IfOk result (λ r. length r.1 ≡ workers) }
     ensures due { IfOk result (λ r. (k : ℕ) → k < workers
-        → at r.1 k ≡ filter (owned_by workers k) (asked_by r.0.items)) }
+        → at r.1 k ≡ filter (owned_by workers k) (asked_by (records_of store.now keys.now))) }
 {
-    let mut row = Vec::new(alloc);
+    let mut row = Vec::with_capacity(alloc, keys.len())?;
     let mut due = KeyLists::new(alloc, workers)?;
     for key in keys {
         let record = split(store, *key);
-        push_child(&mut due, record.low, workers)?;
-        push_child(&mut due, record.high, workers)?;
-        row.push(record)?;
+        let low = push_child(&mut due, record.low, workers)?;
+        let high = push_child(&mut due, record.high, workers)?;
+        row.push((low, high))?;
     }
     Ok((row, due))
 }

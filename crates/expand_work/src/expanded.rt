@@ -6,7 +6,7 @@ ghost use Rattle.req_table.specs.Tables.{row_at};
 ghost use Rattle.lane_queue.specs.Joining.{sent_from};
 ghost use Rattle.expand_work.specs.Expanded.{IsSettledFor, AreByNumber, put_by, bundles_between};
 
-use crate::merge::{merge_rows, split_parts};
+use crate::merge::{Team, merge_rows, split_parts};
 use crate::team::{Wave, run_workers};
 use crate::{Gate, WaveFault};
 use dd_store::Store;
@@ -74,7 +74,7 @@ pub fn expand_all<R: Threads + Wait + Sync, G: Gate>(
     ensures fault { IfErr result (λ f. f ≢ WaveFault.Full) }
     ensures unbounded { IfErr result (λ f. f ≢ WaveFault.TooManyRequests) }
 {
-    let levels = store.levels();
+    let _ = store.levels();
     let (lanes, ports) = Lanes::new(alloc, store, workers)?;
     let wave = Wave {
         alloc,
@@ -83,8 +83,8 @@ pub fn expand_all<R: Threads + Wait + Sync, G: Gate>(
         roots,
     };
     let parts = run_workers(rt, wave, ports, gate)?;
-    let (ports, rows, _) = split_parts(alloc, parts)?;
-    let records = merge_rows(alloc, rows.as_slice(), levels)?;
+    let Team { ports, tables, .. } = split_parts(alloc, parts)?;
+    let records = merge_rows(alloc, store, tables.as_slice())?;
     let settled = lanes.settle(rt, ports)?;
     Ok(Expanded {
         records,

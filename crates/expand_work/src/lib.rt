@@ -19,7 +19,7 @@ mod worker;
 pub use expanded::{Expanded, expand_all};
 pub use fault::{WaveFault, WorkFault};
 pub use gate::{Free, Gate};
-pub use lists::Noted;
+pub use lists::{Noted, Rows, Tables};
 pub use part::Part;
 pub use parts::{Parts, expand_parts};
 pub use worker::work;

@@ -4,7 +4,7 @@ ghost use Rattle.expand_work.specs.Noted.{EntersAt};
 ghost use Rattle.expand_work.specs.Work.{at};
 
 use crate::table::Table;
-use req_table::{Key, Record, Records};
+use req_table::{Key, Placed};
 use std::alloc::{AllocError, Global};
 use std::marker::Model;
 
@@ -141,48 +141,51 @@ impl Tables {
     }
 }
 
-// What a record takes in its row, and a request in a bundle.
-const _: () = prove!(size_of::<Record>() == 64);
+// What a request takes in its row, and in a bundle.
+const _: () = prove!(size_of::<(Placed, Placed)>() == 16);
 
 const _: () = prove!(size_of::<(u16, Key)>() == 24);
 
-/// The records of the levels so far.
+/// One row for each level: the children of each request, low and high, where the number beside a level is the owner.
 #[derive(Drop)]
 pub struct Rows {
-    rows: Vec<Vec<Record>>,
+    rows: Vec<Vec<(Placed, Placed)>>,
 }
 
 impl Model for Rows {
     ghost use Rattle.std.specs.Prelude.{List, map};
-    ghost use Rattle.req_table.specs.declared.Record.{Record};
+    ghost use Rattle.req_table.specs.declared.placed.Placed.{Placed};
 
-    ghost Value = { List (List Record) };
+    ghost Value = { List (List (Placed × Placed)) };
 
     ghost view = { λ r. map (λ row. row.items) r.rows.items };
 }
 
 impl Rows {
-    /// No rows.
-    pub fn new(alloc: Global) -> Rows
-        ensures { result ≡ [] }
+    /// So many empty rows.
+    pub fn new(alloc: Global, count: u16) -> Result<Rows, AllocError>
+        ensures { IfOk result (λ r. r ≡ replicate count []) }
     {
-        Rows {
-            rows: Vec::new(alloc),
+        let mut rows = Vec::new(alloc);
+        for made in 0..count {
+            rows.push(Vec::new(alloc))?;
         }
+        Ok(Rows { rows })
     }
 
-    /// Puts the row of the next level at the end.
-    pub fn push(&mut self, row: Vec<Record>) -> Result<(), AllocError>
-        ensures { OnOk result (self.new ≡ self.old ++ row.items ∷ []) }
+    /// Puts the row of a level in.
+    pub fn put(&mut self, level: u16, row: Vec<(Placed, Placed)>)
+        requires { level < length self.old }
+        ensures { self.new ≡ slice_set self.old level row.items }
     {
-        self.rows.push(row)?;
-        Ok(())
+        self.rows[level as usize] = row;
     }
 
-    /// The rows as records by level.
-    pub fn into_records(self) -> Records
-        ensures { result ≡ self }
+    /// The children of a level's requests, by place.
+    pub fn row(&self, level: u16) -> &[(Placed, Placed)]
+        requires { level < length self.now }
+        ensures { result.now ≡ at self.now level }
     {
-        Records::of(self.rows)
+        &self.rows[level as usize]
     }
 }

@@ -3,42 +3,51 @@ ghost use Rattle.std.specs.Prelude.{◌≡◌, ◌≢◌, ◌<◌, ◌≤◌, le
 ghost use Rattle.req_table.specs.Keys.{IsKey};
 ghost use Rattle.expand_work.specs.Expanded.{row_of};
 ghost use Rattle.expand_work.specs.Gathered.{AreParts, noted_of};
+ghost use Rattle.expand_work.specs.Lean.{lean_row};
 
-use crate::lists::Noted;
-use crate::merge::split_parts;
+use crate::lists::{Noted, Rows, Tables};
+use crate::merge::{Team, split_parts};
 use crate::team::{Wave, run_workers};
 use crate::{Gate, WaveFault};
 use dd_store::Store;
 use lane_queue::Lanes;
-use req_table::{Key, Record, Records};
+use req_table::{Key, Placed};
 use std::alloc::Global;
 use std::marker::Model;
+use std::snapshot::Snapshot;
 use std::sync::Wait;
 use std::thread::Threads;
 
-/// What each worker of a wave recorded, and where it put what each other asked of it.
+/// What each worker of a wave was asked for, and where it put what each other asked of it.
 #[derive(Drop)]
 pub struct Parts {
-    rows: Vec<Records>,
+    tables: Vec<Tables>,
+    rows: Vec<Rows>,
     noted: Vec<Noted>,
+    store: Snapshot<Store>,
 }
 
 impl Model for Parts {
+    ghost use Rattle.std.specs.Prelude.{◌≡◌, length, map};
     ghost use Rattle.expand_work.specs.Gathered.{PartsView};
+    ghost use Rattle.expand_work.specs.Lean.{recorded, AreLean};
 
     ghost Value = { PartsView };
 
-    ghost view = { λ p. record { rows = p.rows.items; noted = p.noted.items } };
+    ghost view = { λ p. record { rows = map (recorded p.store.value) p.tables.items; noted = p.noted.items } };
+
+    ghost invariant = { λ p. AreLean (map (recorded p.store.value) p.tables.items) p.rows.items };
 }
 
 impl Parts {
-    /// The records of a worker's requests of a level, by place.
-    pub fn row(&self, worker: u32, level: u16) -> &[Record]
+    /// The children of a worker's requests of a level, low and high, by place. Of one that is asked for this tells the level and the
+    /// owner.
+    pub fn children(&self, worker: u32, level: u16) -> &[(Placed, Placed)]
         requires worker { worker < length self.now.rows }
         requires level { level < length (slice_index_or self.now.rows worker []) }
-        ensures { result.now ≡ row_of self.now.rows worker level }
+        ensures { result.now ≡ lean_row (length self.now.rows) (row_of self.now.rows worker level) }
     {
-        self.rows[worker as usize].level(level)
+        self.rows[worker as usize].row(level)
     }
 
     /// The places at which a worker put the requests that a sender asked of it, in the order in which they were sent.
@@ -76,7 +85,17 @@ pub fn expand_parts<R: Threads + Wait + Sync, G: Gate>(
         roots,
     };
     let parts = run_workers(rt, wave, ports, gate)?;
-    let (ports, rows, noted) = split_parts(alloc, parts)?;
+    let Team {
+        ports,
+        tables,
+        rows,
+        noted,
+    } = split_parts(alloc, parts)?;
     let _ = lanes.settle(rt, ports)?;
-    Ok(Parts { rows, noted })
+    Ok(Parts {
+        tables,
+        rows,
+        noted,
+        store: Snapshot::of(store),
+    })
 }

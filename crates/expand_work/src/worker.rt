@@ -21,7 +21,7 @@ use std::sync::Wait;
 use std::sync::atomic::{AtomicBool, Ordering};
 
 /// What a worker has between two levels: its port, how many levels each sender has ended, the keys that it was asked
-/// for, by level, and where it put them, by sender, its records, by level, and the keys that it has to ask for next, by owner.
+/// for, by level, and where it put them, by sender, the children of each, by level, and the keys that it has to ask for next, by owner.
 #[derive(Drop)]
 pub struct Worker {
     pub port: Port,
@@ -72,9 +72,7 @@ fn do_level<R: Wait, G: Gate>(
     let Ok((row, due)) = expand_row(site.alloc, site.store, tables.keys(level), workers) else {
         return Err(WorkFault::OutOfMemory);
     };
-    let Ok(_) = rows.push(row) else {
-        return Err(WorkFault::OutOfMemory);
-    };
+    rows.put(level, row);
     let Senders { clock, noted } = senders;
     Ok(Worker {
         port,
@@ -112,7 +110,7 @@ fn run_levels<R: Wait, G: Gate>(
     let clock = Clock::new(alloc, workers, levels)?;
     let tables = Tables::new(alloc, levels)?;
     let noted = Noted::new(alloc, workers)?;
-    let rows = Rows::new(alloc);
+    let rows = Rows::new(alloc, levels)?;
     let due = deal_roots(alloc, roots, number, workers)?;
     let mut worker = Worker {
         port,
@@ -131,7 +129,8 @@ fn run_levels<R: Wait, G: Gate>(
     let own = worker.port.number();
     Ok(Part {
         port: worker.port,
-        rows: worker.rows.into_records(),
+        tables: worker.tables,
+        rows: worker.rows,
         noted: worker.noted,
     })
 }
@@ -139,7 +138,7 @@ fn run_levels<R: Wait, G: Gate>(
 /// Does one worker's part of a wave over the lanes' store. At each level it sends all that is due (its roots at level
 /// 0, the children of the level before at each other) to the other workers, in bundles of 64 and then one with the rest,
 /// and keeps what it owns itself; it ends the level on every lane, takes until every sender has ended it, tells the gate,
-/// and records the distinct keys that it was asked for at that level.
+/// and splits the distinct keys that it was asked for at that level.
 ///
 /// The flag is read when a level begins and whenever the lane is empty; once it is set the answer is Stopped. A worker
 /// that meets want of memory sets it before it answers. After a refusal the port is gone.

@@ -12,3 +12,5 @@ pub mod Tables
 pub mod Memos
 pub mod Words
 pub mod WordLaws
+pub mod PlacedWords
+pub mod PlacedLaws

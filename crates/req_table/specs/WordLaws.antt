@@ -7,7 +7,6 @@ use Rattle.dd_store.specs.Words.{word_of, reference_of, IsWord}
 use Rattle.dd_store.specs.WordLaws.{word_of-reference_of}
 use Rattle.req_table.specs.declared.Op.{Op}
 use Rattle.req_table.specs.declared.Op.TheVariants.{And, Or, Xor, Nand, Nor, Xnor}
-use Rattle.req_table.specs.declared.Operation.{Operation}
 use Rattle.req_table.specs.Short.{op_number}
 use Rattle.req_table.specs.Words.{first_word, op_of, operation_of, IsFirstWord}
 

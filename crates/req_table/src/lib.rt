@@ -7,12 +7,14 @@ ghost use Rattle.req_table.specs.Short.{op_number};
 ghost use Rattle.req_table.specs.Words.{op_of};
 
 mod memo;
+mod placed;
 mod records;
 pub mod requests;
 mod table;
 
 use dd_store::Ref;
 pub use memo::Memo;
+pub use placed::{Placed, PlacedChild};
 pub use records::Records;
 use slot_table::{Spread, mix};
 use std::collections::LinkedList;

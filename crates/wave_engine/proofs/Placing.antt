@@ -17,8 +17,8 @@ use Rattle.req_table.specs.Short.{short_of}
 use Rattle.req_table.proofs.Waved.{told, held, deeper, bounded}
 use Rattle.reduce_up.specs.Waves.{Entry, requests_of}
 use Rattle.reduce_up.proofs.Rooted.{to_request}
-use Rattle.wave_engine.specs.declared.lists.Placed.{Placed}
-use Rattle.wave_engine.specs.declared.lists.PlacedChild.TheVariants.{Done, Ask}
+use Rattle.req_table.specs.declared.placed.Placed.{Placed}
+use Rattle.req_table.specs.declared.placed.PlacedChild.TheVariants.{Done, Ask}
 use Rattle.wave_engine.specs.Places.{row, StandsAt, Enters, IsPlaced, Admits, AreNone}
 use Rattle.wave_engine.specs.Down.{IsAdmitted, AreAdmitted, IsSplitAt, Grow, IsRowExpanded, AreExpanded}
 

@@ -27,8 +27,8 @@ use Rattle.reduce_up.proofs.Reduction.{resolved, record_kept, kept_meaning, answ
 use Rattle.reduce_up.proofs.Noting.{nothing, in_cases}
 use Rattle.reduce_up.proofs.Closed.{key_at, right}
 use Rattle.reduce_up.proofs.Rooted.{of_entry, requests_good}
-use Rattle.wave_engine.specs.declared.lists.Placed.{Placed}
-use Rattle.wave_engine.specs.declared.lists.PlacedChild.TheVariants.{Done, Ask}
+use Rattle.req_table.specs.declared.placed.Placed.{Placed}
+use Rattle.req_table.specs.declared.placed.PlacedChild.TheVariants.{Done, Ask}
 use Rattle.wave_engine.specs.Places.{row, StandsAt, IsPlaced, AreNone}
 use Rattle.wave_engine.specs.Down.{IsAdmitted, AreExpanded}
 use Rattle.wave_engine.specs.Up.{ComesTo, IsBelow, IsKnown, AskedAt, IsReadyAt, IsLevelReduced, IsLevelFault, AreReducedBelow}

@@ -32,8 +32,8 @@ use Rattle.reduce_up.proofs.Closed.{reached_key}
 use Rattle.reduce_up.proofs.Noting.{nothing, in_cases}
 use Rattle.reduce_up.proofs.Reduction.{kept_meaning, diagram_kept}
 use Rattle.reduce_up.proofs.Rooted.{all_of, requests_good}
-use Rattle.wave_engine.specs.declared.lists.Placed.{Placed}
-use Rattle.wave_engine.specs.declared.lists.PlacedChild.TheVariants.{Done, Ask}
+use Rattle.req_table.specs.declared.placed.Placed.{Placed}
+use Rattle.req_table.specs.declared.placed.PlacedChild.TheVariants.{Done, Ask}
 use Rattle.wave_engine.specs.Places.{row, StandsAt, IsPlaced}
 use Rattle.wave_engine.specs.Down.{IsAdmitted, AreAdmitted, AreExpanded}
 use Rattle.wave_engine.specs.Up.{ComesTo, IsWithinBelow}

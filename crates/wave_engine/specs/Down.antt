@@ -7,7 +7,7 @@ use Rattle.dd_store.specs.Nodes.{Nodes}
 use Rattle.req_table.specs.Keys.{IsKey, level_of, child, child_of, wave_of}
 use Rattle.req_table.specs.Reached.{IsReached}
 use Rattle.reduce_up.specs.Waves.{Entry, requests_of}
-use Rattle.wave_engine.specs.declared.lists.Placed.{Placed}
+use Rattle.req_table.specs.declared.placed.Placed.{Placed}
 use Rattle.wave_engine.specs.Places.{row, StandsAt, IsPlaced}
 
 -- what stands at a place of level w is a key of the store of that level, which the entries ask for

@@ -3,7 +3,5 @@ pub mod Places
 pub mod Down
 pub mod Up
 pub mod Front
-pub mod Words
-pub mod WordLaws
 pub mod Resting
 pub mod Bounds

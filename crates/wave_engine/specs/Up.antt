@@ -9,8 +9,8 @@ use Rattle.expand_work.specs.declared.fault.WaveFault.{WaveFault}
 use Rattle.expand_work.specs.declared.fault.WaveFault.TheVariants as wave_faults
 use Rattle.reduce_up.specs.Reducing.{IsKeyAt, IsAnswer, IsAnswerAt, AddsDescribed, LacksAnswer}
 use Rattle.reduce_up.specs.Waves.{Entry, IsWanted}
-use Rattle.wave_engine.specs.declared.lists.Placed.{Placed}
-use Rattle.wave_engine.specs.declared.lists.PlacedChild.TheVariants.{Done, Ask}
+use Rattle.req_table.specs.declared.placed.Placed.{Placed}
+use Rattle.req_table.specs.declared.placed.PlacedChild.TheVariants.{Done, Ask}
 use Rattle.wave_engine.specs.Places.{row, StandsAt}
 
 -- what a placed child comes to by the answers

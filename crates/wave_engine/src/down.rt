@@ -7,12 +7,12 @@ ghost use Rattle.wave_engine.specs.Places.{row, IsPlaced, Admits};
 ghost use Rattle.wave_engine.specs.Bounds.{AreMoreThan};
 ghost use Rattle.wave_engine.specs.Down.{AreAdmitted, IsRowExpanded, AreExpanded};
 
-use crate::lists::{Placed, Row};
+use crate::lists::Row;
 use crate::requests::Requests;
 use dd_store::{Ref, Store};
 use expand_work::WaveFault;
 use req_table::requests::{child, split};
-use req_table::{Child, Op};
+use req_table::{Child, Op, Placed};
 use std::alloc::AllocError;
 
 /// Places a child: a request is admitted to the table of its level.

@@ -4,82 +4,10 @@ ghost use Rattle.slot_table.specs.Lists.{IsOnce};
 ghost use Rattle.wave_engine.specs.Places.{Enters};
 
 use dd_store::Ref;
-use req_table::Key;
+use req_table::{Key, Placed};
 use slot_table::SlotTable;
 use std::alloc::{AllocError, Global};
 use std::marker::Model;
-
-/// What a child comes to: its answer, or the place of its request among those of its level.
-#[derive(Clone, Copy, Debug)]
-pub(crate) enum PlacedChild {
-    Done(Ref),
-    Ask { level: u16, place: u32 },
-}
-
-/// What a child comes to, in eight bytes.
-#[derive(Clone, Copy)]
-pub(crate) struct Placed {
-    /// The word of an answer, or, from bit 63 on, 1, with the level from bit 32 on and the place below.
-    word: u64,
-}
-
-const _: () = prove!(size_of::<Placed>() == 8);
-
-/// The bit that tells a request from an answer, and the lowest bit of a request's level.
-const ASK_BIT: u64 = 1 << 63;
-
-const LEVEL_BIT: u64 = 1 << 32;
-
-impl Model for Placed {
-    ghost use Rattle.wave_engine.specs.declared.lists.PlacedChild.{PlacedChild};
-
-    ghost Value = { PlacedChild };
-
-    ghost use Rattle.wave_engine.specs.Words.{placed_word, placed_of, IsPlacedWord};
-    ghost use Rattle.wave_engine.specs.WordLaws.{placed_word-placed_of};
-
-    ghost view = { λ p. placed_of p.word };
-
-    ghost inverse = { λ p. record { word = placed_word p } };
-
-    ghost inverse_ok = { λ p h i. record { word = placed_word-placed_of p.word h i } };
-
-    ghost invariant = { λ p. IsPlacedWord p.word };
-}
-
-impl Placed {
-    /// An answer.
-    pub(crate) fn done(answer: Ref) -> Placed
-        ensures { result ≡ PlacedChild.Done answer }
-    {
-        Placed {
-            word: answer.word(),
-        }
-    }
-
-    /// A request's place.
-    pub(crate) fn ask(level: u16, place: u32) -> Placed
-        ensures { result ≡ PlacedChild.Ask level place }
-    {
-        Placed {
-            word: ASK_BIT + level as u64 * LEVEL_BIT + place as u64,
-        }
-    }
-
-    /// Which of the two it is.
-    pub(crate) fn view(self) -> PlacedChild
-        ensures { result ≡ self }
-    {
-        if self.word < ASK_BIT {
-            return PlacedChild::Done(Ref::of_word(self.word));
-        }
-        let rest = self.word - ASK_BIT;
-        PlacedChild::Ask {
-            level: (rest / LEVEL_BIT) as u16,
-            place: (rest % LEVEL_BIT) as u32,
-        }
-    }
-}
 
 /// The requests of a level, each once, in the order of their admission.
 #[derive(Drop)]
@@ -157,7 +85,7 @@ pub(crate) struct Row {
 
 impl Model for Row {
     ghost use Rattle.std.specs.Prelude.{List};
-    ghost use Rattle.wave_engine.specs.declared.lists.Placed.{Placed};
+    ghost use Rattle.req_table.specs.declared.placed.Placed.{Placed};
 
     ghost Value = { List (Placed × Placed) };
 

@@ -7,12 +7,12 @@ ghost use Rattle.reduce_up.specs.Waves.{IsWanted, IsWaveFault, IsEntry};
 ghost use Rattle.wave_engine.specs.Down.{AreExpanded};
 ghost use Rattle.wave_engine.specs.Up.{ComesTo, IsReadyAt, AskedAt, IsLevelReduced, IsLevelFault, AreReducedBelow};
 
-use crate::lists::{Answers, Placed, PlacedChild};
+use crate::lists::Answers;
 use crate::requests::Requests;
 use crate::workspace::Down;
 use dd_store::{Ref, Store, StoreFault};
 use expand_work::WaveFault;
-use req_table::Op;
+use req_table::{Op, Placed, PlacedChild};
 use std::mem;
 
 /// What a placed child comes to.

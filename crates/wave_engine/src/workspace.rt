@@ -12,13 +12,13 @@ ghost use Rattle.wave_engine.specs.Up.{ComesTo};
 
 use crate::down::{expand, place_roots};
 use crate::front::hand_over;
-use crate::lists::{Answers, Placed, Row};
+use crate::lists::{Answers, Row};
 use crate::requests::Requests;
 use crate::team::{Team, Workers};
 use crate::up::{reduce, resolve};
 use dd_store::{Ref, Store};
 use expand_work::{Gate, WaveFault};
-use req_table::Op;
+use req_table::{Op, Placed};
 use std::alloc::{AllocError, Global};
 use std::sync::Wait;
 use std::thread::Threads;

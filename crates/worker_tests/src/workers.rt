@@ -12,7 +12,7 @@ use dd_store::{Ref, Store, Watch};
 use expand_work::{Free, Gate, Part, WorkFault, work};
 use lane_queue::{Lanes, Port};
 use req_table::requests::{normal, short};
-use req_table::{Child, Key, Op, Record};
+use req_table::{Key, Op, Placed, PlacedChild};
 use std::alloc::{AllocError, Global};
 use std::process::Abort;
 use std::sync::Wait;
@@ -49,11 +49,11 @@ impl<'a> Gate for Watcher<'a> {
     }
 }
 
-/// What a child says, to be compared: its answer, or its level and key.
-fn tell(child: Child) -> Result<Ref, (u16, Key)> {
-    match child {
-        Child::Done(answer) => Ok(answer),
-        Child::Ask { level, key } => Err((level, key)),
+/// What a child says, to be compared: its answer, or its level and owner.
+fn tell(child: Placed) -> Result<Ref, (u16, u32)> {
+    match child.view() {
+        PlacedChild::Done(answer) => Ok(answer),
+        PlacedChild::Ask { level, place } => Err((level, place)),
     }
 }
 
@@ -144,21 +144,27 @@ fn work_alone<R: Wait + Abort, G: Gate>(
     stop: &AtomicBool,
 ) -> Result<Part, WorkFault>
     requires { IsKey store.now root }
-    ensures { IfOk result (λ p. length p.rows ≡ store.now.levels) }
+    ensures tables { IfOk result (λ p. length p.tables ≡ store.now.levels) }
+    ensures rows { IfOk result (λ p. length p.rows ≡ store.now.levels) }
 {
     let (lanes, mut ports) = open(alloc, store, 1)?;
     let port = ports.pop().expect(rt, "no port");
     work(rt, alloc, &lanes, port, store, &[root], gate, stop)
 }
 
-/// Whether a level has this one record.
+/// Whether a level has this one request with these children.
 fn is_row(
-    rows: &[Record],
+    keys: &[Key],
+    row: &[(Placed, Placed)],
     key: Key,
-    low: Result<Ref, (u16, Key)>,
-    high: Result<Ref, (u16, Key)>,
+    low: Result<Ref, (u16, u32)>,
+    high: Result<Ref, (u16, u32)>,
 ) -> bool {
-    rows.len() == 1 && rows[0].key == key && tell(rows[0].low) == low && tell(rows[0].high) == high
+    keys.len() == 1
+        && keys[0] == key
+        && row.len() == 1
+        && tell(row[0].0) == low
+        && tell(row[0].1) == high
 }
 
 #[test]
@@ -172,11 +178,14 @@ fn one_worker_records_what_it_is_asked_for(rt: HostRuntime) -> Result<(), Fail> 
     let b = found(&rt, &store, 1);
     let c = found(&rt, &store, 2);
     let child = conjunction(&rt, &store, b, c);
-    assert_eq!(rt; part.rows.levels(), 3);
-    assert!(rt; is_row(part.rows.level(0), root, Err((1, child)), Ok(Ref::TRUE)));
-    assert!(rt; is_row(part.rows.level(1), child, Ok(Ref::FALSE), Ok(c)));
-    assert!(rt; part.rows.level(2).is_empty());
-    assert_eq!(rt; (part.port.number(), part.port.put()), (0, 3));
+    let Part {
+        port, tables, rows, ..
+    } = part;
+    assert!(rt; is_row(tables.keys(0), rows.row(0), root, Err((1, 0)), Ok(Ref::TRUE)));
+    assert!(rt; is_row(tables.keys(1), rows.row(1), child, Ok(Ref::FALSE), Ok(c)));
+    assert!(rt; tables.keys(2).is_empty());
+    assert!(rt; rows.row(2).is_empty());
+    assert_eq!(rt; (port.number(), port.put()), (0, 3));
     assert!(rt; !stop.load(Ordering::SeqCst));
     Ok(())
 }

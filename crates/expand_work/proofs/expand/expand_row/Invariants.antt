@@ -1,12 +1,11 @@
-use Rattle.std.proofs.Common.{◌≡◌, ℕ, ◌<◌, map, take, filter, length, All}
-use Rattle.req_table.specs.Settled.{IsSplit, key_of, asked_by}
-use Rattle.req_table.specs.Keys.{wave_of}
+use Rattle.std.proofs.Common.{◌≡◌, ℕ, ◌<◌, take, filter, length}
+use Rattle.req_table.specs.Settled.{asked_by}
+use Rattle.expand_work.specs.Lean.{lean_row, records_of}
 use Rattle.expand_work.specs.Work.{at, owned_by}
 use Rattle.expand_work.proofs.expand.expand_row.Given as goal
 
 abbrev pub invariant-loop-key : goal.invariant-loop-key
 invariant-loop-key l =
-    (map key_of l.row.items ≡ take l.key-index l.keys)
-    × All (IsSplit (wave_of l.store l.workers)) l.row.items
+    (l.row.items ≡ lean_row l.workers (records_of l.store (take l.key-index l.keys)))
     × (length l.due ≡ l.workers)
-    × ((k : ℕ) → k < l.workers → at l.due k ≡ filter (owned_by l.workers k) (asked_by l.row.items))
+    × ((k : ℕ) → k < l.workers → at l.due k ≡ filter (owned_by l.workers k) (asked_by (records_of l.store (take l.key-index l.keys))))

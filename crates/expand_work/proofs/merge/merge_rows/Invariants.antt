@@ -1,10 +1,11 @@
 use Rattle.std.proofs.Common.{◌≡◌, ℕ, ◌<◌, [], map, length, get_or}
 use Rattle.req_table.specs.Settled.{level_of_rows}
 use Rattle.expand_work.specs.Expanded.{row_of}
+use Rattle.expand_work.specs.Lean.{recorded}
 use Rattle.expand_work.proofs.merge.merge_rows.Given as goal
 
 abbrev pub invariant-loop-level : goal.invariant-loop-level
 invariant-loop-level l = record {
   long : length l.merged.items ≡ l.level;
-  made : (v : ℕ) → v < l.level → get_or (map (λ row. row.items) l.merged.items) v [] ≡ level_of_rows (length l.rows) (row_of l.rows) v;
+  made : (v : ℕ) → v < l.level → get_or (map (λ row. row.items) l.merged.items) v [] ≡ level_of_rows (length l.tables) (row_of (map (recorded l.store) l.tables)) v;
 }

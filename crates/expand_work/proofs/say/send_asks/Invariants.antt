@@ -1,4 +1,4 @@
-use Rattle.std.proofs.Common.{◌≡◌, ◌<◌, length, take}
+use Rattle.std.proofs.Common.{◌<◌, length, take}
 use Rattle.expand_work.proofs.Saying.{Filling}
 use Rattle.expand_work.proofs.say.send_asks.Given as goal
 

@@ -1,9 +1,11 @@
-use Rattle.std.proofs.Common.{◌≡◌, ℕ, ◌<◌, filter, map, length, subst, sym, ◌∙◌, All}
+use Rattle.std.proofs.Common.{◌≡◌, ℕ, ◌<◌, List, filter, map, length, subst, sym, ◌∙◌, All}
 use Rattle.req_table.specs.Keys.{IsKey}
 use Rattle.req_table.specs.Settled.{asked_by}
+use Rattle.req_table.specs.declared.Key.{Key}
+use Rattle.expand_work.specs.Lean.{lean_row, records_of}
 use Rattle.expand_work.specs.Noted.{IsNoted}
 use Rattle.expand_work.specs.Work.{at, item_of, owned_by, MaySend, HasKept}
-use Rattle.expand_work.proofs.Rounds.{due_may, port_due, heard_due, own_may, own_taken, port_kept, ended_before, keys_held, level_next, number_same}
+use Rattle.expand_work.proofs.Rounds.{due_may, own_may, own_taken, ended_before, keys_held, level_next, number_same}
 use Rattle.expand_work.proofs.worker.do_level.Goals as goal
 
 pub send_due-requires-clause-may : goal.send_due-requires-clause-may
@@ -26,11 +28,15 @@ expand_row-requires-clause-keys g c =
 pub returns : goal.returns
 returns g c =
     let take = c.in_ok-take_until_closed.ensures in
-    let keys = c.in-Ok.ensures.keys ∙ c.keys.ensures in
-    let kept = subst (λ ks. HasKept c.send_due.new.port c.keep_own.new.port (map (item_of c.args.site.store.now c.send_due.new.port.number) ks)) c.list.ensures c.in_ok-keep_own.ensures.kept in
-    let owed = subst (λ n. (k : ℕ) → k < n → at c.in-Ok.due k ≡ filter (owned_by n k) (asked_by c.in-Ok.row.items)) c.count-workers.ensures.count c.in-Ok.ensures.due in (
-      level_next c.args.site.lanes.now c.args.site.store.now c.args.site.roots.now c.args.level c.args.worker c.requires.working c.send_due.new.port c.in_ok-send_due.ensures c.number-own.result c.number-own.ensures.number c.keep_own.new.port kept c.send_ends.new.port c.take_until_closed.new.port c.take_until_closed.new.senders.clock c.keep_own.new.tables c.take_until_closed.new.tables c.in-Ok.row.items c.in-Ok.due c.push.new.self c.requires.level c.in_ok-keep_own.ensures.stays c.in_ok-send_ends.ensures take.same take.heard take.stays take.closed keys c.in-Ok.ensures.split (c.in-Ok.ensures.long ∙ c.count-workers.ensures.count) owed c.in-Ok-push.ensures c.take_until_closed.new.senders.noted take.noted,
-      number_same c.args.site.lanes.now c.args.site.store.now c.args.site.roots.now c.args.level c.args.worker c.requires.working c.send_due.new.port c.in_ok-send_due.ensures c.number-own.result c.number-own.ensures.number c.keep_own.new.port kept c.send_ends.new.port c.take_until_closed.new.port c.take_until_closed.new.senders.clock c.keep_own.new.tables c.take_until_closed.new.tables c.in-Ok.row.items c.in-Ok.due c.push.new.self c.requires.level c.in_ok-keep_own.ensures.stays c.in_ok-send_ends.ensures take.same take.heard take.stays take.closed keys c.in-Ok.ensures.split (c.in-Ok.ensures.long ∙ c.count-workers.ensures.count) owed c.in-Ok-push.ensures c.take_until_closed.new.senders.noted take.noted,
+    let n = length c.args.site.lanes.now.lanes in
+    let s = c.args.site.store.now in
+    let tables = c.take_until_closed.new.tables in
+    let kept = subst (λ ks. HasKept c.send_due.new.port c.keep_own.new.port (map (item_of s c.send_due.new.port.number) ks)) c.list.ensures c.in_ok-keep_own.ensures.kept in
+    let row : c.in-Ok.row.items ≡ lean_row n (records_of s (at tables c.args.level)) = c.in-Ok.ensures.row ∙ (λ i. lean_row (c.count-workers.ensures.count i) (records_of s (c.keys.ensures i))) in
+    let owed = subst (λ (y : ℕ × List Key). (k : ℕ) → k < y.0 → at c.in-Ok.due k ≡ filter (owned_by y.0 k) (asked_by (records_of s y.1))) (λ i. (c.count-workers.ensures.count i, c.keys.ensures i)) c.in-Ok.ensures.due in
+    let long = c.in-Ok.ensures.long ∙ c.count-workers.ensures.count in (
+      level_next c.args.site.lanes.now s c.args.site.roots.now c.args.level c.args.worker c.requires.working c.send_due.new.port c.in_ok-send_due.ensures c.number-own.result c.number-own.ensures.number c.keep_own.new.port kept c.send_ends.new.port c.take_until_closed.new.port c.take_until_closed.new.senders.clock c.keep_own.new.tables tables c.in-Ok.row.items c.in-Ok.due c.put.new.self c.requires.level c.in_ok-keep_own.ensures.stays c.in_ok-send_ends.ensures take.same take.heard take.stays take.closed row long owed c.put.ensures c.take_until_closed.new.senders.noted take.noted,
+      number_same c.args.site.lanes.now s c.args.site.roots.now c.args.level c.args.worker c.requires.working c.send_due.new.port c.in_ok-send_due.ensures c.number-own.result c.number-own.ensures.number c.keep_own.new.port kept c.send_ends.new.port c.take_until_closed.new.port c.take_until_closed.new.senders.clock c.keep_own.new.tables tables c.in-Ok.row.items c.in-Ok.due c.put.new.self c.requires.level c.in_ok-keep_own.ensures.stays c.in_ok-send_ends.ensures take.same take.heard take.stays take.closed row long owed c.put.ensures c.take_until_closed.new.senders.noted take.noted,
     )
 
 pub keep_own-requires-clause-noted : goal.keep_own-requires-clause-noted

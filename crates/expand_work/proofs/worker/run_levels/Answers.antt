@@ -20,8 +20,8 @@ loop-level-init g c =
     let tables-is = subst (λ n. c.in_ok-tables.tables ≡ replicate n []) n-is c.in_ok-tables.ensures in
     let dealt = subst (λ n. (k : ℕ) → k < length l.lanes → at c.in_ok-due.due k ≡ filter (owned_by (length l.lanes) k) (dealt_from (length l.lanes) n 0 c.args.site.roots.now)) c.number-number.ensures.number
     (subst (λ m. (k : ℕ) → k < m → at c.in_ok-due.due k ≡ filter (owned_by m k) (dealt_from m c.number-number.result 0 c.args.site.roots.now)) w-is c.in_ok-due.ensures.due) in (
-      starts_working l s c.args.site.roots.now p clock c.in_ok-tables.tables c.in_ok-noted.noted c.new-rows.result c.in_ok-due.due c.requires.port (subst (λ n. p.number < n) wide c.number-number.ensures.within) c.requires.fresh c.requires.sizes c.levels-levels.ensures.sound c.requires.roots
-          clock-is tables-is (subst (λ n. c.in_ok-noted.noted ≡ replicate n []) w-is c.in_ok-noted.ensures) c.new-rows.ensures (c.in_ok-due.ensures.long ∙ w-is) dealt,
+      starts_working l s c.args.site.roots.now p clock c.in_ok-tables.tables c.in_ok-noted.noted c.in_ok-rows.rows c.in_ok-due.due c.requires.port (subst (λ n. p.number < n) wide c.number-number.ensures.within) c.requires.fresh c.requires.sizes c.levels-levels.ensures.sound c.requires.roots
+          clock-is tables-is (subst (λ n. c.in_ok-noted.noted ≡ replicate n []) w-is c.in_ok-noted.ensures) (subst (λ n. c.in_ok-rows.rows ≡ replicate n []) n-is c.in_ok-rows.ensures) (c.in_ok-due.ensures.long ∙ w-is) dealt,
       refl,
     )
 
@@ -29,4 +29,4 @@ pub returns : goal.returns
 returns g c =
     let w = c.loop-level.worker in
     let over : c.loop-level.level ≡ c.args.site.store.now.levels = (let a = c.loop-level.auto.level-end in let b = c.loop-level-test.false in let n = c.levels-levels.ensures.value in omega (arith, a, b, n)) in
-    ends_worked c.args.site.lanes.now c.args.site.store.now c.args.site.roots.now c.args.port.number w (record { port = w.port; rows = c.into_records.result; noted = w.noted }) (subst (λ n. IsWorking c.args.site.lanes.now c.args.site.store.now c.args.site.roots.now n w) over c.loop-level.invariant.0) (c.number-own.ensures.lists ∙ width c.args.site.lanes.now w.port c.loop-level.invariant.0.port) c.loop-level.invariant.1 refl c.into_records.ensures refl
+    ends_worked c.args.site.lanes.now c.args.site.store.now c.args.site.roots.now c.args.port.number w (record { port = w.port; tables = w.tables; rows = w.rows; noted = w.noted }) (subst (λ n. IsWorking c.args.site.lanes.now c.args.site.store.now c.args.site.roots.now n w) over c.loop-level.invariant.0) (c.number-own.ensures.lists ∙ width c.args.site.lanes.now w.port c.loop-level.invariant.0.port) c.loop-level.invariant.1 refl

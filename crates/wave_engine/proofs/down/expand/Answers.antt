@@ -2,7 +2,7 @@ use Rattle.std.proofs.Common.{◌≡◌, ◌<◌, ◌≤◌, ◌-◌, ◌^◌, �
 use Rattle.dd_store.specs.Nodes.{Nodes}
 use Rattle.req_table.specs.declared.Key.{Key}
 use Rattle.reduce_up.specs.Waves.{Entry}
-use Rattle.wave_engine.specs.declared.lists.Placed.{Placed}
+use Rattle.req_table.specs.declared.placed.Placed.{Placed}
 use Rattle.wave_engine.specs.Places.{IsNextLevel}
 use Rattle.wave_engine.specs.Down.{AreExpanded}
 use Rattle.wave_engine.proofs.Placing.{level_more, levels_passed}

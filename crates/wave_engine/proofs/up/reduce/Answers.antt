@@ -4,7 +4,7 @@ use Rattle.dd_store.specs.declared.reference.Ref.{Ref}
 use Rattle.dd_store.specs.Nodes.{Nodes, count_of}
 use Rattle.req_table.specs.declared.Key.{Key}
 use Rattle.reduce_up.specs.Waves.{Entry, IsWaveFault}
-use Rattle.wave_engine.specs.declared.lists.Placed.{Placed}
+use Rattle.req_table.specs.declared.placed.Placed.{Placed}
 use Rattle.wave_engine.specs.Places.{row, IsLastLevel}
 use Rattle.wave_engine.specs.Up.{IsReadyAt, IsLevelReduced, AreReducedBelow}
 use Rattle.dd_store.proofs.View.{keeps-trans}

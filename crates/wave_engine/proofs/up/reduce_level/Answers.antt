@@ -6,7 +6,7 @@ use Rattle.req_table.specs.declared.Key.{Key}
 use Rattle.reduce_up.specs.Reducing.{IsRecordAt, IsAnswer, AddsDescribed, AskedBy}
 use Rattle.reduce_up.proofs.Reduction.{record_done, adds_none}
 use Rattle.reduce_up.proofs.Missing.{record_fault}
-use Rattle.wave_engine.specs.declared.lists.Placed.{Placed}
+use Rattle.req_table.specs.declared.placed.Placed.{Placed}
 use Rattle.wave_engine.specs.Up.{IsLevelFault, AskedAt, IsLevelReduced}
 use Rattle.wave_engine.proofs.Raising.{rec, here, low_comes, high_comes, is_record, adds_one, one_more, one_fault, level_start}
 use Rattle.wave_engine.proofs.up.reduce_level.Goals as goal

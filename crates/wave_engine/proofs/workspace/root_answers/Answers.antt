@@ -4,7 +4,7 @@ use Rattle.std.proofs.lemmas.List.Elements.{All-contains}
 use Rattle.std.proofs.lemmas.Slice.Zip.{all_zipped_more}
 use Rattle.dd_store.specs.declared.reference.Ref.{Ref}
 use Rattle.reduce_up.proofs.Rooted.{item_at, item_next}
-use Rattle.wave_engine.specs.declared.lists.Placed.{Placed}
+use Rattle.req_table.specs.declared.placed.Placed.{Placed}
 use Rattle.wave_engine.specs.Up.{ComesTo}
 use Rattle.wave_engine.proofs.workspace.root_answers.Goals as goal
 

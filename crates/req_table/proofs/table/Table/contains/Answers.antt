@@ -1,4 +1,4 @@
-use Rattle.std.proofs.Common.{◌≡◌, ◌↔◌, List, Contains, IsTrue, subst}
+use Rattle.std.proofs.Common.{◌↔◌, List, Contains, IsTrue, subst}
 use Rattle.req_table.specs.Operation.{Operation}
 use Rattle.req_table.proofs.Keyed.{found_contains}
 use Rattle.req_table.proofs.table.Table.contains.Goals as goal

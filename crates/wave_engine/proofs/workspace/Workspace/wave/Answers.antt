@@ -5,7 +5,7 @@ use Rattle.req_table.specs.declared.Key.{Key}
 use Rattle.reduce_up.specs.Reducing.{AddsDescribed}
 use Rattle.reduce_up.specs.Waves.{IsWanted, AnswersEach, IsWaveFault}
 use Rattle.reduce_up.proofs.Waving.{adds_below}
-use Rattle.wave_engine.specs.declared.lists.Placed.{Placed}
+use Rattle.req_table.specs.declared.placed.Placed.{Placed}
 use Rattle.wave_engine.specs.Down.{AreExpanded, IsDown}
 use Rattle.wave_engine.specs.Up.{ComesTo, AreReducedBelow, IsWithinBelow}
 use Rattle.wave_engine.proofs.Whole.{expanded_kept, adds_both, fault_back, roots_come, roots_answered, within_both}

@@ -2,8 +2,8 @@
 -- request.
 use Rattle.std.specs.Prelude.{ℕ, ◌+◌, ◌-◌, ◌*◌, ◌/◌, ◌%◌, ◌^◌, ◌<◌, ◌≤◌, ◌⊎◌, nat_lt, if◌then◌else◌}
 use Rattle.dd_store.specs.Words.{word_of, reference_of, IsWord}
-use Rattle.wave_engine.specs.declared.lists.PlacedChild.{PlacedChild}
-use Rattle.wave_engine.specs.declared.lists.PlacedChild.TheVariants.{Done, Ask}
+use Rattle.req_table.specs.declared.placed.PlacedChild.{PlacedChild}
+use Rattle.req_table.specs.declared.placed.PlacedChild.TheVariants.{Done, Ask}
 
 -- the word of a placed child
 abbrev pub placed_word : PlacedChild → ℕ

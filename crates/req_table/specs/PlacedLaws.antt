@@ -4,8 +4,8 @@ use Rattle.std.proofs.Common.{◌∙◌, ap, arith, inl, inr}
 use Rattle.std.proofs.lemmas.Bool.Decides.{nat_tests}
 use Rattle.dd_store.specs.Words.{reference_of, IsWord}
 use Rattle.dd_store.specs.WordLaws.{word_of-reference_of}
-use Rattle.wave_engine.specs.declared.lists.PlacedChild.TheVariants.{Done, Ask}
-use Rattle.wave_engine.specs.Words.{placed_word, placed_of, IsPlacedWord}
+use Rattle.req_table.specs.declared.placed.PlacedChild.TheVariants.{Done, Ask}
+use Rattle.req_table.specs.PlacedWords.{placed_word, placed_of, IsPlacedWord}
 
 -- a word below the bit of a request is that of an answer
 answer : (w : ℕ) → w < 2 ^ 63 → placed_of w ≡ Done (reference_of w)

@@ -1,0 +1,49 @@
+-- The records of keys, told by the keys alone.
+use Rattle.std.proofs.Common.{◌≡◌, ℕ, suc, ◌+◌, ◌<◌, List, [], ◌∷◌, ◌++◌, length, get_or, map, take, filter, All, refl, sym, ap, ◌∙◌, arith}
+use Rattle.std.proofs.lemmas.List.{map_more, map_push, get_or-map}
+use Rattle.std.proofs.lemmas.List.Elements.{All-nil, All-cons}
+use Rattle.std.proofs.Math.ListN as listn
+use Rattle.dd_store.specs.Nodes.{Nodes}
+use Rattle.req_table.specs.declared.Key.{Key}
+use Rattle.req_table.specs.declared.Record.{Record}
+use Rattle.req_table.specs.declared.placed.Placed.{Placed}
+use Rattle.req_table.specs.Keys.{record_of, wave_of}
+use Rattle.req_table.specs.Settled.{IsSplit, key_of, asked, asked_by, level_of_rows}
+use Rattle.expand_work.specs.Work.{at, owned_by}
+use Rattle.expand_work.specs.Lean.{lean, lean_row, records_of, recorded}
+use Rattle.expand_work.specs.Expanded.{row_of}
+use Rattle.expand_work.proofs.Owing.{asks_more}
+
+pub keys_of_records : (S : Nodes) (keys : List Key) → map key_of (records_of S keys) ≡ keys
+keys_of_records S [] = refl
+keys_of_records S (x ∷ xs) = ap (λ l. x ∷ l) (keys_of_records S xs)
+
+pub split_records : (S : Nodes) (n : ℕ) (keys : List Key) → All (IsSplit (wave_of S n)) (records_of S keys)
+split_records S n [] = All-nil (IsSplit (wave_of S n))
+split_records S n (x ∷ xs) = All-cons (IsSplit (wave_of S n)) (record_of S x) (records_of S xs) (refl, refl) (split_records S n xs)
+
+-- the records of a level
+pub recorded-at : (S : Nodes) (tables : List (List Key)) (u : ℕ) → at (recorded S tables) u ≡ records_of S (at tables u)
+recorded-at S tables u = listn.get_or-map (records_of S) tables u []
+
+-- one more key of a row
+pub row_more : (S : Nodes) (n : ℕ) (ps qs : List (Placed × Placed)) (x : Key) (r : Record) (low high : Placed) (keys : List Key) (i : ℕ) (xs ys zs : List (List Key)) → i < length keys
+    → (ps ≡ lean_row n (records_of S (take i keys))) × (length xs ≡ n) × ((k : ℕ) → k < n → at xs k ≡ filter (owned_by n k) (asked_by (records_of S (take i keys))))
+    → x ≡ get_or keys i x → r ≡ record_of S x → qs ≡ ps ++ (low, high) ∷ [] → low ≡ lean n r.low → high ≡ lean n r.high
+    → ((k : ℕ) → k < n → at ys k ≡ at xs k ++ filter (owned_by n k) (asked r.low)) → length zs ≡ n → ((k : ℕ) → k < n → at zs k ≡ at ys k ++ filter (owned_by n k) (asked r.high))
+    → (qs ≡ lean_row n (records_of S (take (i + 1) keys))) × (length zs ≡ n) × ((k : ℕ) → k < n → at zs k ≡ filter (owned_by n k) (asked_by (records_of S (take (i + 1) keys))))
+row_more S n ps qs x r low high keys i xs ys zs l h x-is r-is g low-is high-is lows long highs =
+    let rs : List Record = records_of S (take i keys) in
+    let more : rs ++ r ∷ [] ≡ records_of S (take (i + 1) keys) = ap (λ q. rs ++ q ∷ []) (r-is ∙ ap (record_of S) x-is) ∙ sym (map_more (record_of S) keys i x l) in (
+      g ∙ (λ j. h.0 j ++ (low-is j, high-is j) ∷ []) ∙ sym (map_push (λ (q : Record). (lean n q.low, lean n q.high)) rs r) ∙ ap (lean_row n) more,
+      long,
+      (λ k kb. highs k kb ∙ ap (λ m. m ++ filter (owned_by n k) (asked r.high)) (lows k kb) ∙ asks_more (owned_by n k) rs r (at xs k) (h.2 k kb) ∙ ap (λ m. filter (owned_by n k) (asked_by m)) more),
+    )
+
+-- one more worker's records of a level
+pub level_more : (S : Nodes) (tables : List (List (List Key))) (i v : ℕ) (own : List (List Key)) (rs qs : List Record) → i < length tables → own ≡ get_or tables i own → rs ≡ level_of_rows i (row_of (map (recorded S) tables)) v
+    → qs ≡ rs ++ records_of S (at own v) → qs ≡ level_of_rows (i + 1) (row_of (map (recorded S) tables)) v
+level_more S tables i v own rs qs l is e g =
+    let up : suc i ≡ i + 1 = omega arith in
+    let here : records_of S (at own v) ≡ row_of (map (recorded S) tables) i v = sym (recorded-at S own v) ∙ ap (λ (r : List (List Record)). at r v) (ap (recorded S) is ∙ sym (get_or-map (recorded S) tables i own [] l)) in
+    g ∙ (λ j. e j ++ here j) ∙ ap (λ n. level_of_rows n (row_of (map (recorded S) tables)) v) up
