@@ -33,7 +33,7 @@ module _ (old new : ℕ → List Pair) (p : Pair) (l : IsListed old p new) where
   ]
 
   -- what a list has was there or is the pair, whose list it is
-  came : (s : ℕ) (q : Pair) → IsIn (new s) q → IsIn (old s) q ⊎ ((p.0 ≢ p.1) × (shard_of_pair p.0 p.1 ≡ s) × (p ≡ q))
+  pub came : (s : ℕ) (q : Pair) → IsIn (new s) q → IsIn (old s) q ⊎ ((p.0 ≢ p.1) × (shard_of_pair p.0 p.1 ≡ s) × (p ≡ q))
   came s q w = elim (same_ref p.0 p.1) [
     | yes e ↦ inl (subst (λ (ps : List Pair). IsIn ps q) (l.equal e s) w)
     | no n ↦ elim (cases_eq s (shard_of_pair p.0 p.1)) [

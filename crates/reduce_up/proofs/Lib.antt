@@ -15,3 +15,8 @@ pub mod Known
 pub mod Reading
 pub mod Teaming
 pub mod Rooting
+pub mod Parting
+pub mod Parted
+pub mod Making
+pub mod Picked
+pub mod Joined

@@ -1,7 +1,7 @@
 -- What is read of the workers' parts: a child's place by its number, and its diagram by its place.
 use Rattle.std.proofs.Common.{◌≡◌, ◌≢◌, ℕ, zero, suc, ◌+◌, ◌-◌, ◌*◌, ◌<◌, ◌≤◌, Bool, true, false, cond, eqb, List, [], ◌∷◌, ◌++◌, length, map, filter, take, drop, get_or, set, slice_get, Some, replicate, Contains, All, inl, inr, refl, sym, ap, ◌∙◌, subst, arith, append_assoc, append-nil, eq-eqb, ne_eqb, get_or-set_same, get_or-set_other, length-append}
 use Rattle.std.specs.List.{AllZip}
-use Rattle.std.proofs.lemmas.List.{take_more, take_all, take-append-drop, length-set, length-map, map-append, get_or_append_left, get_or_default, drop_more, reverse-append}
+use Rattle.std.proofs.lemmas.List.{take_more, take_all, take-append-drop, length-set, length-map, map-append, get_or_append_left, get_or-map, get_or_default, drop_more, reverse-append}
 use Rattle.std.proofs.Math.Seq.{drop-length}
 use mathlib.Core.List.{reverse}
 use Rattle.std.proofs.Math.Nat.{mod-lt}
@@ -19,6 +19,9 @@ use Rattle.req_table.specs.declared.Key.{Key}
 use Rattle.req_table.specs.declared.Child.{Child}
 use Rattle.req_table.specs.declared.Child.TheVariants.{Done, Ask}
 use Rattle.req_table.specs.declared.Record.{Record}
+use Rattle.req_table.specs.declared.placed.Placed.{Placed}
+use Rattle.req_table.specs.declared.placed.PlacedChild.TheVariants as placed
+use Rattle.expand_work.specs.Lean.{lean, lean_row}
 use Rattle.req_table.specs.Keys.{level_of, owner, wave_of}
 use Rattle.req_table.specs.Settled.{key_of, asked, asked_by, asked_below, dealt_from, level_of_rows, owed}
 use Rattle.req_table.specs.Tables.{row_at}
@@ -44,31 +47,37 @@ use Rattle.reduce_up.specs.Sharing.{IsPairOf, CanStand, AddsPairs, IsPairsFault}
 use Rattle.reduce_up.proofs.Rooted.{item_at, item_next}
 use Rattle.reduce_up.specs.Reducing.{IsChild, IsRecordAt, IsResolved}
 use Rattle.reduce_up.specs.Placed.{paired, joined}
-use Rattle.reduce_up.specs.Team.{AnswersView, list_of, team_row, gathered, levels_told, told, asked_above, AreLeft, AreFewer, AreStarts, IsLast, IsLevelDone, IsFound, IsHalfway, IsRead, AreRead}
+use Rattle.reduce_up.specs.Team.{AnswersView, answers_at, in_turn, team_row, gathered, levels_told, told, asked_above, AreLeft, AreFewer, IsLast, IsLevelDone, IsFound, IsHalfway}
 use Rattle.reduce_up.proofs.Placing.{in_left, in_right, joined_in, paired_at}
 
 -- ---- keys with their diagrams, by level
-pub told_at : (rows : ℕ → List Record) (v : ℕ) (found : List (List Ref)) (u : ℕ) → u < length found → get_or (levels_told rows v found) u [] ≡ paired (map key_of (rows (v + u))) (get_or found u [])
-told_at rows v [] u l = absurd (omega (arith, l))
-told_at rows v (f ∷ fs) zero l = let e : v ≡ v + 0 = omega arith in ap (λ z. paired (map key_of (rows z)) f) e
-told_at rows v (f ∷ fs) (suc u) l = let e : suc v + u ≡ v + suc u = omega arith in told_at rows (suc v) fs u (omega (arith, l)) ∙ ap (λ z. paired (map key_of (rows z)) (get_or fs u [])) e
+pub told_at : (n : ℕ) (rows : ℕ → List Record) (v : ℕ) (found : List (List (List Ref))) (u : ℕ) → u < length found → get_or (levels_told n rows v found) u [] ≡ paired (map key_of (rows (v + u))) (in_turn n (get_or found u []))
+told_at n rows v [] u l = absurd (omega (arith, l))
+told_at n rows v (f ∷ fs) zero l = let e : v ≡ v + 0 = omega arith in ap (λ z. paired (map key_of (rows z)) (in_turn n f)) e
+told_at n rows v (f ∷ fs) (suc u) l = let e : suc v + u ≡ v + suc u = omega arith in told_at n rows (suc v) fs u (omega (arith, l)) ∙ ap (λ z. paired (map key_of (rows z)) (in_turn n (get_or fs u []))) e
 
-pub told_set : (rows : ℕ → List Record) (v : ℕ) (found : List (List Ref)) (u : ℕ) (f : List Ref) → u < length found → levels_told rows v (set found u f) ≡ set (levels_told rows v found) u (paired (map key_of (rows (v + u))) f)
-told_set rows v [] u f l = absurd (omega (arith, l))
-told_set rows v (g ∷ fs) zero f l = let e : v ≡ v + 0 = omega arith in ap (λ z. paired (map key_of (rows z)) f ∷ levels_told rows (suc v) fs) e
-told_set rows v (g ∷ fs) (suc u) f l = let e : suc v + u ≡ v + suc u = omega arith in ap (λ z. paired (map key_of (rows v)) g ∷ z) (told_set rows (suc v) fs u f (omega (arith, l)) ∙ ap (λ z. set (levels_told rows (suc v) fs) u (paired (map key_of (rows z)) f)) e)
+pub told_set : (n : ℕ) (rows : ℕ → List Record) (v : ℕ) (found : List (List (List Ref))) (u : ℕ) (f : List (List Ref)) → u < length found → levels_told n rows v (set found u f) ≡ set (levels_told n rows v found) u (paired (map key_of (rows (v + u))) (in_turn n f))
+told_set n rows v [] u f l = absurd (omega (arith, l))
+told_set n rows v (g ∷ fs) zero f l = let e : v ≡ v + 0 = omega arith in ap (λ z. paired (map key_of (rows z)) (in_turn n f) ∷ levels_told n rows (suc v) fs) e
+told_set n rows v (g ∷ fs) (suc u) f l = let e : suc v + u ≡ v + suc u = omega arith in ap (λ z. paired (map key_of (rows v)) (in_turn n g) ∷ z) (told_set n rows (suc v) fs u f (omega (arith, l)) ∙ ap (λ z. set (levels_told n rows (suc v) fs) u (paired (map key_of (rows z)) (in_turn n f))) e)
 
-pub told-long : (rows : ℕ → List Record) (v : ℕ) (found : List (List Ref)) → length (levels_told rows v found) ≡ length found
-told-long rows v [] = refl
-told-long rows v (f ∷ fs) = ap suc (told-long rows (suc v) fs)
+pub told-long : (n : ℕ) (rows : ℕ → List Record) (v : ℕ) (found : List (List (List Ref))) → length (levels_told n rows v found) ≡ length found
+told-long n rows v [] = refl
+told-long n rows v (f ∷ fs) = ap suc (told-long n rows (suc v) fs)
+
+-- no lists
+pub turn-none : (n : ℕ) → in_turn n [] ≡ []
+turn-none zero = refl
+turn-none (suc n) = append-nil (in_turn n []) ∙ turn-none n
 
 pub paired-none : (ks : List Key) → paired ks [] ≡ []
 paired-none [] = refl
 paired-none (k ∷ ks) = refl
 
-pub told_none : (rows : ℕ → List Record) (v n : ℕ) → joined (levels_told rows v (replicate n [])) ≡ []
-told_none rows v zero = refl
-told_none rows v (suc n) = ap (λ z. z ++ joined (levels_told rows (suc v) (replicate n []))) (paired-none (map key_of (rows v))) ∙ told_none rows (suc v) n
+pub told_none : (n : ℕ) (rows : ℕ → List Record) (v m : ℕ) → joined (levels_told n rows v (replicate m [])) ≡ []
+told_none n rows v zero = refl
+told_none n rows v (suc m) = ap (λ z. paired (map key_of (rows v)) z ++ joined (levels_told n rows (suc v) (replicate m []))) (turn-none n)
+    ∙ ap (λ z. z ++ joined (levels_told n rows (suc v) (replicate m []))) (paired-none (map key_of (rows v))) ∙ told_none n rows (suc v) m
 
 -- ---- rows by level
 pub gathered-long : (n : ℕ) (rows : ℕ → List Record) → length (gathered n rows) ≡ n
@@ -114,28 +123,51 @@ stands_in_level n p v k place x l e =
     (subst (λ z. slice_get ((map key_of before ++ map key_of own) ++ map key_of w.0) z ≡ Some x) (sym at)
     (slice_get-before (map key_of before ++ map key_of own) (map key_of w.0) (length (map key_of before) + place) x (slice_get-behind (map key_of before) (map key_of own) place ∙ e)))
 
+-- ---- the workers' diagrams of a level, one behind the other
+turn_split : (lists : List (List Ref)) (n k : ℕ) → k < n → (rest : List Ref) × (in_turn n lists ≡ (in_turn k lists ++ get_or lists k []) ++ rest)
+turn_split lists zero k l = absurd (omega (arith, l))
+turn_split lists (suc n) k l = dite (ℕ_discrete k n)
+    (λ e. ([], subst (λ z. in_turn n lists ++ get_or lists n [] ≡ (in_turn z lists ++ get_or lists z []) ++ []) (sym e) (sym (append-nil (in_turn n lists ++ get_or lists n [])))))
+    (λ m. let w = turn_split lists n k (grind (arith, l, m)) in (w.0 ++ get_or lists n [], ap (λ z. z ++ get_or lists n []) w.1 ∙ append_assoc (in_turn k lists ++ get_or lists k []) w.0 (get_or lists n [])))
+
+-- so many as there are records
+pub turn-long : (lists : List (List Ref)) (rows : ℕ → ℕ → List Record) (v n : ℕ) → ((k : ℕ) → k < n → length (get_or lists k []) ≡ length (rows k v)) → length (in_turn n lists) ≡ length (level_of_rows n rows v)
+turn-long lists rows v zero f = refl
+turn-long lists rows v (suc n) f =
+    let h = turn-long lists rows v n (λ k l. f k (omega (arith, l))) in
+    let o = f n (omega arith) in
+    let a = length-append (in_turn n lists) (get_or lists n []) in
+    let b = length-append (level_of_rows n rows v) (rows n v) in
+    omega (arith, h, o, a, b)
+
 -- ---- a child's diagram, by the place that its owner noted
 module _ (n : ℕ) (p : PartsView) (a : AnswersView) (l : ℕ) (x : Key) (k place : ℕ) (kb : k < n) (lb : l < length a.found) (d : IsLevelDone n p l a) (e : slice_get (map key_of (row_of p.rows k l)) place ≡ Some x) where
-  start-is : get_or (list_of a.starts l) k 0 ≡ length (level_of_rows k (row_of p.rows) l)
-  start-is = d.starts.each k kb
+  pub within_level : place < length (answers_at a l k)
+  within_level = let z = slice_get_within (map key_of (row_of p.rows k l)) place x e in let m = length-map (row_of p.rows k l) key_of in let q = d k kb in omega (arith, z, m, q)
 
-  at_level : slice_get (map key_of (team_row n p l)) (get_or (list_of a.starts l) k 0 + place) ≡ Some x
-  at_level = subst (λ z. slice_get (map key_of (team_row n p l)) (z + place) ≡ Some x) (sym start-is) (stands_in_level n p l k place x kb e)
+  all-long : length (in_turn n (get_or a.found l [])) ≡ length (team_row n p l)
+  all-long = turn-long (get_or a.found l []) (row_of p.rows) l n d
 
-  as-many : length (map key_of (team_row n p l)) ≡ length (list_of a.found l)
-  as-many = length-map (team_row n p l) key_of ∙ sym d.long
+  before-long : length (in_turn k (get_or a.found l [])) ≡ length (level_of_rows k (row_of p.rows) l)
+  before-long = turn-long (get_or a.found l []) (row_of p.rows) l k (λ j b. d j (omega (arith, b, kb)))
 
-  pub within_level : get_or (list_of a.starts l) k 0 + place < length (list_of a.found l)
-  within_level = subst (λ z. get_or (list_of a.starts l) k 0 + place < z) as-many (slice_get_within (map key_of (team_row n p l)) (get_or (list_of a.starts l) k 0 + place) x at_level)
+  in_all : (r : Ref) → slice_get (answers_at a l k) place ≡ Some r → slice_get (in_turn n (get_or a.found l [])) (length (level_of_rows k (row_of p.rows) l) + place) ≡ Some r
+  in_all r f =
+      let w = turn_split (get_or a.found l []) n k kb in
+      let before = in_turn k (get_or a.found l []) in
+      subst (λ z. slice_get (in_turn n (get_or a.found l [])) (z + place) ≡ Some r) before-long
+      (subst (λ z. slice_get z (length before + place) ≡ Some r) (sym w.1)
+      (slice_get-before (before ++ answers_at a l k) w.0 (length before + place) r (slice_get-behind before (answers_at a l k) place ∙ f)))
 
-  pub found_told : (r : Ref) → slice_get (list_of a.found l) (get_or (list_of a.starts l) k 0 + place) ≡ Some r → Contains {X = Key × Ref} (told n p a) (x, r)
+  pub found_told : (r : Ref) → slice_get (answers_at a l k) place ≡ Some r → Contains {X = Key × Ref} (told n p a) (x, r)
   found_told r f =
-      let i = get_or (list_of a.starts l) k 0 + place in
-      let w = paired_at (map key_of (team_row n p l)) (list_of a.found l) i x r as-many at_level in
-      let at : get_or (levels_told (team_row n p) 0 a.found) l [] ≡ paired (map key_of (team_row n p l)) (list_of a.found l) =
-      told_at (team_row n p) 0 a.found l lb ∙ (let z : 0 + l ≡ l = omega arith in ap (λ z. paired (map key_of (team_row n p z)) (list_of a.found l)) z) in
-      joined_in (levels_told (team_row n p) 0 a.found) l (x, r)
-      (subst (λ z. Contains {X = Key × Ref} z (x, r)) (sym at) (subst (λ z. Contains {X = Key × Ref} (paired (map key_of (team_row n p l)) (list_of a.found l)) (x, z)) (get_or_from_slice_get (list_of a.found l) i r r f) w.1))
+      let i = length (level_of_rows k (row_of p.rows) l) + place in
+      let all = in_turn n (get_or a.found l []) in
+      let w = paired_at (map key_of (team_row n p l)) all i x r (length-map (team_row n p l) key_of ∙ sym all-long) (stands_in_level n p l k place x kb e) in
+      let at : get_or (levels_told n (team_row n p) 0 a.found) l [] ≡ paired (map key_of (team_row n p l)) all =
+      told_at n (team_row n p) 0 a.found l lb ∙ (let z : 0 + l ≡ l = omega arith in ap (λ z. paired (map key_of (team_row n p z)) all) z) in
+      joined_in (levels_told n (team_row n p) 0 a.found) l (x, r)
+      (subst (λ z. Contains {X = Key × Ref} z (x, r)) (sym at) (subst (λ z. Contains {X = Key × Ref} (paired (map key_of (team_row n p l)) all) (x, z)) (get_or_from_slice_get all i r r (in_all r f)) w.1))
 
 -- one request of its owner's fewer
 pub one_fewer : (n : ℕ) (l : ℕ) (x : Key) (old : List ℕ) → owner n x < length old → 0 < get_or old (owner n x) 0 → AreFewer n (Ask l x) old (set old (owner n x) (get_or old (owner n x) 0 - 1))
@@ -247,24 +279,29 @@ pub child_level : (S : Nodes) (v : ℕ) (k : Key) (b : Bool) (c : Child) → IsC
 child_level S v k b c i l x e = let j = subst (IsChild S v k b) e i in sym j.1.level
 
 -- ---- lists of lists that are kept in vectors
-list_kept : {V X : Type 0} (f : V → List X) (ls : List V) (l : ℕ) (v : V) (k : ℕ) → v ≡ get_or ls l v → k < length (list_of (map f ls) l) → list_of (map f ls) l ≡ f v
+list_kept : {V X : Type 0} (f : V → List X) (ls : List V) (l : ℕ) (v : V) (k : ℕ) → v ≡ get_or ls l v → k < length (get_or (map f ls) l []) → get_or (map f ls) l [] ≡ f v
 list_kept f [] zero v k e b = absurd (omega (arith, b))
 list_kept f [] (suc l) v k e b = absurd (omega (arith, b))
 list_kept f (w ∷ ws) zero v k e b = ap f (sym e)
 list_kept f (w ∷ ws) (suc l) v k e b = list_kept f ws l v k e b
 
-pub got : (starts : List (Vec ℕ Global)) (found : List (Vec Ref Global)) (a : AnswersView) → a ≡ record { starts = map (λ (v : Vec ℕ Global). v.items) starts; found = map (λ (v : Vec Ref Global). v.items) found } → (l k place : ℕ) (own : Vec ℕ Global) (start : ℕ) (row : Vec Ref Global) (r : Ref)
-    → own ≡ get_or starts l own → start ≡ get_or own.items k start → row ≡ get_or found l row → r ≡ get_or row.items (start + place) r → k < length (list_of a.starts l) → get_or (list_of a.starts l) k 0 + place < length (list_of a.found l)
-    → slice_get (list_of a.found l) (get_or (list_of a.starts l) k 0 + place) ≡ Some r
-got starts found a is l k place own start row r own-is start-is row-is r-is kb pb =
-    let kb' = subst (λ (z : AnswersView). k < length (list_of z.starts l)) is kb in
-    let s : list_of a.starts l ≡ own.items = ap (λ (z : AnswersView). list_of z.starts l) is ∙ list_kept (λ (v : Vec ℕ Global). v.items) starts l own k own-is kb' in
-    let at : get_or (list_of a.starts l) k 0 ≡ start = ap (λ z. get_or z k 0) s ∙ get_or_default own.items k 0 start (subst (λ (z : List ℕ). k < length z) s kb) ∙ sym start-is in
-    let pb' = subst (λ (z : AnswersView). get_or (list_of a.starts l) k 0 + place < length (list_of z.found l)) is pb in
-    let f : list_of a.found l ≡ row.items = ap (λ (z : AnswersView). list_of z.found l) is ∙ list_kept (λ (v : Vec Ref Global). v.items) found l row (get_or (list_of a.starts l) k 0 + place) row-is pb' in
-    let b : start + place < length row.items = subst (λ (z : ℕ × List Ref). z.0 + place < length z.1) (λ i. (at i, f i)) pb in
-    subst (λ (z : ℕ × List Ref). slice_get z.1 (z.0 + place) ≡ Some r) (λ i. (sym at i, sym f i))
-    (slice_get-get_or row.items (start + place) r b ∙ ap (λ z. Some z) (sym r-is))
+inner_some : (xss : List (List Ref)) (k place : ℕ) → place < length (get_or xss k []) → k < length xss
+inner_some [] zero place b = absurd (omega (arith, b))
+inner_some [] (suc k) place b = absurd (omega (arith, b))
+inner_some (x ∷ xs) zero place b = omega arith
+inner_some (x ∷ xs) (suc k) place b = let z = inner_some xs k place b in omega (arith, z)
+
+pub got : (found : List (Vec (Vec Ref Global) Global)) (a : AnswersView) → a ≡ record { found = map (λ (w : Vec (Vec Ref Global) Global). map (λ (v : Vec Ref Global). v.items) w.items) found } → (l k place : ℕ) (level : Vec (Vec Ref Global) Global) (own : Vec Ref Global) (r : Ref)
+    → level ≡ get_or found l level → own ≡ get_or level.items k own → r ≡ get_or own.items place r → place < length (answers_at a l k) → slice_get (answers_at a l k) place ≡ Some r
+got found a is l k place level own r level-is own-is r-is b =
+    let items : Vec (Vec Ref Global) Global → List (List Ref) = λ w. map (λ (v : Vec Ref Global). v.items) w.items in
+    let b' : place < length (get_or (get_or (map items found) l []) k []) = subst (λ (z : AnswersView). place < length (answers_at z l k)) is b in
+    let f : get_or (map items found) l [] ≡ items level = list_kept items found l level k level-is (inner_some (get_or (map items found) l []) k place b') in
+    let b'' : place < length (get_or (items level) k []) = subst (λ (z : List (List Ref)). place < length (get_or z k [])) f b' in
+    let g : get_or (items level) k [] ≡ own.items = list_kept (λ (v : Vec Ref Global). v.items) level.items k own place own-is b'' in
+    let at : answers_at a l k ≡ own.items = ap (λ (z : AnswersView). answers_at z l k) is ∙ ap (λ z. get_or z k []) f ∙ g in
+    subst (λ (z : List Ref). slice_get z place ≡ Some r) (sym at)
+    (slice_get-get_or own.items place r (subst (λ (z : List Ref). place < length z) at b) ∙ ap (λ z. Some z) (sym r-is))
 
 -- ---- one child
 pub owned_within : (n : ℕ) (x : Key) → 0 < n → owner n x < n
@@ -281,15 +318,57 @@ module _ (n : ℕ) (p : PartsView) (a : AnswersView) (s : ℕ) (left : List ℕ)
   place-is : get_or ns (num - 1) 0 ≡ last.0
   place-is = (λ i. get_or ((ns-is ∙ ap (λ z. noted_of p.noted z s) k-is) i) (num-here i - 1) 0) ∙ get_or_from_slice_get (noted_of p.noted (owner n x) s) (get_or left (owner n x) 0 - 1) last.0 0 last.2
 
-  pub place_within : get_or (list_of a.starts l) k 0 + get_or ns (num - 1) 0 < length (list_of a.found l)
-  place_within = subst (λ (z : ℕ × ℕ). get_or (list_of a.starts l) z.0 0 + z.1 < length (list_of a.found l)) (λ i. (sym k-is i, sym place-is i)) (within_level n p a l x (owner n x) last.0 owned found.0 found.1 last.3)
+  pub owner_within : k < n
+  owner_within = subst (λ z. z < n) (sym k-is) owned
+
+  pub num_some : 0 < num
+  num_some = subst (λ z. 0 < z) (sym num-here) last.1
+
+  pub num_within : num - 1 < length ns
+  num_within = subst (λ (z : ℕ × List ℕ). z.0 - 1 < length z.1) (λ i. (sym num-here i, sym (ns-is ∙ ap (λ z. noted_of p.noted z s) k-is) i))
+      (slice_get_within (noted_of p.noted (owner n x) s) (get_or left (owner n x) 0 - 1) last.0 last.2)
+
+  pub place_within : get_or ns (num - 1) 0 < length (answers_at a l k)
+  place_within = subst (λ (z : ℕ × ℕ). z.1 < length (answers_at a l z.0)) (λ i. (sym k-is i, sym place-is i)) (within_level n p a l x (owner n x) last.0 owned found.0 found.1 last.3)
 
   pub one_read : AreFewer n (Ask l x) left (set left k (num - 1))
   one_read = subst (λ (z : ℕ × ℕ). AreFewer n (Ask l x) left (set left z.0 (z.1 - 1))) (λ i. (sym k-is i, sym num-here i)) (one_fewer n l x left (subst (λ z. owner n x < z) (sym wide) owned) last.1)
 
-  pub answer_read : (r : Ref) → slice_get (list_of a.found l) (get_or (list_of a.starts l) k 0 + get_or ns (num - 1) 0) ≡ Some r → Contains {X = Key × Ref} (told n p a) (x, r)
+  pub answer_read : (r : Ref) → slice_get (answers_at a l k) (get_or ns (num - 1) 0) ≡ Some r → Contains {X = Key × Ref} (told n p a) (x, r)
   answer_read r e = found_told n p a l x (owner n x) last.0 owned found.0 found.1 last.3 r
-      (subst (λ (z : ℕ × ℕ). slice_get (list_of a.found l) (get_or (list_of a.starts l) z.0 0 + z.1) ≡ Some r) (λ i. (k-is i, place-is i)) e)
+      (subst (λ (z : ℕ × ℕ). slice_get (answers_at a l z.0) z.1 ≡ Some r) (λ i. (k-is i, place-is i)) e)
+
+-- ---- a child in eight bytes
+pub asked_child : (n : ℕ) (e : Placed) (c : Child) (level k : ℕ) → e ≡ placed.Ask level k → e ≡ lean n c → (x : Key) × (c ≡ Ask level x) × (k ≡ owner n x)
+asked_child n e (Done r) level k is f = absurd (let z = sym is ∙ f in cc)
+asked_child n e (Ask l x) level k is f =
+    let z : placed.Ask level k ≡ placed.Ask l (owner n x) = sym is ∙ f in
+    let a : level ≡ l = cc in let b : k ≡ owner n x = cc in
+    (x, ap (λ u. Ask u x) (sym a), b)
+
+pub done_child : (n : ℕ) (e : Placed) (c : Child) (r : Ref) → e ≡ placed.Done r → e ≡ lean n c → c ≡ Done r
+done_child n e (Done q) r is f =
+    let z : placed.Done r ≡ placed.Done q = sym is ∙ f in
+    let a : r ≡ q = cc in ap (λ u. Done u) (sym a)
+done_child n e (Ask l x) r is f = absurd (let z = sym is ∙ f in cc)
+
+pub lean-long : (n : ℕ) (records : List Record) → length (lean_row n records) ≡ length records
+lean-long n records = length-map records (λ r. (lean n r.low, lean n r.high))
+
+some_record : (records : List Record) (i : ℕ) → i < length records → Record
+some_record [] i l = absurd (omega (arith, l))
+some_record (r ∷ records) i l = r
+
+-- the record whose children were read
+pub row_read : (n : ℕ) (p : PartsView) (s v : ℕ) (row : List (Placed × Placed)) → row ≡ lean_row (length p.rows) (row_of p.rows s v) → length p.rows ≡ n → (i : ℕ) → i < length (row_of p.rows s v) → (e : Placed × Placed) → e ≡ get_or row i e
+    → (r : Record) × (r ≡ get_or (row_of p.rows s v) i r) × (e.0 ≡ lean n r.low) × (e.1 ≡ lean n r.high)
+row_read n p s v row is many i l e e-is =
+    let own = row_of p.rows s v in
+    let d : Record = some_record own i l in
+    let r : Record = get_or own i d in
+    let at : e ≡ (lean n r.low, lean n r.high) =
+    e-is ∙ ap (λ z. get_or z i e) (is ∙ ap (λ z. lean_row z own) many) ∙ get_or-map (λ (q : Record). (lean n q.low, lean n q.high)) own i d e l in
+    (r, get_or_default own i d r l, ap (λ z. z.0) at, ap (λ z. z.1) at)
 
 -- ---- one record
 module _ (n : ℕ) (roots : List Key) (p : PartsView) (v : ℕ) (a : AnswersView) (h : IsHalfway n roots p (v + 1) a) (s : ℕ) (sb : s < n) (vb : v < length a.found)
@@ -337,15 +416,6 @@ next_pair R row i r pairs new q l r-is is z h =
 pub no_pairs : {A B : Type 0} (R : A → B → Type 0) (row : List A) (pairs : List B) → pairs ≡ [] → AllZip R (drop (length row) row) (reverse pairs)
 no_pairs R row pairs is = subst (λ ys. AllZip R (drop (length row) row) (reverse ys)) (sym is) (subst (λ xs. AllZip R xs []) (sym (drop-length row)) tt)
 
--- ---- all workers of a level
-pub read_more : (n : ℕ) (roots : List Key) (p : PartsView) (a : AnswersView) (v m : ℕ) (rs rs' : List (Result (Vec Pair Global × Vec ℕ Global) AllocError)) (r : Result (Vec Pair Global × Vec ℕ Global) AllocError) → AreRead n roots p a v m rs → IsRead n roots p a v m r → rs' ≡ rs ++ r ∷ [] → AreRead n roots p a v (m + 1) rs'
-read_more n roots p a v m rs rs' r h i is = record {
-  long = ap (λ z. length z) is ∙ length-append rs (r ∷ []) ∙ ap (λ z. z + 1) h.long;
-  each = λ s d l. dite (ℕ_discrete s m)
-      (λ e. subst (IsRead n roots p a v s) (sym (ap (λ z. get_or z s d) is ∙ ap (λ z. get_or (rs ++ r ∷ []) z d) (e ∙ sym h.long) ∙ get_or-append_seam rs r [] d)) (subst (λ z. IsRead n roots p a v z r) (sym e) i))
-      (λ o. let lt : s < m = grind (arith, l, o) in subst (IsRead n roots p a v s) (sym (ap (λ z. get_or z s d) is ∙ get_or_append_left rs (r ∷ []) d s (let q = h.long in omega (arith, lt, q)))) (h.each s d lt));
-}
-
 -- ---- what is left
 pub lefts_more : (n : ℕ) (roots : List Key) (p : PartsView) (v m : ℕ) (ls ls' : List (Vec ℕ Global)) (x : Vec ℕ Global) → length ls ≡ m → ((s : ℕ) (d : Vec ℕ Global) → s < m → AreLeft n (asked_above n roots p s v) (get_or ls s d).items) → AreLeft n (asked_above n roots p m v) x.items → ls' ≡ ls ++ x ∷ []
     → (length ls' ≡ m + 1) × ((s : ℕ) (d : Vec ℕ Global) → s < m + 1 → AreLeft n (asked_above n roots p s v) (get_or ls' s d).items)
@@ -368,88 +438,3 @@ count_more n f m xs xs' x long each own is = (
       (λ e. ap (λ z. get_or z k 0) is ∙ ap (λ z. get_or (xs ++ x ∷ []) z 0) (e ∙ sym long) ∙ get_or-append_seam xs x [] 0 ∙ own ∙ ap f (sym e))
       (λ o. let lt : k < m = grind (arith, l, o) in ap (λ z. get_or z k 0) is ∙ get_or_append_left xs (x ∷ []) 0 k (omega (arith, lt, long)) ∙ each k lt),
 )
-
--- a worker's records and those before them are no more than the level's
-pub level_room : (n : ℕ) (p : PartsView) (v k : ℕ) → k < n → length (level_of_rows k (row_of p.rows) v) + length (row_of p.rows k v) ≤ length (team_row n p v)
-level_room n p v k l =
-    let w = level_split (row_of p.rows) v n k l in
-    let a = ap (λ z. length z) w.1 in
-    let b = length-append (level_of_rows k (row_of p.rows) v ++ row_of p.rows k v) w.0 in
-    let c = length-append (level_of_rows k (row_of p.rows) v) (row_of p.rows k v) in
-    omega (arith, a, b, c)
-
--- ---- nodes that were made one after the other
-made_there : (T : Nodes) (v : ℕ) (lo hi r : Ref) → Has T r → ((lo ≡ hi) × (r ≡ lo)) ⊎ ((lo ≢ hi) × (part T r ≡ node v lo hi)) → IsThere T v lo hi r
-made_there T v lo hi r h (inl e) = inl e
-made_there T v lo hi False h (inr e) = absurd (let z = e.1 in cc)
-made_there T v lo hi True h (inr e) = absurd (let z = e.1 in cc)
-made_there T v lo hi (Node m) h (inr e) =
-    let at : node m.level h.0.0 h.0.1 ≡ node v lo hi = sym (ap (part_of m) h.1) ∙ e.1 in
-    let l : m.level ≡ v = cc in let a : h.0.0 ≡ lo = cc in let b : h.0.1 ≡ hi = cc in
-    inr (e.0, (m, refl, l, h.1 ∙ (λ i. Some (a i, b i))))
-
-there_still : (S T : Nodes) (v : ℕ) (lo hi r : Ref) → Extends S T → IsThere S v lo hi r → IsThere T v lo hi r
-there_still S T v lo hi r x (inl e) = inl e
-there_still S T v lo hi r x (inr e) = inr (e.0, (e.1.0, e.1.1, e.1.2, x.nodes e.1.0 (lo, hi) e.1.3))
-
--- so many pairs have their nodes
-pub record AreMade (S : Nodes) (v : ℕ) (pairs : List Pair) (i : ℕ) (T : Nodes) (answers : List Ref) : Type 0 where
-  pub sound : IsSound T
-  pub extends : Extends S T
-  pub adds : AddsPairs S T v pairs
-  pub there : AllZip (λ (p : Pair) r. IsThere T v p.0 p.1 r) (take i pairs) answers
-  pub none : i ≡ 0 → T ≡ S
-
-adds_more : (S T U : Nodes) (v : ℕ) (pairs : List Pair) (lo hi r : Ref) → AddsPairs S T v pairs → IsMade T U v lo hi r → Has S lo → Contains {X = Pair} pairs (lo, hi) → AddsPairs S U v pairs
-adds_more S T U v pairs lo hi r a m low c = record { keeps = keeps-trans S T U a.keeps m.keeps; only = λ q h. of q (m.no_other q h) }
-  where
-    old : (q : Ref) → Has T q → Has S q ⊎ ((p : Pair) × Contains pairs p × (p.0 ≢ p.1) × (part U q ≡ node v p.0 p.1))
-    old q h = elim (a.only q h) [ inl i ↦ inl i | inr w ↦ inr (w.0, w.1, w.2, m.keeps.part_is q h ∙ w.3) ]
-
-    of : (q : Ref) → Has T q ⊎ (q ≡ r) → Has S q ⊎ ((p : Pair) × Contains pairs p × (p.0 ≢ p.1) × (part U q ≡ node v p.0 p.1))
-    of q (inl h) = old q h
-    of q (inr e) = elim m.is [
-      | inl s ↦ old q (subst (Has T) (sym (e ∙ s.1)) (a.keeps.has lo low))
-      | inr w ↦ inr ((lo, hi), c, w.0, ap (part U) e ∙ w.1)
-    ]
-
-extends_on : (S T U : Nodes) → Extends S T → Extends T U → Extends S U
-extends_on S T U x y = record { levels = y.levels ∙ x.levels; limit = y.limit ∙ x.limit; nodes = λ m p e. y.nodes m p (x.nodes m p e) }
-
--- one pair more
-module _ (S T U : Nodes) (v : ℕ) (pairs : List Pair) (i : ℕ) (p : Pair) (r : Ref) (answers : List Ref) (ready : All (CanStand S v) pairs) (ib : i < length pairs) (p-is : p ≡ get_or pairs i p) (h : AreMade S v pairs i T answers) (m : IsMade T U v p.0 p.1 r) where
-  member : Contains {X = Pair} pairs (p.0, p.1)
-  member = item_at pairs i p ib p-is
-
-  low : Has S p.0
-  low = (All-contains (CanStand S v) pairs p ready member).has_low
-
-  pub pair_adds : AddsPairs S U v pairs
-  pair_adds = adds_more S T U v pairs p.0 p.1 r h.adds m low member
-
-  pub pair_made : IsSound U → Extends T U → (answers' : List Ref) → answers' ≡ answers ++ r ∷ [] → AreMade S v pairs (i + 1) U answers'
-  pair_made u x answers' is = record {
-    sound = u;
-    extends = extends_on S T U h.extends x;
-    adds = pair_adds;
-    there = subst (AllZip (λ (q : Pair) s. IsThere U v q.0 q.1 s) (take (i + 1) pairs)) (sym is)
-        (subst (λ z. AllZip (λ (q : Pair) s. IsThere U v q.0 q.1 s) z (answers ++ r ∷ [])) (sym (item_next pairs i p ib p-is))
-        (zip_push (λ (q : Pair) s. IsThere U v q.0 q.1 s) (take i pairs) answers p r
-        (zip_weaker (λ (q : Pair) s. IsThere T v q.0 q.1 s) (λ (q : Pair) s. IsThere U v q.0 q.1 s) (λ q s t. there_still T U v q.0 q.1 s x t) (take i pairs) answers h.there)
-        (made_there U v p.0 p.1 r m.has m.is)));
-    none = λ e. absurd (omega (arith, e));
-  }
-
--- a pair that was refused
-pub pair_refused : (T U : Nodes) (v : ℕ) (pairs : List Pair) (i : ℕ) (p : Pair) → i < length pairs → p ≡ get_or pairs i p → U ≡ T → (f : StoreFault) → IsFull T v p.0 p.1 f → IsPairsFault U v pairs f
-pair_refused T U v pairs i p ib p-is same OutOfMemory h = tt
-pair_refused T U v pairs i p ib p-is same Full h = (p, item_at pairs i p ib p-is, subst (λ z. IsFull z v p.0 p.1 Full) (sym same) h)
-
--- ---- what one worker read
-pub one_of_reads : (n : ℕ) (roots : List Key) (p : PartsView) (a : AnswersView) (v : ℕ) (reads done rest : List (Result (Vec Pair Global × Vec ℕ Global) AllocError)) (r : Result (Vec Pair Global × Vec ℕ Global) AllocError) (some : Vec Pair Global) (left : Vec ℕ Global)
-    → AreRead n roots p a v n reads → (done ++ r ∷ []) ++ rest ≡ reads → r ≡ Ok (some, left) → AllZip (IsPairOf (told n p a)) (row_of p.rows (length done) v) some.items × AreLeft n (asked_above n roots p (length done) v) left.items
-one_of_reads n roots p a v reads done rest r some left h whole is =
-    let at : reads ≡ done ++ r ∷ rest = sym whole ∙ append_assoc done (r ∷ []) rest in
-    let long = ap (λ z. length z) at ∙ length-append done (r ∷ rest) in
-    let all = h.long in
-    subst (IsRead n roots p a v (length done)) (ap (λ z. get_or z (length done) r) at ∙ get_or-append_seam done r rest r ∙ is) (h.each (length done) r (omega (arith, long, all)))

@@ -24,7 +24,7 @@ use Rattle.expand_work.proofs.Expanding.{closure_same}
 use Rattle.expand_work.proofs.Owing.{dealt-append}
 use Rattle.reduce_up.specs.Waves.{Entry, request_of, requests_of, IsClosureOf}
 use Rattle.reduce_up.specs.Placed.{joined}
-use Rattle.reduce_up.specs.Team.{AnswersView, list_of, team_row, gathered, levels_told, told, asked_above, AreLeft, AreAllLeft, AreRootsLeft, AreFewer, IsLast, IsFound, IsHalfway}
+use Rattle.reduce_up.specs.Team.{AnswersView, team_row, gathered, levels_told, told, asked_above, AreLeft, AreAllLeft, AreRootsLeft, AreFewer, IsLast, IsFound, IsHalfway}
 use Rattle.reduce_up.proofs.Rooted.{item_next}
 use Rattle.reduce_up.proofs.Closed.{records_of_closure}
 use Rattle.reduce_up.proofs.Reading.{reads, owned_within, left_fewer, gathered_at, gathered-long, told_none}
@@ -110,7 +110,7 @@ module _ (S : Nodes) (sound : IsSound S) (n : ℕ) (some : 0 < n) (roots : List 
   pub closed : IsClosure (wave_of S n) roots (row_at (gathered S.levels (team_row n p)))
   closed = closure_same (wave_of S n) (team_row n p) (row_at (gathered S.levels (team_row n p))) (λ v b. gathered_at S.levels (team_row n p) v b) roots parts.closure
 
-  pub begins : (a : AnswersView) → a ≡ record { starts = replicate S.levels []; found = replicate S.levels [] } → IsHalfway n roots p S.levels a × (told n p a ≡ [])
+  pub begins : (a : AnswersView) → a ≡ record { found = replicate S.levels [] } → IsHalfway n roots p S.levels a × (told n p a ≡ [])
   begins a is = (
     record {
       start = S;
@@ -119,11 +119,10 @@ module _ (S : Nodes) (sound : IsSound S) (n : ℕ) (some : 0 < n) (roots : List 
       parts = parts;
       records = records_of_closure S sound n roots good (gathered S.levels (team_row n p)) closed (gathered-long S.levels (team_row n p));
       levels = ap (λ (b : AnswersView). length b.found) is ∙ length-replicate S.levels [];
-      starts = ap (λ (b : AnswersView). length b.starts) is ∙ length-replicate S.levels [];
       done = λ u le lt. absurd (omega (arith, le, lt));
-      others = λ u lt. ap (λ (b : AnswersView). list_of b.found u) is ∙ get_or-replicate S.levels u [] [] lt;
+      others = λ u lt. ap (λ (b : AnswersView). get_or b.found u []) is ∙ get_or-replicate S.levels u [] [] lt;
     },
-    ap (λ (b : AnswersView). told n p b) is ∙ told_none (team_row n p) 0 S.levels,
+    ap (λ (b : AnswersView). told n p b) is ∙ told_none n (team_row n p) 0 S.levels,
   )
 
   pub team_closure : (entries : List Entry) → roots ≡ requests_of entries → IsClosureOf S n (requests_of entries) (gathered S.levels (team_row n p))

@@ -21,9 +21,9 @@ use Rattle.dd_store.specs.View.{part_of, part, Has}
 use Rattle.dd_store.proofs.Storing.{node_in_shard, node_from_shard, small_shard, shard-le-count}
 use Rattle.dd_store.proofs.AddingAll.{grown_only, Extends-grown}
 use Rattle.dd_store.proofs.View.{keeps, same_ref, absent}
-use Rattle.expand_work.proofs.Zips.{zip_at, zip_long}
+use Rattle.expand_work.proofs.Zips.{zip_at}
 use Rattle.reduce_up.specs.Reducing.{IsKeyAt, IsAnswer, IsAnswerAt, IsRecordAt, AreAnswers, HasAnswer, AddsDescribed, AskedBy, IsRow, IsRowReduced, IsRowFault, Notes, wave_fault}
-use Rattle.reduce_up.specs.Sharing.{IsPairOf, CanStand, AreDivided, AddsPairs, HasPair, IsPairsFault, NotesFirst}
+use Rattle.reduce_up.specs.Sharing.{IsPairOf, IsAnswered, CanStand, RowCanStand, AreDivided, AddsRow, IsRowRefused, AddsPairs, HasPair, IsPairsFault, NotesFirst}
 use Rattle.reduce_up.proofs.Noting.{nothing, head_in, tail_in, in_cases}
 use Rattle.reduce_up.proofs.Reduction.{resolved, made_answer, kept_meaning, answer_kept, record_kept, row_fault}
 use Rattle.reduce_up.proofs.Missing.{record_fault}
@@ -99,7 +99,7 @@ pairs_refused T v pairs lists (Ok u) w d h = tt
 pairs_refused T v pairs lists (Err f) w d h = pairs_fault T v pairs lists f w d h
 
 -- the item that stands beside one
-zip_right : {A B : Type 0} (R : A → B → Type 0) (xs : List A) (ys : List B) → AllZip R xs ys → (y : B) → Contains ys y → (x : A) × Contains xs x × R x y
+pub zip_right : {A B : Type 0} (R : A → B → Type 0) (xs : List A) (ys : List B) → AllZip R xs ys → (y : B) → Contains ys y → (x : A) × Contains xs x × R x y
 zip_right R [] [] h y c = absurd (nothing y c)
 zip_right R [] (z ∷ ys) h y c = absurd h
 zip_right R (x ∷ xs) [] h y c = absurd h
@@ -108,57 +108,63 @@ zip_right R (x ∷ xs) (z ∷ ys) h y c = elim (in_cases z y ys c) [
   | inr more ↦ let w = zip_right R xs ys h.1 y more in (w.0, tail_in x w.0 xs w.1, w.2)
 ]
 
+-- two lists beside one
+pub zip_through : {A B C : Type 0} (R : A → B → Type 0) (Q : B → C → Type 0) (xs : List A) (ys : List B) (zs : List C) → AllZip R xs ys → AllZip Q ys zs → AllZip (λ x z. (y : B) × R x y × Q y z) xs zs
+zip_through R Q [] [] [] h k = tt
+zip_through R Q [] [] (z ∷ zs) h k = absurd k
+zip_through R Q [] (y ∷ ys) zs h k = absurd h
+zip_through R Q (x ∷ xs) [] zs h k = absurd h
+zip_through R Q (x ∷ xs) (y ∷ ys) [] h k = absurd k
+zip_through R Q (x ∷ xs) (y ∷ ys) (z ∷ zs) h k = ((y, h.0, k.0), zip_through R Q xs ys zs h.1 k.1)
+
 -- the records of a row, and the pairs that their children come to
-module _ (S : Nodes) (before : List (Key × Ref)) (v : ℕ) (row : List Record) (pairs : List Pair) (held : IsSound S) (answers : AreAnswers S before) (is_row : IsRow S before v row) (are : AllZip (IsPairOf before) row pairs) where
+module _ (S : Nodes) (before : List (Key × Ref)) (v : ℕ) (row : List Record) (held : IsSound S) (answers : AreAnswers S before) (is_row : IsRow S before v row) where
   low_of : (U : Nodes) (r : Record) (p : Pair) → AreAnswers U before → IsRecordAt U v r → IsPairOf before r p → IsAnswerAt U v r.key false p.0
   low_of U r p a i e = resolved U v r.key false r.low before p.0 i.low a e.0
 
   high_of : (U : Nodes) (r : Record) (p : Pair) → AreAnswers U before → IsRecordAt U v r → IsPairOf before r p → IsAnswerAt U v r.key true p.1
   high_of U r p a i e = resolved U v r.key true r.high before p.1 i.high a e.1
 
-  pub can_stand : (p : Pair) → Contains pairs p → CanStand S v p
-  can_stand p c =
-      let w = zip_right (IsPairOf before) row pairs are p c in
-      let low = low_of S w.0 p answers (is_row.records w.0 w.1) w.2 in
-      let high = high_of S w.0 p answers (is_row.records w.0 w.1) w.2 in
+  pub stands : RowCanStand before S v row
+  stands d p c e =
+      let low = low_of S d p answers (is_row.records d c) e in
+      let high = high_of S d p answers (is_row.records d c) e in
       record { has_low = low.has; has_high = high.has; below_low = low.below; below_high = high.below }
 
-  module _ (T : Nodes) (sound : IsSound T) (adds : AddsPairs S T v pairs) where
+  module _ (T : Nodes) (sound : IsSound T) (adds : AddsRow before S T v row) where
     -- the reference that stands for a record's pair is its answer
     answered : (r : Record) (p : Pair) (m : Ref) → Contains row r → IsPairOf before r p → Has T m → ((p.0 ≡ p.1) × (m ≡ p.0)) ⊎ ((p.0 ≢ p.1) × (part T m ≡ node v p.0 p.1)) → IsAnswer T r.key m
     answered r p m c e h is =
         let i = is_row.records r c in
         made_answer S T v r.key p.0 p.1 m held sound i.key (low_of S r p answers i e) (high_of S r p answers i e) adds.keeps h is
 
-    row_adds : AddsDescribed S T (AskedBy S v row)
-    row_adds = record { keeps = adds.keeps; described = λ m h. elim (adds.only m h) [ inl old ↦ inl old | inr new ↦ inr (described m h new.0 new.1 new.2 new.3) ] }
+    row_described : AddsDescribed S T (AskedBy S v row)
+    row_described = record { keeps = adds.keeps; described = λ m h. elim (adds.only m h) [ inl old ↦ inl old | inr new ↦ inr (described m h new.0 new.1 new.2 new.3 new.4 new.5) ] }
       where
-        described : (m : Ref) → Has T m → (p : Pair) → Contains pairs p → p.0 ≢ p.1 → part T m ≡ node v p.0 p.1 → (w : ℕ) × (lo : Ref) × (hi : Ref) × (part T m ≡ node w lo hi) × AskedBy S v row w (den T m)
-        described m h p c n e =
-            let w = zip_right (IsPairOf before) row pairs are p c in
-            let r : Record = w.0 in
-            let key : IsKeyAt S v r.key = (is_row.records r w.1).key in
-            let a : IsAnswer T r.key m = answered r p m w.1 w.2 h (inr (n, e)) in
-            (v, p.0, p.1, e, (refl, (r, w.1, λ x hx. a.denotes x (hx ∙ sym (adds.keeps.levels)) ∙ kept_meaning S T held adds.keeps r.key key.first key.second x)))
+        described : (m : Ref) → Has T m → (r : Record) (p : Pair) → Contains row r → IsPairOf before r p → p.0 ≢ p.1 → part T m ≡ node v p.0 p.1 → (w : ℕ) × (lo : Ref) × (hi : Ref) × (part T m ≡ node w lo hi) × AskedBy S v row w (den T m)
+        described m h r p c o n e =
+            let key : IsKeyAt S v r.key = (is_row.records r c).key in
+            let a : IsAnswer T r.key m = answered r p m c o h (inr (n, e)) in
+            (v, p.0, p.1, e, (refl, (r, c, λ x hx. a.denotes x (hx ∙ sym (adds.keeps.levels)) ∙ kept_meaning S T held adds.keeps r.key key.first key.second x)))
 
     answers_kept : AreAnswers T before
     answers_kept k r c = answer_kept S T held adds.keeps k r (answers k r c)
 
     -- before an answer is noted
-    pub row_added : IsRowReduced S before v row 0 T before
-    row_added = record { held = sound; adds = row_adds; answers = answers_kept; more = λ k h. h; done = λ j d lt. absurd (omega arith) }
+    pub added : IsRowReduced S before v row 0 T before
+    added = record { held = sound; adds = row_described; answers = answers_kept; more = λ k h. h; done = λ j d lt. absurd (omega arith) }
 
     -- the cause of a level's refusal is one of the row's
-    pub row_refused : (f : StoreFault) → IsPairsFault T v pairs f → IsRowFault T v row (wave_fault f)
-    row_refused OutOfMemory h = tt
-    row_refused Full h =
-        let w = zip_right (IsPairOf before) row pairs are h.0 h.1 in
-        let r : Record = w.0 in
-        let i : IsRecordAt T v r = record_kept S T held adds.keeps v r (is_row.records r w.1) in
-        row_fault T v row r Full w.1
-        (record_fault T T v r.key h.0.0 h.0.1 (Err Full) sound i.key (low_of T r h.0 answers_kept i w.2) (high_of T r h.0 answers_kept i w.2) refl h.2)
+    pub refused : (f : StoreFault) → IsRowRefused before T v row f → IsRowFault T v row (wave_fault f)
+    refused OutOfMemory h = tt
+    refused Full h =
+        let r : Record = h.0 in
+        let p : Pair = h.1 in
+        let i : IsRecordAt T v r = record_kept S T held adds.keeps v r (is_row.records r h.2) in
+        row_fault T v row r Full h.2
+        (record_fault T T v r.key p.0 p.1 (Err Full) sound i.key (low_of T r p answers_kept i h.3) (high_of T r p answers_kept i h.3) refl h.4)
 
-    module _ (found : List Ref) (there : AllZip (λ (p : Pair) r. IsThere T v p.0 p.1 r) pairs found) where
+    module _ (found : List Ref) (there : AllZip (IsAnswered before T v) row found) where
       has_there : (p : Pair) (m : Ref) → Has T p.0 → IsThere T v p.0 p.1 m → Has T m × (((p.0 ≡ p.1) × (m ≡ p.0)) ⊎ ((p.0 ≢ p.1) × (part T m ≡ node v p.0 p.1)))
       has_there p m h (inl e) = (subst (Has T) (sym e.1) h, inl e)
       has_there p m h (inr (n, (id, is, at, e))) = (subst (Has T) (sym is) (p, e), inr (n, ap (part T) is ∙ named T id v p e at))
@@ -166,21 +172,19 @@ module _ (S : Nodes) (before : List (Key × Ref)) (v : ℕ) (row : List Record) 
       -- the references found are the records' answers
       found_answer : (j : ℕ) (d : Record) (r : Ref) → j < length row → IsAnswer T (slice_index_or row j d).key (slice_index_or found j r)
       found_answer j d r lt =
-          let long : length row ≡ length pairs = zip_long (IsPairOf before) row pairs are in
           let entry : Record = get_or row j d in
-          let p : Pair = get_or pairs j (r, r) in
           let member : Contains row entry = Contains-get_or row j d lt in
-          let e : IsPairOf before entry p = zip_at (IsPairOf before) row pairs j d (r, r) are lt in
-          let t : IsThere T v p.0 p.1 (get_or found j r) = zip_at (λ (p : Pair) r. IsThere T v p.0 p.1 r) pairs found j (r, r) r there (omega arith) in
-          let low = low_of S entry p answers (is_row.records entry member) e in
-          let h = has_there p (get_or found j r) (adds.keeps.has p.0 low.has) t in
-          answered entry p (get_or found j r) member e h.0 h.1
+          let t : IsAnswered before T v entry (get_or found j r) = zip_at (IsAnswered before T v) row found j d r there lt in
+          let p : Pair = t.0 in
+          let low = low_of S entry p answers (is_row.records entry member) t.1 in
+          let h = has_there p (get_or found j r) (adds.keeps.has p.0 low.has) t.2 in
+          answered entry p (get_or found j r) member t.1 h.0 h.1
 
       -- and once they are noted, the row is reduced
-      pub row_noted : (i : ℕ) (after : List (Key × Ref)) → NotesFirst before row found i after → IsRowReduced S before v row i T after
-      row_noted i after n = record {
+      pub noted : (i : ℕ) (after : List (Key × Ref)) → NotesFirst before row found i after → IsRowReduced S before v row i T after
+      noted i after n = record {
         held = sound;
-        adds = row_adds;
+        adds = row_described;
         answers = λ k r c. elim (n.only k r c) [
           | inl old ↦ answers_kept k r old
           | inr (j, d, lt, key, answer) ↦ subst (λ z. IsAnswer T z r) key (subst (λ z. IsAnswer T (slice_index_or row j d).key z) answer (found_answer j d r lt))
@@ -188,6 +192,35 @@ module _ (S : Nodes) (before : List (Key × Ref)) (v : ℕ) (row : List Record) 
         more = n.more;
         done = n.done;
       }
+
+-- the same, where the pairs of all records stand in a list
+module _ (S : Nodes) (before : List (Key × Ref)) (v : ℕ) (row : List Record) (pairs : List Pair) (held : IsSound S) (answers : AreAnswers S before) (is_row : IsRow S before v row) (are : AllZip (IsPairOf before) row pairs) where
+  pub can_stand : (p : Pair) → Contains pairs p → CanStand S v p
+  can_stand p c = let w = zip_right (IsPairOf before) row pairs are p c in stands S before v row held answers is_row w.0 p w.1 w.2
+
+  module _ (T : Nodes) (sound : IsSound T) (adds : AddsPairs S T v pairs) where
+    row_adds : AddsRow before S T v row
+    row_adds = record {
+      keeps = adds.keeps;
+      only = λ m h. elim (adds.only m h) [
+        | inl old ↦ inl old
+        | inr new ↦ let w = zip_right (IsPairOf before) row pairs are new.0 new.1 in inr (w.0, new.0, w.1, w.2, new.2, new.3)
+      ];
+    }
+
+    pub row_added : IsRowReduced S before v row 0 T before
+    row_added = added S before v row held answers is_row T sound row_adds
+
+    of_pairs : (f : StoreFault) → IsPairsFault T v pairs f → IsRowRefused before T v row f
+    of_pairs OutOfMemory h = tt
+    of_pairs Full h = let w = zip_right (IsPairOf before) row pairs are h.0 h.1 in (w.0, h.0, w.1, w.2, h.2)
+
+    pub row_refused : (f : StoreFault) → IsPairsFault T v pairs f → IsRowFault T v row (wave_fault f)
+    row_refused f h = refused S before v row held answers is_row T sound row_adds f (of_pairs f h)
+
+    pub row_noted : (found : List Ref) → AllZip (λ (p : Pair) r. IsThere T v p.0 p.1 r) pairs found → (i : ℕ) (after : List (Key × Ref)) → NotesFirst before row found i after → IsRowReduced S before v row i T after
+    row_noted found there i after n = noted S before v row held answers is_row T sound row_adds found
+        (zip_through (IsPairOf before) (λ (p : Pair) r. IsThere T v p.0 p.1 r) row pairs found are there) i after n
 
 -- no answer is noted yet
 pub notes_none : (old : List (Key × Ref)) (row : List Record) (found : List Ref) → NotesFirst old row found 0 old

@@ -18,6 +18,10 @@ use Rattle.reduce_up.specs.Reducing.{HasAnswer, IsResolved}
 abbrev pub IsPairOf : List (Key × Ref) → Record → Pair → Type 0
 IsPairOf results r p = IsResolved results r.low p.0 × IsResolved results r.high p.1
 
+-- r stands for the pair that the children of a record come to
+abbrev pub IsAnswered : List (Key × Ref) → Nodes → ℕ → Record → Ref → Type 0
+IsAnswered results s v d r = (p : Pair) × IsPairOf results d p × IsThere s v p.0 p.1 r
+
 -- both are references of the store below level v
 pub record CanStand (s : Nodes) (v : ℕ) (p : Pair) : Type 0 where
   pub has_low : Has s p.0
@@ -40,6 +44,20 @@ pub record AreDivided (pairs : List Pair) (lists : ℕ → List Pair) : Type 0 w
 pub record AddsPairs (old new : Nodes) (v : ℕ) (pairs : List Pair) : Type 0 where
   pub keeps : Keeps old new
   pub only : (m : Ref) → Has new m → Has old m ⊎ ((p : Pair) × Contains pairs p × (p.0 ≢ p.1) × (part new m ≡ node v p.0 p.1))
+
+-- the pairs of all records of a row can stand at level v
+abbrev pub RowCanStand : List (Key × Ref) → Nodes → ℕ → List Record → Type 0
+RowCanStand results s v row = (d : Record) (p : Pair) → Contains row d → IsPairOf results d p → CanStand s v p
+
+-- new keeps what old has, and each other node of new is one of level v for the pair of different children of a record
+pub record AddsRow (results : List (Key × Ref)) (old new : Nodes) (v : ℕ) (row : List Record) : Type 0 where
+  pub keeps : Keeps old new
+  pub only : (m : Ref) → Has new m → Has old m ⊎ ((d : Record) × (p : Pair) × Contains row d × IsPairOf results d p × (p.0 ≢ p.1) × (part new m ≡ node v p.0 p.1))
+
+-- why records have no diagram: Full only where the store has as many nodes as its limit and lacks the node of a record's pair
+abbrev pub IsRowRefused : List (Key × Ref) → Nodes → ℕ → List Record → StoreFault → Type 0
+IsRowRefused results s v row OutOfMemory = Unit {0}
+IsRowRefused results s v row Full = (d : Record) × (p : Pair) × Contains row d × IsPairOf results d p × IsFull s v p.0 p.1 Full
 
 -- a reference stands for the pair: the child, where both are equal, or the node of level v
 abbrev pub HasPair : Nodes → ℕ → Pair → Type 0

@@ -1,6 +1,7 @@
 -- Reduction where each worker's records stay where they are: what is still to be read of what a worker asked, and diagrams by level and place.
 use Rattle.std.specs.Prelude.{◌≡◌, ℕ, zero, suc, ◌+◌, ◌-◌, ◌<◌, ◌≤◌, List, [], ◌∷◌, ◌++◌, length, map, filter, take, slice_get, slice_index_or, Some}
-use Rattle.std.specs.Prelude.{Result, IfOk}
+use Rattle.std.specs.Prelude.{Result, IfOk, All}
+use mathlib.Core.List.{reverse}
 use Rattle.std.specs.List.{AllZip}
 use Rattle.std.specs.declared.vec.Vec.{Vec}
 use Rattle.std.specs.declared.alloc.Global.{Global}
@@ -12,6 +13,8 @@ use Rattle.req_table.specs.declared.Key.{Key}
 use Rattle.req_table.specs.declared.Child.{Child}
 use Rattle.req_table.specs.declared.Child.TheVariants.{Done, Ask}
 use Rattle.req_table.specs.declared.Record.{Record}
+use Rattle.req_table.specs.declared.placed.Placed.{Placed}
+use Rattle.expand_work.specs.Lean.{lean}
 use Rattle.req_table.specs.Keys.{owner}
 use Rattle.req_table.specs.Settled.{key_of, asked, asked_by, asked_below, dealt_from, level_of_rows}
 use Rattle.expand_work.specs.Work.{owned_by}
@@ -19,16 +22,24 @@ use Rattle.expand_work.specs.Expanded.{row_of}
 use Rattle.expand_work.specs.Gathered.{PartsView, AreParts, noted_of}
 use Rattle.reduce_up.specs.Levels.{AreRecords}
 use Rattle.reduce_up.specs.Placed.{paired, joined}
-use Rattle.reduce_up.specs.Sharing.{IsPairOf}
+use Rattle.reduce_up.specs.declared.division.Divided.{Divided}
+use Rattle.reduce_up.specs.declared.division.Homes.{Homes}
+use Rattle.dd_store.specs.Levels.{list_at}
+use Rattle.reduce_up.specs.Division.{IsDivided}
+use Rattle.reduce_up.specs.Sharing.{IsAnswered}
 
--- the diagrams of each level, worker by worker, and where each worker's begin among them
+-- the diagrams of each level, by worker
 pub record AnswersView : Type 0 where
-  pub starts : List (List ℕ)
-  pub found : List (List Ref)
+  pub found : List (List (List Ref))
 
--- the list of a level
-abbrev pub list_of : {X : Type 0} → List (List X) → ℕ → List X
-list_of lists v = slice_index_or lists v []
+-- the diagrams of a worker's requests of a level
+abbrev pub answers_at : AnswersView → ℕ → ℕ → List Ref
+answers_at a v k = slice_index_or (slice_index_or a.found v []) k []
+
+-- the lists of so many workers, one behind the other
+abbrev pub in_turn : ℕ → List (List Ref) → List Ref
+in_turn zero lists = []
+in_turn (suc k) lists = in_turn k lists ++ slice_index_or lists k []
 
 -- the records of a level, of all workers
 abbrev pub team_row : ℕ → PartsView → ℕ → List Record
@@ -40,13 +51,13 @@ gathered zero rows = []
 gathered (suc v) rows = gathered v rows ++ rows v ∷ []
 
 -- by level the keys with their diagrams, from level v on
-abbrev pub levels_told : (ℕ → List Record) → ℕ → List (List Ref) → List (List (Key × Ref))
-levels_told rows v [] = []
-levels_told rows v (rs ∷ more) = paired (map key_of (rows v)) rs ∷ levels_told rows (suc v) more
+abbrev pub levels_told : ℕ → (ℕ → List Record) → ℕ → List (List (List Ref)) → List (List (Key × Ref))
+levels_told n rows v [] = []
+levels_told n rows v (lists ∷ more) = paired (map key_of (rows v)) (in_turn n lists) ∷ levels_told n rows (suc v) more
 
 -- the keys of all levels with their diagrams
 abbrev pub told : ℕ → PartsView → AnswersView → List (Key × Ref)
-told n p a = joined (levels_told (team_row n p) 0 a.found)
+told n p a = joined (levels_told n (team_row n p) 0 a.found)
 
 -- what worker s asked for at first and of its rows above level v
 abbrev pub asked_above : ℕ → List Key → PartsView → ℕ → ℕ → List Key
@@ -80,20 +91,18 @@ IsLast n p s left (Ask l x) =
     × (slice_get (noted_of p.noted (owner n x) s) (slice_index_or left (owner n x) 0 - 1) ≡ Some place)
     × (slice_get (map key_of (row_of p.rows (owner n x) l)) place ≡ Some x)
 
--- where each worker's records begin among those of a level
-pub record AreStarts (n : ℕ) (p : PartsView) (v : ℕ) (starts : List ℕ) : Type 0 where
-  pub many : length starts ≡ n
-  pub each : (k : ℕ) → k < n → slice_index_or starts k 0 ≡ length (level_of_rows k (row_of p.rows) v)
-
--- the diagrams of a level are known, and where each worker's begin
-pub record IsLevelDone (n : ℕ) (p : PartsView) (v : ℕ) (a : AnswersView) : Type 0 where
-  pub long : length (list_of a.found v) ≡ length (team_row n p v)
-  pub starts : AreStarts n p v (list_of a.starts v)
+-- the diagrams of a level are known
+abbrev pub IsLevelDone : ℕ → PartsView → ℕ → AnswersView → Type 0
+IsLevelDone n p v a = (k : ℕ) → k < n → length (answers_at a v k) ≡ length (row_of p.rows k v)
 
 -- the diagrams of the level of a child that asks are known
 abbrev pub IsFound : ℕ → PartsView → AnswersView → Child → Type 0
 IsFound n p a (Done r) = Unit {0}
 IsFound n p a (Ask l x) = (l < length a.found) × IsLevelDone n p l a
+
+-- e is a child that worker s asked for as the last of what is still to be read, and its diagram is known
+abbrev pub IsNext : ℕ → PartsView → AnswersView → ℕ → List ℕ → Placed → Child → Type 0
+IsNext n p a s left e c = (e ≡ lean n c) × IsLast n p s left c × IsFound n p a c
 
 -- the parts of a wave over some store, of which the diagrams of the levels from v on are known, and no others
 pub record IsHalfway (n : ℕ) (roots : List Key) (p : PartsView) (v : ℕ) (a : AnswersView) : Type 0 where
@@ -103,15 +112,34 @@ pub record IsHalfway (n : ℕ) (roots : List Key) (p : PartsView) (v : ℕ) (a :
   pub parts : AreParts start n roots p
   pub records : AreRecords start (gathered start.levels (team_row n p))
   pub levels : length a.found ≡ start.levels
-  pub starts : length a.starts ≡ start.levels
   pub done : (u : ℕ) → v ≤ u → u < start.levels → IsLevelDone n p u a
-  pub others : (u : ℕ) → u < v → list_of a.found u ≡ []
+  pub others : (u : ℕ) → u < v → slice_index_or a.found u [] ≡ []
 
--- the diagrams of the children of worker s's records of level v, and what is left of what it asked for
-abbrev pub IsRead : ℕ → List Key → PartsView → AnswersView → ℕ → ℕ → Result (Vec Pair Global × Vec ℕ Global) AllocError → Type 0
-IsRead n roots p a v s result = IfOk result (λ r. AllZip (IsPairOf (told n p a)) (row_of p.rows s v) r.0.items × AreLeft n (asked_above n roots p s v) r.1.items)
+-- the records of worker s at level v in the order in which they are read
+abbrev pub read_of : PartsView → ℕ → ℕ → List Record
+read_of p s v = reverse (row_of p.rows s v)
 
--- this is so of the first m workers
-pub record AreRead (n : ℕ) (roots : List Key) (p : PartsView) (a : AnswersView) (v m : ℕ) (results : List (Result (Vec Pair Global × Vec ℕ Global) AllocError)) : Type 0 where
+-- the pairs of worker s's records of level v, divided, and what is left of what it asked for
+pub record IsPartRead (n : ℕ) (roots : List Key) (p : PartsView) (a : AnswersView) (v s : ℕ) (d : Divided) (left : List ℕ) : Type 0 where
+  pub sixteen : length d.lists.items ≡ 16
+  pub divided : IsDivided (told n p a) (read_of p s v) d.homes (list_at d.lists.items)
+  pub rest : AreLeft n (asked_above n roots p s v) left
+
+-- this is so of the first m workers, where each had memory
+pub record AreRead (n : ℕ) (roots : List Key) (p : PartsView) (a : AnswersView) (v m : ℕ) (results : List (Result (Divided × Vec ℕ Global) AllocError)) : Type 0 where
   pub long : length results ≡ m
-  pub each : (s : ℕ) (d : Result (Vec Pair Global × Vec ℕ Global) AllocError) → s < m → IsRead n roots p a v s (slice_index_or results s d)
+  pub each : (s : ℕ) (d : Result (Divided × Vec ℕ Global) AllocError) → s < m → IfOk (slice_index_or results s d) (λ r. IsPartRead n roots p a v s r.0 r.1.items)
+
+-- the pairs of the records of level v of the first m workers, divided, and what is left of what they asked for
+pub record AreDividedBy (n : ℕ) (roots : List Key) (p : PartsView) (a : AnswersView) (v m : ℕ) (parts : List (Vec (Vec Pair Global) Global)) (homes : List Homes) (lefts : List (Vec ℕ Global)) : Type 0 where
+  pub many_parts : length parts ≡ m
+  pub many_homes : length homes ≡ m
+  pub many_lefts : length lefts ≡ m
+  pub sixteen : (s : ℕ) (d : Vec (Vec Pair Global) Global) → s < m → length (slice_index_or parts s d).items ≡ 16
+  pub divided : (s : ℕ) (d : Vec (Vec Pair Global) Global) (h : Homes) → s < m → IsDivided (told n p a) (read_of p s v) (slice_index_or homes s h) (list_at (slice_index_or parts s d).items)
+  pub left : (s : ℕ) (d : Vec ℕ Global) → s < m → AreLeft n (asked_above n roots p s v) (slice_index_or lefts s d).items
+
+-- each worker's records of level v, of the first m, have their diagrams in store s
+pub record AreMadeOf (n : ℕ) (p : PartsView) (a : AnswersView) (s : Nodes) (v m : ℕ) (answers : List (Vec Ref Global)) : Type 0 where
+  pub long : length answers ≡ m
+  pub each : (k : ℕ) (d : Vec Ref Global) → k < m → AllZip (IsAnswered (told n p a) s v) (row_of p.rows k v) (slice_index_or answers k d).items

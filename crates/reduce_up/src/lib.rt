@@ -2,14 +2,18 @@
 #![tactic(auto)]
 
 mod answers;
+mod division;
 pub mod law;
 mod levels;
+mod narrow;
 mod parallel;
+mod picking;
 mod results;
 mod roots;
 mod seeking;
 mod team;
 mod waves;
+mod wide;
 
 pub use levels::reduce;
 pub use results::Results;

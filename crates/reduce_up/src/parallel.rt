@@ -47,7 +47,7 @@ fn pairs_of<R: Threads + Sync>(
 }
 
 /// A list for each shard, without pairs and with room for some.
-fn empty_lists(alloc: Global, room: usize) -> Result<Vec<Vec<(Ref, Ref)>>, AllocError>
+pub(crate) fn empty_lists(alloc: Global, room: usize) -> Result<Vec<Vec<(Ref, Ref)>>, AllocError>
     ensures sixteen { IfOk result (λ lists. length lists.items ≡ 16) }
     ensures empty { IfOk result (λ lists. (s : ℕ) → length (list_at lists.items s) ≡ 0) }
 {
@@ -84,7 +84,7 @@ fn divide(alloc: Global, pairs: &[(Ref, Ref)]) -> Result<Vec<Vec<(Ref, Ref)>>, A
 }
 
 /// Adds to a level a node for each pair of different children that has none.
-pub(crate) fn add_pairs<R: Threads + Sync, H: Watch>(
+fn add_pairs<R: Threads + Sync, H: Watch>(
     rt: &R,
     alloc: Global,
     store: &mut Store,
@@ -119,7 +119,7 @@ fn reference(store: &Store, level: u16, pair: (Ref, Ref)) -> Ref
 }
 
 /// The references that stand for pairs, in the order of the pairs.
-pub(crate) fn references<R: Threads + Sync>(
+fn references<R: Threads + Sync>(
     rt: &R,
     alloc: Global,
     store: &Store,

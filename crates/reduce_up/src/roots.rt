@@ -8,8 +8,8 @@ ghost use Rattle.reduce_up.specs.Team.{IsHalfway, AreRootsLeft, told};
 
 use crate::team::{Team, resolve};
 use dd_store::{Ref, Store};
-use req_table::requests::{level_of, short};
-use req_table::{Child, Op};
+use req_table::requests::{level_of, owner, short};
+use req_table::{Op, Placed};
 use std::alloc::{AllocError, Global};
 
 /// The diagram of a root, of which it is the last that is still to be read.
@@ -29,7 +29,7 @@ fn root_answer(store: &Store, team: Team<'_>, lefts: &mut Vec<Vec<usize>>, root:
         team,
         sender,
         &mut lefts[sender as usize],
-        Child::Ask { level, key },
+        Placed::ask(level, owner(key, team.workers)),
     )
 }
 

@@ -1,0 +1,141 @@
+-- Nodes that are made one after the other for the records of a row.
+use Rattle.std.proofs.Common.{◌≡◌, ◌≢◌, ℕ, ◌+◌, ◌<◌, ◌≤◌, ◌⊎◌, inl, inr, List, [], ◌∷◌, ◌++◌, length, drop, get_or, set, get_or-set_same, get_or-set_other, length-append, Some, Contains, refl, sym, ap, ◌∙◌, subst, arith}
+use Rattle.std.specs.List.{AllZip}
+use mathlib.Core.List.{reverse}
+use Rattle.dd_store.specs.declared.StoreFault.{StoreFault}
+use Rattle.dd_store.specs.declared.StoreFault.TheVariants.{Full, OutOfMemory}
+use Rattle.dd_store.specs.declared.reference.Ref.{Ref}
+use Rattle.dd_store.specs.declared.reference.Reference.TheVariants.{False, True, Node}
+use Rattle.dd_store.specs.Graph.{Pair}
+use Rattle.dd_store.specs.Graph.{top as level_of}
+use Rattle.dd_store.specs.Nodes.{Nodes, IsSound, IsThere, Extends}
+use Rattle.dd_store.specs.Parts.Part.{node}
+use Rattle.dd_store.specs.View.{Has, Keeps, part, part_of, IsMade, IsFull}
+use Rattle.dd_store.proofs.View.{keeps-trans}
+use Rattle.req_table.specs.declared.Key.{Key}
+use Rattle.req_table.specs.declared.Record.{Record}
+use Rattle.expand_work.proofs.Zips.{zip_weaker}
+use Rattle.std.specs.declared.vec.Vec.{Vec}
+use Rattle.std.specs.declared.alloc.Global.{Global}
+use Rattle.std.proofs.lemmas.List.{length-set, get_or_append_left}
+use Rattle.std.proofs.Math.Seq.{get_or-append_seam}
+use mathlib.Core.Logic.{dite}
+use native.Mathlib.Decide.{ℕ_discrete}
+use Rattle.expand_work.specs.Expanded.{row_of}
+use Rattle.expand_work.specs.Gathered.{PartsView}
+use Rattle.reduce_up.specs.Team.{AnswersView, AreLeft, AreAllLeft, AreMadeOf, asked_above, team_row, told}
+use Rattle.reduce_up.specs.Sharing.{IsPairOf, IsAnswered, CanStand, RowCanStand, AddsRow, IsRowRefused}
+
+pub made_there : (T : Nodes) (v : ℕ) (lo hi r : Ref) → Has T r → ((lo ≡ hi) × (r ≡ lo)) ⊎ ((lo ≢ hi) × (part T r ≡ node v lo hi)) → IsThere T v lo hi r
+made_there T v lo hi r h (inl e) = inl e
+made_there T v lo hi False h (inr e) = absurd (let z = e.1 in cc)
+made_there T v lo hi True h (inr e) = absurd (let z = e.1 in cc)
+made_there T v lo hi (Node m) h (inr e) =
+    let at : node m.level h.0.0 h.0.1 ≡ node v lo hi = sym (ap (part_of m) h.1) ∙ e.1 in
+    let l : m.level ≡ v = cc in let a : h.0.0 ≡ lo = cc in let b : h.0.1 ≡ hi = cc in
+    inr (e.0, (m, refl, l, h.1 ∙ (λ i. Some (a i, b i))))
+
+there_still : (S T : Nodes) (v : ℕ) (lo hi r : Ref) → Extends S T → IsThere S v lo hi r → IsThere T v lo hi r
+there_still S T v lo hi r x (inl e) = inl e
+there_still S T v lo hi r x (inr e) = inr (e.0, (e.1.0, e.1.1, e.1.2, x.nodes e.1.0 (lo, hi) e.1.3))
+
+-- what has a diagram keeps it
+pub answered_still : (results : List (Key × Ref)) (S T : Nodes) (v : ℕ) → Extends S T → (row : List Record) (answers : List Ref) → AllZip (IsAnswered results S v) row answers → AllZip (IsAnswered results T v) row answers
+answered_still results S T v x row answers h = zip_weaker (IsAnswered results S v) (IsAnswered results T v) (λ d r t. (t.0, t.1, there_still S T v t.0.0 t.0.1 r x t.2)) row answers h
+
+pub extends_on : (S T U : Nodes) → Extends S T → Extends T U → Extends S U
+extends_on S T U x y = record { levels = y.levels ∙ x.levels; limit = y.limit ∙ x.limit; nodes = λ m p e. y.nodes m p (x.nodes m p e) }
+
+pub extends_same : (S : Nodes) → Extends S S
+extends_same S = record { levels = refl; limit = refl; nodes = λ m p e. e }
+
+-- a pair can stand in a later store
+pub stands_on : (S T : Nodes) (v : ℕ) (p : Pair) → Keeps S T → CanStand S v p → CanStand T v p
+stands_on S T v p k c = record {
+  has_low = k.has p.0 c.has_low;
+  has_high = k.has p.1 c.has_high;
+  below_low = subst (λ z. v < level_of z p.0) (sym k.levels) c.below_low;
+  below_high = subst (λ z. v < level_of z p.1) (sym k.levels) c.below_high;
+}
+
+pub row_stands_on : (results : List (Key × Ref)) (S T : Nodes) (v : ℕ) (row : List Record) → Keeps S T → RowCanStand results S v row → RowCanStand results T v row
+row_stands_on results S T v row k c = λ d p i e. stands_on S T v p k (c d p i e)
+
+pub adds_none : (results : List (Key × Ref)) (S : Nodes) (v : ℕ) (row : List Record) → AddsRow results S S v row
+adds_none results S v row = record { keeps = record { levels = refl; limit = refl; has = λ r h. h; part_is = λ r h. refl }; only = λ m h. inl h }
+
+module _ (results : List (Key × Ref)) (S T U : Nodes) (v : ℕ) (row : List Record) (a : AddsRow results S T v row) where
+  old_node : Keeps T U → (q : Ref) → Has T q → Has S q ⊎ ((d : Record) × (p : Pair) × Contains row d × IsPairOf results d p × (p.0 ≢ p.1) × (part U q ≡ node v p.0 p.1))
+  old_node k q h = elim (a.only q h) [ inl i ↦ inl i | inr w ↦ inr (w.0, w.1, w.2, w.3, w.4, k.part_is q h ∙ w.5) ]
+
+  -- more nodes of the same row
+  pub adds_on : AddsRow results T U v row → AddsRow results S U v row
+  adds_on b = record { keeps = keeps-trans S T U a.keeps b.keeps; only = λ q h. elim (b.only q h) [ inl old ↦ old_node b.keeps q old | inr new ↦ inr new ] }
+
+  -- one node more
+  pub adds_one : (d : Record) (p : Pair) (r : Ref) → Contains row d → IsPairOf results d p → Has T p.0 → IsMade T U v p.0 p.1 r → AddsRow results S U v row
+  adds_one d p r c e low m = record { keeps = keeps-trans S T U a.keeps m.keeps; only = λ q h. of q (m.no_other q h) }
+    where
+      of : (q : Ref) → Has T q ⊎ (q ≡ r) → Has S q ⊎ ((d : Record) × (p : Pair) × Contains row d × IsPairOf results d p × (p.0 ≢ p.1) × (part U q ≡ node v p.0 p.1))
+      of q (inl h) = old_node m.keeps q h
+      of q (inr s) = elim m.is [
+        | inl w ↦ old_node m.keeps q (subst (Has T) (sym (s ∙ w.1)) low)
+        | inr w ↦ inr (d, p, c, e, w.0, ap (part U) s ∙ w.1)
+      ]
+
+-- so many records of a part of the row have their diagrams
+pub record AreMaking (results : List (Key × Ref)) (S : Nodes) (v : ℕ) (row own : List Record) (next : ℕ) (T : Nodes) (answers : List Ref) : Type 0 where
+  pub sound : IsSound T
+  pub extends : Extends S T
+  pub adds : AddsRow results S T v row
+  pub made : AllZip (IsAnswered results T v) (drop next own) (reverse answers)
+
+-- the node of a record is made
+pub one_made : (results : List (Key × Ref)) (T U : Nodes) (v : ℕ) (d : Record) (p : Pair) (r : Ref) → IsPairOf results d p → IsMade T U v p.0 p.1 r → IsAnswered results U v d r
+one_made results T U v d p r e m = (p, e, made_there U v p.0 p.1 r m.has m.is)
+
+-- or refused
+pub one_refused : (results : List (Key × Ref)) (T U : Nodes) (v : ℕ) (row : List Record) (d : Record) (p : Pair) → Contains row d → IsPairOf results d p → U ≡ T → (f : StoreFault) → IsFull T v p.0 p.1 f → IsRowRefused results U v row f
+one_refused results T U v row d p c e same OutOfMemory h = tt
+one_refused results T U v row d p c e same Full h = (d, p, c, e, subst (λ z. IsFull z v p.0 p.1 Full) (sym same) h)
+
+-- so many workers' records have their diagrams
+pub record AreMakingLevel (n : ℕ) (roots : List Key) (p : PartsView) (a : AnswersView) (S : Nodes) (v m : ℕ) (T : Nodes) (answers : List (Vec Ref Global)) (lefts : List (Vec ℕ Global)) : Type 0 where
+  pub sound : IsSound T
+  pub adds : AddsRow (told n p a) S T v (team_row n p v)
+  pub made : AreMadeOf n p a T v m answers
+  pub long : length lefts ≡ n
+  pub done : (s : ℕ) (d : Vec ℕ Global) → s < m → AreLeft n (asked_above n roots p s v) (get_or lefts s d).items
+  pub todo : (s : ℕ) (d : Vec ℕ Global) → m ≤ s → s < n → AreLeft n (asked_above n roots p s (v + 1)) (get_or lefts s d).items
+
+pub making_none : (n : ℕ) (roots : List Key) (p : PartsView) (a : AnswersView) (S : Nodes) (v : ℕ) (answers : List (Vec Ref Global)) (lefts : List (Vec ℕ Global)) → IsSound S → answers ≡ [] → AreAllLeft n roots p (v + 1) lefts → AreMakingLevel n roots p a S v 0 S answers lefts
+making_none n roots p a S v answers lefts sound none l = record {
+  sound = sound;
+  adds = adds_none (told n p a) S v (team_row n p v);
+  made = record { long = ap (λ z. length z) none; each = λ k d b. absurd (omega (arith, b)) };
+  long = l.long;
+  done = λ s d b. absurd (omega (arith, b));
+  todo = λ s d b lt. l.each s d lt;
+}
+
+module _ (n : ℕ) (roots : List Key) (p : PartsView) (a : AnswersView) (S : Nodes) (v m : ℕ) (T : Nodes) (answers : List (Vec Ref Global)) (lefts : List (Vec ℕ Global)) (h : AreMakingLevel n roots p a S v m T answers lefts) (mb : m < n) where
+  pub making_more : (U : Nodes) → IsSound U → Extends T U → AddsRow (told n p a) T U v (team_row n p v) → (part : Vec Ref Global) → AllZip (IsAnswered (told n p a) U v) (row_of p.rows m v) part.items → (left : Vec ℕ Global) → AreLeft n (asked_above n roots p m v) left.items
+      → (answers' : List (Vec Ref Global)) → answers' ≡ answers ++ part ∷ [] → AreMakingLevel n roots p a S v (m + 1) U answers' (set lefts m left)
+  making_more U sound x adds part made left own answers' is = record {
+    sound = sound;
+    adds = adds_on (told n p a) S T U v (team_row n p v) h.adds adds;
+    made = record {
+      long = ap (λ z. length z) is ∙ length-append answers (part ∷ []) ∙ ap (λ z. z + 1) h.made.long;
+      each = λ k d l. dite (ℕ_discrete k m)
+          (λ e. subst (λ (z : Vec Ref Global). AllZip (IsAnswered (told n p a) U v) (row_of p.rows k v) z.items) (sym (ap (λ z. get_or z k d) is ∙ ap (λ z. get_or (answers ++ part ∷ []) z d) (e ∙ sym h.made.long) ∙ get_or-append_seam answers part [] d))
+          (subst (λ z. AllZip (IsAnswered (told n p a) U v) (row_of p.rows z v) part.items) (sym e) made))
+          (λ o. let lt : k < m = grind (arith, l, o) in subst (λ (z : Vec Ref Global). AllZip (IsAnswered (told n p a) U v) (row_of p.rows k v) z.items) (sym (ap (λ z. get_or z k d) is ∙ get_or_append_left answers (part ∷ []) d k (let q = h.made.long in omega (arith, lt, q))))
+          (answered_still (told n p a) T U v x (row_of p.rows k v) (get_or answers k d).items (h.made.each k d lt)));
+    };
+    long = length-set lefts m left ∙ h.long;
+    done = λ s d l. dite (ℕ_discrete s m)
+        (λ e. subst (λ (z : Vec ℕ Global). AreLeft n (asked_above n roots p s v) z.items) (sym (ap (λ z. get_or (set lefts m left) z d) e ∙ get_or-set_same lefts m left d (let q = h.long in omega (arith, mb, q))))
+        (subst (λ z. AreLeft n (asked_above n roots p z v) left.items) (sym e) own))
+        (λ o. let lt : s < m = grind (arith, l, o) in subst (λ (z : Vec ℕ Global). AreLeft n (asked_above n roots p s v) z.items) (sym (get_or-set_other lefts m s left d o)) (h.done s d lt));
+    todo = λ s d b l. subst (λ (z : Vec ℕ Global). AreLeft n (asked_above n roots p s (v + 1)) z.items) (sym (get_or-set_other lefts m s left d (λ e. absurd (omega (arith, b, e))))) (h.todo s d (omega (arith, b)) l);
+  }

@@ -1,0 +1,74 @@
+-- A list that is divided by a number for each of its items, and put together again.
+use Rattle.std.specs.Prelude.{◌≡◌, ◌≢◌, ◌==◌, ◌<◌, ◌≤◌, ℕ, cond, List, [], ◌∷◌, ◌++◌, length, map, slice_index_or, take, drop, All}
+use Rattle.std.specs.List.{AllZip}
+use mathlib.Core.List.{reverse}
+use Rattle.std.specs.declared.vec.Vec.{Vec}
+use Rattle.std.specs.declared.alloc.Global.{Global}
+use Rattle.dd_store.specs.Levels.{list_at, all_at, refs_at}
+use Rattle.dd_store.specs.declared.reference.Ref.{Ref}
+use Rattle.dd_store.specs.Graph.{Pair}
+use Rattle.dd_store.specs.Codes.{shard_of_pair}
+use Rattle.dd_store.specs.Growing.{IsIn}
+use Rattle.req_table.specs.declared.Key.{Key}
+use Rattle.req_table.specs.declared.Record.{Record}
+use Rattle.reduce_up.specs.declared.division.Divided.{Divided}
+use Rattle.reduce_up.specs.declared.division.Homes.{Homes}
+use Rattle.reduce_up.specs.Sharing.{IsPairOf, IsListed}
+
+-- the items whose number is s
+abbrev pub chosen : {X : Type 0} → ℕ → List ℕ → List X → List X
+chosen s [] xs = []
+chosen s (h ∷ hs) [] = []
+chosen s (h ∷ hs) (x ∷ xs) = cond (h == s) (x ∷ chosen s hs xs) (chosen s hs xs)
+
+-- so many items from a place on
+abbrev pub span : {X : Type 0} → ℕ → ℕ → List X → List X
+span start n xs = take n (drop start xs)
+
+-- A home for each record that was read: the shard of the pair that its children come to, or 16 where they come to one diagram. Each list
+-- has the pairs of its shard, and `equal` of the homes these diagrams, in the order in which the records were read.
+pub record IsDivided (results : List (Key × Ref)) (read : List Record) (homes : Homes) (lists : ℕ → List Pair) : Type 0 where
+  pub long : length homes.numbers.items ≡ length read
+  pub within : All (λ h. h ≤ 16) homes.numbers.items
+  pub pairs : (s : ℕ) → s < 16 → AllZip (IsPairOf results) (chosen s homes.numbers.items read) (lists s)
+  pub same : AllZip (λ d r. IsPairOf results d (r, r)) (chosen 16 homes.numbers.items read) homes.equal.items
+  pub own : (s : ℕ) (p : Pair) → IsIn (lists s) p → (p.0 ≢ p.1) × (shard_of_pair p.0 p.1 ≡ s)
+
+-- one pair more is read: a home for it, and the pair in the list of its shard, or the diagram that both its children are
+pub record IsPut (old : Divided) (p : Pair) (new : Divided) : Type 0 where
+  pub listed : IsListed (list_at old.lists.items) p (list_at new.lists.items)
+  pub same : p.0 ≡ p.1 → (new.homes.numbers.items ≡ old.homes.numbers.items ++ 16 ∷ []) × (new.homes.equal.items ≡ old.homes.equal.items ++ p.0 ∷ [])
+  pub differ : p.0 ≢ p.1 → (new.homes.numbers.items ≡ old.homes.numbers.items ++ shard_of_pair p.0 p.1 ∷ []) × (new.homes.equal.items ≡ old.homes.equal.items)
+
+-- each list has as many items as there are homes that name it
+pub record AreHomes (homes : Homes) (lists : ℕ → List Pair) : Type 0 where
+  pub within : All (λ h. h ≤ 16) homes.numbers.items
+  pub many : (s : ℕ) → s < 16 → length (chosen s homes.numbers.items homes.numbers.items) ≡ length (lists s)
+  pub same : length (chosen 16 homes.numbers.items homes.numbers.items) ≡ length homes.equal.items
+
+-- where the diagrams of a home stand
+abbrev pub source : List (Vec Ref Global) → Homes → ℕ → List Ref
+source refs homes s = cond (s == 16) homes.equal.items (refs_at refs s)
+
+-- a diagram for each home: those of home s are the next of its diagrams from a place on, in order
+pub record IsPicked (homes : List ℕ) (starts : ℕ → ℕ) (sources : ℕ → List Ref) (answers : List Ref) : Type 0 where
+  pub long : length answers ≡ length homes
+  pub each : (s : ℕ) → s ≤ 16 → chosen s homes answers ≡ span (starts s) (length (chosen s homes answers)) (sources s)
+
+-- where the references of part k's pairs of shard s begin: behind those of the parts before it
+abbrev pub begin_of : List (Vec (Vec Pair Global) Global) → ℕ → ℕ → ℕ
+begin_of parts k s = length (all_at (take k parts) s)
+
+-- the answers of part k, in the order in which its records stand
+abbrev pub IsPickedOf : List (Vec (Vec Pair Global) Global) → List (Vec Ref Global) → ℕ → Homes → List Ref → Type 0
+IsPickedOf parts refs k homes answers = IsPicked homes.numbers.items (begin_of parts k) (source refs homes) (reverse answers)
+
+-- this is so of the first m parts
+pub record ArePicked (parts : List (Vec (Vec Pair Global) Global)) (homes : List Homes) (refs : List (Vec Ref Global)) (m : ℕ) (answers : List (Vec Ref Global)) : Type 0 where
+  pub long : length answers ≡ m
+  pub each : (k : ℕ) (d : Vec Ref Global) (h : Homes) → k < m → IsPickedOf parts refs k (slice_index_or homes k h) (slice_index_or answers k d).items
+
+-- a reference for each pair, by shard
+pub record AreRefsOf (parts : List (Vec (Vec Pair Global) Global)) (refs : List (Vec Ref Global)) : Type 0 where
+  pub sixteen : length refs ≡ 16
+  pub many : (s : ℕ) → s < 16 → length (refs_at refs s) ≡ length (all_at parts s)

@@ -1,0 +1,61 @@
+//! The pairs that a worker's records of a level come to, divided by shard while they are read.
+ghost use Rattle.std.specs.Prelude.{◌≡◌, ℕ, [], length, IfOk, OnOk};
+ghost use Rattle.dd_store.specs.Levels.{list_at};
+ghost use Rattle.reduce_up.specs.Division.{IsPut};
+
+use crate::parallel::empty_lists;
+use dd_store::{Ref, SHARDS, shard_of};
+use std::alloc::{AllocError, Global};
+
+/// The home of a record whose children come to one diagram.
+pub(crate) const EQUAL: u8 = 16;
+
+/// Where the diagram of each record stands, in the order in which the records are read: the shard of its pair, or EQUAL, whose diagrams
+/// are kept here.
+#[derive(Drop)]
+pub(crate) struct Homes {
+    pub(crate) numbers: Vec<u8>,
+    pub(crate) equal: Vec<Ref>,
+}
+
+/// The pairs of different children by shard, and where each record's diagram stands.
+#[derive(Drop)]
+pub(crate) struct Divided {
+    pub(crate) lists: Vec<Vec<(Ref, Ref)>>,
+    pub(crate) homes: Homes,
+}
+
+impl Divided {
+    /// Nothing is read. There is room for so many records whose pairs are spread over the shards.
+    pub(crate) fn new(alloc: Global, count: usize) -> Result<Divided, AllocError>
+        ensures sixteen { IfOk result (λ d. length d.lists.items ≡ 16) }
+        ensures empty { IfOk result (λ d. (s : ℕ) → length (list_at d.lists.items s) ≡ 0) }
+        ensures numbers { IfOk result (λ d. d.homes.numbers.items ≡ []) }
+        ensures equal { IfOk result (λ d. d.homes.equal.items ≡ []) }
+    {
+        let lists = empty_lists(alloc, count / SHARDS + count / 64 + 16)?;
+        let numbers = Vec::with_capacity(alloc, count)?;
+        let equal = Vec::new(alloc);
+        Ok(Divided {
+            lists,
+            homes: Homes { numbers, equal },
+        })
+    }
+
+    /// One pair more is read.
+    pub(crate) fn put(&mut self, pair: (Ref, Ref)) -> Result<(), AllocError>
+        requires { length self.old.lists.items ≡ 16 }
+        ensures sixteen { length self.new.lists.items ≡ 16 }
+        ensures put { OnOk result (IsPut self.old pair self.new) }
+    {
+        if pair.0 == pair.1 {
+            self.homes.numbers.push(EQUAL)?;
+            self.homes.equal.push(pair.0)?;
+            return Ok(());
+        }
+        let shard = shard_of(pair.0, pair.1);
+        self.homes.numbers.push(shard)?;
+        self.lists[shard as usize].push(pair)?;
+        Ok(())
+    }
+}

@@ -1,0 +1,90 @@
+//! A level with few records, which the caller's thread reduces: each record's diagram is made when its children are read.
+ghost use Rattle.std.specs.Prelude.{◌≡◌, ◌+◌, ◌<◌, length, IfOk, IfErr, OnOk};
+ghost use Rattle.std.specs.List.{AllZip};
+ghost use Rattle.dd_store.specs.Nodes.{IsSound, Extends};
+ghost use Rattle.expand_work.specs.Expanded.{row_of};
+ghost use Rattle.reduce_up.specs.Sharing.{IsAnswered, RowCanStand, AddsRow, IsRowRefused};
+ghost use Rattle.reduce_up.specs.Team.{IsHalfway, AreLeft, AreAllLeft, AreMadeOf, asked_above, team_row, told};
+
+use crate::team::{Team, resolve};
+use dd_store::{Ref, Store, StoreFault};
+use std::alloc::Global;
+
+/// The diagrams of a sender's records of a level, in the order in which they stand; missing nodes are made.
+fn make_part(
+    alloc: Global,
+    store: &mut Store,
+    team: Team<'_>,
+    sender: u32,
+    level: u16,
+    left: &mut Vec<usize>,
+) -> Result<Vec<Ref>, StoreFault>
+    requires held { IsSound store.old }
+    requires level { level < store.old.levels }
+    requires halfway { IsHalfway team.workers team.roots.now team.parts.now (level + 1) team.answers.now }
+    requires found { level < length team.answers.now.found }
+    requires sender { sender < team.workers }
+    requires left { AreLeft team.workers (asked_above team.workers team.roots.now team.parts.now sender (level + 1)) left.old.items }
+    requires ready { RowCanStand (told team.workers team.parts.now team.answers.now) store.old level (team_row team.workers team.parts.now level) }
+    ensures sound { IsSound store.new }
+    ensures extends { Extends store.old store.new }
+    ensures adds { AddsRow (told team.entry.workers team.entry.parts.now team.entry.answers.now) store.old store.new level (team_row team.entry.workers team.entry.parts.now level) }
+    ensures made { IfOk result (λ answers. AllZip (IsAnswered (told team.entry.workers team.entry.parts.now team.entry.answers.now) store.new level)
+        (row_of team.entry.parts.now.rows sender level) answers.items) }
+    ensures left { OnOk result (AreLeft team.entry.workers (asked_above team.entry.workers team.entry.roots.now team.entry.parts.now sender level) left.new.items) }
+    ensures fault { IfErr result (λ e. IsRowRefused (told team.entry.workers team.entry.parts.now team.entry.answers.now) store.new level (team_row team.entry.workers team.entry.parts.now level) e) }
+{
+    let row = team.parts.children(sender, level);
+    let Ok(mut answers) = Vec::with_capacity(alloc, row.len()) else {
+        return Err(StoreFault::OutOfMemory);
+    };
+    let mut next = row.len();
+    while next > 0 {
+        next -= 1;
+        let entry = row[next];
+        let high = resolve(team, sender, left, entry.1);
+        let low = resolve(team, sender, left, entry.0);
+        let answer = match store.make(level, low, high) {
+            Ok(answer) => answer,
+            Err(fault) => return Err(fault),
+        };
+        if answers.push(answer).is_err() {
+            return Err(StoreFault::OutOfMemory);
+        }
+    }
+    answers.reverse();
+    Ok(answers)
+}
+
+/// The diagrams of a level's records, worker by worker; missing nodes are made.
+pub(crate) fn make_level(
+    alloc: Global,
+    store: &mut Store,
+    team: Team<'_>,
+    level: u16,
+    lefts: &mut Vec<Vec<usize>>,
+) -> Result<Vec<Vec<Ref>>, StoreFault>
+    requires held { IsSound store.old }
+    requires level { level < store.old.levels }
+    requires halfway { IsHalfway team.workers team.roots.now team.parts.now (level + 1) team.answers.now }
+    requires found { level < length team.answers.now.found }
+    requires lefts { AreAllLeft team.workers team.roots.now team.parts.now (level + 1) lefts.old.items }
+    requires ready { RowCanStand (told team.workers team.parts.now team.answers.now) store.old level (team_row team.workers team.parts.now level) }
+    ensures sound { IsSound store.new }
+    ensures adds { AddsRow (told team.entry.workers team.entry.parts.now team.entry.answers.now) store.old store.new level (team_row team.entry.workers team.entry.parts.now level) }
+    ensures made { IfOk result (λ answers. AreMadeOf team.entry.workers team.entry.parts.now team.entry.answers.now store.new level team.entry.workers answers.items) }
+    ensures lefts { OnOk result (AreAllLeft team.entry.workers team.entry.roots.now team.entry.parts.now level lefts.new.items) }
+    ensures fault { IfErr result (λ e. IsRowRefused (told team.entry.workers team.entry.parts.now team.entry.answers.now) store.new level (team_row team.entry.workers team.entry.parts.now level) e) }
+{
+    let Ok(mut answers) = Vec::with_capacity(alloc, team.workers as usize) else {
+        return Err(StoreFault::OutOfMemory);
+    };
+    for sender in 0..team.workers {
+        let left = &mut lefts[sender as usize];
+        let part = make_part(alloc, store, team, sender, level, left)?;
+        if answers.push(part).is_err() {
+            return Err(StoreFault::OutOfMemory);
+        }
+    }
+    Ok(answers)
+}

@@ -1,0 +1,158 @@
+//! The diagrams of a worker's records of a level, picked from those of all workers' pairs.
+ghost use Rattle.std.specs.Prelude.{Result as ResultValue, ◌≡◌, ◌+◌, ◌<◌, ◌≤◌, ℕ, length, take, slice_get, slice_index_or, Some, All, IfOk};
+ghost use Rattle.std.specs.declared.vec.Vec.{Vec as VecValue};
+ghost use Rattle.std.specs.declared.alloc.Global.{Global as GlobalValue};
+ghost use Rattle.std.specs.declared.alloc.AllocError.{AllocError as AllocErrorValue};
+ghost use Rattle.dd_store.specs.declared.reference.Ref.{Ref as RefValue};
+ghost use mathlib.Core.List.{reverse};
+ghost use Rattle.dd_store.specs.Graph.{Pair};
+ghost use Rattle.dd_store.specs.Levels.{list_at, all_at, refs_at};
+ghost use Rattle.reduce_up.specs.declared.division.Homes.{Homes as HomesValue};
+ghost use Rattle.reduce_up.specs.Division.{chosen, source, IsPicked, IsPickedOf, ArePicked, AreHomes, AreRefsOf, begin_of};
+
+use crate::division::{EQUAL, Homes};
+use dd_store::{Ref, SHARDS};
+use std::alloc::{AllocError, Global};
+use std::thread;
+use std::thread::Threads;
+
+/// The diagram at a place of a home's.
+fn diagram_at(homes: &Homes, refs: &[Vec<Ref>], home: u8, place: usize) -> Ref
+    requires sixteen { length refs.now ≡ 16 }
+    requires home { home ≤ 16 }
+    requires place { place < length (source refs.now homes.now home) }
+    ensures { slice_get (source refs.now homes.now home) place ≡ Some result }
+{
+    if home == EQUAL {
+        return homes.equal[place];
+    }
+    refs[home as usize][place]
+}
+
+/// A diagram for each home: the next of those of this home from a place on. The last one that was read is the first.
+fn pick(
+    alloc: Global,
+    homes: &Homes,
+    refs: &[Vec<Ref>],
+    starts: &[usize],
+) -> Result<Vec<Ref>, AllocError>
+    requires sixteen { length refs.now ≡ 16 }
+    requires starts { length starts.now ≡ 17 }
+    requires homes { All (λ h. h ≤ 16) homes.now.numbers.items }
+    requires room { (s : ℕ) → s ≤ 16 → slice_index_or starts.now s 0 + length (chosen s homes.now.numbers.items homes.now.numbers.items) ≤ length (source refs.now homes.now s) }
+    ensures { IfOk result (λ answers. IsPicked homes.now.numbers.items (λ s. slice_index_or starts.now s 0) (source refs.now homes.now) (reverse answers.items)) }
+{
+    let mut places = Vec::with_capacity(alloc, starts.len())?;
+    places.extend_from_slice(starts)?;
+    let mut answers = Vec::with_capacity(alloc, homes.numbers.len())?;
+    for home in &homes.numbers {
+        let place = places[*home as usize];
+        let Some(next) = place.checked_add(1) else {
+            return Err(AllocError);
+        };
+        places[*home as usize] = next;
+        answers.push(diagram_at(homes, refs, *home, place))?;
+    }
+    answers.reverse();
+    Ok(answers)
+}
+
+/// Where a part's references of a shard begin.
+fn start_of(parts: &[Vec<Vec<(Ref, Ref)>>], part: usize, shard: usize, total: usize) -> usize
+    requires part { part < length parts.now }
+    requires lists { All (λ (part : VecValue (VecValue Pair GlobalValue) GlobalValue). length part.items ≡ 16) parts.now }
+    requires shard { shard < 16 }
+    requires total { total ≡ length (all_at parts.now shard) }
+    ensures { result ≡ begin_of parts.now part shard }
+{
+    let mut start = 0;
+    for before in 0..part {
+        start += parts[before][shard].len();
+    }
+    start
+}
+
+/// Where a part's references of each shard begin, and its diagrams of equal children.
+fn starts_of(
+    alloc: Global,
+    parts: &[Vec<Vec<(Ref, Ref)>>],
+    part: usize,
+    refs: &[Vec<Ref>],
+) -> Result<Vec<usize>, AllocError>
+    requires part { part < length parts.now }
+    requires lists { All (λ (part : VecValue (VecValue Pair GlobalValue) GlobalValue). length part.items ≡ 16) parts.now }
+    requires refs { AreRefsOf parts.now refs.now }
+    ensures seventeen { IfOk result (λ starts. length starts.items ≡ 17) }
+    ensures starts { IfOk result (λ starts. (s : ℕ) → s ≤ 16 → slice_index_or starts.items s 0 ≡ begin_of parts.now part s) }
+{
+    let mut starts = Vec::with_capacity(alloc, SHARDS + 1)?;
+    for shard in 0..SHARDS {
+        starts.push(start_of(parts, part, shard, refs[shard].len()))?;
+    }
+    starts.push(0)?;
+    Ok(starts)
+}
+
+/// The diagrams of a part's records, in the order in which they stand.
+fn pick_part(
+    alloc: Global,
+    parts: &[Vec<Vec<(Ref, Ref)>>],
+    part: usize,
+    homes: &[Homes],
+    refs: &[Vec<Ref>],
+) -> Result<Vec<Ref>, AllocError>
+    requires part { part < length homes.now }
+    requires parts { length parts.now ≡ length homes.now }
+    requires lists { All (λ (part : VecValue (VecValue Pair GlobalValue) GlobalValue). length part.items ≡ 16) parts.now }
+    requires refs { AreRefsOf parts.now refs.now }
+    requires homes { (k : ℕ) (d : VecValue (VecValue Pair GlobalValue) GlobalValue) (h : HomesValue) → k < length homes.now → AreHomes (slice_index_or homes.now k h) (list_at (slice_index_or parts.now k d).items) }
+    ensures { (h : HomesValue) → IfOk result (λ answers. IsPickedOf parts.now refs.now part (slice_index_or homes.now part h) answers.items) }
+{
+    let starts = starts_of(alloc, parts, part, refs)?;
+    pick(alloc, &homes[part], refs, starts.as_slice())
+}
+
+/// The answers of all parts, where each had memory.
+fn join_picked(
+    alloc: Global,
+    parts: &[Vec<Vec<(Ref, Ref)>>],
+    homes: &[Homes],
+    refs: &[Vec<Ref>],
+    picked: Vec<Result<Vec<Ref>, AllocError>>,
+) -> Result<Vec<Vec<Ref>>, AllocError>
+    requires { (k : ℕ) (d : ResultValue (VecValue RefValue GlobalValue) AllocErrorValue) (h : HomesValue) → k < length picked.items → IfOk (slice_index_or picked.items k d) (λ answers. IsPickedOf parts.now refs.now k (slice_index_or homes.now k h) answers.items) }
+    ensures { IfOk result (λ answers. ArePicked parts.now homes.now refs.now (length picked.items) answers.items) }
+{
+    let _ = (parts.len(), homes.len(), refs.len());
+    let mut answers = Vec::new(alloc);
+    for some in picked {
+        answers.push(some?)?;
+    }
+    Ok(answers)
+}
+
+/// The diagrams of all parts' records, a thread for each part.
+pub(crate) fn pick_all<R: Threads + Sync>(
+    rt: &R,
+    alloc: Global,
+    parts: &[Vec<Vec<(Ref, Ref)>>],
+    homes: &[Homes],
+    refs: &[Vec<Ref>],
+) -> Result<Vec<Vec<Ref>>, AllocError>
+    requires parts { length parts.now ≡ length homes.now }
+    requires lists { All (λ (part : VecValue (VecValue Pair GlobalValue) GlobalValue). length part.items ≡ 16) parts.now }
+    requires refs { AreRefsOf parts.now refs.now }
+    requires homes { (k : ℕ) (d : VecValue (VecValue Pair GlobalValue) GlobalValue) (h : HomesValue) → k < length homes.now → AreHomes (slice_index_or homes.now k h) (list_at (slice_index_or parts.now k d).items) }
+    ensures { IfOk result (λ answers. ArePicked parts.now homes.now refs.now (length homes.now) answers.items) }
+{
+    let pick = |part: usize| -> Result<Vec<Ref>, AllocError>
+        requires part { part < length homes.now }
+        requires parts { length parts.now ≡ length homes.now }
+        requires lists { All (λ (part : VecValue (VecValue Pair GlobalValue) GlobalValue). length part.items ≡ 16) parts.now }
+        requires refs { AreRefsOf parts.now refs.now }
+        requires homes { (k : ℕ) (d : VecValue (VecValue Pair GlobalValue) GlobalValue) (h : HomesValue) → k < length homes.now → AreHomes (slice_index_or homes.now k h) (list_at (slice_index_or parts.now k d).items) }
+        ensures { (h : HomesValue) → IfOk result (λ answers. IsPickedOf parts.entry.now refs.entry.now part (slice_index_or homes.entry.now part h) answers.items) }
+    { pick_part(alloc, parts, part, homes, refs) };
+    let picked = thread::map_indices(rt, alloc, homes.len(), &pick)?;
+    join_picked(alloc, parts, homes, refs, picked)
+}

@@ -1,0 +1,160 @@
+//! A level with many records, which threads reduce in three steps: each reads a worker's records and divides the pairs of their
+//! children by shard, the store makes the nodes of all pairs, and each picks its worker's diagrams. No pair is sought twice.
+ghost use Rattle.std.specs.Prelude.{◌≡◌, ◌+◌, ◌<◌, length, IfOk, IfErr, OnOk};
+ghost use Rattle.dd_store.specs.Nodes.{IsSound};
+ghost use Rattle.reduce_up.specs.Sharing.{RowCanStand, AddsRow, IsRowRefused};
+ghost use Rattle.reduce_up.specs.Team.{IsHalfway, AreLeft, AreAllLeft, AreRead, AreDividedBy, IsPartRead, AreMadeOf, asked_above, team_row, told};
+
+use crate::division::{Divided, Homes};
+use crate::picking::pick_all;
+use crate::team::{Team, resolve};
+use dd_store::{Ref, Store, StoreFault, Watch};
+use std::alloc::{AllocError, Global};
+use std::thread;
+use std::thread::Threads;
+
+/// What is read of a worker's records of a level, and how many requests of each worker are still to be read of it.
+type Read = (Divided, Vec<usize>);
+
+/// What is read of all workers' records of a level.
+#[derive(Drop)]
+struct LevelRead {
+    parts: Vec<Vec<Vec<(Ref, Ref)>>>,
+    homes: Vec<Homes>,
+    lefts: Vec<Vec<usize>>,
+}
+
+/// Reads a sender's records of a level, from the last to the first.
+fn read_part(
+    alloc: Global,
+    team: Team<'_>,
+    sender: u32,
+    level: u16,
+    left: &[usize],
+) -> Result<Read, AllocError>
+    requires halfway { IsHalfway team.workers team.roots.now team.parts.now (level + 1) team.answers.now }
+    requires sender { sender < team.workers }
+    requires level { level < length team.answers.now.found }
+    requires left { AreLeft team.workers (asked_above team.workers team.roots.now team.parts.now sender (level + 1)) left.now }
+    ensures { IfOk result (λ r. IsPartRead team.entry.workers team.entry.roots.now team.entry.parts.now team.entry.answers.now level sender r.0 r.1.items) }
+{
+    let row = team.parts.children(sender, level);
+    let mut rest = Vec::with_capacity(alloc, left.len())?;
+    rest.extend_from_slice(left)?;
+    let mut divided = Divided::new(alloc, row.len())?;
+    let mut next = row.len();
+    while next > 0 {
+        next -= 1;
+        let entry = row[next];
+        let high = resolve(team, sender, &mut rest, entry.1);
+        let low = resolve(team, sender, &mut rest, entry.0);
+        divided.put((low, high))?;
+    }
+    Ok((divided, rest))
+}
+
+/// Reads each worker's records of a level by a thread of its own.
+fn read_all<R: Threads + Sync>(
+    rt: &R,
+    alloc: Global,
+    team: Team<'_>,
+    level: u16,
+    lefts: &[Vec<usize>],
+) -> Result<Vec<Result<Read, AllocError>>, AllocError>
+    requires halfway { IsHalfway team.workers team.roots.now team.parts.now (level + 1) team.answers.now }
+    requires level { level < length team.answers.now.found }
+    requires lefts { AreAllLeft team.workers team.roots.now team.parts.now (level + 1) lefts.now }
+    ensures { IfOk result (λ v. AreRead team.entry.workers team.entry.roots.now team.entry.parts.now team.entry.answers.now level team.entry.workers v.items) }
+{
+    let read = |sender: usize| -> Result<Read, AllocError>
+        requires sender { sender < team.workers }
+        requires halfway { IsHalfway team.workers team.roots.now team.parts.now (level + 1) team.answers.now }
+        requires level { level < length team.answers.now.found }
+        requires lefts { AreAllLeft team.workers team.roots.now team.parts.now (level + 1) lefts.now }
+        ensures { IfOk result (λ r. IsPartRead team.entry.workers team.entry.roots.now team.entry.parts.now team.entry.answers.now level sender r.0 r.1.items) }
+    {
+        let _workers = team.workers;
+        read_part(alloc, team, sender as u32, level, lefts[sender].as_slice())
+    };
+    thread::map_indices(rt, alloc, team.workers as usize, &read)
+}
+
+/// What was read of each worker, put side by side.
+fn join_reads(
+    alloc: Global,
+    team: Team<'_>,
+    level: u16,
+    reads: Vec<Result<Read, AllocError>>,
+) -> Result<LevelRead, AllocError>
+    requires { AreRead team.workers team.roots.now team.parts.now team.answers.now level team.workers reads.items }
+    ensures { IfOk result (λ r. AreDividedBy team.entry.workers team.entry.roots.now team.entry.parts.now team.entry.answers.now level team.entry.workers r.parts.items r.homes.items r.lefts.items) }
+{
+    let _workers = team.workers;
+    let mut parts = Vec::new(alloc);
+    let mut homes = Vec::new(alloc);
+    let mut lefts = Vec::new(alloc);
+    for read in reads {
+        let (divided, left) = read?;
+        parts.push(divided.lists)?;
+        homes.push(divided.homes)?;
+        lefts.push(left)?;
+    }
+    Ok(LevelRead {
+        parts,
+        homes,
+        lefts,
+    })
+}
+
+/// Reads all records of a level.
+fn read_level<R: Threads + Sync>(
+    rt: &R,
+    alloc: Global,
+    team: Team<'_>,
+    level: u16,
+    lefts: &[Vec<usize>],
+) -> Result<LevelRead, AllocError>
+    requires halfway { IsHalfway team.workers team.roots.now team.parts.now (level + 1) team.answers.now }
+    requires level { level < length team.answers.now.found }
+    requires lefts { AreAllLeft team.workers team.roots.now team.parts.now (level + 1) lefts.now }
+    ensures { IfOk result (λ r. AreDividedBy team.entry.workers team.entry.roots.now team.entry.parts.now team.entry.answers.now level team.entry.workers r.parts.items r.homes.items r.lefts.items) }
+{
+    let _workers = team.workers;
+    let reads = read_all(rt, alloc, team, level, lefts)?;
+    join_reads(alloc, team, level, reads)
+}
+
+/// The diagrams of a level's records, worker by worker; missing nodes are made.
+pub(crate) fn share_level<R: Threads + Sync, H: Watch>(
+    rt: &R,
+    alloc: Global,
+    store: &mut Store,
+    team: Team<'_>,
+    level: u16,
+    lefts: &mut Vec<Vec<usize>>,
+    watch: &H,
+) -> Result<Vec<Vec<Ref>>, StoreFault>
+    requires held { IsSound store.old }
+    requires level { level < store.old.levels }
+    requires halfway { IsHalfway team.workers team.roots.now team.parts.now (level + 1) team.answers.now }
+    requires found { level < length team.answers.now.found }
+    requires lefts { AreAllLeft team.workers team.roots.now team.parts.now (level + 1) lefts.old.items }
+    requires ready { RowCanStand (told team.workers team.parts.now team.answers.now) store.old level (team_row team.workers team.parts.now level) }
+    ensures sound { IsSound store.new }
+    ensures adds { AddsRow (told team.entry.workers team.entry.parts.now team.entry.answers.now) store.old store.new level (team_row team.entry.workers team.entry.parts.now level) }
+    ensures made { IfOk result (λ answers. AreMadeOf team.entry.workers team.entry.parts.now team.entry.answers.now store.new level team.entry.workers answers.items) }
+    ensures lefts { OnOk result (AreAllLeft team.entry.workers team.entry.roots.now team.entry.parts.now level lefts.new.items) }
+    ensures fault { IfErr result (λ e. IsRowRefused (told team.entry.workers team.entry.parts.now team.entry.answers.now) store.new level (team_row team.entry.workers team.entry.parts.now level) e) }
+{
+    let Ok(read) = read_level(rt, alloc, team, level, lefts.as_slice()) else {
+        return Err(StoreFault::OutOfMemory);
+    };
+    let lists = read.parts.as_slice();
+    let refs = store.make_all(rt, level, lists, watch)?;
+    let homes = read.homes.as_slice();
+    let Ok(answers) = pick_all(rt, alloc, lists, homes, refs.as_slice()) else {
+        return Err(StoreFault::OutOfMemory);
+    };
+    *lefts = read.lefts;
+    Ok(answers)
+}
