@@ -5,7 +5,7 @@ use Rattle.std.specs.declared.vec.Vec.{Vec}
 use Rattle.std.specs.declared.alloc.Global.{Global}
 use Rattle.std.proofs.lemmas.List.{get_or-map, length-map, take_all, reverse-reverse, get_or_default, get_or_append_left}
 use Rattle.std.proofs.Math.Seq.{get_or-append_seam}
-use Rattle.std.specs.Prelude.{Result, Ok, IfOk}
+use Rattle.std.specs.Prelude.{Result, Ok, Err, IfOk}
 use Rattle.std.specs.declared.alloc.AllocError.{AllocError}
 use Rattle.reduce_up.specs.declared.division.Divided.{Divided}
 use Rattle.std.proofs.Math.ListN.{get_or-eq_default}
@@ -26,6 +26,7 @@ use Rattle.dd_store.specs.Parts.Part.{node}
 use Rattle.dd_store.specs.Nodes.{Nodes, node as node_at, shard_at, IsSound, IsThere, count_of}
 use Rattle.dd_store.specs.Adding.{AreReady, GrowsLevel, IsLevelFault, IsMakeFault}
 use Rattle.dd_store.specs.View.{part_of, part, Has}
+use Rattle.dd_store.proofs.LevelFacts.{list_read}
 use Rattle.dd_store.proofs.Storing.{node_in_shard, small_shard, shard-le-count}
 use Rattle.dd_store.proofs.AddingAll.{grown_only, Extends-grown}
 use Rattle.dd_store.proofs.View.{keeps, absent}
@@ -37,7 +38,7 @@ use Rattle.expand_work.specs.Gathered.{PartsView}
 use Rattle.expand_work.proofs.Zips.{zip_long, zip_append, zip_weaker}
 use Rattle.reduce_up.specs.declared.division.Homes.{Homes}
 use Rattle.reduce_up.specs.Sharing.{IsPairOf, IsAnswered, CanStand, RowCanStand, AddsRow, IsRowRefused}
-use Rattle.reduce_up.specs.Division.{chosen, span, source, begin_of, IsDivided, IsPickedOf, ArePicked, AreHomes, AreRefsOf}
+use Rattle.reduce_up.specs.Division.{chosen, span, source, begin_of, IsDivided, IsPicked, IsPickedOf, ArePicked, AreHomes, AreRefsOf}
 use Rattle.reduce_up.specs.Team.{AnswersView, in_turn, team_row, told, read_of, asked_above, AreLeft, AreAllLeft, IsPartRead, AreRead, AreDividedBy, AreMadeOf}
 use Rattle.reduce_up.proofs.Reading.{in_team}
 use Rattle.reduce_up.proofs.Shared.{zip_right, zip_through}
@@ -83,6 +84,12 @@ begin_room parts k s d l =
     let b = length-append (all_at (take k parts) s) (list_at (get_or parts k d).items s) in
     omega (arith, e, a, b)
 
+pub own_list : (parts : List (Vec (Vec Pair Global) Global)) (k : ℕ) (p : Vec (Vec Pair Global) Global) → k < length parts → All (λ (part : Vec (Vec Pair Global) Global). length part.items ≡ 16) parts → p ≡ get_or parts k p → (s : ℕ) → s < 16 → (v : Vec Pair Global) → v ≡ get_or p.items s v
+    → length (list_at (get_or parts k p).items s) ≡ length v.items
+own_list parts k p l all is s sb v v-is =
+    let sixteen : length p.items ≡ 16 = subst (λ (z : Vec (Vec Pair Global) Global). length z.items ≡ 16) (sym is) (all k p l) in
+    ap (λ (z : Vec (Vec Pair Global) Global). length (list_at z.items s)) (sym is) ∙ ap (λ (z : List Pair). length z) (sym (list_read p.items s v (omega (arith, sixteen, sb)) v-is))
+
 -- there are sixteen lists
 pub no_more : (lists : List (Vec Pair Global)) (s : ℕ) → length lists ≡ 16 → 16 ≤ s → list_at lists s ≡ []
 no_more lists s e l = get_or-eq_default (map (λ (v : Vec Pair Global). v.items) lists) [] (let a = length-map lists (λ (v : Vec Pair Global). v.items) in omega (arith, a, e, l))
@@ -123,7 +130,7 @@ module _ (results : List (Key × Ref)) (S : Nodes) (v : ℕ) (row : List Record)
         other True h = inl tt
         other (Node m) h = elim (grown_only S T v lists g m h.0 h.1) [
           | inl old ↦ inl (h.0, old)
-          | inr new ↦ let o = are m.shard h.0 new.2 in inr (o.0, h.0, o.1, o.2, o.3, ap (λ (q : Option Pair). part_of m q) new.0 ∙ ap (λ u. node u h.0.0 h.0.1) new.1)
+          | inr new ↦ let o = are m.shard h.0 new.2 in inr (o.0, h.0, o.1, o.2, o.3, ap (part_of m) h.1 ∙ ap (λ u. node u h.0.0 h.0.1) new.0)
         ]
 
     pub refused_all : (f : StoreFault) → IsSound T → (f ≡ Full → IsLevelFault T v lists (Some Full)) → IsRowRefused results T v row f
@@ -265,6 +272,30 @@ pub fault_all : (T : Nodes) (v : ℕ) (lists : ℕ → List Pair) (f : StoreFaul
 fault_all T v lists Full h e = h
 fault_all T v lists OutOfMemory h e = absurd (cc)
 
+pub refused_make : (results : List (Key × Ref)) (S : Nodes) (v : ℕ) (row : List Record) (parts' parts : List (Vec (Vec Pair Global) Global)) → parts' ≡ parts → AreListed results row (all_at parts) → (U : Nodes) (f : StoreFault) → IsSound U → IsMakeFault U v (all_at parts') f → IsRowRefused results U v row f
+refused_make results S v row parts' parts e are U f w h = refused_all results S v row (all_at parts) are U f w (fault_all U v (all_at parts) f (subst (λ (z : List (Vec (Vec Pair Global) Global)). IsMakeFault U v (all_at z) f) e h))
+
+-- a part's references are among those of all
+pub pick_room : (parts : List (Vec (Vec Pair Global) Global)) (refs : List (Vec Ref Global)) (k : ℕ) (h : Homes) (p : Vec (Vec Pair Global) Global) → k < length parts → All (λ (part : Vec (Vec Pair Global) Global). length part.items ≡ 16) parts → AreRefsOf parts refs → AreHomes h (list_at (get_or parts k p).items)
+    → (s : ℕ) → s ≤ 16 → begin_of parts k s + length (chosen s h.numbers.items h.numbers.items) ≤ length (source refs h s)
+pick_room parts refs k h p l all r are s sb = dite (ℕ_discrete s 16)
+    (λ e. subst (λ z. begin_of parts k z + length (chosen z h.numbers.items h.numbers.items) ≤ length (source refs h z)) (sym e) (let a = begin_none parts k all in let b = are.same in omega (arith, a, b)))
+    (λ m.
+    let lt : s < 16 = grind (arith, sb, m) in
+    let from : refs_at refs s ≡ source refs h s = sym (ap (λ b. cond b h.equal.items (refs_at refs s)) (ne_eqb s 16 m)) in
+    let room = begin_room parts k s p l in
+    let many = are.many s lt in
+    let all-refs = r.many s lt in
+    subst (λ z. begin_of parts k s + length (chosen s h.numbers.items h.numbers.items) ≤ length z) from (omega (arith, room, many, all-refs)))
+
+pub picked_from : (parts : List (Vec (Vec Pair Global) Global)) (refs : List (Vec Ref Global)) (k : ℕ) (h : Homes) (starts : List ℕ) → ((s : ℕ) → s ≤ 16 → get_or starts s 0 ≡ begin_of parts k s) → (slice : List ℕ) → slice ≡ starts → (r : Result (Vec Ref Global) AllocError)
+    → IfOk r (λ answers. IsPicked h.numbers.items (λ s. get_or slice s 0) (source refs h) (reverse answers.items)) → IfOk r (λ answers. IsPickedOf parts refs k h answers.items)
+picked_from parts refs k h starts each slice is (Ok answers) o = record {
+  long = o.long;
+  each = λ s l. o.each s l ∙ ap (λ z. span z (length (chosen s h.numbers.items (reverse answers.items))) (source refs h s)) (ap (λ z. get_or z s 0) is ∙ each s l);
+}
+picked_from parts refs k h starts each slice is (Err e) o = o
+
 -- ---- what each worker read, side by side
 pub reads_none : (n : ℕ) (roots : List Key) (p : PartsView) (a : AnswersView) (v : ℕ) (parts : List (Vec (Vec Pair Global) Global)) (homes : List Homes) (lefts : List (Vec ℕ Global)) → parts ≡ [] → homes ≡ [] → lefts ≡ [] → AreDividedBy n roots p a v 0 parts homes lefts
 reads_none n roots p a v parts homes lefts x y z = record {
@@ -333,3 +364,10 @@ picked_one parts homes refs picked done rest r x f whole is h =
     let at : picked ≡ done ++ r ∷ rest = sym whole ∙ append_assoc done (r ∷ []) rest in
     let long = ap (λ z. length z) at ∙ length-append done (r ∷ rest) in
     subst (λ z. IfOk z (λ (q : Vec Ref Global). IsPickedOf parts refs (length done) (get_or homes (length done) h) q.items)) (ap (λ z. get_or z (length done) r) at ∙ get_or-append_seam done r rest r ∙ is) (f (length done) r (omega (arith, long)) h)
+
+-- the same of lists that were read elsewhere
+pub picked_as : (parts' : List (Vec (Vec Pair Global) Global)) (homes' : List Homes) (refs' : List (Vec Ref Global)) (parts : List (Vec (Vec Pair Global) Global)) (homes : List Homes) (refs : List (Vec Ref Global)) (n : ℕ) → parts' ≡ parts → homes' ≡ homes → refs' ≡ refs → length homes ≡ n → (answers : List (Vec Ref Global))
+    → ArePicked parts' homes' refs' (length homes') answers → ArePicked parts homes refs n answers
+picked_as parts' homes' refs' parts homes refs n x y z long answers h =
+    subst (λ k. ArePicked parts homes refs k answers) long
+    (subst (λ (u : List (Vec (Vec Pair Global) Global) × List Homes × List (Vec Ref Global)). ArePicked u.0 u.1 u.2 (length u.1) answers) (λ i. (x i, y i, z i)) h)

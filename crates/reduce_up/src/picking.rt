@@ -47,7 +47,10 @@ fn pick(
     let mut answers = Vec::with_capacity(alloc, homes.numbers.len())?;
     for home in &homes.numbers {
         let place = places[*home as usize];
-        places[*home as usize] = place + 1;
+        let Some(next) = place.checked_add(1) else {
+            return Err(AllocError);
+        };
+        places[*home as usize] = next;
         answers.push(diagram_at(homes, refs, *home, place))?;
     }
     answers.reverse();
@@ -95,17 +98,18 @@ fn pick_part(
     alloc: Global,
     parts: &[Vec<Vec<(Ref, Ref)>>],
     part: usize,
-    homes: &Homes,
+    homes: &[Homes],
     refs: &[Vec<Ref>],
 ) -> Result<Vec<Ref>, AllocError>
-    requires part { part < length parts.now }
+    requires part { part < length homes.now }
+    requires parts { length parts.now ≡ length homes.now }
     requires lists { All (λ (part : VecValue (VecValue Pair GlobalValue) GlobalValue). length part.items ≡ 16) parts.now }
     requires refs { AreRefsOf parts.now refs.now }
-    requires homes { (d : VecValue (VecValue Pair GlobalValue) GlobalValue) → AreHomes homes.now (list_at (slice_index_or parts.now part d).items) }
-    ensures { IfOk result (λ answers. IsPickedOf parts.now refs.now part homes.now answers.items) }
+    requires homes { (k : ℕ) (d : VecValue (VecValue Pair GlobalValue) GlobalValue) (h : HomesValue) → k < length homes.now → AreHomes (slice_index_or homes.now k h) (list_at (slice_index_or parts.now k d).items) }
+    ensures { (h : HomesValue) → IfOk result (λ answers. IsPickedOf parts.now refs.now part (slice_index_or homes.now part h) answers.items) }
 {
     let starts = starts_of(alloc, parts, part, refs)?;
-    pick(alloc, homes, refs, starts.as_slice())
+    pick(alloc, &homes[part], refs, starts.as_slice())
 }
 
 /// The answers of all parts, where each had memory.
@@ -117,7 +121,7 @@ fn join_picked(
     picked: Vec<Result<Vec<Ref>, AllocError>>,
 ) -> Result<Vec<Vec<Ref>>, AllocError>
     requires { (k : ℕ) (d : ResultValue (VecValue RefValue GlobalValue) AllocErrorValue) (h : HomesValue) → k < length picked.items → IfOk (slice_index_or picked.items k d) (λ answers. IsPickedOf parts.now refs.now k (slice_index_or homes.now k h) answers.items) }
-    ensures { IfOk result (λ answers. ArePicked parts.now homes.now refs.now (length picked.entry.items) answers.items) }
+    ensures { IfOk result (λ answers. ArePicked parts.now homes.now refs.now (length picked.items) answers.items) }
 {
     let _ = (parts.len(), homes.len(), refs.len());
     let mut answers = Vec::new(alloc);
@@ -142,12 +146,13 @@ pub(crate) fn pick_all<R: Threads + Sync>(
     ensures { IfOk result (λ answers. ArePicked parts.now homes.now refs.now (length homes.now) answers.items) }
 {
     let pick = |part: usize| -> Result<Vec<Ref>, AllocError>
-        requires part { (part < length homes.now) × (length parts.now ≡ length homes.now) }
+        requires part { part < length homes.now }
+        requires parts { length parts.now ≡ length homes.now }
         requires lists { All (λ (part : VecValue (VecValue Pair GlobalValue) GlobalValue). length part.items ≡ 16) parts.now }
         requires refs { AreRefsOf parts.now refs.now }
         requires homes { (k : ℕ) (d : VecValue (VecValue Pair GlobalValue) GlobalValue) (h : HomesValue) → k < length homes.now → AreHomes (slice_index_or homes.now k h) (list_at (slice_index_or parts.now k d).items) }
         ensures { (h : HomesValue) → IfOk result (λ answers. IsPickedOf parts.entry.now refs.entry.now part (slice_index_or homes.entry.now part h) answers.items) }
-    { pick_part(alloc, parts, part, &homes[part], refs) };
+    { pick_part(alloc, parts, part, homes, refs) };
     let picked = thread::map_indices(rt, alloc, homes.len(), &pick)?;
     join_picked(alloc, parts, homes, refs, picked)
 }

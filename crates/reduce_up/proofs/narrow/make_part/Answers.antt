@@ -60,6 +60,22 @@ resolve-low-requires-clause-child c =
     let low : IsNext n p a s c.resolve-high.new.left.items entry.0 r.low = (w.2, low_last n t.roots.now p v a c.requires.halfway s c.requires.sender c.requires.found i r ib w.1 c.resolve-high.new.left.items mid, low_found n t.roots.now p v a c.requires.halfway s c.requires.sender c.requires.found i r ib w.1) in
     (r.low, low)
 
+pub resolve-low-requires-clause-long : goal.resolve-low-requires-clause-long
+resolve-low-requires-clause-long c =
+    let t = c.args.team in let i : ℕ = c.loop-next.next - 1 in let some = c.loop-next-test.true in let bound = c.loop-next.invariant.bound in
+    let n = t.workers in let p = t.parts.now in let a = t.answers.now in let v = c.args.level in let s = c.args.sender in
+    let own = row_of p.rows s v in
+    let entry = c.index-row-next.result in
+    let e : c.loop-next.next ≡ i + 1 = omega (arith, some) in
+    let ib : i < length own = omega (arith, some, bound) in
+    let w = row_read n p s v c.children-row.result.now c.children-row.ensures c.requires.halfway.parts.many_rows i ib entry c.index-row-next.is in
+    let r : Record = w.0 in
+    let left = subst (λ z. AreLeft n (before n t.roots.now p s v z) c.loop-next.left.items) e c.loop-next.invariant.left in
+    let high : IsNext n p a s c.loop-next.left.items entry.1 r.high = (w.3, high_last n t.roots.now p v a c.requires.halfway s c.requires.sender c.requires.found i r ib w.1 c.loop-next.left.items left, high_found n t.roots.now p v a c.requires.halfway s c.requires.sender c.requires.found i r ib w.1) in
+    let mid = after_high n t.roots.now p v a c.requires.halfway s c.requires.sender c.requires.found i r ib w.1 c.loop-next.left.items c.resolve-high.new.left.items left (c.resolve-high.ensures.left r.high high) in
+    let low : IsNext n p a s c.resolve-high.new.left.items entry.0 r.low = (w.2, low_last n t.roots.now p v a c.requires.halfway s c.requires.sender c.requires.found i r ib w.1 c.resolve-high.new.left.items mid, low_found n t.roots.now p v a c.requires.halfway s c.requires.sender c.requires.found i r ib w.1) in
+    mid.long
+
 pub make-requires-clause-lo_here : goal.make-requires-clause-lo_here
 make-requires-clause-lo_here c =
     let t = c.args.team in let i : ℕ = c.loop-next.next - 1 in let some = c.loop-next-test.true in let bound = c.loop-next.invariant.bound in
@@ -205,7 +221,7 @@ returns-then-is_err-clause-adds c =
     let member = in_team n p v s r c.requires.sender (item_at own i r ib w.1) in
     let m = c.loop-next.invariant.making in
     let can : CanStand c.loop-next.store v q = stands_on c.args.store.now c.loop-next.store v q m.adds.keeps (c.requires.ready r q member of) in
-    adds_one T c.args.store.now c.loop-next.store c.make.new.self v all m.adds r q c.in-Ok-answer.answer member of can.has_low c.in-Ok-answer.ensures.made
+    adds_one T c.args.store.now c.loop-next.store c.make.new.self v all m.adds r q c.in-Ok-make.answer member of can.has_low c.in-Ok-make.ensures.made
 
 pub loop-next-preserved : goal.loop-next-preserved
 loop-next-preserved c =
@@ -229,18 +245,18 @@ loop-next-preserved c =
     let member = in_team n p v s r c.requires.sender (item_at own i r ib w.1) in
     let m = c.loop-next.invariant.making in
     let can : CanStand c.loop-next.store v q = stands_on c.args.store.now c.loop-next.store v q m.adds.keeps (c.requires.ready r q member of) in
-    let answers : c.push.new.self.items ≡ c.loop-next.answers.items ++ c.in-Ok-answer.answer ∷ [] = search rules in
+    let answers : c.push.new.self.items ≡ c.loop-next.answers.items ++ c.in-Ok-make.answer ∷ [] = search rules in
     record {
       bound = omega (arith, bound);
       left = fewer;
       making = record {
         sound = c.make.ensures.sound;
         extends = extends_on c.args.store.now c.loop-next.store c.make.new.self m.extends c.make.ensures.extends;
-        adds = adds_one T c.args.store.now c.loop-next.store c.make.new.self v all m.adds r q c.in-Ok-answer.answer member of can.has_low c.in-Ok-answer.ensures.made;
-        made = next_pair (IsAnswered T c.make.new.self v) own i r c.loop-next.answers.items c.push.new.self.items c.in-Ok-answer.answer ib w.1 answers
+        adds = adds_one T c.args.store.now c.loop-next.store c.make.new.self v all m.adds r q c.in-Ok-make.answer member of can.has_low c.in-Ok-make.ensures.made;
+        made = next_pair (IsAnswered T c.make.new.self v) own i r c.loop-next.answers.items c.push.new.self.items c.in-Ok-make.answer ib w.1 answers
             (subst (λ z. AllZip (IsAnswered T c.make.new.self v) (drop z own) (reverse c.loop-next.answers.items)) e
             (answered_still T c.loop-next.store c.make.new.self v c.make.ensures.extends (drop c.loop-next.next own) (reverse c.loop-next.answers.items) m.made))
-            (one_made T c.loop-next.store c.make.new.self v r q c.in-Ok-answer.answer of c.in-Ok-answer.ensures.made);
+            (one_made T c.loop-next.store c.make.new.self v r q c.in-Ok-make.answer of c.in-Ok-make.ensures.made);
       };
     }
 
@@ -248,7 +264,10 @@ pub returns-clause-made : goal.returns-clause-made
 returns-clause-made c =
     let t = c.args.team in
     let z : c.loop-next.next ≡ 0 = omega arith in
-    subst (λ k. AllZip (IsAnswered (told t.workers t.parts.now t.answers.now) c.loop-next.store c.args.level) (drop k (row_of t.parts.now.rows c.args.sender c.args.level)) (reverse c.loop-next.answers.items)) z c.loop-next.invariant.making.made
+    let turned : c.reverse.new.self.items ≡ reverse c.loop-next.answers.items = search rules in
+    let R = IsAnswered (told t.workers t.parts.now t.answers.now) c.loop-next.store c.args.level in
+    let own = row_of t.parts.now.rows c.args.sender c.args.level in
+    subst (AllZip R own) (sym turned) (subst (λ k. AllZip R (drop k own) (reverse c.loop-next.answers.items)) z c.loop-next.invariant.making.made)
 
 pub returns-clause-left : goal.returns-clause-left
 returns-clause-left c =

@@ -9,9 +9,9 @@ pub get-requires : goal.get-requires
 get-requires c =
     let n = c.args.team.workers in let p = c.args.team.parts.now in let a = c.args.team.answers.now in let left = c.args.left.now.items in
     let ch = c.requires.child.0 in
-    let w = asked_child n c.args.child ch c.in-Ask.level c.in-Ask.owner (sym c.view.ensures ∙ c.in-Ask.is) c.requires.child.1 in
-    let last = subst (IsLast n p c.args.sender left) w.1 c.requires.child.2 in
-    let found = subst (IsFound n p a) w.1 c.requires.child.3 in
+    let w = asked_child n c.args.child ch c.in-Ask.level c.in-Ask.owner (sym c.view.ensures ∙ c.in-Ask.is) c.requires.child.1.0 in
+    let last = subst (IsLast n p c.args.sender left) w.1 c.requires.child.1.1 in
+    let found = subst (IsFound n p a) w.1 c.requires.child.1.2 in
     place_within n p a c.args.sender left c.in-Ask.level w.0 last found c.requires.some c.requires.long c.in-Ask.owner w.2 c.index.result.now c.index.ensures c.noted.result.now c.noted.ensures
 
 pub returns-in-Ask-clause-left : goal.returns-in-Ask-clause-left

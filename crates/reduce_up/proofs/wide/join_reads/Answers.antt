@@ -13,7 +13,7 @@ loop-read-preserved c =
     let more : length (done ++ c.in-Some.read ∷ []) ≡ length done + 1 = length-append done (c.in-Some.read ∷ []) in
     record {
       gone = gone;
-      divided = subst (λ z. AreDividedBy t.workers t.roots.now t.parts.now t.answers.now c.args.level z c.push.new.self.items c.push-2.new.self.items c.push-3.new.self.items) (sym more)
+      divided = subst (λ z. AreDividedBy t.workers t.roots.now t.parts.now t.answers.now c.args.level z c.push.new.self.items c.push-in-loop-read.new.self.items c.push-in-loop-read-2.new.self.items) (sym more)
           (reads_more t.workers t.roots.now t.parts.now t.answers.now c.args.level (length done) c.loop-read.parts.items c.loop-read.homes.items c.loop-read.lefts.items c.loop-read.invariant.divided c.in_ok-divided.divided c.in_ok-divided.left one
-          c.push.new.self.items c.push-2.new.self.items c.push-3.new.self.items c.in_ok-push.ensures.items c.in_ok-push-2.ensures.items c.in_ok-push-3.ensures.items);
+          c.push.new.self.items c.push-in-loop-read.new.self.items c.push-in-loop-read-2.new.self.items c.in_ok-push.ensures.items c.in_ok-push-2.ensures.items c.in_ok-push-3.ensures.items);
     }

@@ -60,6 +60,22 @@ resolve-low-requires-clause-child c =
     let low : IsNext n p a s c.resolve-high.new.left.items entry.0 r.low = (w.2, low_last n t.roots.now p v a c.requires.halfway s c.requires.sender c.requires.level i r ib w.1 c.resolve-high.new.left.items mid, low_found n t.roots.now p v a c.requires.halfway s c.requires.sender c.requires.level i r ib w.1) in
     (r.low, low)
 
+pub resolve-low-requires-clause-long : goal.resolve-low-requires-clause-long
+resolve-low-requires-clause-long c =
+    let t = c.args.team in let i : ℕ = c.loop-next.next - 1 in let some = c.loop-next-test.true in let bound = c.loop-next.invariant.bound in
+    let n = t.workers in let p = t.parts.now in let a = t.answers.now in let v = c.args.level in let s = c.args.sender in
+    let own = row_of p.rows s v in
+    let entry = c.index-row-next.result in
+    let e : c.loop-next.next ≡ i + 1 = omega (arith, some) in
+    let ib : i < length own = omega (arith, some, bound) in
+    let w = row_read n p s v c.children-row.result.now c.children-row.ensures c.requires.halfway.parts.many_rows i ib entry c.index-row-next.is in
+    let r : Record = w.0 in
+    let left = subst (λ z. AreLeft n (before n t.roots.now p s v z) c.loop-next.rest.items) e c.loop-next.invariant.left in
+    let high : IsNext n p a s c.loop-next.rest.items entry.1 r.high = (w.3, high_last n t.roots.now p v a c.requires.halfway s c.requires.sender c.requires.level i r ib w.1 c.loop-next.rest.items left, high_found n t.roots.now p v a c.requires.halfway s c.requires.sender c.requires.level i r ib w.1) in
+    let mid = after_high n t.roots.now p v a c.requires.halfway s c.requires.sender c.requires.level i r ib w.1 c.loop-next.rest.items c.resolve-high.new.left.items left (c.resolve-high.ensures.left r.high high) in
+    let low : IsNext n p a s c.resolve-high.new.left.items entry.0 r.low = (w.2, low_last n t.roots.now p v a c.requires.halfway s c.requires.sender c.requires.level i r ib w.1 c.resolve-high.new.left.items mid, low_found n t.roots.now p v a c.requires.halfway s c.requires.sender c.requires.level i r ib w.1) in
+    mid.long
+
 pub loop-next-preserved : goal.loop-next-preserved
 loop-next-preserved c =
     let t = c.args.team in let i : ℕ = c.loop-next.next - 1 in let some = c.loop-next-test.true in let bound = c.loop-next.invariant.bound in
