@@ -28,7 +28,7 @@ pub trait Gate: Watch + Sync {
 }
 
 /// Up to so many requests of a level the caller's thread was measured, and was faster than any number of workers.
-const WIDE: usize = 1 << 19;
+const WIDE: usize = 1 << 13;
 
 /// A gate that does nothing. A wave is the caller's alone as long as that is known to be faster.
 #[derive(Clone, Copy, Drop, Debug, PartialEq, Eq)]

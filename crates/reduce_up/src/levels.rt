@@ -12,9 +12,9 @@ use req_table::{Record, Records};
 use std::alloc::Global;
 use std::thread::Threads;
 
-/// A row with fewer records is reduced on the caller's thread: a map over it would start no thread, and to start those that share the
-/// shards takes longer than the row.
-const FEWEST_SHARED: usize = 2048;
+/// A level with fewer records is reduced on the caller's thread: a map over it would start no thread, and to start those that share it
+/// takes longer than the level.
+pub(crate) const FEWEST_SHARED: usize = 2048;
 
 /// The diagram of a record's request, which adds at most its node.
 fn reduce_record(

@@ -11,7 +11,7 @@ ghost use Rattle.reduce_up.specs.Sharing.{RowCanStand, AddsRow, IsRowRefused};
 ghost use Rattle.reduce_up.specs.Team.{IsHalfway, IsNext, AreFewer, AreLeft, AreAllLeft, AreMadeOf, asked_above, gathered, team_row, told};
 
 use crate::answers::Answers;
-use crate::levels::wave_fault;
+use crate::levels::{FEWEST_SHARED, wave_fault};
 use crate::narrow::make_level;
 use crate::wide::share_level;
 use dd_store::{Ref, Store, StoreFault, Watch};
@@ -19,9 +19,6 @@ use expand_work::{Parts, WaveFault};
 use req_table::{Key, Placed, PlacedChild};
 use std::alloc::{AllocError, Global};
 use std::thread::Threads;
-
-/// A level with fewer records is reduced on the caller's thread: to start threads three times takes longer than the level.
-const FEWEST_SHARED: usize = 8192;
 
 /// What is read of a wave: what its workers ended with, the roots that they had, and the diagrams that are known.
 #[derive(Clone, Copy)]
