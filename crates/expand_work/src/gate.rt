@@ -27,11 +27,8 @@ pub trait Gate: Watch + Sync {
     fn at_rank(&self, _rank: u32, _ranks: u32, _nodes: u64) {}
 }
 
-/// Up to so many requests of a level the caller's thread was measured, and was as fast as two or three workers.
-const WIDE_FOR_FEW: usize = 1 << 16;
-
-/// Up to so many it was as fast as four.
-const WIDE: usize = 1 << 14;
+/// Up to so many requests of a level the caller's thread was measured, and was as fast as any number of workers.
+const WIDE: usize = 1 << 16;
 
 /// A gate that does nothing. A wave is the caller's alone as long as that is known to be faster.
 #[derive(Clone, Copy, Drop, Debug, PartialEq, Eq)]
@@ -45,11 +42,7 @@ impl Gate for Free {
     fn at_level(&self, _worker: u32, _level: u16) {}
 
     fn most_alone(&self, workers: u32) -> usize {
-        match workers {
-            0 | 1 => usize::MAX,
-            2 | 3 => WIDE_FOR_FEW,
-            _ => WIDE,
-        }
+        if workers <= 1 { usize::MAX } else { WIDE }
     }
 
     fn most_requests(&self) -> usize {
