@@ -180,7 +180,15 @@ fn one_worker_records_what_it_is_asked_for(rt: HostRuntime) -> Result<(), Fail> 
     let child = conjunction(&rt, &store, b, c);
     let Part { port, space } = part;
     let Space { tables, rows, .. } = space;
-    assert!(rt; is_row(tables.keys(0), rows.row(0), root, Err((1, 0)), Ok(Ref::TRUE)));
+    assert!(rt;
+        is_row(
+            tables.keys(0),
+            rows.row(0),
+            root,
+            Err((1, 0)),
+            Ok(Ref::TRUE)
+        )
+    );
     assert!(rt; is_row(tables.keys(1), rows.row(1), child, Ok(Ref::FALSE), Ok(c)));
     assert!(rt; tables.keys(2).is_empty());
     assert!(rt; rows.row(2).is_empty());
