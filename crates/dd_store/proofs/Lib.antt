@@ -6,14 +6,17 @@ pub mod Lacking
 pub mod Laws
 pub mod LevelFacts
 pub mod LevelGrown
+pub mod Marks
 pub mod Noting
 pub mod OneSize
 pub mod Order
 pub mod Places
 pub mod Placing
+pub mod Plain
 pub mod References
 pub mod Slots
 pub mod Splicing
+pub mod Standing
 pub mod Storing
 pub mod View
 pub mod Visiting

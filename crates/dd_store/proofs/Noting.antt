@@ -14,8 +14,9 @@ use Rattle.dd_store.specs.declared.StoreFault.TheVariants.{Full, OutOfMemory}
 use Rattle.dd_store.specs.declared.reference.Ref.{Ref}
 use Rattle.dd_store.specs.declared.reference.Reference.TheVariants.{Node}
 use Rattle.dd_store.specs.Graph.{Pair}
+use Rattle.dd_store.specs.Marks.{is_marked, plain_pair}
 use Rattle.dd_store.specs.Growing.{Grows, IsIn, IsStopped}
-use Rattle.dd_store.specs.Levels.{list_at, all_at, Names, IsHalted, AreNoted}
+use Rattle.dd_store.specs.Levels.{list_at, all_at, plain_list, Names, IsHalted, AreNoted}
 use Rattle.dd_store.proofs.Places.{slice_get-push, slice_get-append}
 
 module _ {A B : Type 0} (R : A → B → Type 0) where
@@ -81,7 +82,7 @@ all_at-more parts k s part lt is =
 
 -- a reference stays the name of its pair where pairs are added
 pub Names-kept : (v s : ℕ) (list old new : List Pair) → Grows list old new → (p : Pair) (r : Ref) → Names v s old p r → Names v s new p r
-Names-kept v s list old new g p r n = (n.0, n.1, g.kept n.0 p n.2)
+Names-kept v s list old new g p r n = (n.0, n.1, g.kept n.0 (plain_pair p.0 p.1) n.2)
 
 -- the place that a pair has found
 abbrev pub index_of : Placed → ℕ
@@ -93,19 +94,19 @@ placed_at room p old new (Found i) h = rw h.1 h.0
 placed_at room p old new (Added i) h = rw (h.3, h.2) (slice_get-push old p)
 
 -- the references of a list that is a pair longer
-pub noted_more : (v s n : ℕ) (list old new : List Pair) (refs : List Ref) (d p : Pair) (r : Placed) → Grows list old new → n < length list → p ≡ get_or list n d
-    → slice_get new (index_of r) ≡ Some p → AllZip (Names v s old) (take n list) refs
-    → AllZip (Names v s new) (take (n + 1) list) (refs ++ Node (record { level = v; shard = s; index = index_of r }) ∷ [])
+pub noted_more : (v s n : ℕ) (list old new : List Pair) (refs : List Ref) (d p : Pair) (r : Placed) → Grows (plain_list list) old new → n < length list → p ≡ get_or list n d
+    → slice_get new (index_of r) ≡ Some (plain_pair p.0 p.1) → AllZip (Names v s old) (take n list) refs
+    → AllZip (Names v s new) (take (n + 1) list) (refs ++ Node (record { level = v; shard = s; index = index_of r }) (is_marked p.1) ∷ [])
 noted_more v s n list old new refs d p r g lt is at h =
     let t : take (n + 1) list ≡ take n list ++ p ∷ [] = take_more list n d lt ∙ ap (λ z. take n list ++ z ∷ []) (sym is) in
-    let kept = zip_weaker (Names v s old) (Names v s new) (take n list) refs (λ i x y e w. Names-kept v s list old new g x y w) h in
-    rw t (zip_push (Names v s new) (take n list) refs p (Node (record { level = v; shard = s; index = index_of r })) kept (index_of r, refl, at))
+    let kept = zip_weaker (Names v s old) (Names v s new) (take n list) refs (λ i x y e w. Names-kept v s (plain_list list) old new g x y w) h in
+    rw t (zip_push (Names v s new) (take n list) refs p (Node (record { level = v; shard = s; index = index_of r }) (is_marked p.1)) kept (index_of r, refl, at))
 
 -- the references of all parts so far, and those of one more
-pub noted_part : (v s : ℕ) (list more old new : List Pair) (found refs : List Ref) → Grows more old new → AllZip (Names v s old) list found
+pub noted_part : (v s : ℕ) (list more old new : List Pair) (found refs : List Ref) → Grows (plain_list more) old new → AllZip (Names v s old) list found
     → AllZip (Names v s new) more refs → AllZip (Names v s new) (list ++ more) (found ++ refs)
 noted_part v s list more old new found refs g h k =
-    zip_append (Names v s new) list more found refs (zip_weaker (Names v s old) (Names v s new) list found (λ i x y e w. Names-kept v s more old new g x y w) h) k
+    zip_append (Names v s new) list more found refs (zip_weaker (Names v s old) (Names v s new) list found (λ i x y e w. Names-kept v s (plain_list more) old new g x y w) h) k
 
 -- a fault of one part is one of all
 pub IsHalted-wider : (limit : ℕ) (list more new : List Pair) (f : StoreFault) → ((p : Pair) → IsIn list p → IsIn more p) → IsHalted limit list new f
@@ -119,6 +120,6 @@ halted limit list new OutOfMemory h = tt
 
 -- the fault of an answer, in a slot
 pub noted_fault : (limit v s : ℕ) (list new : List Pair) (found : List Ref) (r : Result (Unit {0}) StoreFault)
-    → MatchResult r (λ _. AllZip (Names v s new) list found) (λ f. IsHalted limit list new f) → AreNoted limit v s list new found (result_err r)
+    → MatchResult r (λ _. AllZip (Names v s new) list found) (λ f. IsHalted limit (plain_list list) new f) → AreNoted limit v s list new found (result_err r)
 noted_fault limit v s list new found (Ok u) h = h
 noted_fault limit v s list new found (Err f) h = h

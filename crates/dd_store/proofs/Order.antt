@@ -1,9 +1,9 @@
 -- References that compare as equal are equal.
-use Rattle.std.proofs.Common.{◌≡◌, refl, sym, ◌∙◌, arith}
+use Rattle.std.proofs.Common.{◌≡◌, Bool, true, false, refl, sym, ◌∙◌, arith}
 use Rattle.std.proofs.lemmas.Bool.Decides.{nat_tests}
 use Rattle.std.specs.declared.cmp.Ordering.{Ordering}
 use Rattle.std.specs.declared.cmp.Ordering.TheVariants.{Less, Equal, Greater}
-use Rattle.std.specs.Ordering.{ordering_then, nat_cmp, is_lt}
+use Rattle.std.specs.Ordering.{ordering_then, nat_cmp, bool_cmp, is_lt}
 use Rattle.std.specs.Cmp.{IsTotalOrder}
 use Rattle.std.specs.FinMap.{nat_cmp-IsAntisymmetric}
 use Rattle.std.proofs.lemmas.Cmp.{tied_itself, nat_cmp_total}
@@ -23,40 +23,8 @@ then_second Less s e = cc e
 then_second Equal s e = e
 then_second Greater s e = cc e
 
-nodes_cmp : (l m : NodeId) → ref_cmp (Node l) (Node m)
-    ≡ ordering_then (nat_cmp l.level m.level) (ordering_then (nat_cmp l.shard m.shard) (nat_cmp l.index m.index))
-nodes_cmp l m = refl
-
-pub ref_cmp_same : (a b : Ref) → ref_cmp a b ≡ Equal → a ≡ b
-ref_cmp_same False False e = refl
-ref_cmp_same False True e = let t : ref_cmp False True ≡ Less = refl in cc
-ref_cmp_same False (Node m) e = let t : ref_cmp False (Node m) ≡ Less = refl in cc
-ref_cmp_same True False e = let t : ref_cmp True False ≡ Greater = refl in cc
-ref_cmp_same True True e = refl
-ref_cmp_same True (Node m) e = let t : ref_cmp True (Node m) ≡ Less = refl in cc
-ref_cmp_same (Node l) False e = let t : ref_cmp (Node l) False ≡ Greater = refl in cc
-ref_cmp_same (Node l) True e = let t : ref_cmp (Node l) True ≡ Greater = refl in cc
-ref_cmp_same (Node l) (Node m) e =
-    let f = sym (nodes_cmp l m) ∙ e in
-    let g = then_second _ _ f in
-    let level : l.level ≡ m.level = nat_cmp-IsAntisymmetric _ _ (then_first _ _ f) in
-    let shard : l.shard ≡ m.shard = nat_cmp-IsAntisymmetric _ _ (then_first _ _ g) in
-    let index : l.index ≡ m.index = nat_cmp-IsAntisymmetric _ _ (then_second _ _ g) in
-    λ i. Node (record { level = level i; shard = shard i; index = index i })
-
-pub pair_cmp_same : (p q : Ref × Ref) → pair_cmp p q ≡ Equal → p ≡ q
-pair_cmp_same p q e =
-    let first : p.0 ≡ q.0 = ref_cmp_same p.0 q.0 (then_first _ _ e) in
-    let second : p.1 ≡ q.1 = ref_cmp_same p.1 q.1 (then_second _ _ e) in
-    λ i. (first i, second i)
-
-pub ref_cmp_itself : (a : Ref) → ref_cmp a a ≡ Equal
-ref_cmp_itself False = refl
-ref_cmp_itself True = refl
-ref_cmp_itself (Node m) = rw (nodes_cmp m m, tied_itself nat_cmp_total m.level, tied_itself nat_cmp_total m.shard, tied_itself nat_cmp_total m.index) refl
-
-pub pair_cmp_itself : (p : Ref × Ref) → pair_cmp p p ≡ Equal
-pair_cmp_itself p = rw (ref_cmp_itself p.0, ref_cmp_itself p.1) refl
+nodes_cmp : (l m : NodeId) (b c : Bool) → ref_cmp (Node l b) (Node m c) ≡ ordering_then (node_cmp l m) (bool_cmp b c)
+nodes_cmp l m b c = refl
 
 pub node_cmp_same : (l m : NodeId) → node_cmp l m ≡ Equal → l ≡ m
 node_cmp_same l m e =
@@ -70,6 +38,45 @@ node_cmp_same l m e =
 pub node_cmp_itself : (m : NodeId) → node_cmp m m ≡ Equal
 node_cmp_itself m = rw (tied_itself nat_cmp_total m.level, tied_itself nat_cmp_total m.shard, tied_itself nat_cmp_total m.index) refl
 
+mark_same : (b c : Bool) → bool_cmp b c ≡ Equal → b ≡ c
+mark_same true true e = refl
+mark_same false false e = refl
+mark_same true false e = cc e
+mark_same false true e = cc e
+
+mark_itself : (b : Bool) → bool_cmp b b ≡ Equal
+mark_itself true = refl
+mark_itself false = refl
+
+pub ref_cmp_same : (a b : Ref) → ref_cmp a b ≡ Equal → a ≡ b
+ref_cmp_same False False e = refl
+ref_cmp_same False True e = let t : ref_cmp False True ≡ Less = refl in cc
+ref_cmp_same False (Node m c) e = let t : ref_cmp False (Node m c) ≡ Less = refl in cc
+ref_cmp_same True False e = let t : ref_cmp True False ≡ Greater = refl in cc
+ref_cmp_same True True e = refl
+ref_cmp_same True (Node m c) e = let t : ref_cmp True (Node m c) ≡ Less = refl in cc
+ref_cmp_same (Node l b) False e = let t : ref_cmp (Node l b) False ≡ Greater = refl in cc
+ref_cmp_same (Node l b) True e = let t : ref_cmp (Node l b) True ≡ Greater = refl in cc
+ref_cmp_same (Node l b) (Node m c) e =
+    let f = sym (nodes_cmp l m b c) ∙ e in
+    let node = node_cmp_same l m (then_first _ _ f) in
+    let mark = mark_same b c (then_second _ _ f) in
+    λ i. Node (node i) (mark i)
+
+pub pair_cmp_same : (p q : Ref × Ref) → pair_cmp p q ≡ Equal → p ≡ q
+pair_cmp_same p q e =
+    let first : p.0 ≡ q.0 = ref_cmp_same p.0 q.0 (then_first _ _ e) in
+    let second : p.1 ≡ q.1 = ref_cmp_same p.1 q.1 (then_second _ _ e) in
+    λ i. (first i, second i)
+
+pub ref_cmp_itself : (a : Ref) → ref_cmp a a ≡ Equal
+ref_cmp_itself False = refl
+ref_cmp_itself True = refl
+ref_cmp_itself (Node m b) = rw (nodes_cmp m m b b, node_cmp_itself m, mark_itself b) refl
+
+pub pair_cmp_itself : (p : Ref × Ref) → pair_cmp p p ≡ Equal
+pair_cmp_itself p = rw (ref_cmp_itself p.0, ref_cmp_itself p.1) refl
+
 pub node_cmp_total : IsTotalOrder node_cmp
 node_cmp_total = total-law
 
@@ -77,14 +84,17 @@ node_cmp_total = total-law
 pub node_lt-cmp : (a b : NodeId) → node_lt a b ≡ is_lt (node_cmp a b)
 node_lt-cmp a b = grind (arith, nat_tests)
 
+nodes_lt-cmp : (l m : NodeId) (b c : Bool) → ref_lt (Node l b) (Node m c) ≡ is_lt (ref_cmp (Node l b) (Node m c))
+nodes_lt-cmp l m b c = grind (node_lt-cmp l m, arith, nat_tests)
+
 -- a reference comes before another exactly where the derived order says so
 pub ref_lt-cmp : (a b : Ref) → ref_lt a b ≡ is_lt (ref_cmp a b)
 ref_lt-cmp False False = refl
 ref_lt-cmp False True = refl
-ref_lt-cmp False (Node b) = refl
+ref_lt-cmp False (Node m c) = refl
 ref_lt-cmp True False = refl
 ref_lt-cmp True True = refl
-ref_lt-cmp True (Node b) = refl
-ref_lt-cmp (Node a) False = refl
-ref_lt-cmp (Node a) True = refl
-ref_lt-cmp (Node a) (Node b) = node_lt-cmp a b
+ref_lt-cmp True (Node m c) = refl
+ref_lt-cmp (Node l b) False = refl
+ref_lt-cmp (Node l b) True = refl
+ref_lt-cmp (Node l b) (Node m c) = nodes_lt-cmp l m b c

@@ -1,5 +1,5 @@
 -- What a store is after a pair was looked for, and perhaps added, in its shard.
-use Rattle.std.proofs.Common.{◌≡◌, ℕ, ◌+◌, ◌-◌, ◌*◌, ◌<◌, ◌≤◌, ◌^◌, List, [], length, slice_get, get_or, set, Some, Ok, Err, refl, sym, ◌∙◌, ap, subst, arith, inl, inr}
+use Rattle.std.proofs.Common.{◌≡◌, ℕ, false, ◌+◌, ◌-◌, ◌*◌, ◌<◌, ◌≤◌, ◌^◌, List, [], length, slice_get, get_or, set, Some, Ok, Err, refl, sym, ◌∙◌, ap, subst, arith, inl, inr}
 use Rattle.std.proofs.lemmas.List.{get_or_read, set-get_or}
 use Rattle.dd_store.specs.declared.reference.Ref.{Ref}
 use Rattle.dd_store.specs.declared.reference.Reference.TheVariants.{Node}
@@ -10,8 +10,9 @@ use Rattle.slot_table.specs.Placing.{IsPlaced}
 use Rattle.dd_store.specs.Fault.{fault_of}
 use Rattle.dd_store.specs.Graph.{Pair}
 use Rattle.dd_store.specs.Codes.{shard_of_pair}
+use Rattle.dd_store.specs.Marks.{is_marked}
 use Rattle.dd_store.specs.Nodes.{Nodes, count_of, IsKept, IsNeeded, Makes, with_node}
-use Rattle.dd_store.proofs.Storing.{CanMake, small_shard, shard-le-count, found_in_shard, absent_in_shard, with_node-written, fresh-read, IsKept-with_node}
+use Rattle.dd_store.proofs.Storing.{CanMake, small_shard, shard-le-count, found_in_shard, absent_in_shard, children-of, IsNew-plain, with_node-written, fresh-read, IsKept-with_node}
 
 -- a store with a shard written back as it was
 written_back : (S : Nodes) (j : ℕ) (ps new : List Pair) → ps ≡ get_or S.shards j ps → new ≡ ps
@@ -26,6 +27,7 @@ pub record Placing (S T : Nodes) (count v : ℕ) (lo hi : Ref) (s : ℕ) (ps new
   pub kept : IsKept S count
   pub can : CanMake S v lo hi
   pub differ : lo ≡ hi → ⊥
+  pub plain : is_marked hi ≡ false
   pub shard : s ≡ shard_of_pair lo hi
   pub read : ps ≡ get_or S.shards (16 * v + s) ps
   pub room_is : room ≡ S.limit - count
@@ -46,38 +48,36 @@ placing_room S count v lo hi s ps room k lt is read by some =
 
 module _ (S T : Nodes) (count v : ℕ) (lo hi : Ref) (s : ℕ) (ps new : List Pair) (room : ℕ) (w : Placing S T count v lo hi s ps new room) where
   needed : (((i : ℕ) × (slice_get ps i ≡ Some (lo, hi))) → ⊥) → IsNeeded S v lo hi
-  needed none = (w.differ, absent_in_shard S v lo hi ps s w.kept.sound w.can.level w.shard w.read (λ i e. none (i, e)))
+  needed none = (w.differ, absent_in_shard S v lo hi ps s w.kept.sound w.can.level w.plain w.shard w.read (λ i e. none (i, e)))
 
   same_store : new ≡ ps → T ≡ S
   same_store same = w.written ∙ written_back S (16 * v + s) ps new w.read same
 
   pub Makes-found : (i : ℕ) → IsPlaced room (lo, hi) ps (Ok (Found i)) new
-      → Makes S v lo hi (Ok (Node (record { level = v; shard = s; index = i }))) T
+      → Makes S v lo hi (Ok (Node (record { level = v; shard = s; index = i }) false)) T
   Makes-found i placed = inl (
     inr (
       w.differ,
       (
-        record { level = v; shard = s; index = i },
         refl,
-        refl,
-        found_in_shard S v lo hi ps s i w.kept.sound w.can.level w.shard w.read placed.0,
+        children-of S (record { level = v; shard = s; index = i }) false (lo, hi)
+            (found_in_shard S v lo hi ps s i w.kept.sound w.can.level w.shard w.read placed.0),
       ),
     ),
     same_store placed.1,
   )
 
   pub Makes-added : (i : ℕ) → IsPlaced room (lo, hi) ps (Ok (Added i)) new
-      → Makes S v lo hi (Ok (Node (record { level = v; shard = s; index = i }))) T
+      → Makes S v lo hi (Ok (Node (record { level = v; shard = s; index = i }) false)) T
   Makes-added i placed =
       let some : 0 < room = placed.1 in
       let by : room ≡ S.limit - count = w.room_is in
       let counted : count ≡ count_of S = w.kept.counted in
-      inr (
-        needed placed.0,
-        omega arith,
+      let made = IsNew-plain S T v lo hi _ w.plain (
         fresh-read S v lo hi s i ps w.kept.sound w.can.level w.shard w.read placed.2,
         w.written ∙ with_node-written S v lo hi s ps new w.kept.sound w.can.level w.shard w.read placed.3,
-      )
+      ) in
+      inr (needed placed.0, omega arith, made.0, made.1)
 
   pub IsKept-added : (i : ℕ) → IsPlaced room (lo, hi) ps (Ok (Added i)) new → IsKept T (count + 1)
   IsKept-added i placed =
@@ -87,7 +87,7 @@ module _ (S T : Nodes) (count v : ℕ) (lo hi : Ref) (s : ℕ) (ps new : List Pa
       let t : T ≡ with_node S v lo hi =
       w.written ∙ with_node-written S v lo hi s ps new w.kept.sound w.can.level w.shard w.read placed.3 in
       subst (λ (z : Nodes). IsKept z (count + 1)) (sym t)
-      (IsKept-with_node S count v lo hi w.kept w.can (needed placed.0) (omega arith))
+      (IsKept-with_node S count v lo hi w.kept w.can w.plain (needed placed.0) (omega arith))
 
   pub Makes-refused : (refusal : Refusal) → IsPlaced room (lo, hi) ps (Err refusal) new → Makes S v lo hi (Err (fault_of refusal)) T
   Makes-refused Full placed =

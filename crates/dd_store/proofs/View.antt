@@ -1,5 +1,5 @@
 -- A store's model is a store of references and their parts, for all lemmas about such stores.
-use Rattle.std.proofs.Common.{◌≡◌, ◌≢◌, ℕ, ◌⊎◌, inl, inr, Bool, true, false, cond, nat_eq, List, ◌∷◌, ◌++◌, get_or, Some, refl, sym, ◌∙◌, ap, subst, arith}
+use Rattle.std.proofs.Common.{◌≡◌, ◌≢◌, ℕ, ◌⊎◌, inl, inr, Bool, true, false, not, cond, nat_eq, List, ◌∷◌, ◌++◌, get_or, Some, refl, sym, ◌∙◌, ap, subst, arith}
 use Rattle.std.specs.Prelude.{Result, Ok, Err, IfOk, IfErr, OnErr}
 use Rattle.std.proofs.Math.Seq.{get_or-append_seam}
 use Rattle.std.proofs.lemmas.Bool.Decides.{eqb_tells}
@@ -10,71 +10,100 @@ use Rattle.dd_store.specs.declared.StoreFault.{StoreFault}
 use Rattle.dd_store.specs.declared.StoreFault.TheVariants.{Full, OutOfMemory}
 use Rattle.dd_store.specs.Graph.{Pair, bit, IsRef, walk}
 use Rattle.dd_store.specs.Graph as graph
+use Rattle.dd_store.specs.Marks.{is_marked, negate_of, mark_by, mark_both, plain_pair}
 use Rattle.dd_store.specs.Functions.{Agree}
-use Rattle.dd_store.specs.Nodes.{Nodes, node as node_at, den, cofactor_of, IsSound, Extends, Makes, IsThere, IsNeeded, count_of, with_node, fresh}
+use Rattle.dd_store.specs.Nodes.{Nodes, node as node_at, children, den, cofactor_of, IsNodeOf, IsSound, Extends, Makes, IsThere, IsNeeded, count_of, with_node, fresh}
 use Rattle.dd_store.specs.Nodes as nodes
 use Rattle.dd_store.specs.Parts.{Part, top_of, step_of, AreParts, IsDenotation}
 use Rattle.dd_store.specs.Parts.Part.{leaf, node}
-use Rattle.dd_store.specs.View.{part_of, part, Has, top, Keeps, IsAbsent, IsMade, IsFull}
-use Rattle.dd_store.proofs.Canonical.{walk-false, walk-true, den-node}
+use Rattle.dd_store.specs.View.{part_of, part, Has, top, Keeps, IsAbsent, AreOpposite, IsOneNode, IsMade, IsFull}
+use Rattle.dd_store.proofs.Canonical.{walk-false, walk-true}
+use Rattle.dd_store.proofs.Marks.{not-not, is_marked-negate, mark_by-one, top-mark_by, IsRef-mark_by, den-negate}
+use Rattle.dd_store.proofs.Places.{none_some}
 use Rattle.dd_store.proofs.References.{canonical}
-use Rattle.dd_store.proofs.Storing.{IsRef-extends, CanMake, Makes-extends, Makes-there, Makes-here, adds-with_node, den-extends}
+use Rattle.dd_store.proofs.Storing.{IsRef-extends, CanMake, Makes-extends, Makes-there, Makes-here, adds-with_node, den-extends, children-of, node-of, child_refs, IsNodeOf-marked, IsBranch-node}
 
 -- the part of a node that is there
-part-node : (S : Nodes) (m : NodeId) (p : Pair) → node_at S m ≡ Some p → part S (Node m) ≡ node m.level p.0 p.1
-part-node S m p e = ap (part_of m) e
+part-node : (S : Nodes) (m : NodeId) (b : Bool) (p : Pair) → node_at S m ≡ Some p
+    → part S (Node m b) ≡ node m.level (mark_by b p.0) (mark_by b p.1)
+part-node S m b p e = ap (part_of m) (children-of S m b p e)
 
--- a reference with two children is a node that has them
+-- the part of a node that has these children
+part-children : (S : Nodes) (v : ℕ) (lo hi r : Ref) → IsNodeOf S v lo hi r → part S r ≡ node v lo hi
+part-children S v lo hi False h = absurd (none_some (lo, hi) h.1)
+part-children S v lo hi True h = absurd (none_some (lo, hi) h.1)
+part-children S v lo hi (Node m b) h = ap (part_of m) h.1 ∙ ap (λ u. node u lo hi) h.0
+
+-- a reference with two children is a node that has them, with a mark or without
 pub of_part : (S : Nodes) (r : Ref) (v : ℕ) (lo hi : Ref) → Has S r → part S r ≡ node v lo hi
-    → (m : NodeId) × (r ≡ Node m) × (m.level ≡ v) × (node_at S m ≡ Some (lo, hi))
+    → (m : NodeId) × (b : Bool) × (r ≡ Node m b) × (m.level ≡ v) × (children S (Node m b) ≡ Some (lo, hi))
 of_part S False v lo hi h e = absurd (cc)
 of_part S True v lo hi h e = absurd (cc)
-of_part S (Node m) v lo hi h e =
-    let f : node m.level h.0.0 h.0.1 ≡ node v lo hi = sym (part-node S m h.0 h.1) ∙ e in
-    let a : m.level ≡ v = cc in
-    let b : h.0.0 ≡ lo = cc in
-    let c : h.0.1 ≡ hi = cc in
-    let pair : h.0 ≡ (lo, hi) = λ i. (b i, c i) in
-    (m, refl, a, h.1 ∙ ap (λ z. Some z) pair)
+of_part S (Node m b) v lo hi h e =
+    let f : node m.level (mark_by b h.0.0) (mark_by b h.0.1) ≡ node v lo hi = sym (part-node S m b h.0 h.1) ∙ e in
+    let at : m.level ≡ v = cc in
+    let low : mark_by b h.0.0 ≡ lo = cc in
+    let high : mark_by b h.0.1 ≡ hi = cc in
+    let pair : mark_both b h.0 ≡ (lo, hi) = λ i. (low i, high i) in
+    (m, b, refl, at, children-of S m b h.0 h.1 ∙ ap (λ z. Some z) pair)
 
 -- the level of a reference, by its name and by its part
 pub top-part : (S : Nodes) (n : ℕ) (r : Ref) → Has S r → graph.top n r ≡ top_of n (part S r)
 top-part S n False h = refl
 top-part S n True h = refl
-top-part S n (Node m) h = sym (ap (top_of n) (part-node S m h.0 h.1))
+top-part S n (Node m b) h = sym (ap (top_of n) (part-node S m b h.0 h.1))
 
-one_node : (S : Nodes) → IsSound S → (a b : NodeId) (p q : Pair) → node_at S a ≡ Some p → node_at S b ≡ Some q
-    → ◌≡◌ {A = Part Ref} (node a.level p.0 p.1) (node b.level q.0 q.1) → Node a ≡ Node b
-one_node S w a b p q e f same =
-    let at : a.level ≡ b.level = cc in
-    let lo : p.0 ≡ q.0 = cc in
-    let hi : p.1 ≡ q.1 = cc in
+-- two references without a mark, equal with marks, have one mark
+one_mark : (b c : Bool) (r s : Ref) → is_marked r ≡ false → is_marked s ≡ false → mark_by b r ≡ mark_by c s → b ≡ c
+one_mark true true r s p q e = refl
+one_mark false false r s p q e = refl
+one_mark true false r s p q e = let f : is_marked (negate_of r) ≡ not (is_marked r) = is_marked-negate r in let g : not (is_marked r) ≡ true = ap not p in cc
+one_mark false true r s p q e = let f : is_marked (negate_of s) ≡ not (is_marked s) = is_marked-negate s in let g : not (is_marked s) ≡ true = ap not q in cc
+
+-- one part, one mark and one name
+one_node : (S : Nodes) → IsSound S → (l m : NodeId) (b c : Bool) (p q : Pair) → node_at S l ≡ Some p → node_at S m ≡ Some q
+    → ◌≡◌ {A = Part Ref} (node l.level (mark_by b p.0) (mark_by b p.1)) (node m.level (mark_by c q.0) (mark_by c q.1)) → Node l b ≡ Node m c
+one_node S w l m b c p q e f same =
+    let at : l.level ≡ m.level = cc in
+    let low : mark_by b p.0 ≡ mark_by c q.0 = cc in
+    let high : mark_by b p.1 ≡ mark_by c q.1 = cc in
+    let mark : b ≡ c = one_mark b c p.1 q.1 (w.reduced.plain l p e) (w.reduced.plain m q f) high in
+    let lo : p.0 ≡ q.0 = mark_by-one b p.0 q.0 (low ∙ ap (λ z. mark_by z q.0) (sym mark)) in
+    let hi : p.1 ≡ q.1 = mark_by-one b p.1 q.1 (high ∙ ap (λ z. mark_by z q.1) (sym mark)) in
     let pair : q ≡ p = λ i. (sym lo i, sym hi i) in
-    ap (λ z. Node z) (w.reduced.unique a b p e (f ∙ ap (λ z. Some z) pair) at)
+    let name : l ≡ m = w.reduced.unique l m p e (f ∙ ap (λ z. Some z) pair) at in
+    λ i. Node (name i) (mark i)
+
+-- a terminal has not the part of a node
+no_leaf : (S : Nodes) (m : NodeId) (b c : Bool) → Has S (Node m b) → part S (Node m b) ≡ leaf c → ⊥
+no_leaf S m b c h e = let f : ◌≡◌ {A = Part Ref} (node m.level (mark_by b h.0.0) (mark_by b h.0.1)) (leaf c) = sym (part-node S m b h.0 h.1) ∙ e in cc
 
 one_ref : (S : Nodes) → IsSound S → (a b : Ref) → Has S a → Has S b → part S a ≡ part S b → a ≡ b
 one_ref S w False False h k e = refl
 one_ref S w False True h k e = absurd (let f : ◌≡◌ {A = Part Ref} (leaf false) (leaf true) = e in cc)
-one_ref S w False (Node b) h k e = absurd (let f : ◌≡◌ {A = Part Ref} (leaf false) (node b.level k.0.0 k.0.1) = e ∙ part-node S b k.0 k.1 in cc)
+one_ref S w False (Node m c) h k e = absurd (no_leaf S m c false k (sym e))
 one_ref S w True False h k e = absurd (let f : ◌≡◌ {A = Part Ref} (leaf true) (leaf false) = e in cc)
 one_ref S w True True h k e = refl
-one_ref S w True (Node b) h k e = absurd (let f : ◌≡◌ {A = Part Ref} (leaf true) (node b.level k.0.0 k.0.1) = e ∙ part-node S b k.0 k.1 in cc)
-one_ref S w (Node a) False h k e = absurd (let f : ◌≡◌ {A = Part Ref} (leaf false) (node a.level h.0.0 h.0.1) = sym e ∙ part-node S a h.0 h.1 in cc)
-one_ref S w (Node a) True h k e = absurd (let f : ◌≡◌ {A = Part Ref} (leaf true) (node a.level h.0.0 h.0.1) = sym e ∙ part-node S a h.0 h.1 in cc)
-one_ref S w (Node a) (Node b) h k e = one_node S w a b h.0 k.0 h.1 k.1 (sym (part-node S a h.0 h.1) ∙ e ∙ part-node S b k.0 k.1)
+one_ref S w True (Node m c) h k e = absurd (no_leaf S m c true k (sym e))
+one_ref S w (Node l b) False h k e = absurd (no_leaf S l b false h e)
+one_ref S w (Node l b) True h k e = absurd (no_leaf S l b true h e)
+one_ref S w (Node l b) (Node m c) h k e =
+    one_node S w l m b c h.0 k.0 h.1 k.1 (sym (part-node S l b h.0 h.1) ∙ e ∙ part-node S m c k.0 k.1)
 
 pub parts : (S : Nodes) → IsSound S → AreParts S.levels (part S) (Has S)
 parts S w = record {
-  level = λ r v lo hi h e. let m = of_part S r v lo hi h e in let l = w.reduced.placed m.0 (lo, hi) m.3 in let at = m.2 in omega arith;
+  level = λ r v lo hi h e. let m = of_part S r v lo hi h e in
+      let l = w.reduced.placed m.0 (mark_both m.1 (lo, hi)) (node-of S m.0 m.1 (lo, hi) m.4) in let at = m.3 in omega arith;
   low = λ r v lo hi h e. let m = of_part S r v lo hi h e in
-      let c = (w.reduced.closed m.0 (lo, hi) m.3).0 in
-      let o = (w.reduced.ordered m.0 (lo, hi) m.3).0 in let at = m.2 in let t = top-part S S.levels lo c in
-      (c, omega arith);
+      let c = (child_refs S m.0 m.1 (lo, hi) w m.4).0 in
+      let at = m.3 in let t = top-part S S.levels lo c.0 in let o = c.1 in
+      (c.0, omega arith);
   high = λ r v lo hi h e. let m = of_part S r v lo hi h e in
-      let c = (w.reduced.closed m.0 (lo, hi) m.3).1 in
-      let o = (w.reduced.ordered m.0 (lo, hi) m.3).1 in let at = m.2 in let t = top-part S S.levels hi c in
-      (c, omega arith);
-  proper = λ r v lo hi h e. let m = of_part S r v lo hi h e in w.reduced.proper m.0 (lo, hi) m.3;
+      let c = (child_refs S m.0 m.1 (lo, hi) w m.4).1 in
+      let at = m.3 in let t = top-part S S.levels hi c.0 in let o = c.1 in
+      (c.0, omega arith);
+  proper = λ r v lo hi h e same. let m = of_part S r v lo hi h e in
+      w.reduced.proper m.0 (mark_both m.1 (lo, hi)) (node-of S m.0 m.1 (lo, hi) m.4) (ap (mark_by m.1) same);
   unique = λ a b h k e. one_ref S w a b h k e;
 }
 
@@ -83,10 +112,7 @@ pub by_bit : (S : Nodes) → IsSound S → (r : Ref) (v : ℕ) (lo hi : Ref) →
     → den S r x ≡ den S (cond (get_or x v false) hi lo) x
 by_bit S w r v lo hi h e x =
     let m = of_part S r v lo hi h e in
-    ap (λ z. den S z x) m.1
-    ∙ den-node S.levels (node_at S) w.reduced m.0 (lo, hi) x m.3
-    ∙ ap (λ u. cond (bit x u) (den S hi x) (den S lo x)) m.2
-    ∙ push (bit x v)
+    ap (λ z. den S z x) m.2 ∙ IsBranch-node S v lo hi (Node m.0 m.1) w (m.3, m.4) x ∙ push (bit x v)
   where
     push : (b : Bool) → cond b (den S hi x) (den S lo x) ≡ den S (cond b hi lo) x
     push true = refl
@@ -102,7 +128,7 @@ denotes S w = record {
     terminal : (r : Ref) (b : Bool) → Has S r → part S r ≡ leaf b → (x : List Bool) → den S r x ≡ b
     terminal False b h e x = walk-false S.levels (node_at S) x ∙ (let f : ◌≡◌ {A = Part Ref} (leaf false) (leaf b) = e in cc)
     terminal True b h e x = walk-true S.levels (node_at S) x ∙ (let f : ◌≡◌ {A = Part Ref} (leaf true) (leaf b) = e in cc)
-    terminal (Node m) b h e x = absurd (let f : node m.level h.0.0 h.0.1 ≡ leaf b = sym (part-node S m h.0 h.1) ∙ e in cc)
+    terminal (Node m c) b h e x = absurd (no_leaf S m c b h e)
 
 -- a store that has the nodes of another keeps its references and their parts
 pub keeps : (S T : Nodes) → Extends S T → Keeps S T
@@ -116,7 +142,7 @@ keeps S T x = record {
     same : (r : Ref) → Has S r → part T r ≡ part S r
     same False h = refl
     same True h = refl
-    same (Node m) h = ap (part_of m) (x.nodes m h.0 h.1) ∙ sym (part-node S m h.0 h.1)
+    same (Node m b) h = part-node T m b h.0 (x.nodes m h.0 h.1) ∙ sym (part-node S m b h.0 h.1)
 
 pub keeps-refl : (S : Nodes) → Keeps S S
 keeps-refl S = record { levels = refl; limit = refl; has = λ r h. h; part_is = λ r h. refl }
@@ -130,33 +156,44 @@ keeps-trans S T U i j = record {
 }
 
 -- equality of references can be told
-same_name : (a b : NodeId) → Dec (a.level ≡ b.level) → Dec (a.shard ≡ b.shard) → Dec (a.index ≡ b.index) → Dec (Node a ≡ Node b)
-same_name a b (yes e) (yes f) (yes g) = yes (λ i. Node (record { level = e i; shard = f i; index = g i }))
-same_name a b (no n) s i = no (λ e. n (let f : Node a ≡ Node b = e in cc))
-same_name a b (yes l) (no n) i = no (λ e. n (let f : Node a ≡ Node b = e in cc))
-same_name a b (yes l) (yes s) (no n) = no (λ e. n (let f : Node a ≡ Node b = e in cc))
+same_name : (l m : NodeId) (b c : Bool) → Dec (l.level ≡ m.level) → Dec (l.shard ≡ m.shard) → Dec (l.index ≡ m.index) → Dec (b ≡ c) → Dec (Node l b ≡ Node m c)
+same_name l m b c (yes e) (yes f) (yes g) (yes h) = yes (λ i. Node (record { level = e i; shard = f i; index = g i }) (h i))
+same_name l m b c (no n) s i k = no (λ e. n (let f : Node l b ≡ Node m c = e in cc))
+same_name l m b c (yes v) (no n) i k = no (λ e. n (let f : Node l b ≡ Node m c = e in cc))
+same_name l m b c (yes v) (yes s) (no n) k = no (λ e. n (let f : Node l b ≡ Node m c = e in cc))
+same_name l m b c (yes v) (yes s) (yes i) (no n) = no (λ e. n (let f : Node l b ≡ Node m c = e in cc))
 
 same_number : (i j : ℕ) → Dec (i ≡ j)
 same_number i j = elim (eqb_tells i j) [ inl t ↦ yes t.1 | inr t ↦ no t.1 ]
 
+same_mark : (b c : Bool) → Dec (b ≡ c)
+same_mark true true = yes refl
+same_mark true false = no (λ e. cc)
+same_mark false true = no (λ e. cc)
+same_mark false false = yes refl
+
 pub same_ref : (a b : Ref) → Dec (a ≡ b)
 same_ref False False = yes refl
 same_ref False True = no (λ e. cc)
-same_ref False (Node j) = no (λ e. cc)
+same_ref False (Node m c) = no (λ e. cc)
 same_ref True False = no (λ e. cc)
 same_ref True True = yes refl
-same_ref True (Node j) = no (λ e. cc)
-same_ref (Node i) False = no (λ e. cc)
-same_ref (Node i) True = no (λ e. cc)
-same_ref (Node a) (Node b) = same_name a b (same_number a.level b.level) (same_number a.shard b.shard) (same_number a.index b.index)
+same_ref True (Node m c) = no (λ e. cc)
+same_ref (Node l b) False = no (λ e. cc)
+same_ref (Node l b) True = no (λ e. cc)
+same_ref (Node l b) (Node m c) = same_name l m b c (same_number l.level m.level) (same_number l.shard m.shard) (same_number l.index m.index) (same_mark b c)
 
 -- what keeps references keeps nodes under their names
 pub extends : (S T : Nodes) → Keeps S T → Extends S T
-extends S T k = record { levels = k.levels; limit = k.limit; nodes = λ m p e. one m p (k.has (Node m) (p, e)) (k.part_is (Node m) (p, e) ∙ part-node S m p e) }
+extends S T k = record {
+  levels = k.levels;
+  limit = k.limit;
+  nodes = λ m p e. one m p (k.has (Node m false) (p, e)) (k.part_is (Node m false) (p, e) ∙ part-node S m false p e);
+}
   where
-    one : (m : NodeId) (p : Pair) → Has T (Node m) → part T (Node m) ≡ node m.level p.0 p.1 → node_at T m ≡ Some p
+    one : (m : NodeId) (p : Pair) → Has T (Node m false) → part T (Node m false) ≡ node m.level p.0 p.1 → node_at T m ≡ Some p
     one m p h e =
-        let f : ◌≡◌ {A = Part Ref} (node m.level h.0.0 h.0.1) (node m.level p.0 p.1) = sym (part-node T m h.0 h.1) ∙ e in
+        let f : ◌≡◌ {A = Part Ref} (node m.level h.0.0 h.0.1) (node m.level p.0 p.1) = sym (part-node T m false h.0 h.1) ∙ e in
         let lo : h.0.0 ≡ p.0 = cc in
         let hi : h.0.1 ≡ p.1 = cc in
         let pair : h.0 ≡ p = λ i. (lo i, hi i) in
@@ -179,7 +216,45 @@ one_diagram S w a b h k same = canonical Ref same_ref S.levels (part S) (Has S) 
 
 -- no node by its name, none by its parts
 pub absent : (S : Nodes) (v : ℕ) (lo hi : Ref) → nodes.IsAbsent S v lo hi → IsAbsent S v lo hi
-absent S v lo hi a r h e = let m = of_part S r v lo hi h e in a m.0 m.2 m.3
+absent S v lo hi a r h e = let m = of_part S r v lo hi h e in a (Node m.0 m.1) (m.3, m.4)
+
+-- the complement of a reference is there, at its level, and its part has the complements of the children
+pub has-negate : (S : Nodes) (r : Ref) → Has S r → Has S (negate_of r)
+has-negate S r h = IsRef-mark_by (node_at S) true r h
+
+pub top-negate : (S : Nodes) (r : Ref) → top S (negate_of r) ≡ top S r
+top-negate S r = top-mark_by S.levels true r
+
+pub part-negate : (S : Nodes) (r : Ref) (v : ℕ) (lo hi : Ref) → Has S r → part S r ≡ node v lo hi
+    → part S (negate_of r) ≡ node v (negate_of lo) (negate_of hi)
+part-negate S r v lo hi h e =
+    let m = of_part S r v lo hi h e in
+    ap (λ z. part S (negate_of z)) m.2
+    ∙ part-children S v (negate_of lo) (negate_of hi) (negate_of (Node m.0 m.1)) (IsNodeOf-marked S v true lo hi (Node m.0 m.1) (m.3, m.4))
+
+pub opposite-negate : (S : Nodes) (r : Ref) → AreOpposite S (negate_of r) r
+opposite-negate S r x len = den-negate S r x
+
+-- references with opposite functions are complements of each other
+pub opposite : (S : Nodes) → IsSound S → (a b : Ref) → Has S a → Has S b → AreOpposite S a b → a ≡ negate_of b
+opposite S w a b h k o = one_diagram S w a (negate_of b) h (has-negate S b k) (λ x len. o x len ∙ sym (den-negate S b x))
+
+-- a reference has a mark exactly where its second child has
+pub is_marked-high : (S : Nodes) → IsSound S → (r : Ref) (v : ℕ) (lo hi : Ref) → Has S r → part S r ≡ node v lo hi → is_marked r ≡ is_marked hi
+is_marked-high S w r v lo hi h e =
+    let m = of_part S r v lo hi h e in
+    ap is_marked m.2 ∙ sym (own m.1 hi (w.reduced.plain m.0 (mark_both m.1 (lo, hi)) (node-of S m.0 m.1 (lo, hi) m.4)))
+  where
+    own : (b : Bool) (z : Ref) → is_marked (mark_by b z) ≡ false → is_marked z ≡ b
+    own true z plain = sym (not-not (is_marked z)) ∙ ap not (sym (is_marked-negate z) ∙ plain)
+    own false z plain = plain
+
+-- two references of one name
+same_node : (S : Nodes) (m : NodeId) (b c : Bool) → IsOneNode S (Node m b) (Node m c)
+same_node S m true true = inl refl
+same_node S m true false = inr (refl, λ x len. den-negate S (Node m false) x)
+same_node S m false true = inr (refl, λ x len. den-negate S (Node m true) x)
+same_node S m false false = inl refl
 
 -- what `make` leaves
 pub made : (S T : Nodes) (v : ℕ) (lo hi : Ref) (r : Result Ref StoreFault) → IsSound S → CanMake S v lo hi → Makes S v lo hi r T
@@ -194,22 +269,27 @@ made S T v lo hi (Ok r) w c h = record {
   where
     there : IsThere T v lo hi r → ((lo ≡ hi) × (r ≡ lo)) ⊎ ((lo ≢ hi) × (part T r ≡ node v lo hi))
     there (inl a) = inl a
-    there (inr b) = inr (b.0, ap (part T) b.1.1 ∙ part-node T b.1.0 (lo, hi) b.1.3 ∙ ap (λ u. node u lo hi) b.1.2)
+    there (inr b) = inr (b.0, part-children T v lo hi r b.1)
 
-    name : (m : NodeId) → Has (with_node S v lo hi) (Node m) → r ≡ Node (fresh S v lo hi) → Has S (Node m) ⊎ (Node m ≡ r)
-    name m k e = elim ((adds-with_node S v lo hi w.shaped c.level).only m k.0 k.1) [
+    p : Pair
+    p = plain_pair lo hi
+
+    name : (m : NodeId) (b : Bool) → Has (with_node S v p.0 p.1) (Node m b) → r ≡ Node (fresh S v p.0 p.1) (is_marked hi) → Has S (Node m b) ⊎ IsOneNode T (Node m b) r
+    name m b k e = elim ((adds-with_node S v p.0 p.1 w.shaped c.level).only m k.0 k.1) [
       | inl old ↦ inl (k.0, old)
-      | inr new ↦ inr (ap (λ z. Node z) new.0 ∙ sym e)
+      | inr new ↦ inr (
+          subst (λ (z : Ref). IsOneNode T (Node m b) z) (ap (λ z. Node z (is_marked hi)) new.0 ∙ sym e) (same_node T m b (is_marked hi))
+          )
     ]
 
-    fresh_or_old : (m : Ref) → Has (with_node S v lo hi) m → r ≡ Node (fresh S v lo hi) → Has S m ⊎ (m ≡ r)
+    fresh_or_old : (m : Ref) → Has (with_node S v p.0 p.1) m → r ≡ Node (fresh S v p.0 p.1) (is_marked hi) → Has S m ⊎ IsOneNode T m r
     fresh_or_old False k e = inl tt
     fresh_or_old True k e = inl tt
-    fresh_or_old (Node m) k e = name m k e
+    fresh_or_old (Node m b) k e = name m b k e
 
-    other : (m : Ref) → Has T m → Makes S v lo hi (Ok r) T → Has S m ⊎ (m ≡ r)
+    other : (m : Ref) → Has T m → Makes S v lo hi (Ok r) T → Has S m ⊎ ((lo ≢ hi) × IsOneNode T m r)
     other m k (inl a) = inl (subst (λ z. Has z m) a.1 k)
-    other m k (inr b) = fresh_or_old m (subst (λ z. Has z m) b.3 k) b.2
+    other m k (inr b) = elim (fresh_or_old m (subst (λ z. Has z m) b.3 k) b.2) [ inl old ↦ inl old | inr one ↦ inr (b.0.0, one) ]
 
 pub full : (S T : Nodes) (v : ℕ) (lo hi : Ref) (r : Result Ref StoreFault) → Makes S v lo hi r T → IfErr r (λ e. IsFull S v lo hi e)
 full S T v lo hi (Ok r) h = tt
@@ -235,7 +315,7 @@ cofactor-step S True v b h = same_child (nat_eq S.levels v) b True
     same_child true true z = refl
     same_child true false z = refl
     same_child false d z = refl
-cofactor-step S (Node m) v b h = named h.0 h.1 ∙ sym (ap (step_of v (Node m) b) (part-node S m h.0 h.1))
+cofactor-step S (Node m c) v b h = named h.0 h.1 ∙ sym (ap (step_of v (Node m c) b) (part-node S m c h.0 h.1))
   where
-    named : (p : Pair) → node_at S m ≡ Some p → cofactor_of S (Node m) v b ≡ cond (nat_eq m.level v) (cond b p.1 p.0) (Node m)
+    named : (p : Pair) → node_at S m ≡ Some p → cofactor_of S (Node m c) v b ≡ cond (nat_eq m.level v) (cond b (mark_by c p.1) (mark_by c p.0)) (Node m c)
     named p e = rw e refl

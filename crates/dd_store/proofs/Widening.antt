@@ -1,5 +1,5 @@
 -- A store with a level to which threads have added pairs.
-use Rattle.std.proofs.Common.{◌≡◌, ℕ, ◌+◌, ◌-◌, ◌^◌, ◌<◌, ◌≤◌, List, [], length, get_or, map, Option, Some, None, refl, ◌∙◌, ap, subst, arith, inr}
+use Rattle.std.proofs.Common.{◌≡◌, ℕ, ◌+◌, ◌-◌, ◌^◌, ◌<◌, ◌≤◌, List, [], length, get_or, map, Option, Some, None, ◌∙◌, ap, subst, arith}
 use Rattle.std.specs.List.{sum_by, AllZip}
 use Rattle.std.specs.Option.{IfNone, IfSome}
 use Rattle.std.specs.Global.{Vec}
@@ -8,22 +8,21 @@ use Rattle.std.proofs.lemmas.List.{get_or-map, length-map}
 use Rattle.dd_store.specs.declared.level.Slot.{Slot}
 use Rattle.dd_store.specs.declared.StoreFault.{StoreFault}
 use Rattle.dd_store.specs.declared.StoreFault.TheVariants.{Full, OutOfMemory}
-use Rattle.dd_store.specs.declared.reference.NodeId.{NodeId}
 use Rattle.dd_store.specs.declared.reference.Ref.{Ref}
 use Rattle.dd_store.specs.Graph.{Pair}
 use Rattle.dd_store.specs.Growing.{Lacks}
 use Rattle.dd_store.specs.Nodes.{Nodes, count_of, shard_at, IsSound, IsThere, IsKept}
 use Rattle.dd_store.specs.Adding.{AreReady, GrowsLevel, IsMakeFault}
-use Rattle.dd_store.specs.Levels.{pairs_of, refs_at, Names, AreNoted, IsFault}
+use Rattle.dd_store.specs.Levels.{pairs_of, plain_list, plain_lists, refs_at, Names, AreNoted, IsFault}
 use Rattle.dd_store.proofs.LevelGrown.{Left, Left-taken, Replaced, Replaced-stored, with_slots, with_level, slots_of_level, sixteen-left, first_slot, level-slot, faulty_slot, faultless_slot, count-before, GrowsLevel-replaced, IsSound-replaced, count-replaced, level-le-count, count-small, within_new}
 use Rattle.dd_store.proofs.Noting.{zip_weaker}
-use Rattle.dd_store.proofs.Storing.{node_from_shard}
+use Rattle.dd_store.proofs.AddingAll.{ready_plain, named_there}
 
 -- the pairs of some shards
 abbrev pub total : List Slot → ℕ
 total slots = sum_by (λ (ps : List Pair). length ps) (pairs_of slots)
 
--- the slots xs of level v of a store, which threads have left as ys
+-- the slots xs of level v of a store, which threads have left as ys, once they have added the lists' pairs as nodes have them
 pub record Widened : Type 0 where
   pub S : Nodes
   pub count : ℕ
@@ -35,24 +34,24 @@ pub record Widened : Type 0 where
   pub as_long : length xs ≡ vec_len slots
   pub kept : IsKept S count
   pub ready : AreReady S v lists
-  pub left : Left S v lists xs ys
+  pub left : Left S v (plain_lists lists) xs ys
 
 module _ (w : Widened) where
   -- the store with these slots
   abbrev pub after : Nodes
   after = with_slots w.S (with_items w.slots (with_level w.v w.xs w.ys)).items
 
-  pub replaced : Replaced w.S after w.v w.lists (pairs_of w.ys)
-  replaced = Replaced-stored w.S w.v w.lists w.slots w.xs w.ys w.as_long w.left
+  pub replaced : Replaced w.S after w.v (plain_lists w.lists) (pairs_of w.ys)
+  replaced = Replaced-stored w.S w.v (plain_lists w.lists) w.slots w.xs w.ys w.as_long w.left
 
   pub within : (i : ℕ) → length (get_or (pairs_of w.ys) i []) ≤ w.S.limit
-  within = within_new w.S after w.v w.lists (pairs_of w.ys) w.kept.sound replaced
+  within = within_new w.S after w.v (plain_lists w.lists) (pairs_of w.ys) w.kept.sound replaced
 
-  pub grows : GrowsLevel w.S after w.v w.lists
-  grows = GrowsLevel-replaced w.S after w.v w.lists (pairs_of w.ys) w.kept.sound w.ready.level replaced
+  pub grows : GrowsLevel w.S after w.v (plain_lists w.lists)
+  grows = GrowsLevel-replaced w.S after w.v (plain_lists w.lists) (pairs_of w.ys) w.kept.sound w.ready.level replaced
 
   pub sound : IsSound after
-  sound = IsSound-replaced w.S after w.v w.lists (pairs_of w.ys) w.kept.sound w.ready replaced
+  sound = IsSound-replaced w.S after w.v (plain_lists w.lists) (pairs_of w.ys) w.kept.sound (ready_plain w.S w.v w.lists w.ready) replaced
 
   pub fewer : (n : ℕ) → n ≡ total (slots_of_level w.v w.xs) → n ≤ w.count
   fewer n is =
@@ -66,7 +65,7 @@ module _ (w : Widened) where
       let less = fewer n is in
       let e = is ∙ count-before w.S w.v w.xs w.left.view in
       let all : w.count ≡ count_of w.S = w.kept.counted in
-      let sum = count-replaced w.S after w.v w.lists (pairs_of w.ys) w.kept.sound w.ready.level replaced in
+      let sum = count-replaced w.S after w.v (plain_lists w.lists) (pairs_of w.ys) w.kept.sound w.ready.level replaced in
       omega arith
 
   pub small : (n m : ℕ) → n ≡ total (slots_of_level w.v w.xs) → m ≡ total w.ys → w.count - n + m < 2 ^ 49
@@ -85,14 +84,8 @@ taken w zs len same = record {
   as_long = w.as_long;
   kept = w.kept;
   ready = w.ready;
-  left = Left-taken w.S w.v w.lists w.xs w.ys zs w.left len same;
+  left = Left-taken w.S w.v (plain_lists w.lists) w.xs w.ys zs w.left len same;
 }
-
--- a named place of a shard is that of the node
-named_there : (T : Nodes) (v s : ℕ) → s < 16 → (p : Pair) (r : Ref) → (p.0 ≡ p.1 → ⊥) → Names v s (shard_at T v s) p r → IsThere T v p.0 p.1 r
-named_there T v s lts p r differ n =
-    let m : NodeId = record { level = v; shard = s; index = n.0 } in
-    inr (differ, (m, n.1, refl, node_from_shard T m p lts n.2))
 
 -- what threads have noted of the slots of a level
 pub record Noted (w : Widened) (f : Option StoreFault) : Type 0 where
@@ -104,14 +97,14 @@ module _ (w : Widened) (zs : List Slot) (len : length zs ≡ length w.ys) (same 
   final = after (taken w zs len same)
 
   sixteen : length w.ys ≡ 16
-  sixteen = sixteen-left w.S w.v w.lists w.xs w.ys w.left
+  sixteen = sixteen-left w.S w.v (plain_lists w.lists) w.xs w.ys w.left
 
   any : Slot
   any = first_slot w.ys sixteen
 
   shard_is : (s : ℕ) → s < 16 → shard_at final w.v s ≡ (get_or w.ys s any).shard
   shard_is s lts =
-      level-slot w.S final w.v w.lists w.ys any w.kept.sound w.ready.level (subst (λ z. Replaced w.S final w.v w.lists z) same (replaced (taken w zs len same))) sixteen s lts
+      level-slot w.S final w.v (plain_lists w.lists) w.ys any w.kept.sound w.ready.level (subst (λ z. Replaced w.S final w.v (plain_lists w.lists) z) same (replaced (taken w zs len same))) sixteen s lts
 
   pub answers_of : (refs : List (Vec Ref)) (f : Option StoreFault) → Noted w f → refs ≡ map (λ (c : Slot). c.found) w.ys
       → IfNone f ((s : ℕ) → s < 16 → AllZip (λ p r. IsThere final w.v p.0 p.1 r) (w.lists s) (refs_at refs s))
@@ -127,11 +120,11 @@ module _ (w : Widened) (zs : List Slot) (len : length zs ≡ length w.ys) (same 
       (λ i p r e k. named_there final w.v s lts p r (w.ready.differ s p (i, e)) k) named)
   answers_of refs (Some f) n is = tt
 
-  pub fault_of_level : (f : Option StoreFault) → Noted w f → IfSome f (λ e. IsMakeFault final w.v w.lists e)
+  pub fault_of_level : (f : Option StoreFault) → Noted w f → IfSome f (λ e. IsMakeFault final w.v (plain_lists w.lists) e)
   fault_of_level None n = tt
   fault_of_level (Some OutOfMemory) n = tt
   fault_of_level (Some Full) n =
       let t = faulty_slot w.ys any Full sixteen n.fault in
-      let there : (w.S.limit ≤ length (get_or w.ys t.0 any).shard) × Lacks (w.lists t.0) (get_or w.ys t.0 any).shard = rw t.2 at (n.noted t.0 any t.1) in
-      let here : (w.S.limit ≤ length (shard_at final w.v t.0)) × Lacks (w.lists t.0) (shard_at final w.v t.0) = rw (shard_is t.0 t.1) there in
+      let there : (w.S.limit ≤ length (get_or w.ys t.0 any).shard) × Lacks (plain_list (w.lists t.0)) (get_or w.ys t.0 any).shard = rw t.2 at (n.noted t.0 any t.1) in
+      let here : (w.S.limit ≤ length (shard_at final w.v t.0)) × Lacks (plain_list (w.lists t.0)) (shard_at final w.v t.0) = rw (shard_is t.0 t.1) there in
       (t.0, t.1, here.0, here.1)

@@ -19,7 +19,10 @@ node_same x y e =
 pub ref_same : (x y : Ref) → ref_eq.it x y ≡ true → x ≡ y
 ref_same False False e = refl
 ref_same True True e = refl
-ref_same (Node x) (Node y) e = ap (λ z. Node z) (node_same x y e)
+ref_same (Node x b) (Node y c) e =
+    let same : x ≡ y = node_same x y (grind arith) in
+    let mark : b ≡ c = grind arith in
+    λ i. Node (same i) (mark i)
 ref_same x y e = absurd (true≢false (sym e))
 
 -- equal names compare as equal
@@ -30,4 +33,4 @@ node_eq-itself x = grind (arith, nat_tests)
 pub ref_eq-itself : (x : Ref) → ref_eq.it x x ≡ true
 ref_eq-itself False = refl
 ref_eq-itself True = refl
-ref_eq-itself (Node x) = node_eq-itself x
+ref_eq-itself (Node x b) = grind (node_eq-itself x, arith)

@@ -1,11 +1,12 @@
 -- Shared binary decision diagrams as a set of nodes (Bryant, 1986).
 --
--- A graph gives some names a node: a pair of references, low and high. It knows no tables, shards or orders
--- of making.
+-- A graph gives some names a node: a pair of references, low and high. There is one terminal, True, and a reference may have
+-- a mark, which complements it. The graph knows no tables, shards or orders of making.
 use Rattle.std.specs.Prelude.{◌≡◌, ℕ, suc, zero, ◌<◌, Bool, true, false, cond, List, slice_index_or, Option, Some, None}
 use Rattle.dd_store.specs.declared.reference.NodeId.{NodeId}
 use Rattle.dd_store.specs.declared.reference.Ref.{Ref}
 use Rattle.dd_store.specs.declared.reference.Reference.TheVariants.{False, True, Node}
+use Rattle.dd_store.specs.Marks.{is_marked, turned}
 
 -- the children of a node, low and high
 abbrev pub Pair : Type 0
@@ -23,21 +24,21 @@ bit x v = slice_index_or x v false
 abbrev pub top : ℕ → Ref → ℕ
 top n False = n
 top n True = n
-top n (Node m) = m.level
+top n (Node m b) = m.level
 
 -- a reference of the graph
 abbrev pub IsRef : Graph → Ref → Type 0
 IsRef g False = Unit {0}
 IsRef g True = Unit {0}
-IsRef g (Node m) = (p : Pair) × (g m ≡ Some p)
+IsRef g (Node m b) = (p : Pair) × (g m ≡ Some p)
 
--- the value that at most k steps from r find; a path in a graph of n levels has at most n steps
+-- the value that at most k steps from r find, each mark on the way turning it; a path in a graph of n levels has at most n steps
 unfoldable pub walk : ℕ → Graph → Ref → List Bool → Bool
 walk k g False x = false
 walk k g True x = true
-walk zero g (Node m) x = false
-walk (suc k) g (Node m) x =
-    elim (g m) [ None ↦ false | Some p ↦ walk k g (cond (bit x m.level) p.1 p.0) x ]
+walk zero g (Node m b) x = b
+walk (suc k) g (Node m b) x =
+    turned b (elim (g m) [ None ↦ false | Some p ↦ walk k g (cond (bit x m.level) p.1 p.0) x ])
 
 -- ordered and reduced, for n levels
 pub record IsReduced (n : ℕ) (g : Graph) : Type 0 where
@@ -49,5 +50,7 @@ pub record IsReduced (n : ℕ) (g : Graph) : Type 0 where
   pub ordered : (m : NodeId) (p : Pair) → g m ≡ Some p → (m.level < top n p.0) × (m.level < top n p.1)
   -- no node has equal children
   pub proper : (m : NodeId) (p : Pair) → g m ≡ Some p → ¬ (p.0 ≡ p.1)
+  -- no high edge has a mark
+  pub plain : (m : NodeId) (p : Pair) → g m ≡ Some p → is_marked p.1 ≡ false
   -- no two nodes of a level have equal children
   pub unique : (l m : NodeId) (p : Pair) → g l ≡ Some p → g m ≡ Some p → l.level ≡ m.level → l ≡ m

@@ -9,6 +9,7 @@ use Rattle.dd_store.specs.declared.StoreFault.TheVariants.{Full, OutOfMemory}
 use Rattle.dd_store.specs.declared.reference.Ref.{Ref}
 use Rattle.dd_store.specs.declared.reference.Reference.TheVariants.{Node}
 use Rattle.dd_store.specs.Graph.{Pair}
+use Rattle.dd_store.specs.Marks.{is_marked, plain_pair}
 use Rattle.dd_store.specs.Growing.{Grows, IsStopped, Lacks}
 
 -- the list for a shard
@@ -20,6 +21,14 @@ abbrev pub all_at : List (Vec (Vec Pair Global) Global) → ℕ → List Pair
 all_at [] s = []
 all_at (part ∷ parts) s = list_at part.items s ++ all_at parts s
 
+-- the pairs of a list as nodes have them
+abbrev pub plain_list : List Pair → List Pair
+plain_list ps = map (λ (p : Pair). plain_pair p.0 p.1) ps
+
+-- the same, of the list for each shard
+abbrev pub plain_lists : (ℕ → List Pair) → ℕ → List Pair
+plain_lists lists s = plain_list (lists s)
+
 -- the references for a shard
 abbrev pub refs_at : List (Vec Ref Global) → ℕ → List Ref
 refs_at lists s = slice_index_or (map (λ (v : Vec Ref Global). v.items) lists) s []
@@ -28,13 +37,14 @@ refs_at lists s = slice_index_or (map (λ (v : Vec Ref Global). v.items) lists) 
 abbrev pub IsGrown : ℕ → List Pair → Slot → Slot → Type 0
 IsGrown limit list old new = Grows list old.shard new.shard × (length old.shard ≤ limit → length new.shard ≤ limit)
 
--- what adding a list leaves of a slot
+-- what adding a list leaves of a slot: its pairs are added as nodes have them
 abbrev pub IsAdded : ℕ → List Pair → Slot → Slot → Type 0
-IsAdded limit list old new = IsGrown limit list old new × IsStopped limit list new.shard new.fault
+IsAdded limit list old new = IsGrown limit (plain_list list) old new × IsStopped limit (plain_list list) new.shard new.fault
 
--- a reference is that of a pair's place in shard s of level v
+-- a reference is that of a pair's place in shard s of level v, where the pair stands as a node has it, with a mark where its second has one
 abbrev pub Names : ℕ → ℕ → List Pair → Pair → Ref → Type 0
-Names v s pairs p r = (i : ℕ) × (r ≡ Node (record { level = v; shard = s; index = i })) × (slice_get pairs i ≡ Some p)
+Names v s pairs p r =
+    (i : ℕ) × (r ≡ Node (record { level = v; shard = s; index = i }) (is_marked p.1)) × (slice_get pairs i ≡ Some (plain_pair p.0 p.1))
 
 -- why not all pairs of a list have a reference; none may be for want of memory
 abbrev pub IsHalted : ℕ → List Pair → List Pair → StoreFault → Type 0
@@ -44,11 +54,11 @@ IsHalted limit list new OutOfMemory = Unit {0}
 -- the references of a list, or why there are none
 abbrev pub AreNoted : ℕ → ℕ → ℕ → List Pair → List Pair → List Ref → Option StoreFault → Type 0
 AreNoted limit v s list new found None = AllZip (Names v s new) list found
-AreNoted limit v s list new found (Some f) = IsHalted limit list new f
+AreNoted limit v s list new found (Some f) = IsHalted limit (plain_list list) new f
 
 -- what making a list leaves of a slot
 abbrev pub IsNoted : ℕ → ℕ → ℕ → List Pair → Slot → Slot → Type 0
-IsNoted limit v s list old new = IsGrown limit list old new × AreNoted limit v s list new.shard new.found.items new.fault
+IsNoted limit v s list old new = IsGrown limit (plain_list list) old new × AreNoted limit v s list new.shard new.found.items new.fault
 
 -- the pairs of each shard
 abbrev pub pairs_of : List Slot → List (List Pair)

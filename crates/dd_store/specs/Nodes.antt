@@ -10,6 +10,7 @@ use Rattle.dd_store.specs.declared.StoreFault.{StoreFault}
 use Rattle.dd_store.specs.declared.StoreFault.TheVariants.{Full, OutOfMemory}
 use Rattle.dd_store.specs.Graph.{Pair, Graph, bit, top, IsRef, walk, IsReduced}
 use Rattle.dd_store.specs.Codes.{shard_of_pair}
+use Rattle.dd_store.specs.Marks.{is_marked, mark_both, plain_pair}
 use Rattle.dd_store.specs.Functions.{Agree}
 
 -- `shards` has the 16 shards of level 0, then those of level 1, and so on
@@ -52,11 +53,11 @@ pub record Extends (S T : Nodes) : Type 0 where
   pub limit : T.limit ≡ S.limit
   pub nodes : (m : NodeId) (p : Pair) → node S m ≡ Some p → node T m ≡ Some p
 
--- the children of a reference; a terminal has none
+-- the children of a reference, those of its node complemented where it has a mark; a terminal has none
 abbrev pub children : Nodes → Ref → Option Pair
 children S False = None
 children S True = None
-children S (Node m) = node S m
+children S (Node m b) = option_map (mark_both b) (node S m)
 
 -- the low child of a node; of a terminal, itself
 abbrev pub low_of : Nodes → Ref → Ref
@@ -90,25 +91,29 @@ IsDiagram S r f = IsRef (node S) r × Agree S.levels (den S r) f
 abbrev pub empty_nodes : ℕ → ℕ → Nodes
 empty_nodes n limit = record { levels = n; limit = limit; shards = replicate (16 * n) [] }
 
--- r needs no new node: it is both children, or the node that has them
+-- r stands at level v and has these children
+abbrev pub IsNodeOf : Nodes → ℕ → Ref → Ref → Ref → Type 0
+IsNodeOf S v lo hi r = (top S.levels r ≡ v) × (children S r ≡ Some (lo, hi))
+
+-- r needs no new node: it is both children, or stands at the level and has them
 abbrev pub IsThere : Nodes → ℕ → Ref → Ref → Ref → Type 0
 IsThere S v lo hi r =
-    ((lo ≡ hi) × (r ≡ lo)) ⊎ ((lo ≡ hi → ⊥) × ((m : NodeId) × (r ≡ Node m) × (m.level ≡ v) × (node S m ≡ Some (lo, hi))))
+    ((lo ≡ hi) × (r ≡ lo)) ⊎ ((lo ≡ hi → ⊥) × IsNodeOf S v lo hi r)
 
--- no node of level v has these children
+-- no reference of level v has these children
 abbrev pub IsAbsent : Nodes → ℕ → Ref → Ref → Type 0
-IsAbsent S v lo hi = (m : NodeId) → m.level ≡ v → node S m ≡ Some (lo, hi) → ⊥
+IsAbsent S v lo hi = (r : Ref) → IsNodeOf S v lo hi r → ⊥
 
 -- what `find` answers
 abbrev pub IsFound : Nodes → ℕ → Ref → Ref → Option Ref → Type 0
 IsFound S v lo hi None = IsAbsent S v lo hi
-IsFound S v lo hi (Some r) = (m : NodeId) × (r ≡ Node m) × (m.level ≡ v) × (node S m ≡ Some (lo, hi))
+IsFound S v lo hi (Some r) = IsNodeOf S v lo hi r
 
 -- a new node is needed
 abbrev pub IsNeeded : Nodes → ℕ → Ref → Ref → Type 0
 IsNeeded S v lo hi = (lo ≡ hi → ⊥) × IsAbsent S v lo hi
 
--- the name that a new node with these children gets
+-- the name that a new node with these children gets, the second without a mark
 abbrev pub fresh : Nodes → ℕ → Ref → Ref → NodeId
 fresh S v lo hi =
     record { level = v; shard = shard_of_pair lo hi; index = length (shard_at S v (shard_of_pair lo hi)) }
@@ -119,11 +124,12 @@ with_node S v lo hi =
     let s = shard_of_pair lo hi in
     record S { shards = slice_set S.shards (16 * v + s) (shard_at S v s ++ (lo, hi) ∷ []) }
 
--- what `make` answers and leaves: what is there, exactly one new node, or a refusal that changes nothing
+-- what `make` answers and leaves: what is there, exactly one new node, marked where it has the complements of the children, or a
+-- refusal that changes nothing
 abbrev pub Makes : Nodes → ℕ → Ref → Ref → Result Ref StoreFault → Nodes → Type 0
 Makes S v lo hi (Ok r) T =
     (IsThere S v lo hi r × (T ≡ S))
-    ⊎ (IsNeeded S v lo hi × (count_of S < S.limit) × (r ≡ Node (fresh S v lo hi)) × (T ≡ with_node S v lo hi))
+    ⊎ (IsNeeded S v lo hi × (count_of S < S.limit) × (r ≡ Node (fresh S v (plain_pair lo hi).0 (plain_pair lo hi).1) (is_marked hi)) × (T ≡ with_node S v (plain_pair lo hi).0 (plain_pair lo hi).1))
 Makes S v lo hi (Err Full) T = IsNeeded S v lo hi × (S.limit ≤ count_of S) × (T ≡ S)
 Makes S v lo hi (Err OutOfMemory) T = IsNeeded S v lo hi × (count_of S < S.limit) × (T ≡ S)
 

@@ -1,5 +1,5 @@
--- The order of references: False, True, then nodes by level, shard and index.
-use Rattle.std.specs.Prelude.{Bool, true, false, nat_lt, ◌==◌, ◌&&◌, ◌||◌}
+-- The order of references: False, True, then nodes by level, shard and index, without a mark before marked.
+use Rattle.std.specs.Prelude.{Bool, true, false, not, nat_lt, ◌==◌, ◌&&◌, ◌||◌}
 use Rattle.std.specs.declared.cmp.Ordering.{Ordering}
 use Rattle.std.specs.Ordering.{ordering_then}
 use Rattle.dd_store.specs.declared.reference.Ref.{Ref}
@@ -12,16 +12,20 @@ use Rattle.dd_store.specs.contracts.reference.NodeIdOrd.TheImpl as node_ord
 abbrev pub node_lt : NodeId → NodeId → Bool
 node_lt a b = nat_lt a.level b.level || ((a.level == b.level) && (nat_lt a.shard b.shard || ((a.shard == b.shard) && nat_lt a.index b.index)))
 
--- a reference comes before another: False, True, then nodes
+-- two names are one
+abbrev pub node_eq : NodeId → NodeId → Bool
+node_eq a b = (a.level == b.level) && ((a.shard == b.shard) && (a.index == b.index))
+
+-- a reference comes before another: False, True, then nodes, of one node that without a mark
 abbrev pub ref_lt : Ref → Ref → Bool
 ref_lt False False = false
 ref_lt False True = true
-ref_lt False (Node b) = true
+ref_lt False (Node l b) = true
 ref_lt True False = false
 ref_lt True True = false
-ref_lt True (Node b) = true
-ref_lt (Node a) (Node b) = node_lt a b
-ref_lt (Node a) _ = false
+ref_lt True (Node l b) = true
+ref_lt (Node l b) (Node m c) = node_lt l m || (node_eq l m && (not b && c))
+ref_lt (Node l b) _ = false
 
 -- the order of references, as it is derived
 abbrev pub ref_cmp : Ref → Ref → Ordering

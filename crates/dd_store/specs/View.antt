@@ -1,12 +1,13 @@
 -- A store as its users see it: through what stands behind its references. Nothing here knows of shards or names.
-use Rattle.std.specs.Prelude.{◌≡◌, ◌≢◌, ℕ, ◌≤◌, ◌⊎◌, true, false, Option, Some, None}
+use Rattle.std.specs.Prelude.{◌≡◌, ◌≢◌, ℕ, ◌≤◌, ◌⊎◌, Bool, true, false, not, List, length, Option, Some, None}
 use Rattle.dd_store.specs.declared.reference.NodeId.{NodeId}
 use Rattle.dd_store.specs.declared.reference.Ref.{Ref}
 use Rattle.dd_store.specs.declared.reference.Reference.TheVariants.{False, True, Node}
 use Rattle.dd_store.specs.declared.StoreFault.{StoreFault}
 use Rattle.dd_store.specs.declared.StoreFault.TheVariants.{Full, OutOfMemory}
 use Rattle.dd_store.specs.Graph.{Pair, IsRef, top as level_of}
-use Rattle.dd_store.specs.Nodes.{Nodes, node as node_at, count_of}
+use Rattle.dd_store.specs.Marks.{mark_both}
+use Rattle.dd_store.specs.Nodes.{Nodes, node as node_at, children, count_of, den}
 use Rattle.dd_store.specs.Parts.{Part}
 use Rattle.dd_store.specs.Parts.Part.{leaf, node}
 
@@ -19,7 +20,7 @@ part_of m (Some p) = node m.level p.0 p.1
 abbrev pub part : Nodes → Ref → Part Ref
 part S False = leaf false
 part S True = leaf true
-part S (Node m) = part_of m (node_at S m)
+part S (Node m b) = part_of m (children S (Node m b))
 
 -- the references of the store
 abbrev pub Has : Nodes → Ref → Type 0
@@ -44,12 +45,20 @@ IsAbsent S level low high = (r : Ref) → Has S r → part S r ≢ node level lo
 abbrev pub IsNode : Nodes → ℕ → Ref → Ref → Ref → Type 0
 IsNode S level low high r = Has S r × (part S r ≡ node level low high)
 
+-- a and b denote a function and its complement
+abbrev pub AreOpposite : Nodes → Ref → Ref → Type 0
+AreOpposite S a b = (x : List Bool) → length x ≡ S.levels → den S a x ≡ not (den S b x)
+
+-- one node stands for both: they are equal, or of one level and complements of each other
+abbrev pub IsOneNode : Nodes → Ref → Ref → Type 0
+IsOneNode S a b = (a ≡ b) ⊎ ((top S a ≡ top S b) × AreOpposite S a b)
+
 -- r is the node of two children, or their common value, and new has no other node than old
 pub record IsMade (old new : Nodes) (level : ℕ) (low high r : Ref) : Type 0 where
   pub keeps : Keeps old new
   pub has : Has new r
   pub is : ((low ≡ high) × (r ≡ low)) ⊎ ((low ≢ high) × (part new r ≡ node level low high))
-  pub no_other : (m : Ref) → Has new m → Has old m ⊎ (m ≡ r)
+  pub no_other : (m : Ref) → Has new m → Has old m ⊎ ((low ≢ high) × IsOneNode new m r)
 
 -- why a node was refused: Full only where it is not there, is no child itself, and the limit is reached
 abbrev pub IsFull : Nodes → ℕ → Ref → Ref → StoreFault → Type 0

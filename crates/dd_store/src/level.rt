@@ -4,12 +4,12 @@ ghost use Rattle.std.specs.List.{sum_by, AllZip};
 ghost use Rattle.dd_store.specs.declared.reference.Ref.{Ref as RefValue};
 ghost use Rattle.dd_store.specs.Graph.{Pair};
 ghost use Rattle.dd_store.specs.Growing.{Grows, IsStopped};
-ghost use Rattle.dd_store.specs.Levels.{IsAdded, IsNoted, IsHalted, Names, list_at, all_at, pairs_of, AreWithin, IsFault, HadMemory};
+ghost use Rattle.dd_store.specs.Levels.{IsAdded, IsNoted, IsHalted, Names, list_at, all_at, plain_list, pairs_of, AreWithin, IsFault, HadMemory};
 ghost use Rattle.dd_store.specs.declared.level.Slot.{Slot as SlotValue};
 ghost use Rattle.slot_table.specs.Placing.{IsPlaced};
 
 use crate::StoreFault;
-use crate::reference::{NodeId, Ref};
+use crate::reference::{NodeId, Ref, marked_pair};
 use slot_table::{Placed, Refusal, SlotTable};
 use std::alloc::Global;
 use std::thread::Threads;
@@ -46,23 +46,26 @@ fn place(shard: &mut SlotTable<(Ref, Ref)>, pair: (Ref, Ref), limit: u64) -> Res
 }
 
 impl Slot {
-    /// Adds a node for each pair that has none, as long as the shard alone holds fewer than `limit` nodes.
+    /// Adds a node for each pair that has none, as long as the shard alone holds fewer than `limit` nodes. Where a pair's second has a
+    /// mark, the node is that of both complements.
     pub(crate) fn add_list(&mut self, list: &[(Ref, Ref)], limit: u64)
         requires { limit < 2 ^ 32 }
-        ensures grows { Grows list.now self.old.shard self.new.shard }
-        ensures stopped { IsStopped limit list.now self.new.shard self.new.fault }
+        ensures grows { Grows (plain_list list.now) self.old.shard self.new.shard }
+        ensures stopped { IsStopped limit (plain_list list.now) self.new.shard self.new.fault }
         ensures within { length self.old.shard ≤ limit → length self.new.shard ≤ limit }
     {
         self.fault = None;
         for pair in list {
-            if let Err(refusal) = place(&mut self.shard, *pair, limit) {
+            let children = marked_pair(*pair, pair.1.is_marked());
+            if let Err(refusal) = place(&mut self.shard, children, limit) {
                 self.fault = Some(StoreFault::from(refusal));
                 return;
             }
         }
     }
 
-    /// Adds a node for each pair that has none, as `add_list` does, and notes the references of all behind those that are noted.
+    /// Adds a node for each pair that has none, as `add_list` does, and notes the references of all behind those that are noted,
+    /// with a mark where the pair's second has one.
     fn make_list(
         &mut self,
         list: &[(Ref, Ref)],
@@ -71,23 +74,26 @@ impl Slot {
         shard: u8,
     ) -> Result<(), StoreFault>
         requires { limit < 2 ^ 32 }
-        ensures grows { Grows list.now self.old.shard self.new.shard }
+        ensures grows { Grows (plain_list list.now) self.old.shard self.new.shard }
         ensures within { length self.old.shard ≤ limit → length self.new.shard ≤ limit }
-        ensures noted { MatchResult result (λ _. (refs : List RefValue) × (self.new.found.items ≡ self.old.found.items ++ refs) × AllZip (Names level shard self.new.shard) list.now refs) (λ f. IsHalted limit list.now self.new.shard f) }
+        ensures noted { MatchResult result (λ _. (refs : List RefValue) × (self.new.found.items ≡ self.old.found.items ++ refs) × AllZip (Names level shard self.new.shard) list.now refs) (λ f. IsHalted limit (plain_list list.now) self.new.shard f) }
     {
         if self.found.reserve(list.len()).is_err() {
             return Err(StoreFault::OutOfMemory);
         }
         for pair in list {
-            let index = match place(&mut self.shard, *pair, limit)? {
+            let mark = pair.1.is_marked();
+            let placed = place(&mut self.shard, marked_pair(*pair, mark), limit)?;
+            let index = match placed {
                 Placed::Found(index) => index,
                 Placed::Added(index) => index,
             };
-            self.found.push_reserved(Ref::node(NodeId {
+            let node = Ref::node(NodeId {
                 level,
                 shard,
                 index,
-            }));
+            });
+            self.found.push_reserved(node.marked(mark));
         }
         Ok(())
     }
@@ -103,9 +109,9 @@ impl Slot {
         requires limit { limit < 2 ^ 32 }
         requires lists { All (λ part. length part.items ≡ 16) parts.now }
         requires shard { shard < 16 }
-        ensures grows { Grows (all_at parts.now shard) self.old.shard self.new.shard }
+        ensures grows { Grows (plain_list (all_at parts.now shard)) self.old.shard self.new.shard }
         ensures within { length self.old.shard ≤ limit → length self.new.shard ≤ limit }
-        ensures noted { MatchResult result (λ _. AllZip (Names level shard self.new.shard) (all_at parts.now shard) self.new.found.items) (λ f. IsHalted limit (all_at parts.now shard) self.new.shard f) }
+        ensures noted { MatchResult result (λ _. AllZip (Names level shard self.new.shard) (all_at parts.now shard) self.new.found.items) (λ f. IsHalted limit (plain_list (all_at parts.now shard)) self.new.shard f) }
     {
         self.found.clear();
         for part in parts {

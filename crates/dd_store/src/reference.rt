@@ -1,6 +1,8 @@
 //! References to nodes, and the two numbers that decide where a node lies.
-ghost use Rattle.std.specs.Prelude.{◌≡◌, ◌↔◌, IsTrue, Some};
+ghost use Rattle.std.specs.Prelude.{◌≡◌, ◌↔◌, IsTrue, Some, Bool, List, false, not};
 ghost use Rattle.dd_store.specs.Codes.{code_of, shard_of_pair};
+ghost use Rattle.dd_store.specs.Marks.{is_marked, mark_by, mark_both, negate_of};
+ghost use Rattle.dd_store.specs.Nodes.{Nodes, den};
 ghost use Rattle.dd_store.specs.Words.{word_of, reference_of, IsWord, is_terminal};
 
 use slot_table::Spread;
@@ -12,15 +14,22 @@ use std::marker::Model;
 /// How many shards each level has.
 pub const SHARDS: usize = 16;
 
-/// What the code of a reference adds for each level, and for each place in its shard.
+/// What the code of a reference adds for each level, for each place in its shard, and for a mark.
 const LEVEL_CODE: u64 = 17;
 
 const INDEX_CODE: u64 = 65537;
 
-/// The lowest bits of a level and of a shard in a word.
-const LEVEL_BIT: u64 = 1 << 40;
+const MARK_CODE: u64 = 7;
 
-const SHARD_BIT: u64 = 1 << 32;
+/// The lowest bits of a level, of a shard and of a place in a word. Bit 0 is the mark.
+const LEVEL_BIT: u64 = 1 << 41;
+
+const SHARD_BIT: u64 = 1 << 33;
+
+const INDEX_BIT: u64 = 2;
+
+/// How many places a shard has.
+const PLACES: u64 = 1 << 32;
 
 /// The name of a node in its store: its level, its shard of that level, and its place in that shard, counted from 0.
 #[derive(Clone, Copy, Debug, PartialEq, Eq, PartialOrd, Ord, Hash)]
@@ -30,20 +39,22 @@ pub struct NodeId {
     pub index: u32,
 }
 
-/// What a reference refers to: a terminal or a node. Their order is False, True, then nodes by level, shard and index.
+/// What a reference refers to: a terminal, or a node, whose function a mark complements. There is one terminal, True, and False is
+/// True with a mark. Their order is False, True, then nodes by level, shard and index, without a mark before marked.
 #[derive(Clone, Copy, Debug, PartialEq, Eq, PartialOrd, Ord)]
 pub enum Reference {
     /// The terminal of the function that is 0 everywhere.
     False,
     /// The terminal of the function that is 1 everywhere.
     True,
-    Node(NodeId),
+    Node { id: NodeId, mark: bool },
 }
 
-/// A terminal or a node of a store, in eight bytes. The order of references is that of what they refer to.
+/// A terminal or a node of a store, perhaps with a mark, in eight bytes. The order of references is that of what they refer to.
 #[derive(Clone, Copy)]
 pub struct Ref {
-    /// 0 for False, 1 for True; for a node its level and 1 from bit 40 on, its shard from bit 32 on, and its place.
+    /// 0 for False, 1 for True; for a node its level and 1 from bit 41 on, its shard from bit 33 on, its place from bit 1 on, and
+    /// whether it has a mark in bit 0. So the complement differs in bit 0 alone.
     word: u64,
 }
 
@@ -72,12 +83,38 @@ impl Ref {
     /// The terminal of the function that is 1 everywhere.
     pub const TRUE: Ref = Ref { word: 1 };
 
-    /// The reference to a node.
+    /// The reference to a node, without a mark.
     pub fn node(id: NodeId) -> Ref
-        ensures { result ≡ Reference.Node id }
+        ensures { result ≡ Reference.Node id false }
     {
         Ref {
-            word: (id.level as u64 + 1) * LEVEL_BIT + id.shard as u64 * SHARD_BIT + id.index as u64,
+            word: (id.level as u64 + 1) * LEVEL_BIT
+                + id.shard as u64 * SHARD_BIT
+                + id.index as u64 * INDEX_BIT,
+        }
+    }
+
+    /// The reference to the complement of its function.
+    pub fn negate(self) -> Ref
+        ensures value { result ≡ negate_of self }
+        ensures meaning { (S : Nodes) (x : List Bool) → den S result x ≡ not (den S self x) }
+    {
+        self.marked(true)
+    }
+
+    /// Whether it has a mark, as False has.
+    pub fn is_marked(self) -> bool
+        ensures { result ≡ is_marked self }
+    {
+        (self.word + self.is_terminal() as u64) % 2 == 1
+    }
+
+    /// Its complement where `mark` is set.
+    pub fn marked(self, mark: bool) -> Ref
+        ensures { result ≡ mark_by mark self }
+    {
+        Ref {
+            word: self.word / 2 * 2 + (self.word + mark as u64) % 2,
         }
     }
 
@@ -88,11 +125,14 @@ impl Ref {
         match self.word {
             0 => Reference::False,
             1 => Reference::True,
-            word => Reference::Node(NodeId {
-                level: (word / LEVEL_BIT - 1) as u16,
-                shard: (word / SHARD_BIT % 256) as u8,
-                index: (word % SHARD_BIT) as u32,
-            }),
+            word => Reference::Node {
+                id: NodeId {
+                    level: (word / LEVEL_BIT - 1) as u16,
+                    shard: (word / SHARD_BIT % 256) as u8,
+                    index: (word / INDEX_BIT % PLACES) as u32,
+                },
+                mark: word % 2 == 1,
+            },
         }
     }
 
@@ -204,6 +244,13 @@ impl Hash for Ref {
     }
 }
 
+/// Both references, complemented where `mark` is set.
+pub(crate) fn marked_pair(pair: (Ref, Ref), mark: bool) -> (Ref, Ref)
+    ensures { result ≡ mark_both mark pair }
+{
+    (pair.0.marked(mark), pair.1.marked(mark))
+}
+
 /// A number that spreads references over shards and workers. Two references may have the same number.
 pub fn code(reference: Ref) -> u64
     ensures { result ≡ code_of reference }
@@ -211,15 +258,20 @@ pub fn code(reference: Ref) -> u64
     match reference.view() {
         Reference::False => 0,
         Reference::True => 1,
-        Reference::Node(id) => {
-            2 + id.shard as u64 + LEVEL_CODE * id.level as u64 + INDEX_CODE * id.index as u64
+        Reference::Node { id, mark } => {
+            let node = 2
+                + id.shard as u64
+                + LEVEL_CODE * id.level as u64
+                + INDEX_CODE * id.index as u64;
+            if mark { node + MARK_CODE } else { node }
         }
     }
 }
 
-/// The shard, 0 to 15, in which the node with these children lies.
+/// The shard, 0 to 15, in which the node with these children lies, or with their complements where the second has a mark.
 pub fn shard_of(lo: Ref, hi: Ref) -> u8
     ensures { result ≡ shard_of_pair lo hi }
 {
-    ((code(lo) + 3 * code(hi)) % SHARDS as u64) as u8
+    let pair = marked_pair((lo, hi), hi.is_marked());
+    ((code(pair.0) + 3 * code(pair.1)) % SHARDS as u64) as u8
 }

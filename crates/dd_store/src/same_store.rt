@@ -19,7 +19,7 @@ fn next(x: u64) -> u64
     (1_103_515_245 * x + 12_345) % 2_147_483_648
 }
 
-/// The reference at a place, or True where that is not below the level.
+/// The reference at a place, with its mark turned for every other place, or True where that is not below the level.
 fn below<R: Abort>(rt: &R, store: &Store, known: &[Ref], place: u64, level: u16) -> Ref
     requires known { All (Has store.now) known.now }
     requires level { level < store.now.levels }
@@ -28,7 +28,7 @@ fn below<R: Abort>(rt: &R, store: &Store, known: &[Ref], place: u64, level: u16)
 {
     let count = known.len() as u64;
     assert!(rt; count > 0);
-    let reference = known[(place % count) as usize];
+    let reference = known[(place % count) as usize].marked(place / count % 2 == 1);
     if store.top(reference) > level {
         reference
     } else {
@@ -74,6 +74,10 @@ fn same_store(rt: HostRuntime) -> Result<(), Fail> {
             assert_eq!(rt; answer, lo);
         } else {
             note(&rt, &mut answers, &mut calls, (level, lo, hi), answer)?;
+            assert_eq!(rt;
+                store.find(level, lo.negate(), hi.negate()),
+                Some(answer.negate())
+            );
         }
     }
     Ok(())

@@ -21,7 +21,7 @@ impl Store {
         let mut waiting = Vec::new(self.allocator());
         waiting.push(reference)?;
         while let Some(next) = waiting.pop() {
-            if let Reference::Node(id) = next.view() {
+            if let Reference::Node { id, .. } = next.view() {
                 let _ = seen.len();
                 if seen.insert(id)? {
                     let pair = self.pair(id);

@@ -4,7 +4,8 @@ ghost use Rattle.std.specs.Prelude.{None, Some, ◌≡◌, ◌<◌, ◌≤◌, �
 ghost use Rattle.std.specs.List.{AllZip};
 ghost use Rattle.dd_store.specs.declared.reference.NodeId.{NodeId};
 ghost use Rattle.dd_store.specs.Graph.{top, bit, IsRef, Pair};
-ghost use Rattle.dd_store.specs.Levels.{list_at, all_at, refs_at};
+ghost use Rattle.dd_store.specs.Levels.{list_at, all_at, refs_at, plain_lists};
+ghost use Rattle.dd_store.specs.Marks.{is_marked};
 ghost use Rattle.dd_store.specs.View.{IsMade, IsFull};
 ghost use Rattle.dd_store.specs.Adding.{AreReady, GrowsLevel, IsLevelFault, IsMakeFault};
 ghost use Rattle.dd_store.specs.Nodes.{Nodes, node, count_of, children, low_of, high_of, cofactor_of, IsSound, IsFound, IsThere, Extends, IsBranch, IsCanonical, Makes, empty_nodes, den, shard_at};
@@ -12,7 +13,7 @@ ghost use Rattle.slot_table.specs.Probes.{IsSlotCount};
 
 use crate::StoreFault;
 use crate::level::{Slot, Watch, add_lists, level_count, level_fault, make_parts, take_found};
-use crate::reference::{NodeId, Ref, Reference, SHARDS, shard_of};
+use crate::reference::{NodeId, Ref, Reference, SHARDS, marked_pair, shard_of};
 use slot_table::{Placed, SlotTable};
 use std::alloc::{AllocError, Global};
 use std::marker::Model;
@@ -98,7 +99,7 @@ impl Store {
         ensures { result ≡ top self.now.levels reference }
     {
         match reference.view() {
-            Reference::Node(id) => id.level,
+            Reference::Node { id, .. } => id.level,
             _ => self.levels,
         }
     }
@@ -113,13 +114,13 @@ impl Store {
         slot.shard.at(id.index as usize)
     }
 
-    /// The children of a node, low and high, in one read.
+    /// The children of a reference, low and high, in one read: those of its node, complemented where it has a mark.
     pub fn children(&self, reference: Ref) -> (Ref, Ref)
         requires { IsSome (children self.now reference) }
         ensures { children self.now reference ≡ Some result }
     {
         match reference.view() {
-            Reference::Node(id) => self.pair(id),
+            Reference::Node { id, mark } => marked_pair(self.pair(id), mark),
             _ => (reference, reference),
         }
     }
@@ -130,7 +131,7 @@ impl Store {
         ensures { result ≡ low_of self.now reference }
     {
         match reference.view() {
-            Reference::Node(id) => self.pair(id).0,
+            Reference::Node { id, mark } => self.pair(id).0.marked(mark),
             _ => reference,
         }
     }
@@ -141,7 +142,7 @@ impl Store {
         ensures { result ≡ high_of self.now reference }
     {
         match reference.view() {
-            Reference::Node(id) => self.pair(id).1,
+            Reference::Node { id, mark } => self.pair(id).1.marked(mark),
             _ => reference,
         }
     }
@@ -155,9 +156,10 @@ impl Store {
         ensures { result ≡ cofactor_of self.now reference level bit }
     {
         match reference.view() {
-            Reference::Node(id) if id.level == level => {
+            Reference::Node { id, mark } if id.level == level => {
                 let pair = self.pair(id);
-                if bit { pair.1 } else { pair.0 }
+                let child = if bit { pair.1 } else { pair.0 };
+                child.marked(mark)
             }
             _ => reference,
         }
@@ -172,7 +174,7 @@ impl Store {
         ensures high { result.1 ≡ cofactor_of self.now reference level true }
     {
         match reference.view() {
-            Reference::Node(id) if id.level == level => self.pair(id),
+            Reference::Node { id, mark } if id.level == level => marked_pair(self.pair(id), mark),
             _ => (reference, reference),
         }
     }
@@ -188,9 +190,23 @@ impl Store {
         slot.shard.slots() as u64
     }
 
-    /// The node of a level with these children, where there is one.
+    /// The reference of a level with these children, where there is one.
     pub fn find(&self, level: u16, lo: Ref, hi: Ref) -> Option<Ref>
         requires { level < self.now.levels }
+        ensures { IsFound self.now level lo hi result }
+    {
+        let mark = hi.is_marked();
+        let pair = marked_pair((lo, hi), mark);
+        match self.find_plain(level, pair.0, pair.1) {
+            Some(found) => Some(found.marked(mark)),
+            None => None,
+        }
+    }
+
+    /// The node of a level with these children, the second without a mark, where there is one.
+    fn find_plain(&self, level: u16, lo: Ref, hi: Ref) -> Option<Ref>
+        requires level { level < self.now.levels }
+        requires plain { is_marked hi ≡ false }
         ensures { IsFound self.now level lo hi result }
     {
         let shard = shard_of(lo, hi);
@@ -206,7 +222,7 @@ impl Store {
         }
     }
 
-    /// The node with these children, which differ: the one that is there, or a new one.
+    /// The node with these children, which differ, the second without a mark: the one that is there, or a new one.
     fn find_or_add(&mut self, level: u16, lo: Ref, hi: Ref) -> Result<Ref, StoreFault>
         requires level { level < self.old.levels }
         requires lo_here { IsRef (node self.old) lo }
@@ -214,6 +230,7 @@ impl Store {
         requires above_lo { level < top self.old.levels lo }
         requires above_hi { level < top self.old.levels hi }
         requires differ { lo ≡ hi → ⊥ }
+        requires plain { is_marked hi ≡ false }
         ensures { Makes self.old level lo hi result self.new }
     {
         let shard = shard_of(lo, hi);
@@ -236,7 +253,9 @@ impl Store {
     }
 
     /// The reference whose function is that of `lo` where the bit of the level is 0, and that of `hi` where it is 1. Equal
-    /// children answer the child (Bryant 1986), a pair that is there its node, and neither is refused.
+    /// children answer the child (Bryant 1986), a pair that is there its node, and neither is refused. No node has a mark on its
+    /// second child: where `hi` has one, the node is that of both complements, and the answer has the mark (Brace, Rudell and Bryant
+    /// 1990).
     pub fn make(&mut self, level: u16, lo: Ref, hi: Ref) -> Result<Ref, StoreFault>
         requires level { level < self.old.levels }
         requires lo_here { IsRef (node self.old) lo }
@@ -256,7 +275,10 @@ impl Store {
         if lo == hi {
             return Ok(lo);
         }
-        self.find_or_add(level, lo, hi)
+        let mark = hi.is_marked();
+        let pair = marked_pair((lo, hi), mark);
+        let made = self.find_or_add(level, pair.0, pair.1)?;
+        Ok(made.marked(mark))
     }
 
     /// The reference whose function is the bit of a level.
@@ -284,9 +306,9 @@ impl Store {
     ) -> Option<StoreFault>
         requires lists { length lists.now ≡ 16 }
         requires ready { AreReady self.old level (list_at lists.now) }
-        ensures grows { GrowsLevel self.old self.new level (list_at lists.now) }
+        ensures grows { GrowsLevel self.old self.new level (plain_lists (list_at lists.now)) }
         ensures sound { IsSound self.new }
-        ensures fault { IsLevelFault self.new level (list_at lists.now) result }
+        ensures fault { IsLevelFault self.new level (plain_lists (list_at lists.now)) result }
     {
         let first = SHARDS * level as usize;
         let limit = self.limit;
@@ -299,10 +321,10 @@ impl Store {
         fault
     }
 
-    /// Adds to a level a node for each pair of children that has none, by sixteen lists, one for each shard. Four threads
-    /// share the shards. Full is answered only where a shard alone holds as many nodes as the limit and lacks a pair of
-    /// its list, and OutOfMemory only where a shard lacks one, also where both befall. After a refusal some of the nodes
-    /// may stand.
+    /// Adds to a level a node for each pair of children that has none, by sixteen lists, one for each shard. Where a second child has a
+    /// mark, the node is that of both complements. Four threads share the shards. Full is answered only where a shard alone holds as
+    /// many nodes as the limit and lacks a pair of its list, and OutOfMemory only where a shard lacks one, also where both befall. After
+    /// a refusal some of the nodes may stand.
     pub fn add_all<R: Threads + Sync, H: Watch>(
         &mut self,
         rt: &R,
@@ -312,10 +334,10 @@ impl Store {
     ) -> Result<(), StoreFault>
         requires lists { length lists.now ≡ 16 }
         requires ready { AreReady self.old level (list_at lists.now) }
-        ensures grows { GrowsLevel self.old self.new level (list_at lists.now) }
+        ensures grows { GrowsLevel self.old self.new level (plain_lists (list_at lists.now)) }
         ensures sound { IsSound self.new }
         ensures extends { Extends self.old self.new }
-        ensures answer { MatchResult result (λ _. IsLevelFault self.new level (list_at lists.now) None) (λ f. IsLevelFault self.new level (list_at lists.now) (Some f)) }
+        ensures answer { MatchResult result (λ _. IsLevelFault self.new level (plain_lists (list_at lists.now)) None) (λ f. IsLevelFault self.new level (plain_lists (list_at lists.now)) (Some f)) }
     {
         match self.grow_level(rt, level, lists, watch) {
             None => Ok(()),
@@ -336,11 +358,11 @@ impl Store {
         requires ready { AreReady self.old level (all_at parts.now) }
         requires empty { refs.old.items ≡ [] }
         requires room { 16 ≤ vec_capacity refs.old }
-        ensures grows { GrowsLevel self.old self.new level (all_at parts.now) }
+        ensures grows { GrowsLevel self.old self.new level (plain_lists (all_at parts.now)) }
         ensures sound { IsSound self.new }
         ensures sixteen { length refs.new.items ≡ 16 }
         ensures answers { IfNone result ((s : ℕ) → s < 16 → AllZip (λ p r. IsThere self.new level p.0 p.1 r) (all_at parts.now s) (refs_at refs.new.items s)) }
-        ensures fault { IfSome result (λ f. IsMakeFault self.new level (all_at parts.now) f) }
+        ensures fault { IfSome result (λ f. IsMakeFault self.new level (plain_lists (all_at parts.now)) f) }
     {
         let first = SHARDS * level as usize;
         let limit = self.limit;
@@ -354,10 +376,11 @@ impl Store {
         halted
     }
 
-    /// The references of pairs of different children at a level; missing nodes are made. Each part has sixteen lists, one for each
-    /// shard. The answer has a list for each shard: the references of the first part's pairs, then those of the second's, and so on.
-    /// Four threads share the shards, and each pair is sought once. Full is answered only where a shard alone holds as many nodes as
-    /// the limit and lacks a pair of its lists. After a refusal some of the nodes may stand.
+    /// The references of pairs of different children at a level; missing nodes are made. Where a second child has a mark, the node is
+    /// that of both complements, and the reference has the mark. Each part has sixteen lists, one for each shard. The answer has a list
+    /// for each shard: the references of the first part's pairs, then those of the second's, and so on. Four threads share the shards,
+    /// and each pair is sought once. Full is answered only where a shard alone holds as many nodes as the limit and lacks a pair of its
+    /// lists. After a refusal some of the nodes may stand.
     pub fn make_all<R: Threads + Sync, H: Watch>(
         &mut self,
         rt: &R,
@@ -367,12 +390,12 @@ impl Store {
     ) -> Result<Vec<Vec<Ref>>, StoreFault>
         requires lists { All (λ part. length part.items ≡ 16) parts.now }
         requires ready { AreReady self.old level (all_at parts.now) }
-        ensures grows { GrowsLevel self.old self.new level (all_at parts.now) }
+        ensures grows { GrowsLevel self.old self.new level (plain_lists (all_at parts.now)) }
         ensures sound { IsSound self.new }
         ensures extends { Extends self.old self.new }
         ensures sixteen { IfOk result (λ refs. length refs.items ≡ 16) }
         ensures answers { IfOk result (λ refs. (s : ℕ) → s < 16 → AllZip (λ p r. IsThere self.new level p.0 p.1 r) (all_at parts.now s) (refs_at refs.items s)) }
-        ensures fault { IfErr result (λ f. IsMakeFault self.new level (all_at parts.now) f) }
+        ensures fault { IfErr result (λ f. IsMakeFault self.new level (plain_lists (all_at parts.now)) f) }
     {
         let Ok(mut refs) = Vec::with_capacity(self.alloc, SHARDS) else {
             return Err(StoreFault::OutOfMemory);

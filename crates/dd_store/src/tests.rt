@@ -1,10 +1,12 @@
 //! Worked examples, which call every public function with ample memory.
-ghost use Rattle.std.specs.Prelude.{◌≡◌, ◌<◌, ◌⊎◌, ℕ, length, Ok, IfOk, All};
+ghost use Rattle.std.specs.Prelude.{◌≡◌, ◌<◌, ◌⊎◌, ℕ, Bool, length, Ok, IfOk, All};
 ghost use Rattle.dd_store.specs.Codes.{shard_of_pair};
 ghost use Rattle.dd_store.specs.Graph.{Pair, IsRef, top};
 ghost use Rattle.dd_store.specs.Growing.{IsIn};
 ghost use Rattle.dd_store.specs.Levels.{list_at, all_at};
+ghost use Rattle.dd_store.specs.Marks.{mark_both, negate_of};
 ghost use Rattle.dd_store.specs.Nodes.{node};
+ghost use Rattle.dd_store.specs.View.{Has};
 
 use super::*;
 use std::alloc::{AllocError, Global};
@@ -19,6 +21,17 @@ fn ok(rt: &impl Abort, answer: Result<Ref, StoreFault>) -> Ref
     answer.expect(rt, "refused")
 }
 
+/// The complement of a reference of a store.
+fn negated(store: &Store, reference: Ref) -> Ref
+    requires { Has store.now reference }
+    ensures value { result ≡ negate_of reference }
+    ensures here { Has store.now result }
+    ensures top { top store.now.levels result ≡ top store.now.levels reference }
+{
+    let _ = store;
+    reference.negate()
+}
+
 #[test]
 fn limit_of_three(rt: HostRuntime) -> Result<(), Fail> {
     let mut store = Store::new(rt.alloc(), 2, 3)?;
@@ -31,6 +44,11 @@ fn limit_of_three(rt: HostRuntime) -> Result<(), Fail> {
     assert_eq!(rt; store.count(), 3);
     assert_eq!(rt; store.size(r)?, 2);
     assert_eq!(rt; store.find(0, Ref::FALSE, b), Some(r));
+    let not_b = negated(&store, b);
+    assert_eq!(rt; ok(&rt, store.make(0, Ref::TRUE, not_b)), r.negate());
+    assert_eq!(rt; store.find(0, Ref::TRUE, not_b), Some(r.negate()));
+    assert_eq!(rt; store.count(), 3);
+    assert_eq!(rt; store.find(0, Ref::FALSE, not_b), None);
     assert!(rt; store.make(0, b, Ref::TRUE) == Err(StoreFault::Full));
     assert_eq!(rt; store.find(0, b, Ref::TRUE), None);
     Ok(())
@@ -60,11 +78,34 @@ fn names_of_nodes_far_back(rt: HostRuntime) -> Result<(), Fail> {
                 index,
             };
             let reference = Ref::node(id);
-            assert!(rt; reference.view() == Reference::Node(id));
+            let marked = reference.negate();
+            assert!(rt; reference.view() == Reference::Node { id, mark: false });
+            assert!(rt; marked.view() == Reference::Node { id, mark: true });
             assert!(rt; reference > Ref::TRUE && !reference.is_terminal());
+            assert!(rt; marked > reference && !marked.is_terminal());
+            assert!(rt; marked.is_marked() && !reference.is_marked());
+            assert_eq!(rt; marked.negate(), reference);
+            assert_eq!(rt; marked.marked(false), marked);
             assert_eq!(rt; Ref::of_word(reference.word()), reference);
+            assert_eq!(rt; Ref::of_word(marked.word()), marked);
+            assert_eq!(rt; marked.word(), reference.word() + 1);
+            assert_eq!(rt; code(marked), code(reference) + 7);
         }
     }
+    Ok(())
+}
+
+#[test]
+fn marks_of_terminals(rt: HostRuntime) -> Result<(), Fail> {
+    assert!(rt; Ref::FALSE.is_marked() && !Ref::TRUE.is_marked());
+    for terminal in [Ref::FALSE, Ref::TRUE] {
+        let other = terminal.negate();
+        assert!(rt; other != terminal && other.is_terminal());
+        assert_eq!(rt; other.negate(), terminal);
+        assert_eq!(rt; terminal.marked(true), other);
+        assert_eq!(rt; terminal.marked(false), terminal);
+    }
+    assert_eq!(rt; Ref::FALSE.negate(), Ref::TRUE);
     Ok(())
 }
 
@@ -85,6 +126,14 @@ fn parts(rt: HostRuntime) -> Result<(), Fail> {
     assert_eq!(rt; store.cofactor(r, 0, false), Ref::FALSE);
     assert_eq!(rt; store.cofactor(r, 0, true), b);
     assert_eq!(rt; store.cofactor(b, 0, true), b);
+    let s = negated(&store, r);
+    assert!(rt; store.top(s) < store.levels());
+    assert_eq!(rt; store.low(s), Ref::TRUE);
+    assert_eq!(rt; store.high(s), b.negate());
+    assert_eq!(rt; store.children(s), (Ref::TRUE, b.negate()));
+    assert_eq!(rt; store.cofactors(s, 0), (Ref::TRUE, b.negate()));
+    assert_eq!(rt; store.cofactor(s, 0, false), Ref::TRUE);
+    assert_eq!(rt; store.cofactor(s, 0, true), b.negate());
     Ok(())
 }
 
@@ -103,11 +152,13 @@ fn codes_and_shards(rt: HostRuntime) -> Result<(), Fail> {
         };
         assert_eq!(rt; variable, Ref::node(id));
         assert_eq!(rt; code(variable), number);
+        assert_eq!(rt; code(variable.negate()), number + 7);
     }
     assert!(rt; store.levels() == 4);
     let b = ok(&rt, store.variable(1));
     assert_eq!(rt; shard_of(Ref::FALSE, Ref::TRUE), 3);
     assert_eq!(rt; shard_of(Ref::FALSE, b), 2);
+    assert_eq!(rt; shard_of(Ref::TRUE, b.negate()), 2);
     Ok(())
 }
 
@@ -122,14 +173,14 @@ fn fault_texts(rt: HostRuntime) -> Result<(), Fail> {
     Ok(())
 }
 
-/// Sixteen lists, of which one has a pair twice and the others have nothing.
+/// Sixteen lists, of which one has a pair and then that of the complements, and the others have nothing.
 fn twice_in_one(
     alloc: Global,
     shard: usize,
     pair: (Ref, Ref),
 ) -> Result<Vec<Vec<(Ref, Ref)>>, AllocError>
     ensures count { IfOk result (λ lists. length lists.items ≡ 16) }
-    ensures only { IfOk result (λ lists. (s : ℕ) (p : Pair) → IsIn (list_at lists.items s) p → (s ≡ shard) × (p ≡ pair)) }
+    ensures only { IfOk result (λ lists. (s : ℕ) (p : Pair) → IsIn (list_at lists.items s) p → (s ≡ shard) × (b : Bool) × (p ≡ mark_both b pair)) }
 {
     let (lo, hi) = pair;
     let mut lists = Vec::new(alloc);
@@ -137,7 +188,7 @@ fn twice_in_one(
         let mut list = Vec::new(alloc);
         if s == shard {
             list.push((lo, hi))?;
-            list.push((lo, hi))?;
+            list.push((lo.negate(), hi.negate()))?;
         }
         lists.push(list)?;
     }
@@ -191,13 +242,14 @@ fn two_at_shards(rt: HostRuntime) -> Result<(), Fail> {
     };
     assert!(rt; store.add_all(&rt, 0, lists.as_slice(), &watch) == Ok(()));
     assert_eq!(rt; store.count(), 3);
-    assert!(rt; store.find(0, Ref::FALSE, b).is_some());
+    let made = store.find(0, Ref::FALSE, b).expect(&rt, "no node");
+    assert_eq!(rt; store.find(0, Ref::TRUE, b.negate()), Some(made.negate()));
     assert!(rt; watch.first.load(Ordering::SeqCst) && watch.last.load(Ordering::SeqCst));
     assert!(rt; !watch.missed.load(Ordering::SeqCst));
     Ok(())
 }
 
-/// Parts that have a pair twice, another twice, nothing, and the first twice again.
+/// Parts that have a pair and that of its complements, the same of another pair, nothing, and the same of the first pair again.
 fn four_parts(
     alloc: Global,
     shard: usize,
@@ -205,7 +257,7 @@ fn four_parts(
     second: (Ref, Ref),
 ) -> Result<Vec<Vec<Vec<(Ref, Ref)>>>, AllocError>
     ensures count { IfOk result (λ parts. All (λ part. length part.items ≡ 16) parts.items) }
-    ensures only { IfOk result (λ parts. (s : ℕ) (p : Pair) → IsIn (all_at parts.items s) p → (s < 16 → s ≡ shard) × ((p ≡ first) ⊎ (p ≡ second))) }
+    ensures only { IfOk result (λ parts. (s : ℕ) (p : Pair) → IsIn (all_at parts.items s) p → (s < 16 → s ≡ shard) × (b : Bool) × ((p ≡ mark_both b first) ⊎ (p ≡ mark_both b second))) }
 {
     let (lo, hi) = first;
     let one = twice_in_one(alloc, shard, (lo, hi))?;
@@ -220,7 +272,8 @@ fn four_parts(
     Ok(parts)
 }
 
-/// What is made of four parts with two pairs of one shard: of True and the variable of level 1, and of the terminals.
+/// What is made of four parts with two pairs of one shard and their complements: of True and the variable of level 1, and of the
+/// terminals.
 fn make_four<R: Threads + Sync + Abort>(
     rt: &R,
     alloc: Global,
@@ -234,7 +287,7 @@ fn make_four<R: Threads + Sync + Abort>(
     ensures sixteen { IfOk result (λ made. IfOk made (λ refs. length refs.items ≡ 16)) }
 {
     let first = (Ref::TRUE, b);
-    let second = (Ref::FALSE, Ref::TRUE);
+    let second = (Ref::TRUE, Ref::FALSE);
     let parts = four_parts(alloc, 3, first, second)?;
     let watch = Meeting {
         first: AtomicBool::new(false),
@@ -258,7 +311,7 @@ fn made_part_by_part(rt: HostRuntime) -> Result<(), Fail> {
     let new = store.find(0, Ref::FALSE, Ref::TRUE).expect(&rt, "no node");
     for shard in 0..16 {
         if shard == 3 {
-            let wanted = [old, old, new, new, old, old];
+            let wanted = [old, old.negate(), new.negate(), new, old, old.negate()];
             assert!(rt; refs[shard].as_slice() == wanted.as_slice());
         } else {
             assert!(rt; refs[shard].is_empty());

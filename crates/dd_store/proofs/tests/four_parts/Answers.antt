@@ -1,15 +1,16 @@
-use Rattle.std.proofs.Common.{◌≡◌, ℕ, ◌<◌, List, [], ◌∷◌, ◌++◌, length, subst, sym, ap, ◌∙◌, arith, ◌⊎◌, inl, inr}
+use Rattle.std.proofs.Common.{◌≡◌, ℕ, ◌<◌, Bool, List, [], ◌∷◌, ◌++◌, subst, arith, ◌⊎◌, inl, inr}
 use Rattle.std.specs.declared.vec.Vec.{Vec}
 use Rattle.std.specs.declared.alloc.Global.{Global}
 use Rattle.dd_store.specs.Graph.{Pair}
+use Rattle.dd_store.specs.Marks.{mark_both}
 use Rattle.dd_store.specs.Growing.{IsIn}
 use Rattle.dd_store.specs.Levels.{list_at, all_at}
 use Rattle.dd_store.proofs.Noting.{in_either, all_at-push}
 use Rattle.dd_store.proofs.tests.four_parts.Goals as goal
 
--- each pair is one of two, and stands in the list of their shard
+-- each pair is one of two or its complements, and stands in the list of their shard
 abbrev Fits : ℕ → Pair → Pair → (ℕ → List Pair) → Type 0
-Fits shard a b lists = (s : ℕ) (p : Pair) → IsIn (lists s) p → (s < 16 → s ≡ shard) × ((p ≡ a) ⊎ (p ≡ b))
+Fits shard a b lists = (s : ℕ) (p : Pair) → IsIn (lists s) p → (s < 16 → s ≡ shard) × (t : Bool) × ((p ≡ mark_both t a) ⊎ (p ≡ mark_both t b))
 
 none_fit : (shard : ℕ) (a b : Pair) → Fits shard a b (all_at [])
 none_fit shard a b s p h = absurd (cc h.1)
@@ -28,10 +29,10 @@ returns-clause-only c =
     let shard = c.args.shard in
     let a : Pair = c.args.first in
     let b : Pair = c.args.second in
-    let one : Fits shard a b (list_at c.in_ok-one.one.items) = λ s p h. let k = c.in_ok-one.ensures.only s p h in (λ lt. k.0, inl k.1) in
-    let two : Fits shard a b (list_at c.in_ok-two.two.items) = λ s p h. let k = c.in_ok-two.ensures.only s p h in (λ lt. k.0, inr k.1) in
-    let none : Fits shard a b (list_at c.in_ok-none.none.items) = λ s p h. let k = c.in_ok-none.ensures.only s p h in (λ lt. absurd (let e = k.0 in omega arith), inl k.1) in
-    let last : Fits shard a b (list_at c.in_ok-last.last.items) = λ s p h. let k = c.in_ok-last.ensures.only s p h in (λ lt. k.0, inl k.1) in
+    let one : Fits shard a b (list_at c.in_ok-one.one.items) = λ s p h. let k = c.in_ok-one.ensures.only s p h in (λ lt. k.0, k.1, inl k.2) in
+    let two : Fits shard a b (list_at c.in_ok-two.two.items) = λ s p h. let k = c.in_ok-two.ensures.only s p h in (λ lt. k.0, k.1, inr k.2) in
+    let none : Fits shard a b (list_at c.in_ok-none.none.items) = λ s p h. let k = c.in_ok-none.ensures.only s p h in (λ lt. absurd (let e = k.0 in omega arith), k.1, inl k.2) in
+    let last : Fits shard a b (list_at c.in_ok-last.last.items) = λ s p h. let k = c.in_ok-last.ensures.only s p h in (λ lt. k.0, k.1, inl k.2) in
     let parts = λ (xs : List (Vec (Vec Pair Global) Global)) (x : Vec (Vec Pair Global) Global). xs ++ x ∷ [] in
     let first = parts [] c.in_ok-one.one in
     let second = parts first c.in_ok-two.two in

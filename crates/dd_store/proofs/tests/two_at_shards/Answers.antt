@@ -1,36 +1,39 @@
-use Rattle.std.proofs.Common.{◌≡◌, ℕ, ◌<◌, List, sym, ◌∙◌, ap, subst, arith, false, inl, inr}
+use Rattle.std.proofs.Common.{◌≡◌, ℕ, Bool, List, sym, ◌∙◌, ap, subst, arith, false, inl, inr}
 use Rattle.std.specs.Prelude.{Result, Ok, IfOk}
 use Rattle.dd_store.specs.declared.StoreFault.{StoreFault}
 use Rattle.dd_store.specs.declared.reference.Ref.{Ref}
 use Rattle.dd_store.specs.declared.reference.Reference.TheVariants.{False, True}
-use Rattle.dd_store.specs.Graph.{Pair, IsRef}
-use Rattle.dd_store.specs.Graph as graph
+use Rattle.dd_store.specs.Graph.{Pair}
 use Rattle.dd_store.specs.Codes.{shard_of_pair}
+use Rattle.dd_store.specs.Marks.{mark_both}
 use Rattle.dd_store.specs.Growing.{IsIn}
 use Rattle.dd_store.specs.Levels.{list_at}
-use Rattle.dd_store.specs.Nodes.{Nodes, node as node_at}
+use Rattle.dd_store.specs.Nodes.{Nodes}
 use Rattle.dd_store.specs.Parts.{Part}
 use Rattle.dd_store.specs.Parts.Part.{leaf, node}
 use Rattle.dd_store.specs.View.{part, Has, top, IsMade}
 use Rattle.dd_store.specs.Adding.{AreReady}
+use Rattle.dd_store.proofs.Standing.{CanStand, CanStand-turned, ready}
 use Rattle.dd_store.proofs.View.{top-node}
 use Rattle.dd_store.proofs.tests.two_at_shards.Goals as goal
 
--- lists that have only the pair of False and the variable of level 1 may be added at level 0
-ready : (S : Nodes) (b : Ref) (shard : ℕ) (lists : ℕ → List Pair) → S.levels ≡ 2 → Has S b → part S b ≡ node 1 False True
-    → shard ≡ shard_of_pair False b → ((s : ℕ) (p : Pair) → IsIn (lists s) p → (s ≡ shard) × (p ≡ (False, b)))
+-- lists that have only the pair of False and the variable of level 1, and that of their complements, may be added at level 0
+ready_pair : (S : Nodes) (b : Ref) (shard : ℕ) (lists : ℕ → List Pair) → S.levels ≡ 2 → Has S b → part S b ≡ node 1 False True
+    → shard ≡ shard_of_pair False b → ((s : ℕ) (p : Pair) → IsIn (lists s) p → (s ≡ shard) × (t : Bool) × (p ≡ mark_both t (False, b)))
     → AreReady S 0 lists
-ready S b shard lists levels has is at only =
-    let below : top S b ≡ 1 = top-node S b 1 False True has is in record {
-      level = omega arith;
-      differ = λ s p h e.
-          let same : False ≡ b = sym (ap (λ (z : Pair). z.0) (only s p h).1) ∙ e ∙ ap (λ (z : Pair). z.1) (only s p h).1 in
-          let clash : ◌≡◌ {A = Part Ref} (leaf false) (node 1 False True) = ap (part S) same ∙ is in cc;
-      lo_here = λ s p h. subst (λ (z : Pair). IsRef (node_at S) z.0) (sym (only s p h).1) tt;
-      hi_here = λ s p h. subst (λ (z : Pair). IsRef (node_at S) z.1) (sym (only s p h).1) has;
-      above = λ s p h. subst (λ (z : Pair). (0 < graph.top S.levels z.0) × (0 < graph.top S.levels z.1)) (sym (only s p h).1) (omega arith, omega arith);
-      sharded = λ s p lt h. subst (λ (z : Pair). shard_of_pair z.0 z.1 ≡ s) (sym (only s p h).1) (sym at ∙ sym (only s p h).0);
-    }
+ready_pair S b shard lists levels has is at only =
+    let below : top S b ≡ 1 = top-node S b 1 False True has is in
+    let can : CanStand S 0 shard (False, b) = record {
+      differ = λ e. let clash : ◌≡◌ {A = Part Ref} (leaf false) (node 1 False True) = ap (part S) e ∙ is in cc;
+      lo_here = tt;
+      hi_here = has;
+      above_lo = omega arith;
+      above_hi = omega arith;
+      sharded = sym at;
+    } in
+    ready S 0 shard lists (omega arith) (λ s p h.
+    let o = only s p h in
+    (λ lt. o.0, subst (CanStand S 0 shard) (sym o.2) (CanStand-turned S 0 shard o.1 (False, b) can)))
 
 -- a variable is a node
 variable_part : (S T : Nodes) (r : Result Ref StoreFault) (b : Ref) → r ≡ Ok b → IfOk r (λ z. IsMade S T 1 False True z)
@@ -49,4 +52,4 @@ add_all-requires-clause-ready g c κs =
     let S : Nodes = c.variable-2.new.self in
     let levels : S.levels ≡ 2 = c.variable-2.ensures.extends.levels ∙ c.variable.ensures.extends.levels ∙ ap (λ (z : Nodes). z.levels) c.in_ok-store.ensures in
     let b = variable_part c.variable.new.self S c.variable-2.result c.ok-b.result c.ok-b.ensures c.variable-2.ensures.made in
-    rw c.as_slice.ensures.value (ready S c.ok-b.result c.shard_of-shard.result (list_at c.in_ok-lists.lists.items) levels b.0 b.1 c.shard_of-shard.ensures c.in_ok-lists.ensures.only)
+    rw c.as_slice.ensures.value (ready_pair S c.ok-b.result c.shard_of-shard.result (list_at c.in_ok-lists.lists.items) levels b.0 b.1 c.shard_of-shard.ensures c.in_ok-lists.ensures.only)

@@ -7,10 +7,11 @@ use Rattle.std.proofs.lemmas.List.Elements.{All-get_or}
 use Rattle.dd_store.specs.declared.reference.Ref.{Ref}
 use Rattle.dd_store.specs.Graph.{Pair}
 use Rattle.dd_store.specs.Growing.{Grows, IsIn}
-use Rattle.dd_store.specs.Levels.{list_at, all_at, Names}
+use Rattle.dd_store.specs.Levels.{list_at, all_at, plain_list, Names}
 use Rattle.dd_store.proofs.Growing.{Grows-trans, Grows-wider}
 use Rattle.dd_store.proofs.LevelFacts.{list_read}
 use Rattle.dd_store.proofs.Noting.{part_in, all_at-more, noted_part, IsHalted-wider}
+use Rattle.dd_store.proofs.Plain.{plain_inside}
 use Rattle.dd_store.proofs.level.Slot.make_lists.Goals as goal
 use Rattle.dd_store.proofs.level.Slot.make_lists.Goals.{After-make_list}
 
@@ -29,13 +30,16 @@ module _ (c : After-make_list) where
   inside : (p : Pair) → IsIn list p → IsIn (all_at c.args.parts.now c.args.shard) p
   inside = part_in c.args.parts.now c.loop-part.part-index c.args.shard c.part-item.result c.loop-part-test.true c.part-item.is
 
-  step : Grows list c.loop-part.self.shard c.make_list.new.self.shard
-  step = subst (λ (z : List Pair). Grows z c.loop-part.self.shard c.make_list.new.self.shard) read c.make_list.ensures.grows
+  plain : (p : Pair) → IsIn (plain_list list) p → IsIn (plain_list (all_at c.args.parts.now c.args.shard)) p
+  plain = plain_inside list (all_at c.args.parts.now c.args.shard) inside
 
-  grows : Grows (all_at c.args.parts.now c.args.shard) c.args.self.now.shard c.make_list.new.self.shard
+  step : Grows (plain_list list) c.loop-part.self.shard c.make_list.new.self.shard
+  step = subst (λ (z : List Pair). Grows (plain_list z) c.loop-part.self.shard c.make_list.new.self.shard) read c.make_list.ensures.grows
+
+  grows : Grows (plain_list (all_at c.args.parts.now c.args.shard)) c.args.self.now.shard c.make_list.new.self.shard
   grows =
-      Grows-trans (all_at c.args.parts.now c.args.shard) c.args.self.now.shard c.loop-part.self.shard c.make_list.new.self.shard c.loop-part.invariant.grows
-      (Grows-wider list (all_at c.args.parts.now c.args.shard) c.loop-part.self.shard c.make_list.new.self.shard inside step)
+      Grows-trans (plain_list (all_at c.args.parts.now c.args.shard)) c.args.self.now.shard c.loop-part.self.shard c.make_list.new.self.shard c.loop-part.invariant.grows
+      (Grows-wider (plain_list list) (plain_list (all_at c.args.parts.now c.args.shard)) c.loop-part.self.shard c.make_list.new.self.shard plain step)
 
 pub returns-in_err-make_list-clause-grows : goal.returns-in_err-make_list-clause-grows
 returns-in_err-make_list-clause-grows c = grows (goal.at.returns-in_err-make_list-clause-grows c).After-make_list
@@ -44,8 +48,8 @@ pub returns-in_err-make_list-clause-noted : goal.returns-in_err-make_list-clause
 returns-in_err-make_list-clause-noted c =
     let w = (goal.at.returns-in_err-make_list-clause-noted c).After-make_list in
     let p = err_from_is_err_and c.from_residual.result c.from_residual.ensures.1 in
-    rw (p.1, p.2) (IsHalted-wider c.args.limit c.as_slice-list.result.now (all_at c.args.parts.now c.args.shard) c.make_list.new.self.shard c.in_err-make_list.field-0.0
-    (λ q h. inside w q (subst (λ (z : List Pair). IsIn z q) (read w) h)) c.in_err-make_list.ensures.noted)
+    rw (p.1, p.2) (IsHalted-wider c.args.limit (plain_list c.as_slice-list.result.now) (plain_list (all_at c.args.parts.now c.args.shard)) c.make_list.new.self.shard c.in_err-make_list.field-0.0
+    (λ q h. plain w q (subst (λ (z : List Pair). IsIn (plain_list z) q) (read w) h)) c.in_err-make_list.ensures.noted)
 
 pub loop-part-preserved : goal.loop-part-preserved
 loop-part-preserved c =

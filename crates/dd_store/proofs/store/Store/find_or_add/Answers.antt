@@ -1,4 +1,4 @@
-use Rattle.std.proofs.Common.{◌≡◌, ◌<◌, ◌+◌, ◌*◌, Ok, Err, set, sym, subst, ap}
+use Rattle.std.proofs.Common.{◌≡◌, false, ◌<◌, ◌+◌, ◌*◌, Ok, Err, set, sym, subst, ap}
 use Rattle.std.proofs.lemmas.Result.{err_from_is_err_and}
 use Rattle.dd_store.specs.declared.reference.NodeId.{NodeId}
 use Rattle.dd_store.specs.declared.reference.Reference.TheVariants.{Node}
@@ -39,6 +39,7 @@ placing c = record {
     above_hi = c.requires.above_hi;
   });
   differ = c.requires.differ;
+  plain = c.requires.plain;
   shard = c.shard_of-shard.ensures;
   read = pairs_of-read c.self.inside.slots.items _ c.index_mut-slot.result.now c.index_mut-slot.ensures.value;
   room_is = c.saturating_sub-room.ensures;
@@ -76,7 +77,7 @@ returns c =
     let w = (goal.at.returns c).After-find_or_add in
     let id : NodeId = record { level = c.args.level; shard = c.shard_of-shard.result; index = c.match-placed.index } in
     let placed : IsPlaced c.saturating_sub-room.result (c.args.lo, c.args.hi) c.index_mut-slot.result.now.shard (Ok c.in_ok-placed.placed) c.find_or_add.new.self = c.in_ok-placed.ensures in
-    let made : Makes (old w) c.args.level c.args.lo c.args.hi (Ok (Node id)) c.match-placed.self = elim c.match-placed.branch [
+    let made : Makes (old w) c.args.level c.args.lo c.args.hi (Ok (Node id false)) c.match-placed.self = elim c.match-placed.branch [
       | in-Found v ↦
           rw (v.index-is, v.self-is) (Makes-found (old w) (new w) _ _ _ _ _ _ _ _ (placing w) v.in-Found.index (rw v.in-Found.is at placed))
       | in-Added v ↦

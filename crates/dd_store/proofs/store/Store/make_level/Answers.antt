@@ -8,7 +8,7 @@ use Rattle.std.proofs.Common.{◌∙◌, Option}
 use Rattle.std.specs.List.{sum_by}
 use Rattle.std.proofs.lemmas.List.{length-map}
 use Rattle.dd_store.specs.declared.StoreFault.{StoreFault}
-use Rattle.dd_store.specs.Levels.{pairs_of, all_at, IsFault}
+use Rattle.dd_store.specs.Levels.{pairs_of, all_at, plain_lists, IsFault}
 use Rattle.dd_store.proofs.LevelGrown.{within_old, sixteen-left}
 use Rattle.dd_store.proofs.Widening.{Widened, Noted, within, grows, sound, fewer, counted, small, taken, answers_of, fault_of_level}
 use Rattle.dd_store.proofs.store.Store.make_level.Goals.{After-make_parts}
@@ -65,7 +65,7 @@ pub level_count-after-requires-clause-within : goal.level_count-after-requires-c
 level_count-after-requires-clause-within g c = within (level g (goal.at.level_count-after-requires-clause-within g c).After-make_parts)
 
 sixteen : (g : Over) (c : After-make_parts g) → length c.make_parts.new.slots ≡ 16
-sixteen g c = let w = level g c in sixteen-left w.S w.v w.lists w.xs w.ys w.left
+sixteen g c = let w = level g c in sixteen-left w.S w.v (plain_lists w.lists) w.xs w.ys w.left
 
 pub take_found-requires-clause-room : goal.take_found-requires-clause-room
 take_found-requires-clause-room g c =
