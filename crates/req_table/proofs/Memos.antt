@@ -13,14 +13,16 @@ use Rattle.req_table.specs.Equal.{key_same}
 use Rattle.req_table.specs.Memos.{Held, held, rest, with_first, Keeps, IsAnswerOf, IsRight, IsValueOf, or_held, known_of, child_known, child_known_of, IsHalfOf}
 use Rattle.req_table.specs.declared.Op.{Op}
 use Rattle.req_table.specs.declared.Child.{Child}
-use Rattle.req_table.specs.Short.{short_of, op_value}
+use Rattle.req_table.specs.Short.{form_of, in_order, short_at, short_of, op_value}
 use Rattle.req_table.specs.Keys.{normal_of, answer_of, child_value, level_of, Denotes, IsKey, IsChildIn}
-use Rattle.req_table.proofs.Shorts.{OnAnswer, short_is}
+use Rattle.req_table.proofs.Shorts.{OnAnswer, of_mark, of_form, short_is}
 use Rattle.req_table.proofs.Waved.{meaning_normal, short_denotes, is_key, first_of, second_of, cofactors}
 use Rattle.dd_store.specs.Nodes.{Nodes, IsSound, den, cofactor_of}
 use Rattle.dd_store.specs.View.{Has}
 use Rattle.dd_store.specs.View.{Keeps as KeepsNodes}
-use Rattle.dd_store.proofs.View.{kept_den}
+use Rattle.dd_store.specs.Marks.{mark_by, turned}
+use Rattle.dd_store.proofs.Marks.{den-mark_by}
+use Rattle.dd_store.proofs.View.{kept_den, has-negate}
 use Rattle.lru.proofs.Splits.{Contains-cons, Contains-nil}
 use Rattle.lru.proofs.CallerLemmas.{Contains-take, Contains-remove_entry}
 
@@ -88,14 +90,18 @@ right_with S old k r new right is (inl first) = subst (IsRight S) (sym first) (�
     ]
 
 module _ (S : Nodes) (m : Held) (right : IsRight S m) (op : Op) (f g : Ref) (hf : Has S f) (hg : Has S g) where
-  held_value : (o : Option Ref) → IfSome o (λ r. Contains m.pairs (normal_of op f g, r)) → IfSome o (IsValueOf S op f g)
+  held_value : (o : Option Ref) → IfSome o (λ r. Contains m.pairs ((normal_of op f g).0, r)) → IfSome (option_map (mark_by (normal_of op f g).1) o) (IsValueOf S op f g)
   held_value None c = tt
-  held_value (Some r) c = let a = right (normal_of op f g) r c in (a.diagram.0, λ x hx. a.diagram.1 x hx ∙ meaning_normal S op f g x)
+  held_value (Some r) c =
+      let a = right (normal_of op f g).0 r c in
+      let b : Bool = (normal_of op f g).1 in
+      (of_mark (Has S) (has-negate S) b r a.diagram.0, λ x hx. den-mark_by S b r x ∙ ap (turned b) (a.diagram.1 x hx) ∙ meaning_normal S op f g x)
 
   -- what is known of an operation is its diagram
   pub known_value : (t : Option Ref) → short_of op f g ≡ t → IfSome (or_held m (normal_of op f g) t) (IsValueOf S op f g)
-  known_value None e = held_value (held m (normal_of op f g)) (found_in m.pairs (normal_of op f g) (held m (normal_of op f g)) refl)
-  known_value (Some r) e = (short_has (subst (OnAnswer (Has S)) e (short_is (Has S) op f g tt tt hf hg)), λ x hx. subst (λ t. IfSome t (Denotes S op f g)) e (short_denotes op f g (short_of op f g) refl S) x)
+  known_value None e = held_value (held m (normal_of op f g).0) (found_in m.pairs (normal_of op f g).0 (held m (normal_of op f g).0) refl)
+  known_value (Some r) e =
+      (short_has (subst (OnAnswer (Has S)) e (short_is (Has S) (has-negate S) op f g tt hf hg)), λ x hx. subst (λ t. IfSome t (Denotes S op f g)) e (short_denotes op f g (short_of op f g) refl S) x)
     where
       short_has : OnAnswer (Has S) (Some r) → Has S r
       short_has h = h
@@ -117,8 +123,18 @@ module _ (S : Nodes) (m : Held) (right : IsRight S m) (op : Op) (f g : Ref) (hf 
   pub child_known_in : IsChildIn S (child_known S m op f g)
   child_known_in = child_in_known (short_of op f g) (known_of m op f g) refl refl (known_value (short_of op f g) refl)
 
+-- what is held of an operation's form is known of the operation
+pub made_known : (m : Held) (op : Op) (f g : Ref) {n : Key × Bool} {k : Key} {p r : Option Ref} → n ≡ form_of op f g → k ≡ in_order n.0 → p ≡ held m k → r ≡ option_map (mark_by n.1) p
+    → short_of op f g ≡ None → r ≡ known_of m op f g
+made_known m op f g {n} {k} {p} {r} e hk hp hr long =
+    hr ∙ ap (option_map (mark_by n.1)) hp ∙ ap (λ z. option_map (mark_by n.1) (held m z)) hk
+    ∙ ap (λ (z : Key × Bool). or_held m (in_order z.0, z.1) None) e ∙ ap (or_held m (normal_of op f g)) (sym long)
+
+pub made_short : (m : Held) (op : Op) (f g : Ref) {n : Key × Bool} {a r : Ref} → n ≡ form_of op f g → Some a ≡ short_at n.0 → r ≡ mark_by n.1 a → Some r ≡ known_of m op f g
+made_short m op f g {n} {a} {r} e h hr = ap (λ z. Some z) hr ∙ ap (or_held m (normal_of op f g)) (of_form op f g {t = Some a} e h)
+
 -- where nothing is known, the request is made
-pub not_known : (m : Held) (k : Key) (t : Option Ref) → or_held m k t ≡ None → t ≡ None
+pub not_known : (m : Held) (k : Key × Bool) (t : Option Ref) → or_held m k t ≡ None → t ≡ None
 not_known m k None e = refl
 not_known m k (Some r) e = absurd (cc)
 

@@ -1,5 +1,5 @@
 -- The keys of a store: their levels, their children, what they ask for, and the wave that they make.
-use Rattle.std.specs.Prelude.{◌≡◌, ℕ, ◌<◌, Bool, true, false, cond, min, List, Option, Some, None}
+use Rattle.std.specs.Prelude.{◌≡◌, ℕ, ◌<◌, Bool, true, false, min, List, Option, Some, None}
 use Rattle.dd_store.specs.declared.reference.Ref.{Ref}
 use Rattle.dd_store.specs.Graph.{top, bit}
 use Rattle.dd_store.specs.Nodes.{Nodes, cofactor_of, den}
@@ -9,16 +9,10 @@ use Rattle.req_table.specs.declared.Key.{Key}
 use Rattle.req_table.specs.declared.Child.{Child}
 use Rattle.req_table.specs.declared.Child.TheVariants.{Done, Ask}
 use Rattle.req_table.specs.declared.Record.{Record}
-use Rattle.req_table.specs.Short.{short_of, ref_lt, owner_of, op_value}
+use Rattle.dd_store.specs.Marks.{turned}
+use Rattle.req_table.specs.Short.{short_of, owner_of, op_value}
+pub use Rattle.req_table.specs.Short.{key, normal_of}
 use Rattle.req_table.specs.Wave.{Wave}
-
--- the request for an operation on two references
-abbrev pub key : Op → Ref → Ref → Key
-key op f g = record { op = op; f = f; g = g }
-
--- the operands in order
-abbrev pub normal_of : Op → Ref → Ref → Key
-normal_of op f g = cond (ref_lt g f) (key op g f) (key op f g)
 
 -- the smaller level of the operands, in a store of n levels
 abbrev pub level_at : ℕ → Key → ℕ
@@ -28,12 +22,12 @@ level_at n k = min (top n k.f) (top n k.g)
 abbrev pub level_of : Nodes → Key → ℕ
 level_of S k = level_at S.levels k
 
--- a key of the store: it has no short answer, and its operands are in order
+-- a key of the store: it has no short answer, and is its own request: And, or Xor without marks, with its operands in order
 pub record IsKey (S : Nodes) (k : Key) : Type 0 where
   pub first : Has S k.f
   pub second : Has S k.g
   pub long : short_of k.op k.f k.g ≡ None
-  pub ordered : normal_of k.op k.f k.g ≡ k
+  pub ordered : normal_of k.op k.f k.g ≡ (k, false)
 
 -- the function that a key asks for
 abbrev pub meaning : Nodes → Key → List Bool → Bool
@@ -43,9 +37,9 @@ meaning S k x = op_value k.op (den S k.f x) (den S k.g x)
 abbrev pub Denotes : Nodes → Op → Ref → Ref → Ref → Type 0
 Denotes S op f g r = (x : List Bool) → den S r x ≡ op_value op (den S f x) (den S g x)
 
--- a request at its level
-abbrev pub ask_of : Nodes → Key → Child
-ask_of S k = Ask (level_of S k) k
+-- a request at its level, and whether what asks for it is its complement
+abbrev pub ask_of : Nodes → Key × Bool → Child
+ask_of S n = Ask (level_of S n.0) n.0 n.1
 
 -- the answer of an operation where it is short, else the request
 abbrev pub answer_of : Nodes → Op → Ref → Ref → Option Ref → Child
@@ -68,20 +62,20 @@ owner workers k = owner_of k.op k.f k.g workers
 abbrev pub record_of : Nodes → Key → Record
 record_of S k = record { key = k; low = child_of S k false; high = child_of S k true }
 
--- the value of a child: that of the answer, or of the function that is asked for
+-- the value of a child: that of the answer, or of the function that is asked for, or of its complement
 abbrev pub child_value : Nodes → Child → List Bool → Bool
 child_value S (Done r) x = den S r x
-child_value S (Ask l k) x = meaning S k x
+child_value S (Ask l k m) x = turned m (meaning S k x)
 
 -- a child of the store: an answer is one of its references, and a request one of its keys, told with its level
 abbrev pub IsChildIn : Nodes → Child → Type 0
 IsChildIn S (Done r) = Has S r
-IsChildIn S (Ask l k) = IsKey S k × (l ≡ level_of S k)
+IsChildIn S (Ask l k m) = IsKey S k × (l ≡ level_of S k)
 
 -- a child that stands further down than a level
 abbrev pub IsDeeper : Nodes → ℕ → Child → Type 0
 IsDeeper S v (Done r) = v < top S.levels r
-IsDeeper S v (Ask l k) = v < l
+IsDeeper S v (Ask l k m) = v < l
 
 -- a child has the value that the key has where the bit of the key's level is b
 abbrev pub IsHalf : Nodes → Key → Bool → Child → Type 0

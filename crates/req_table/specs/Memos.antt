@@ -1,6 +1,8 @@
 -- What a memo holds of earlier requests, when that is right for a store, and what requests come to with it.
 use Rattle.std.specs.Prelude.{◌≡◌, ℕ, ◌-◌, Bool, true, false, List, ◌∷◌, take, length, Contains, Option, Some, None, ◌⊎◌}
 use Rattle.std.specs.Map.{lookup, remove_entry}
+use Rattle.std.specs.Option.{option_map}
+use Rattle.dd_store.specs.Marks.{mark_by}
 use Rattle.dd_store.specs.declared.reference.Ref.{Ref}
 use Rattle.dd_store.specs.Graph.{bit}
 use Rattle.dd_store.specs.Nodes.{Nodes, IsDiagram, cofactor_of, den}
@@ -49,10 +51,10 @@ IsRight S m = (k : Key) (r : Ref) → Contains m.pairs (k, r) → IsAnswerOf S k
 abbrev pub IsValueOf : Nodes → Op → Ref → Ref → Ref → Type 0
 IsValueOf S op f g r = IsDiagram S r (λ x. op_value op (den S f x) (den S g x))
 
--- a short answer, or else what is held of the request
-abbrev pub or_held : Held → Key → Option Ref → Option Ref
-or_held m k (Some r) = Some r
-or_held m k None = held m k
+-- a short answer, or else what is held of the request, complemented where it has a mark
+abbrev pub or_held : Held → Key × Bool → Option Ref → Option Ref
+or_held m n (Some r) = Some r
+or_held m n None = option_map (mark_by n.1) (held m n.0)
 
 -- the answer of an operation that is no request, or is held
 abbrev pub known_of : Held → Op → Ref → Ref → Option Ref

@@ -1,9 +1,9 @@
--- An operation on two references, and when it is a request.
+-- When an operation on two references is a request.
 use Rattle.std.specs.Prelude.{◌≡◌, false, None}
 pub use Rattle.req_table.specs.declared.Operation.{Operation}
-use Rattle.req_table.specs.Short.{short_of, ref_lt}
+use Rattle.req_table.specs.Short.{short_of, normal_of}
 
--- it has no short answer, and its operands are in order
+-- it has no short answer, and is its own request: And, or Xor without marks, with its operands in order
 pub record IsRequest (k : Operation) : Type 0 where
   pub long : short_of k.op k.f k.g ≡ None
-  pub ordered : ref_lt k.g k.f ≡ false
+  pub ordered : normal_of k.op k.f k.g ≡ (k, false)

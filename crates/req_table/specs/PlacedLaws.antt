@@ -1,5 +1,5 @@
 -- The word of a placed child gives back what it says.
-use Rattle.std.specs.Prelude.{◌≡◌, ℕ, ◌-◌, ◌/◌, ◌%◌, ◌^◌, ◌<◌, ◌≤◌}
+use Rattle.std.specs.Prelude.{◌≡◌, ℕ, ◌-◌, ◌*◌, ◌/◌, ◌%◌, ◌^◌, ◌<◌, ◌≤◌, ◌==◌, if◌then◌else◌}
 use Rattle.std.proofs.Common.{◌∙◌, ap, arith, inl, inr}
 use Rattle.std.proofs.lemmas.Bool.Decides.{nat_tests}
 use Rattle.dd_store.specs.Words.{reference_of, IsWord}
@@ -11,8 +11,12 @@ use Rattle.req_table.specs.PlacedWords.{placed_word, placed_of, IsPlacedWord}
 answer : (w : ℕ) → w < 2 ^ 63 → placed_of w ≡ Done (reference_of w)
 answer w small = grind (arith, nat_tests)
 
-request : (w : ℕ) → 2 ^ 63 ≤ w → placed_of w ≡ Ask ((w - 2 ^ 63) / 2 ^ 32) ((w - 2 ^ 63) % 2 ^ 32)
+request : (w : ℕ) → 2 ^ 63 ≤ w → placed_of w ≡ Ask (w % 2 ^ 62 / 2 ^ 32) (w % 2 ^ 32) (w / 2 ^ 62 == 3)
 request w big = grind (arith, nat_tests)
+
+-- bit 62 of a request is its mark
+mark_bit : (w : ℕ) → 2 ^ 63 ≤ w → w < 2 ^ 64 → (if w / 2 ^ 62 == 3 then 2 ^ 62 else 0) ≡ w / 2 ^ 62 * 2 ^ 62 - 2 ^ 63
+mark_bit w big small = grind (arith, nat_tests)
 
 -- the words of references are below it
 small_word : (w : ℕ) → IsWord w → w < 2 ^ 63
@@ -22,4 +26,4 @@ small_word w (inr big) = omega arith
 -- a word gives back what it says
 pub placed_word-placed_of : (w : ℕ) → IsPlacedWord w → placed_word (placed_of w) ≡ w
 placed_word-placed_of w (inl h) = ap placed_word (answer w (small_word w h)) ∙ word_of-reference_of w h
-placed_word-placed_of w (inr big) = ap placed_word (request w big.0) ∙ omega arith
+placed_word-placed_of w (inr big) = let bit = mark_bit w big.0 big.1 in ap placed_word (request w big.0) ∙ omega arith

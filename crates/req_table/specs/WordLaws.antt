@@ -30,25 +30,25 @@ small_number Nor = omega arith
 small_number Xnor = omega arith
 
 -- the words of references are below the bit of an operation
-small_word : (w : ℕ) → IsWord w → w < 2 ^ 57
+small_word : (w : ℕ) → IsWord w → w < 2 ^ 58
 small_word w (inl small) = omega arith
 small_word w (inr big) = omega arith
 
 -- a first word gives back what it says
-pub first_word-back : (w : ℕ) → IsFirstWord w → first_word (op_of (w / 2 ^ 57)) (reference_of (w % 2 ^ 57)) ≡ w
+pub first_word-back : (w : ℕ) → IsFirstWord w → first_word (op_of (w / 2 ^ 58)) (reference_of (w % 2 ^ 58)) ≡ w
 first_word-back w h =
-    let n : op_number (op_of (w / 2 ^ 57)) ≡ w / 2 ^ 57 = op_number-op_of (w / 2 ^ 57) h.0 in
-    let f : word_of (reference_of (w % 2 ^ 57)) ≡ w % 2 ^ 57 = word_of-reference_of (w % 2 ^ 57) h.1 in
-    ap (λ z. z * 2 ^ 57 + word_of (reference_of (w % 2 ^ 57))) n ∙ ap (λ z. w / 2 ^ 57 * 2 ^ 57 + z) f ∙ omega arith
+    let n : op_number (op_of (w / 2 ^ 58)) ≡ w / 2 ^ 58 = op_number-op_of (w / 2 ^ 58) h.0 in
+    let f : word_of (reference_of (w % 2 ^ 58)) ≡ w % 2 ^ 58 = word_of-reference_of (w % 2 ^ 58) h.1 in
+    ap (λ z. z * 2 ^ 58 + word_of (reference_of (w % 2 ^ 58))) n ∙ ap (λ z. w / 2 ^ 58 * 2 ^ 58 + z) f ∙ omega arith
 
 -- and says what it was made of
-pub word_made : (op : Op) (f g : Ref) (n w : ℕ) → n ≡ op_number op → IsWord w → reference_of w ≡ f → IsFirstWord (n * 2 ^ 57 + w) × (operation_of (n * 2 ^ 57 + w) g ≡ record { op = op; f = f; g = g })
+pub word_made : (op : Op) (f g : Ref) (n w : ℕ) → n ≡ op_number op → IsWord w → reference_of w ≡ f → IsFirstWord (n * 2 ^ 58 + w) × (operation_of (n * 2 ^ 58 + w) g ≡ record { op = op; f = f; g = g })
 word_made op f g n w e h b =
-    let small : w < 2 ^ 57 = small_word w h in
-    let upper : (n * 2 ^ 57 + w) / 2 ^ 57 ≡ n = omega arith in
-    let lower : (n * 2 ^ 57 + w) % 2 ^ 57 ≡ w = omega arith in
-    let same : op_of ((n * 2 ^ 57 + w) / 2 ^ 57) ≡ op = ap op_of (upper ∙ e) ∙ op_of-op_number op in
-    let first : reference_of ((n * 2 ^ 57 + w) % 2 ^ 57) ≡ f = ap reference_of lower ∙ b in (
+    let small : w < 2 ^ 58 = small_word w h in
+    let upper : (n * 2 ^ 58 + w) / 2 ^ 58 ≡ n = omega arith in
+    let lower : (n * 2 ^ 58 + w) % 2 ^ 58 ≡ w = omega arith in
+    let same : op_of ((n * 2 ^ 58 + w) / 2 ^ 58) ≡ op = ap op_of (upper ∙ e) ∙ op_of-op_number op in
+    let first : reference_of ((n * 2 ^ 58 + w) % 2 ^ 58) ≡ f = ap reference_of lower ∙ b in (
       (subst (λ z. z < 6) (sym (upper ∙ e)) (small_number op), subst IsWord (sym lower) h),
       λ i. record { op = same i; f = first i; g = g },
     )

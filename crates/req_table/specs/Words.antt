@@ -1,4 +1,4 @@
--- The first eight bytes of a request as a number: the word of its first operand, with the number of the operation from bit 57
+-- The first eight bytes of a request as a number: the word of its first operand, with the number of the operation from bit 58
 -- on.
 use Rattle.std.specs.Prelude.{ℕ, ◌+◌, ◌*◌, ◌/◌, ◌%◌, ◌^◌, ◌<◌, ◌==◌, if◌then◌else◌}
 use Rattle.dd_store.specs.declared.reference.Ref.{Ref}
@@ -9,7 +9,7 @@ use Rattle.req_table.specs.declared.Operation.{Operation}
 use Rattle.req_table.specs.Short.{op_number}
 
 abbrev pub first_word : Op → Ref → ℕ
-first_word op f = op_number op * 2 ^ 57 + word_of f
+first_word op f = op_number op * 2 ^ 58 + word_of f
 
 -- the operation of a number below 6
 abbrev pub op_of : ℕ → Op
@@ -17,8 +17,8 @@ op_of n = if n == 0 then And else (if n == 1 then Or else (if n == 2 then Xor el
 
 -- what a first word says, with the second operand
 abbrev pub operation_of : ℕ → Ref → Operation
-operation_of w g = record { op = op_of (w / 2 ^ 57); f = reference_of (w % 2 ^ 57); g = g }
+operation_of w g = record { op = op_of (w / 2 ^ 58); f = reference_of (w % 2 ^ 58); g = g }
 
 -- the words that first_word makes
 abbrev pub IsFirstWord : ℕ → Type 0
-IsFirstWord w = (w / 2 ^ 57 < 6) × IsWord (w % 2 ^ 57)
+IsFirstWord w = (w / 2 ^ 58 < 6) × IsWord (w % 2 ^ 58)

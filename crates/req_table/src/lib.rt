@@ -42,10 +42,11 @@ pub struct Operation {
     pub g: Ref,
 }
 
-/// A request: an operation on two references that has no short answer, with its operands in order, in sixteen bytes.
+/// A request, in sixteen bytes: And of two references, or Xor of two without marks, that has no short answer, with its operands in
+/// order.
 #[derive(Clone, Copy)]
 pub struct Key {
-    /// The word of the first operand, with the number of the operation from bit 57 on.
+    /// The word of the first operand, with the number of the operation from bit 58 on.
     first: u64,
     second: Ref,
 }
@@ -53,7 +54,7 @@ pub struct Key {
 const _: () = prove!(size_of::<Key>() == 16);
 
 /// The lowest bit of an operation's number in a word.
-const OP_BIT: u64 = 1 << 57;
+const OP_BIT: u64 = 1 << 58;
 
 impl Model for Key {
     ghost use Rattle.req_table.specs.declared.Operation.{Operation};
@@ -207,11 +208,12 @@ impl Hash for Key {
     }
 }
 
-/// What an operation comes to: its answer, or the request to make at a level.
+/// What an operation comes to: its answer, or the request to make at a level; `mark` says that it is the complement of what the request
+/// asks for.
 #[derive(Clone, Copy, Debug)]
 pub enum Child {
     Done(Ref),
-    Ask { level: u16, key: Key },
+    Ask { level: u16, key: Key, mark: bool },
 }
 
 /// A request with its two children.

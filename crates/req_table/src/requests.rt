@@ -2,61 +2,119 @@
 ghost use Rattle.std.specs.Prelude.{◌≡◌, ◌<◌, Bool, List, None, IfSome, length, true, false};
 ghost use Rattle.dd_store.specs.Nodes.{Nodes, den};
 ghost use Rattle.dd_store.specs.View.{Has};
-ghost use Rattle.req_table.specs.Short.{short_of, short_with_false, short_with_true, op_value, owner_of};
+ghost use Rattle.std.specs.Option.{option_map};
+ghost use Rattle.dd_store.specs.Marks.{is_marked, mark_by, turned};
+ghost use Rattle.req_table.specs.Operation.{IsRequest};
+ghost use Rattle.req_table.specs.Short.{key, short_of, short_at, short_and, short_xor, form_of, in_order, plain_of, op_value, owner_of};
 ghost use Rattle.req_table.specs.Keys.{normal_of, level_of, child as child_at, record_of, meaning, child_value, Denotes, IsKey, IsChildIn, IsDeeper, IsHalf};
 ghost use Rattle.req_table.specs.Memos.{IsRight, IsValueOf, IsHalfOf, known_of, child_known as child_known_at, record_known_of};
 
 use crate::{Child, Key, Memo, Op, Record, number};
-use dd_store::{Ref, Reference, Store, code};
+use dd_store::{Ref, Store, code};
 
-fn short_false(op: Op, g: Ref) -> Option<Ref>
-    ensures { result ≡ short_with_false op g }
+/// A reference without its mark.
+fn plain(reference: Ref) -> Ref
+    ensures { result ≡ plain_of reference }
 {
-    match (op, g.view()) {
-        (Op::And, _) => Some(Ref::FALSE),
-        (Op::Or | Op::Xor, _) => Some(g),
-        (Op::Nand, _) => Some(Ref::TRUE),
-        (Op::Nor | Op::Xnor, Reference::False) => Some(Ref::TRUE),
-        (Op::Nor | Op::Xnor, Reference::True) => Some(Ref::FALSE),
-        (Op::Nor | Op::Xnor, Reference::Node(_)) => None,
+    reference.marked(reference.is_marked())
+}
+
+/// Whether one of two references has a mark and the other has none.
+fn one_marked(f: Ref, g: Ref) -> bool
+    ensures { result ≡ turned (is_marked f) (is_marked g) }
+{
+    f.is_marked() != g.is_marked()
+}
+
+/// An operation by And, or by Xor of references without marks, and whether its answer is the complement of that one's.
+fn form(op: Op, f: Ref, g: Ref) -> (Op, Ref, Ref, bool)
+    ensures { (key result.0 result.1 result.2, result.3) ≡ form_of op f g }
+{
+    match op {
+        Op::And => (Op::And, f, g, false),
+        Op::Nand => (Op::And, f, g, true),
+        Op::Or => (Op::And, f.negate(), g.negate(), true),
+        Op::Nor => (Op::And, f.negate(), g.negate(), false),
+        Op::Xor => (Op::Xor, plain(f), plain(g), one_marked(f, g)),
+        Op::Xnor => (Op::Xor, plain(f), plain(g), !one_marked(f, g)),
     }
 }
 
-fn short_true(op: Op, g: Ref) -> Option<Ref>
-    ensures { result ≡ short_with_true op g }
+/// And of two references where it needs no request.
+fn short_and(f: Ref, g: Ref) -> Option<Ref>
+    ensures { result ≡ short_and f g }
 {
-    match (op, g.view()) {
-        (Op::And | Op::Xnor, _) => Some(g),
-        (Op::Or, _) => Some(Ref::TRUE),
-        (Op::Nor, _) => Some(Ref::FALSE),
-        (Op::Xor | Op::Nand, Reference::False) => Some(Ref::TRUE),
-        (Op::Xor | Op::Nand, Reference::True) => Some(Ref::FALSE),
-        (Op::Xor | Op::Nand, Reference::Node(_)) => None,
+    if f == g || g == Ref::TRUE {
+        return Some(f);
+    }
+    if f == Ref::TRUE {
+        return Some(g);
+    }
+    if f == Ref::FALSE || g == Ref::FALSE || f == g.negate() {
+        return Some(Ref::FALSE);
+    }
+    None
+}
+
+/// Xor of two references where it needs no request.
+fn short_xor(f: Ref, g: Ref) -> Option<Ref>
+    ensures { result ≡ short_xor f g }
+{
+    if f.is_terminal() {
+        return Some(g.marked(f == Ref::TRUE));
+    }
+    if g.is_terminal() {
+        return Some(f.marked(g == Ref::TRUE));
+    }
+    if f == g {
+        return Some(Ref::FALSE);
+    }
+    if f == g.negate() {
+        return Some(Ref::TRUE);
+    }
+    None
+}
+
+/// The answer of And or Xor, where it needs no request.
+fn short_at(op: Op, f: Ref, g: Ref) -> Option<Ref>
+    ensures { result ≡ short_at (key op f g) }
+{
+    match op {
+        Op::And => short_and(f, g),
+        Op::Xor => short_xor(f, g),
+        _ => None,
     }
 }
 
-/// The answer of an operation that needs no request: a terminal or an operand.
+/// The answer, or its complement where `mark` is set.
+fn marked(answer: Option<Ref>, mark: bool) -> Option<Ref>
+    ensures { result ≡ option_map (mark_by mark) answer }
+{
+    match answer {
+        Some(answer) => Some(answer.marked(mark)),
+        None => None,
+    }
+}
+
+/// The request, with the operands in order.
+fn request(op: Op, f: Ref, g: Ref) -> Key
+    requires { IsRequest (in_order (key op f g)) }
+    ensures { result ≡ in_order (key op f g) }
+{
+    if g < f {
+        Key::of(op, g, f)
+    } else {
+        Key::of(op, f, g)
+    }
+}
+
+/// The answer of an operation that needs no request: a terminal, or an operand or its complement.
 pub fn short(op: Op, f: Ref, g: Ref) -> Option<Ref>
     ensures value { result ≡ short_of op f g }
     ensures means { (S : Nodes) → IfSome result (Denotes S op f g) }
 {
-    match (f.view(), g.view()) {
-        (Reference::False, _) => short_false(op, g),
-        (Reference::True, _) => short_true(op, g),
-        (_, Reference::False) => short_false(op, f),
-        (_, Reference::True) => short_true(op, f),
-        (Reference::Node(_), Reference::Node(_)) => {
-            if f != g {
-                return None;
-            }
-            match op {
-                Op::And | Op::Or => Some(f),
-                Op::Xor => Some(Ref::FALSE),
-                Op::Xnor => Some(Ref::TRUE),
-                Op::Nand | Op::Nor => None,
-            }
-        }
-    }
+    let (op, f, g, mark) = form(op, f, g);
+    marked(short_at(op, f, g), mark)
 }
 
 /// The worker that expands a request: the number of the operation, plus three times the code of the first operand, plus
@@ -68,17 +126,15 @@ pub fn owner(key: Key, workers: u32) -> u32
     ((number(key.op()) + 3 * code(key.f()) + 5 * code(key.g())) % workers as u64) as u32
 }
 
-/// The request for an operation, with the operands in order: False, True, then nodes by level, shard and index.
-pub fn normal(op: Op, f: Ref, g: Ref) -> Key
+/// The request for an operation, by And or Xor, with the operands in order: False, True, then nodes by level, shard and index,
+/// without a mark before marked; and whether the operation's answer is the complement of the request's.
+pub fn normal(op: Op, f: Ref, g: Ref) -> (Key, bool)
     requires { short_of op f g ≡ None }
     ensures key { result ≡ normal_of op f g }
-    ensures means { (S : Nodes) (x : List Bool) → meaning S result x ≡ op_value op (den S f x) (den S g x) }
+    ensures means { (S : Nodes) (x : List Bool) → turned result.1 (meaning S result.0 x) ≡ op_value op (den S f x) (den S g x) }
 {
-    if g < f {
-        Key::of(op, g, f)
-    } else {
-        Key::of(op, f, g)
-    }
+    let (op, f, g, mark) = form(op, f, g);
+    (request(op, f, g), mark)
 }
 
 /// The level of a request: the smaller level of its operands.
@@ -98,13 +154,15 @@ pub fn child(store: &Store, op: Op, f: Ref, g: Ref) -> Child
     ensures stands { IsChildIn store.now result }
     ensures means { (x : List Bool) → child_value store.now result x ≡ op_value op (den store.now f x) (den store.now g x) }
 {
-    match short(op, f, g) {
-        Some(answer) => Child::Done(answer),
+    let (op, f, g, mark) = form(op, f, g);
+    match short_at(op, f, g) {
+        Some(answer) => Child::Done(answer.marked(mark)),
         None => {
-            let key = normal(op, f, g);
+            let key = request(op, f, g);
             Child::Ask {
                 level: level_of(store, key),
                 key,
+                mark,
             }
         }
     }
@@ -134,9 +192,10 @@ pub fn known(memo: &Memo, op: Op, f: Ref, g: Ref) -> Option<Ref>
     ensures value { result ≡ known_of memo.now op f g }
     ensures means { (S : Nodes) → IsRight S memo.now → Has S f → Has S g → IfSome result (IsValueOf S op f g) }
 {
-    match short(op, f, g) {
-        Some(answer) => Some(answer),
-        None => memo.peek(&normal(op, f, g)),
+    let (op, f, g, mark) = form(op, f, g);
+    match short_at(op, f, g) {
+        Some(answer) => Some(answer.marked(mark)),
+        None => marked(memo.peek(&request(op, f, g)), mark),
     }
 }
 
