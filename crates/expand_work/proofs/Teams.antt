@@ -1,5 +1,5 @@
 -- The threads of a wave, by the ports that they work for.
-use Rattle.std.proofs.Common.{◌≡◌, ℕ, ◌<◌, Bool, true, false, if◌then◌else◌, IfOk, Err, List, length, slice_index_or, [], ◌∷◌, refl, sym, ap, ◌∙◌, subst, arith, Bor}
+use Rattle.std.proofs.Common.{◌≡◌, ℕ, ◌+◌, ◌<◌, ◌≤◌, Bool, true, false, if◌then◌else◌, IfOk, Err, List, length, slice_index_or, [], ◌∷◌, ◌++◌, refl, sym, ap, ◌∙◌, subst, arith, length-append, append-nil}
 use Rattle.std.specs.declared.thread.PromisedHandle.{PromisedHandle}
 use Rattle.std.specs.declared.result.Result.{Result}
 use Rattle.std.specs.List.{AllZip}
@@ -12,18 +12,8 @@ use Rattle.expand_work.specs.declared.fault.WaveFault.{WaveFault}
 use Rattle.expand_work.specs.declared.fault.WaveFault.TheVariants.{NoWorker}
 use Rattle.expand_work.specs.declared.team.PartOf.{PartOf}
 use Rattle.expand_work.specs.Worked.{IsWorked}
-use Rattle.expand_work.specs.Team.{AreNew, AreWorked, IsPromised, WorksFor}
+use Rattle.expand_work.specs.Team.{AreNew, AreStarted, AreWorked, IsPromised, WorksFor}
 use Rattle.expand_work.proofs.Zips.{zip_at, zip_long}
-
--- the handle of a thread that was started with this promise
-pub worker_started : (l : Bor LanesView) (s : Bor Nodes) (roots : Bor (List Key)) (h : PromisedHandle (Result Part WorkFault) PartOf) (p : PortView) (n : ℕ) → n ≡ p.number
-    → h.promise ≡ record { lanes = l; store = s; roots = roots; number = n } → WorksFor l.now s.now roots.now h p
-worker_started l s roots h p n number is = record {
-  lanes = ap (λ (q : PartOf). q.lanes.now) is;
-  store = ap (λ (q : PartOf). q.store.now) is;
-  keys = ap (λ (q : PartOf). q.roots.now) is;
-  number = ap (λ (q : PartOf). q.number) is ∙ number;
-}
 
 -- the part of the thread that works for port i
 part_of : (l : LanesView) (s : Nodes) (roots : List Key) (i : ℕ) (h : PromisedHandle (Result Part WorkFault) PartOf) (q : PortView) (p : Part) → q.number ≡ i → WorksFor l s roots h q → IsPromised h p → IsWorked l s roots i p
@@ -38,9 +28,22 @@ pub first_of : {A : Type 0} (xs : List A) → 0 < length xs → A
 first_of [] l = absurd (omega (arith, l))
 first_of (x ∷ xs) l = x
 
-pub no_more : {A : Type 0} (xs : List A) → length xs ≡ 0 → xs ≡ []
+no_more : {A : Type 0} (xs : List A) → length xs ≡ 0 → xs ≡ []
 no_more [] e = refl
 no_more (x ∷ xs) e = absurd (omega (arith, e))
+
+-- threads that were started for the first of the ports: no more than there are ports, and where there are as many each port has its own
+module _ (l : LanesView) (s : Nodes) (roots : List Key) (children : List (PromisedHandle (Result Part WorkFault) PartOf)) (ports : List PortView) (t : AreStarted l s roots children ports) where
+  many : length children + length t.rest ≡ length ports
+  many = let n = zip_long (WorksFor l s roots) children t.first t.works in let a = length-append t.first t.rest in let b = ap (λ xs. length xs) t.all in omega (arith, n, a, b)
+
+  pub no_more_threads : length children ≤ length ports
+  no_more_threads = let n = many in omega (arith, n)
+
+  pub each_has_its : length children ≡ length ports → AllZip (WorksFor l s roots) children ports
+  each_has_its e =
+      let none : t.rest ≡ [] = no_more t.rest (let n = many in omega (arith, n, e)) in
+      subst (AllZip (WorksFor l s roots) children) (sym (append-nil t.first) ∙ ap (λ xs. t.first ++ xs) (sym none) ∙ t.all) t.works
 
 -- where each port has its thread, and each thread its part, the parts are all workers' by number
 pub all_worked : (l : LanesView) (s : Nodes) (roots : List Key) (ports : List PortView) (children : List (PromisedHandle (Result Part WorkFault) PartOf)) (parts : List Part)

@@ -19,9 +19,9 @@ lanes_laws S sound workers some =
       served = some;
       bounded = λ x h. laws.bounded x (key_of_sizes S x h);
       owned = λ x. laws.owned x;
-      told = λ x y b l h e. laws.told x y b l (key_of_sizes S x h) e;
-      deeper = λ x y b l h e. laws.deeper x y b l (key_of_sizes S x h) e;
-      held = λ x y b l h e. sizes_of_key S y (laws.held x y b l (key_of_sizes S x h) e);
+      told = λ x y b l m h e. laws.told x y b l m (key_of_sizes S x h) e;
+      deeper = λ x y b l m h e. laws.deeper x y b l m (key_of_sizes S x h) e;
+      held = λ x y b l m h e. sizes_of_key S y (laws.held x y b l m (key_of_sizes S x h) e);
     }
 
 pub part_in_wave : (S : Nodes) (workers : ℕ) (roots : List Key) (s : ℕ) (sent : ℕ → List Item) (taken : List Item) (rows : ℕ → List Record) → IsPart (lanes_wave S workers) roots s sent taken rows → IsPart (wave_of S workers) roots s sent taken rows

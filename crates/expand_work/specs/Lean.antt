@@ -9,10 +9,10 @@ use Rattle.req_table.specs.declared.placed.Placed.{Placed}
 use Rattle.req_table.specs.declared.placed.PlacedChild.TheVariants as placed
 use Rattle.req_table.specs.Keys.{owner, record_of}
 
--- a child: its answer, or the level of what it asks for and which of so many workers owns that
+-- a child: its answer, or the level of what it asks for, which of so many workers owns that, and its mark
 abbrev pub lean : ℕ → Child → Placed
 lean workers (Done r) = placed.Done r
-lean workers (Ask l x) = placed.Ask l (owner workers x)
+lean workers (Ask l x m) = placed.Ask l (owner workers x) m
 
 -- the children of records, low and high
 abbrev pub lean_row : ℕ → List Record → List (Placed × Placed)

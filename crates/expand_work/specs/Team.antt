@@ -1,5 +1,6 @@
 -- What the ports of a wave are before the workers, and what the parts are after them.
-use Rattle.std.specs.Prelude.{◌≡◌, ℕ, ◌<◌, List, length, slice_index_or}
+use Rattle.std.specs.Prelude.{◌≡◌, ℕ, ◌<◌, List, ◌++◌, length, slice_index_or}
+use Rattle.std.specs.List.{AllZip}
 use Rattle.dd_store.specs.Nodes.{Nodes}
 use Rattle.req_table.specs.declared.Key.{Key}
 use Rattle.lane_queue.specs.PortView.{LanesView, PortView, IsPortOf}
@@ -32,3 +33,10 @@ pub record WorksFor (l : LanesView) (s : Nodes) (roots : List Key) (h : Promised
   pub store : h.promise.store.now ≡ s
   pub keys : h.promise.roots.now ≡ roots
   pub number : h.promise.number ≡ p.number
+
+-- The threads work for the first of these ports, one for each.
+pub record AreStarted (l : LanesView) (s : Nodes) (roots : List Key) (children : List (PromisedHandle (Result Part WorkFault) PartOf)) (ports : List PortView) : Type 0 where
+  pub first : List PortView
+  pub rest : List PortView
+  pub all : first ++ rest ≡ ports
+  pub works : AllZip (WorksFor l s roots) children first

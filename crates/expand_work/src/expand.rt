@@ -36,9 +36,9 @@ fn push_child(due: &mut KeyLists, child: Child, workers: u32) -> Result<Placed, 
 {
     match child {
         Child::Done(answer) => Ok(Placed::done(answer)),
-        Child::Ask { level, key } => {
+        Child::Ask { level, key, mark } => {
             let owner = push_key(due, key, workers)?;
-            Ok(Placed::ask(level, owner))
+            Ok(Placed::ask(level, owner, mark))
         }
     }
 }

@@ -1,5 +1,5 @@
 //! What a worker takes, and what it keeps.
-ghost use Rattle.std.specs.Prelude.{◌≡◌, ◌<◌, length, map, All, OnOk};
+ghost use Rattle.std.specs.Prelude.{◌≡◌, ◌<◌, false, length, map, All, IfOk, OnOk};
 ghost use Rattle.req_table.specs.Lanes.{IsClosed};
 ghost use Rattle.lane_queue.specs.PortView.{sent_to, IsPortOf, lanes_scope};
 ghost use Rattle.req_table.specs.Lanes.{sent_by};
@@ -77,7 +77,8 @@ pub fn keep_own(
     Ok(())
 }
 
-// Takes one load if there is one, and notes it: an End on the clock, the keys of a bundle in their levels' tables.
+// Takes one load if there is one, and notes it: an End on the clock, the keys of a bundle in their levels' tables. Where there is none
+// nothing that the worker sent to itself is under way.
 fn take_one<R: Wait>(
     rt: &R,
     lanes: &Lanes,
@@ -93,6 +94,8 @@ fn take_one<R: Wait>(
     ensures stays { OnOk result
         (StaysClosed (lanes_scope lanes.now) port.old.taken port.new.taken tables.old tables.new) }
     ensures noted { OnOk result (IsNoted (length lanes.now.lanes) port.new.taken tables.new senders.new.noted) }
+    ensures empty { IfOk result (λ some. some ≡ false
+        → sent_by port.new.number port.new.taken ≡ sent_to port.new port.new.number) }
 {
     let Some(load) = lanes.take(rt, port) else {
         return Ok(false);

@@ -39,8 +39,8 @@ impl Model for Parts {
 }
 
 impl Parts {
-    /// The children of a worker's requests of a level, low and high, by place. Of one that is asked for this tells the level and the
-    /// owner.
+    /// The children of a worker's requests of a level, low and high, by place. Of one that is asked for this tells the level, the
+    /// owner and the mark.
     pub fn children(&self, worker: u32, level: u16) -> &[(Placed, Placed)]
         requires worker { worker < length self.now.rows }
         requires level { level < length (slice_index_or self.now.rows worker []) }

@@ -16,9 +16,6 @@ use std::alloc::AllocError;
 use std::mem;
 use std::sync::Wait;
 
-/// How many requests a bundle carries at most.
-const FULL: usize = 64;
-
 // Sends what is in hand for the worker `to`.
 fn send_bundle<R: Wait>(
     rt: &R,
@@ -67,7 +64,7 @@ fn send_asks<R: Wait>(
     let mut hand = Bundle::new(alloc)?;
     for key in keys {
         hand.add(level_of(store, *key), *key);
-        if hand.len() == FULL {
+        if hand.len() == Bundle::ROOM {
             let full = mem::replace(&mut hand, Bundle::new(alloc)?);
             send_bundle(rt, lanes, port, to, full)?;
         }

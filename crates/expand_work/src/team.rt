@@ -6,19 +6,19 @@ ghost use Rattle.req_table.specs.Keys.{IsKey};
 ghost use Rattle.req_table.specs.Sizes.{sizes_of};
 ghost use Rattle.lane_queue.specs.PortView.{IsPortOf};
 ghost use Rattle.expand_work.specs.Worked.{IsFresh, IsWorked};
-ghost use Rattle.expand_work.specs.Team.{AreNew, AreWorked, IsPromised};
+ghost use Rattle.expand_work.specs.Team.{AreNew, AreStarted, AreWorked, IsPromised, WorksFor};
 
 use crate::site::Site;
 use crate::worker::work_in;
-use crate::{Gate, Part, Spaces, WaveFault, WorkFault};
+use crate::{Gate, Part, Space, Spaces, WaveFault, WorkFault};
 use dd_store::Store;
 use lane_queue::{Lanes, Port};
 use req_table::Key;
-use std::alloc::Global;
+use std::alloc::{AllocError, Global};
 use std::sync::Wait;
 use std::sync::atomic::{AtomicBool, Ordering};
 use std::thread;
-use std::thread::{Promise, PromisedHandle, Threads};
+use std::thread::{Promise, PromisedHandle, Scope, Threads};
 
 /// What a worker's thread promises: the worker's part of the wave.
 #[derive(Clone, Copy)]
@@ -36,10 +36,13 @@ impl<'a> Promise<Result<Part, WorkFault>> for PartOf<'a> {
     ghost kept_by = { λ p r. IfOk r (λ part. IsWorked p.lanes.now p.store.now p.roots.now p.number part) };
 }
 
+// A worker's thread.
+type Child<'a> = PromisedHandle<Result<Part, WorkFault>, PartOf<'a>>;
+
 // Joins all these threads: their parts in order, if each answered one.
 fn join_all<'a, R: Threads>(
     rt: &R,
-    children: Vec<PromisedHandle<Result<Part, WorkFault>, PartOf<'a>>>,
+    children: Vec<Child<'a>>,
     parts: Vec<Part>,
 ) -> Result<Vec<Part>, WaveFault>
     requires empty { parts.items ≡ [] }
@@ -73,6 +76,85 @@ fn judge(started: bool, joined: Result<Vec<Part>, WaveFault>) -> Result<Vec<Part
     }
 }
 
+// Starts the thread of the worker that the port belongs to.
+fn start<'s, E, R: Wait + Sync, G: Gate>(
+    scope: &Scope<'s, E>,
+    rt: &'s R,
+    site: Site<'s>,
+    port: Port,
+    space: Option<Space>,
+    gate: &'s G,
+) -> Result<Child<'s>, WaveFault>
+    requires port { IsPortOf site.lanes.now port }
+    requires fresh { IsFresh port }
+    requires sizes { site.lanes.now.sizes ≡ sizes_of site.store.now }
+    requires roots { All (IsKey site.store.now) site.roots.now }
+    ensures works { IfOk result (λ h. WorksFor site.entry.lanes.now site.entry.store.now site.entry.roots.now h port) }
+    ensures fault { IfErr result (λ f. f ≡ WaveFault.NoWorker) }
+{
+    let Site {
+        alloc,
+        lanes,
+        store,
+        roots,
+        stop,
+    } = site;
+    let promise = PartOf {
+        lanes,
+        store,
+        roots,
+        number: port.number(),
+    };
+    let work = move || -> Result<Part, WorkFault>
+        requires port { IsPortOf lanes.now port }
+        requires fresh { IsFresh port }
+        requires sizes { lanes.now.sizes ≡ sizes_of store.now }
+        requires roots { All (IsKey store.now) roots.now }
+        ensures { IfOk result (λ p. IsWorked lanes.entry.now store.entry.now roots.entry.now port.number p) }
+    {
+        let site = Site {
+            alloc,
+            lanes,
+            store,
+            roots,
+            stop,
+        };
+        work_in(rt, site, port, space, gate)
+    };
+    match scope.spawn_with(promise, work) {
+        Ok(child) => Ok(child),
+        Err(_) => Err(WaveFault::NoWorker),
+    }
+}
+
+// Starts a thread for each port. Where one cannot be started no more are, and those that run are told to stop.
+fn start_all<'s, E, R: Wait + Sync, G: Gate>(
+    scope: &Scope<'s, E>,
+    rt: &'s R,
+    site: Site<'s>,
+    ports: Vec<Port>,
+    used: Spaces,
+    gate: &'s G,
+) -> Result<Vec<Child<'s>>, AllocError>
+    requires ports { AreNew site.lanes.now ports.items }
+    requires sizes { site.lanes.now.sizes ≡ sizes_of site.store.now }
+    requires roots { All (IsKey site.store.now) site.roots.now }
+    ensures { IfOk result (λ v.
+        AreStarted site.entry.lanes.now site.entry.store.now site.entry.roots.now v.items ports.items) }
+{
+    let mut used = used;
+    let mut children = Vec::with_capacity(site.alloc, ports.len())?;
+    for port in ports {
+        let space = used.take();
+        let Ok(child) = start(scope, rt, site, port, space, gate) else {
+            site.stop.store(true, Ordering::SeqCst);
+            break;
+        };
+        children.push_reserved(child);
+    }
+    Ok(children)
+}
+
 /// What the workers of a wave share: their lanes, the store and all roots.
 #[derive(Clone, Copy)]
 pub struct Wave<'a> {
@@ -104,12 +186,11 @@ pub fn run_workers<R: Threads + Wait + Sync, G: Gate>(
         roots,
     } = wave;
     let stop = AtomicBool::new(false);
-    let flag = &stop;
+    let stop = &stop;
     thread::scope(
         thread::scope_env(),
         rt,
         |scope| -> Result<Vec<Part>, WaveFault>
-            requires shared { IsSync R.row × IsSync G.row }
             requires ports { AreNew lanes.now ports.items }
             requires sizes { lanes.now.sizes ≡ sizes_of store.now }
             requires roots { All (IsKey store.now) roots.now }
@@ -117,44 +198,16 @@ pub fn run_workers<R: Threads + Wait + Sync, G: Gate>(
             ensures fault { IfErr result (λ f. f ≢ WaveFault.Full) }
             ensures unbounded { IfErr result (λ f. f ≢ WaveFault.TooManyRequests) }
         {
-            let mut used = used;
+            let site = Site {
+                alloc,
+                lanes,
+                store,
+                roots,
+                stop,
+            };
             let count = ports.len();
-            let mut children = Vec::with_capacity(alloc, count)?;
             let parts = Vec::with_capacity(alloc, count)?;
-            for port in ports {
-                let number = port.number();
-                let space = used.take();
-                match scope.spawn_with(
-                    PartOf {
-                        lanes,
-                        store,
-                        roots,
-                        number,
-                    },
-                    move || -> Result<Part, WorkFault>
-                        requires port { IsPortOf lanes.now port }
-                        requires fresh { IsFresh port }
-                        requires sizes { lanes.now.sizes ≡ sizes_of store.now }
-                        requires roots { All (IsKey store.now) roots.now }
-                        ensures { IfOk result (λ p. IsWorked lanes.entry.now store.entry.now roots.entry.now port.number p) }
-                    {
-                        let site = Site {
-                            alloc,
-                            lanes,
-                            store,
-                            roots,
-                            stop: flag,
-                        };
-                        work_in(rt, site, port, space, gate)
-                    },
-                ) {
-                    Ok(child) => children.push_reserved(child),
-                    Err(_) => {
-                        flag.store(true, Ordering::SeqCst);
-                        break;
-                    }
-                }
-            }
+            let children = start_all(scope, rt, site, ports, used, gate)?;
             let started = children.len() == count;
             let joined = join_all(rt, children, parts);
             judge(started, joined)

@@ -5,39 +5,42 @@ use req_table::Key;
 use std::alloc::{AllocError, Global};
 use std::marker::Model;
 
-/// How many requests a bundle has room for.
-const ROOM: usize = 64;
-
-/// Up to 64 requests, each with its level, in the order in which they were added.
+/// Up to `ROOM` requests, each with its level, in the order in which they were added.
 #[derive(Drop)]
 pub struct Bundle {
     asks: Vec<(u16, Key)>,
 }
 
+const _: () = prove!(Bundle::ROOM == 64);
+
 impl Model for Bundle {
     ghost use Rattle.std.specs.Prelude.{ℕ, List, length, ◌≤◌};
     ghost use Rattle.std.specs.Vec.{vec_capacity};
     ghost use Rattle.req_table.specs.declared.Key.{Key};
+    ghost use Rattle.lane_queue.specs.declared.load.TheConstants.Bundle.{ROOM};
 
     ghost Value = { List (ℕ × Key) };
 
     ghost view = { λ b. b.asks.items };
 
-    ghost invariant = { λ b. (length b.asks.items ≤ 64) × (64 ≤ vec_capacity b.asks) };
+    ghost invariant = { λ b. (length b.asks.items ≤ ROOM) × (ROOM ≤ vec_capacity b.asks) };
 }
 
 impl Bundle {
-    /// No requests, and room for 64.
+    /// How many requests a bundle has room for.
+    pub const ROOM: usize = 64;
+
+    /// No requests, and room for `ROOM`.
     pub fn new(alloc: Global) -> Result<Bundle, AllocError>
         ensures { IfOk result (λ b. b ≡ []) }
     {
-        let asks = Vec::with_capacity(alloc, ROOM)?;
+        let asks = Vec::with_capacity(alloc, Bundle::ROOM)?;
         Ok(Bundle { asks })
     }
 
     /// Puts a request at the end. The level is the key's, as `Lanes::send` asks of each request.
     pub fn add(&mut self, level: u16, key: Key)
-        requires { length self.old < 64 }
+        requires { length self.old < Self.ROOM }
         ensures { self.new ≡ self.old ++ (level, key) ∷ [] }
     {
         self.asks.push_reserved((level, key));
@@ -46,7 +49,7 @@ impl Bundle {
     /// How many requests there are.
     pub fn len(&self) -> usize
         ensures count { result ≡ length self.now }
-        ensures few { length self.now ≤ 64 }
+        ensures few { length self.now ≤ Self.ROOM }
     {
         self.asks.len()
     }
@@ -54,7 +57,7 @@ impl Bundle {
     /// The requests.
     pub fn asks(&self) -> &[(u16, Key)]
         ensures value { result.now ≡ self.now }
-        ensures few { length self.now ≤ 64 }
+        ensures few { length self.now ≤ Self.ROOM }
     {
         self.asks.as_slice()
     }

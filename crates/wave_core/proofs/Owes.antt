@@ -38,12 +38,12 @@ cond_join false xs ys = refl
 
 pub owe_size : (w by : ℕ) (child : Child) (d : List (List Key)) → length (owe_of w by child d) ≡ length d
 owe_size w by (Done r) d = refl
-owe_size w by (Ask l x) d = length-set d (by * w + owner_of x.op x.f x.g w) (get_or d (by * w + owner_of x.op x.f x.g w) [] ++ x ∷ [])
+owe_size w by (Ask l x m) d = length-set d (by * w + owner_of x.op x.f x.g w) (get_or d (by * w + owner_of x.op x.f x.g w) [] ++ x ∷ [])
 
 pub owed_is : (S : Nodes) (n w by : ℕ) (child : Child) (d : List (List Key)) → by < w → length d ≡ w * w → (s k : ℕ) → k < w
     → by_place w (owe_of w by child d) s k ≡ by_place w d s k ++ cond (eqb s by) (filter (is_owned (wave_at S n w) k) (asked child)) []
 owed_is S n w by (Done r) d bb size s k kb = cond_nil (eqb s by) (by_place w d s k)
-owed_is S n w by (Ask l x) d bb size s k kb =
+owed_is S n w by (Ask l x m) d bb size s k kb =
     let o = owner_of x.op x.f x.g w in
     let some : 0 < w = omega arith in
     let ob : o < w = mod-lt _ some in

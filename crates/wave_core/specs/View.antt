@@ -91,7 +91,7 @@ IsOwnInOrder v by = by_place v.workers v.sent by by ≡ sent_by by (list_of v.ta
 -- the due lists after the child of a record of `by` was added to them; after both children
 abbrev pub owe_of : ℕ → ℕ → Child → List (List Key) → List (List Key)
 owe_of w by (Done r) d = d
-owe_of w by (Ask l x) d = slice_set d (by * w + owner_of x.op x.f x.g w) (slice_index_or d (by * w + owner_of x.op x.f x.g w) [] ++ x ∷ [])
+owe_of w by (Ask l x m) d = slice_set d (by * w + owner_of x.op x.f x.g w) (slice_index_or d (by * w + owner_of x.op x.f x.g w) [] ++ x ∷ [])
 
 abbrev pub owe_all : ℕ → ℕ → Record → List (List Key) → List (List Key)
 owe_all w by r d = owe_of w by r.high (owe_of w by r.low d)

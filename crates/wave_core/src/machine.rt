@@ -198,7 +198,7 @@ impl Machine {
     {
         match child {
             Child::Done(_) => Ok(()),
-            Child::Ask { level: _, key } => {
+            Child::Ask { key, .. } => {
                 let place = (by * self.workers + owner(*key, self.workers)) as usize;
                 self.due[place].put(*key)
             }
@@ -213,7 +213,7 @@ impl Machine {
     {
         match child {
             Child::Done(_) => {}
-            Child::Ask { level: _, key } => {
+            Child::Ask { key, .. } => {
                 let place = (by * self.workers + owner(*key, self.workers)) as usize;
                 self.due[place].undo();
             }

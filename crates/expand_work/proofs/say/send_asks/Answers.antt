@@ -7,7 +7,7 @@ use Rattle.lane_queue.specs.PortView.{PortView, sent_to, MayLeave, lanes_scope}
 use Rattle.expand_work.specs.Work.{SentTo}
 use Rattle.expand_work.proofs.Saying.{Filling, fill-start, fill-more, fill-sent, fill-last, hand-may, hand-leave}
 use Rattle.expand_work.proofs.say.send_asks.Goals as goal
-use Rattle.expand_work.proofs.say.send_asks.Goals.{then-len-eq-FULL+in_ok-new+in_ok-send_bundle, else-len-eq-FULL}
+use Rattle.expand_work.proofs.say.send_asks.Goals.{then-len-eq-ROOM+in_ok-new+in_ok-send_bundle, else-len-eq-ROOM}
 
 pub loop-key-init : goal.loop-key-init
 loop-key-init g c = (
@@ -31,18 +31,18 @@ pub loop-key-preserved : goal.loop-key-preserved
 loop-key-preserved g c =
     let keys = take (c.loop-key.key-index + 1) c.args.keys.now in
     let f = fill-more c.args.site.lanes.now c.args.site.store.now c.args.port.now c.loop-key.port c.args.to c.loop-key.hand c.args.keys.now c.loop-key.key-index c.key-item.result c.level_of.result c.add.new.self c.loop-key-test.true c.key-item.is c.level_of.ensures c.add.ensures c.requires.may c.loop-key.invariant.0 in
-    elim c.if-len-eq-FULL.branch [
-      | then-len-eq-FULL+in_ok-new+in_ok-send_bundle w ↦
-          let none : c.if-len-eq-FULL.hand ≡ [] = w.hand-is ∙ w.replace-full.ensures.after ∙ w.in_ok-new.ensures in
+    elim c.if-len-eq-ROOM.branch [
+      | then-len-eq-ROOM+in_ok-new+in_ok-send_bundle w ↦
+          let none : c.if-len-eq-ROOM.hand ≡ [] = w.hand-is ∙ w.replace-full.ensures.after ∙ w.in_ok-new.ensures in
           let s = subst (λ h. SentTo c.loop-key.port w.send_bundle.new.port c.args.to (map (ask_of c.loop-key.port.number) h) 1) w.replace-full.ensures.value w.in_ok-send_bundle.ensures in (
-            subst (λ (r : PortView). Filling c.args.site.lanes.now c.args.site.store.now c.args.port.now r c.args.to keys c.if-len-eq-FULL.hand) (sym w.port-is)
-                (fill-sent c.args.site.lanes.now c.args.site.store.now c.args.port.now c.loop-key.port c.args.to c.add.new.self w.send_bundle.new.port keys f s (sym c.len.ensures.count ∙ w.if-len-eq-FULL.true) c.if-len-eq-FULL.hand none),
+            subst (λ (r : PortView). Filling c.args.site.lanes.now c.args.site.store.now c.args.port.now r c.args.to keys c.if-len-eq-ROOM.hand) (sym w.port-is)
+                (fill-sent c.args.site.lanes.now c.args.site.store.now c.args.port.now c.loop-key.port c.args.to c.add.new.self w.send_bundle.new.port keys f s (sym c.len.ensures.count ∙ w.if-len-eq-ROOM.true) c.if-len-eq-ROOM.hand none),
             subst (λ (h : List (ℕ × Key)). length h < 64) (sym none) (omega arith),
           )
-      | else-len-eq-FULL w ↦
+      | else-len-eq-ROOM w ↦
           let few = c.len.ensures.few in
           let count = c.len.ensures.count in
-          let n = w.if-len-eq-FULL.false in
+          let n = w.if-len-eq-ROOM.false in
           let less : length c.add.new.self < 64 = omega (arith, few, count, n) in
           subst (λ (y : PortView × List (ℕ × Key)). Filling c.args.site.lanes.now c.args.site.store.now c.args.port.now y.0 c.args.to keys y.1 × (length y.1 < 64)) (λ j. (sym w.port-is j, sym w.hand-is j)) (f, less)
     ]
