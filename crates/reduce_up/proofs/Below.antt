@@ -1,5 +1,7 @@
 -- Which nodes a reference needs, and functions with bits fixed.
-use Rattle.std.proofs.Common.{◌≡◌, ℕ, ◌+◌, ◌<◌, ◌≤◌, Bool, List, ◌++◌, length, take, drop, sym, ◌∙◌, subst, arith}
+use Rattle.std.proofs.Common.{◌≡◌, ℕ, ◌+◌, ◌<◌, ◌≤◌, inr, Bool, List, ◌++◌, length, take, drop, sym, ◌∙◌, ap, subst, arith}
+use Rattle.std.specs.Prelude.{not}
+use Rattle.std.proofs.Math.Bool.{not-not}
 use Rattle.std.proofs.lemmas.List.{length-append, take-append-drop}
 use Rattle.std.proofs.Math.ListN.{length-take, length-drop}
 use Rattle.dd_store.specs.declared.reference.Ref.{Ref}
@@ -7,9 +9,10 @@ use Rattle.dd_store.specs.Functions.{Agree, IsFixedSomehow, DependsOn}
 use Rattle.dd_store.specs.Nodes.{Nodes, IsSound, den}
 use Rattle.dd_store.specs.Parts.{Met}
 use Rattle.dd_store.specs.Parts.Part.{node}
-use Rattle.dd_store.specs.View.{part, Has}
+use Rattle.dd_store.specs.View.{part, Has, IsOneNode}
 use Rattle.dd_store.proofs.References.{node_for, NodeOf, reads, canonical}
-use Rattle.dd_store.proofs.View.{parts, denotes, same_ref}
+use Rattle.dd_store.proofs.View.{parts, denotes, same_ref, top-node}
+use Rattle.reduce_up.proofs.Opposite.{depends_not}
 
 -- values at each assignment in two parts are values at each assignment
 pub in_parts : (n v : ℕ) → v ≤ n → (f g : List Bool → Bool) → ((q x : List Bool) → length q ≡ v → v + length x ≡ n → f (q ++ x) ≡ g (q ++ x)) → Agree n f g
@@ -38,3 +41,17 @@ module _ (S : Nodes) (w : IsSound S) where
       node_for Ref same_ref S.levels (part S) (Has S) (den S) (parts S w) (denotes S w) r v (den S m) hr f (node_reads m v lo hi hm e) in
       subst (λ z. Met (part S) r z)
       (canonical Ref same_ref S.levels (part S) (Has S) (den S) (parts S w) (denotes S w) at.0 m at.1.has hm (in_parts S.levels v (omega arith) (den S at.0) (den S m) at.1.value)) at.1.reached
+
+  -- below a reference stands the complement of a node that denotes the complement of its function with the bits before the node's level fixed
+  pub complement_below : (r m : Ref) (v : ℕ) (lo hi : Ref) → Has S r → Has S m → part S m ≡ node v lo hi → IsFixedSomehow S.levels v (den S r) (λ x. not (den S m x)) → (c : Ref) × Met (part S) r c × IsOneNode S m c
+  complement_below r m v lo hi hr hm e f =
+      let opposite : List Bool → Bool = λ (x : List Bool). not (den S m x) in
+      let lt : v < S.levels = (parts S w).level m v lo hi hm e in
+      let at : (c : Ref) × NodeOf Ref same_ref S.levels (part S) (Has S) (den S) (parts S w) (denotes S w) r v opposite c =
+      node_for Ref same_ref S.levels (part S) (Has S) (den S) (parts S w) (denotes S w) r v opposite hr f (depends_not S.levels v (den S m) (node_reads m v lo hi hm e)) in
+      let values : Agree S.levels (den S at.0) opposite = in_parts S.levels v (omega arith) (den S at.0) opposite at.1.value in
+      let is = at.1.is_node in (
+        at.0,
+        at.1.reached,
+        inr (top-node S m v lo hi hm e ∙ sym (top-node S at.0 v is.0 is.1 at.1.has is.2), λ x hx. sym (not-not (den S m x)) ∙ ap not (sym (values x hx))),
+      )

@@ -19,7 +19,7 @@ module _ (S : Nodes) (w : IsSound S) (workers : ℕ) (roots : List Key) (good : 
   -- each reached request is a key of the store
   pub reached_key : (k : Key) → IsReached (wave_of S workers) roots k → IsKey S k
   reached_key k (root c) = All-contains (IsKey S) roots k good c
-  reached_key k (child {x = x} b l i e) = held S w x k b l (reached_key x i) e
+  reached_key k (child {x = x} b l m i e) = held S w x k b l m (reached_key x i) e
 
   pub key_at : (k : Key) → IsKey S k → IsKeyAt S (level_of S k) k
   key_at k i = record { first = i.first; second = i.second; level = refl; bounded = bounded S w k i }
@@ -31,13 +31,13 @@ module _ (S : Nodes) (w : IsSound S) (workers : ℕ) (roots : List Key) (good : 
     below = (done_low S w k b r i e).1;
     denotes = λ q x hq hx. done_meaning S w k b r i e (q ++ b ∷ x) (seam_bit S w k b q x hq);
   }
-  right k b (Ask l c) i e =
-      let t : l ≡ level_of S c = told S w k c b l e in
-      let h : IsKey S c = held S w k c b l i e in
-      let d : level_of S k < level_of S c = deeper S w k c b l i e in (
+  right k b (Ask l c m) i e =
+      let t : l ≡ level_of S c = told S w k c b l m e in
+      let h : IsKey S c = held S w k c b l m i e in
+      let d : level_of S k < level_of S c = deeper S w k c b l m i e in (
         subst (λ z. level_of S k < z) (sym t) d,
         subst (λ z. IsKeyAt S z c) (sym t) (key_at c h),
-        λ q x hq hx. asked_meaning S w k c b l i e (q ++ b ∷ x) (seam_bit S w k b q x hq),
+        λ q x hq hx. asked_meaning S w k c b l m i e (q ++ b ∷ x) (seam_bit S w k b q x hq),
       )
 
   module _ (rows : List (List Record)) (closed : IsClosure (wave_of S workers) roots (row_at rows)) where
@@ -48,9 +48,9 @@ module _ (S : Nodes) (w : IsSound S) (workers : ℕ) (roots : List Key) (good : 
 
     asked_here : (k : Key) (b : Bool) (c : Child) → IsReached (wave_of S workers) roots k → child_of S k b ≡ c → IsAsked rows c
     asked_here k b (Done r) i e = tt
-    asked_here k b (Ask l c) i e =
-        let t : l ≡ level_of S c = told S w k c b l e in
-        subst (λ z. (r : Record) × Contains (row_at rows z) r × (r.key ≡ c)) (sym t) (recorded c (child b l i e))
+    asked_here k b (Ask l c m) i e =
+        let t : l ≡ level_of S c = told S w k c b l m e in
+        subst (λ z. (r : Record) × Contains (row_at rows z) r × (r.key ≡ c)) (sym t) (recorded c (child b l m i e))
 
     pub reached_at : (v : ℕ) (r : Record) → v < S.levels → Contains (row_at rows v) r → IsReached (wave_of S workers) roots r.key
     reached_at v r lt c = All-contains (λ r. IsReached (wave_of S workers) roots r.key) (row_at rows v) r (closed.reached v lt) c

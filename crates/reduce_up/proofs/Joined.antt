@@ -1,5 +1,5 @@
 -- A level whose records threads read, divided by shard, and whose diagrams they pick.
-use Rattle.std.proofs.Common.{◌≡◌, ◌≢◌, ℕ, zero, suc, ◌+◌, ◌*◌, ◌<◌, ◌≤◌, ◌⊎◌, inl, inr, true, false, cond, eqb, List, [], ◌∷◌, ◌++◌, length, map, take, drop, get_or, slice_get, Option, Some, Contains, All, refl, sym, ap, ◌∙◌, subst, arith, append_assoc, append-nil, eq-eqb, ne_eqb, length-append}
+use Rattle.std.proofs.Common.{◌≡◌, ◌≢◌, ℕ, zero, suc, ◌+◌, ◌*◌, ◌<◌, ◌≤◌, ◌⊎◌, inl, inr, cond, List, [], ◌∷◌, ◌++◌, length, map, take, drop, get_or, slice_get, Some, Contains, All, refl, sym, ap, ◌∙◌, subst, arith, append_assoc, ne_eqb, length-append}
 use Rattle.std.specs.List.{AllZip}
 use Rattle.std.specs.declared.vec.Vec.{Vec}
 use Rattle.std.specs.declared.alloc.Global.{Global}
@@ -13,22 +13,18 @@ use Rattle.std.proofs.lemmas.Option.{slice_get_within, get_or_from_slice_get}
 use mathlib.Core.List.{reverse}
 use mathlib.Core.Logic.{dite}
 use native.Mathlib.Decide.{ℕ_discrete}
-use Rattle.dd_store.specs.declared.reference.NodeId.{NodeId}
 use Rattle.dd_store.specs.declared.reference.Ref.{Ref}
-use Rattle.dd_store.specs.declared.reference.Reference.TheVariants.{False, True, Node}
 use Rattle.dd_store.specs.declared.StoreFault.{StoreFault}
 use Rattle.dd_store.specs.declared.StoreFault.TheVariants.{Full, OutOfMemory}
 use Rattle.dd_store.specs.Graph.{Pair}
 use Rattle.dd_store.specs.Codes.{shard_of_pair}
 use Rattle.dd_store.specs.Growing.{IsIn}
-use Rattle.dd_store.specs.Levels.{list_at, all_at, refs_at}
-use Rattle.dd_store.specs.Parts.Part.{node}
-use Rattle.dd_store.specs.Nodes.{Nodes, node as node_at, shard_at, IsSound, IsThere, count_of}
+use Rattle.dd_store.specs.Levels.{list_at, all_at, refs_at, plain_lists}
+use Rattle.dd_store.specs.Nodes.{Nodes, shard_at, IsSound, IsThere, count_of}
 use Rattle.dd_store.specs.Adding.{AreReady, GrowsLevel, IsLevelFault, IsMakeFault}
-use Rattle.dd_store.specs.View.{part_of, part, Has}
 use Rattle.dd_store.proofs.LevelFacts.{list_read}
-use Rattle.dd_store.proofs.Storing.{node_in_shard, small_shard, shard-le-count}
-use Rattle.dd_store.proofs.AddingAll.{grown_only, Extends-grown}
+use Rattle.dd_store.proofs.Storing.{small_shard, shard-le-count}
+use Rattle.dd_store.proofs.AddingAll.{Extends-grown, lacking_absent}
 use Rattle.dd_store.proofs.View.{keeps, absent}
 use Rattle.req_table.specs.declared.Key.{Key}
 use Rattle.req_table.specs.declared.Record.{Record}
@@ -40,6 +36,7 @@ use Rattle.reduce_up.specs.declared.division.Homes.{Homes}
 use Rattle.reduce_up.specs.Sharing.{IsPairOf, IsAnswered, CanStand, RowCanStand, AddsRow, IsRowRefused}
 use Rattle.reduce_up.specs.Division.{chosen, span, source, begin_of, IsDivided, IsPicked, IsPickedOf, ArePicked, AreHomes, AreRefsOf}
 use Rattle.reduce_up.specs.Team.{AnswersView, in_turn, team_row, told, read_of, asked_above, AreLeft, AreAllLeft, IsPartRead, AreRead, AreDividedBy, AreMadeOf}
+use Rattle.reduce_up.proofs.Naming.{grown_of_pair}
 use Rattle.reduce_up.proofs.Reading.{in_team}
 use Rattle.reduce_up.proofs.Shared.{zip_right, zip_through}
 use Rattle.reduce_up.proofs.Parted.{homes_of}
@@ -122,38 +119,22 @@ module _ (results : List (Key × Ref)) (S : Nodes) (v : ℕ) (row : List Record)
       of s p w = let o = are s p w in can o.0 p o.1 o.2
 
   module _ (T : Nodes) where
-    pub adds_all : GrowsLevel S T v lists → AddsRow results S T v row
-    adds_all g = record { keeps = keeps S T (Extends-grown S T v lists g); only = other }
-      where
-        other : (m : Ref) → Has T m → Has S m ⊎ ((d : Record) × (p : Pair) × Contains row d × IsPairOf results d p × (p.0 ≢ p.1) × (part T m ≡ node v p.0 p.1))
-        other False h = inl tt
-        other True h = inl tt
-        other (Node m) h = elim (grown_only S T v lists g m h.0 h.1) [
-          | inl old ↦ inl (h.0, old)
-          | inr new ↦ let o = are m.shard h.0 new.2 in inr (o.0, h.0, o.1, o.2, o.3, ap (part_of m) h.1 ∙ ap (λ u. node u h.0.0 h.0.1) new.0)
-        ]
+    pub adds_all : GrowsLevel S T v (plain_lists lists) → AddsRow results S T v row
+    adds_all g = record {
+      keeps = keeps S T (Extends-grown S T v (plain_lists lists) g);
+      only = λ m h. elim (grown_of_pair S T v lists g m h) [ inl old ↦ inl old | inr new ↦ (let o = are new.0 new.1 new.2 in inr (o.0, new.1, o.1, o.2, o.3, new.3)) ];
+    }
 
-    pub refused_all : (f : StoreFault) → IsSound T → (f ≡ Full → IsLevelFault T v lists (Some Full)) → IsRowRefused results T v row f
+    pub refused_all : (f : StoreFault) → IsSound T → (f ≡ Full → IsLevelFault T v (plain_lists lists) (Some Full)) → IsRowRefused results T v row f
     refused_all OutOfMemory w h = tt
     refused_all Full w f =
         let h = f refl in
-        let p : Pair = h.3.0 in
-        let o = are h.0 p h.3.1 in
+        let s : ℕ = h.0 in
         let full = h.2 in
-        let enough : length (shard_at T v h.0) ≤ count_of T = shard-le-count T (16 * v + h.0) in (
-          o.0,
-          p,
-          o.1,
-          o.2,
-          (
-            omega (arith, full, enough),
-            o.3,
-            absent T v p.0 p.1 (λ m at e.
-                let here = node_in_shard T m p e in
-                let shard : m.shard ≡ h.0 = w.sharded m p e ∙ o.4 in
-                h.3.2 (m.index, ap (λ z. slice_get (shard_at T z h.0) m.index) (sym at) ∙ ap (λ z. slice_get (shard_at T m.level z) m.index) (sym shard) ∙ here.1)),
-          ),
-        )
+        let enough : length (shard_at T v s) ≤ count_of T = shard-le-count T (16 * v + s) in
+        let m = lacking_absent T v s (lists s) w (λ p i. (are s p i).4) h.3 in
+        let o = are s m.0 m.1 in
+        (o.0, m.0, o.1, o.2, (omega (arith, full, enough), o.3, absent T v m.0.0 m.0.1 m.2))
 
 in_list : {X : Type 0} (xs : List X) (i : ℕ) (x : X) → slice_get xs i ≡ Some x → Contains xs x
 in_list xs i x e = (i, slice_get_within xs i x e, get_or_from_slice_get xs i x x e)
@@ -272,8 +253,8 @@ pub fault_all : (T : Nodes) (v : ℕ) (lists : ℕ → List Pair) (f : StoreFaul
 fault_all T v lists Full h e = h
 fault_all T v lists OutOfMemory h e = absurd (cc)
 
-pub refused_make : (results : List (Key × Ref)) (S : Nodes) (v : ℕ) (row : List Record) (parts' parts : List (Vec (Vec Pair Global) Global)) → parts' ≡ parts → AreListed results row (all_at parts) → (U : Nodes) (f : StoreFault) → IsSound U → IsMakeFault U v (all_at parts') f → IsRowRefused results U v row f
-refused_make results S v row parts' parts e are U f w h = refused_all results S v row (all_at parts) are U f w (fault_all U v (all_at parts) f (subst (λ (z : List (Vec (Vec Pair Global) Global)). IsMakeFault U v (all_at z) f) e h))
+pub refused_make : (results : List (Key × Ref)) (S : Nodes) (v : ℕ) (row : List Record) (parts' parts : List (Vec (Vec Pair Global) Global)) → parts' ≡ parts → AreListed results row (all_at parts) → (U : Nodes) (f : StoreFault) → IsSound U → IsMakeFault U v (plain_lists (all_at parts')) f → IsRowRefused results U v row f
+refused_make results S v row parts' parts e are U f w h = refused_all results S v row (all_at parts) are U f w (fault_all U v (plain_lists (all_at parts)) f (subst (λ (z : List (Vec (Vec Pair Global) Global)). IsMakeFault U v (plain_lists (all_at z)) f) e h))
 
 -- a part's references are among those of all
 pub pick_room : (parts : List (Vec (Vec Pair Global) Global)) (refs : List (Vec Ref Global)) (k : ℕ) (h : Homes) (p : Vec (Vec Pair Global) Global) → k < length parts → All (λ (part : Vec (Vec Pair Global) Global). length part.items ≡ 16) parts → AreRefsOf parts refs → AreHomes h (list_at (get_or parts k p).items)

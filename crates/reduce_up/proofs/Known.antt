@@ -1,14 +1,21 @@
 -- A wave over the entries of which nothing is known, with what is known of the others, is a wave over all entries.
-use Rattle.std.proofs.Common.{◌≡◌, suc, ℕ, ◌+◌, ◌<◌, drop, slice_index_or, inl, inr, List, [], ◌∷◌, ◌++◌, length, map, Option, Some, None, refl, sym, ◌∙◌, ap, subst, arith, Contains, All, IfSome}
+use Rattle.std.proofs.Common.{◌≡◌, suc, ℕ, ◌+◌, ◌<◌, drop, slice_index_or, inl, inr, Bool, List, [], ◌∷◌, ◌++◌, length, map, Option, Some, None, refl, sym, ◌∙◌, ap, subst, arith, Contains, All, IfSome}
+use Rattle.std.specs.Prelude.{Ok, Err}
+use Rattle.std.specs.Option.{option_map}
+use Rattle.std.specs.declared.vec.Vec.{Vec}
+use Rattle.std.specs.declared.alloc.Global.{Global}
 use Rattle.std.proofs.lemmas.List.{drop_more}
 use Rattle.std.proofs.lemmas.List.Elements.{Contains-append_cases, Contains-append_left, Contains-append_right, All-contains}
 use Rattle.std.proofs.lemmas.Slice.Zip.{AllZip-long}
 use Rattle.dd_store.specs.declared.reference.Ref.{Ref}
-use Rattle.dd_store.specs.Nodes.{Nodes, IsSound, IsDiagram}
+use Rattle.dd_store.specs.Nodes.{Nodes, IsSound, IsDiagram, den}
 use Rattle.dd_store.specs.View.{Keeps as KeepsNodes}
+use Rattle.dd_store.specs.Nodes.{node as node_at}
+use Rattle.dd_store.specs.Marks.{mark_by, turned}
+use Rattle.dd_store.proofs.Marks.{IsRef-mark_by, den-mark_by, turned-twice}
 use Rattle.req_table.specs.Short.{short_of}
 use Rattle.req_table.specs.declared.Key.{Key}
-use Rattle.req_table.specs.Keys.{normal_of, IsKey}
+use Rattle.req_table.specs.Keys.{normal_of, IsKey, meaning}
 use Rattle.req_table.specs.Memos.{Held, Keeps, IsRight, IsAnswerOf, IsValueOf, or_held}
 use Rattle.req_table.proofs.Memos.{known_value, not_known, right_kept, right_with}
 use Rattle.req_table.proofs.Waved.{is_key}
@@ -17,12 +24,13 @@ use Rattle.std.specs.Map.{lookup}
 use Rattle.expand_work.specs.declared.fault.WaveFault.{WaveFault}
 use Rattle.expand_work.specs.declared.fault.WaveFault.TheVariants.{OutOfMemory, NoWorker, Full, TooManyRequests}
 use Rattle.reduce_up.specs.Reducing.{AddsDescribed}
-use Rattle.reduce_up.specs.Waves.{Entry, entry_value, IsEntry, AnswersEach, IsWanted, AddsBelow, HasRequest, IsWaveFault, IsWithinLimit}
+use Rattle.reduce_up.specs.Waves.{Entry, entry_value, IsEntry, AnswersEach, IsWanted, AddsBelow, HasRequest, IsWaveFault, IsWithinLimit, AnswersWave}
 use Rattle.reduce_up.specs.Known.{known_entry, unless_known, unknown, missing, woven, AreKept, found_of, IsKeptWave, Seeking, IsSought}
 use Rattle.reduce_up.proofs.Noting.{nothing, head_in, tail_in, in_cases}
+use Rattle.reduce_up.proofs.Opposite.{either_more}
 use Rattle.reduce_up.proofs.Reduction.{kept_meaning, diagram_kept}
 use Rattle.reduce_up.proofs.Rooted.{all_of, normal_means}
-use Rattle.reduce_up.proofs.Waving.{adds_below}
+use Rattle.reduce_up.proofs.Waving.{adds_below, wave_given_up, wave_done}
 
 -- ---- the entries of which nothing is known
 -- they are entries without a short answer
@@ -61,12 +69,15 @@ unknown_count m (e ∷ es) = by (known_entry m e) (unknown_count m es)
     by (Some r) k = k
 
 -- what is wanted of them is wanted of all
+wanted_all : (S : Nodes) (m : Held) (es : List Entry) (v : ℕ) (f : List Bool → Bool) → IsWanted S (unknown m es) v f → IsWanted S es v f
+wanted_all S m es v f w = record { entry = w.entry; is_entry = (unknown_is m es w.entry w.is_entry).0; fixed = w.fixed; depends = w.depends }
+
 pub wanted_of_all : (S T : Nodes) (m : Held) (es : List Entry) → AddsDescribed S T (IsWanted S (unknown m es)) → AddsDescribed S T (IsWanted S es)
 wanted_of_all S T m es adds = record {
   keeps = adds.keeps;
   described = λ r h. elim (adds.described r h) [
     | inl old ↦ inl old
-    | inr new ↦ inr (new.0, new.1, new.2, new.3, record { entry = new.4.entry; is_entry = (unknown_is m es new.4.entry new.4.is_entry).0; fixed = new.4.fixed; depends = new.4.depends })
+    | inr new ↦ inr (new.0, new.1, new.2, new.3, either_more (IsWanted S (unknown m es) new.0) (IsWanted S es new.0) (wanted_all S m es new.0) (den T r) new.4)
   ];
 }
 
@@ -93,16 +104,21 @@ module _ (S : Nodes) (w : IsSound S) (m : Held) (right : IsRight S m) (T : Nodes
   right_after (e ∷ es) good long [] z old new was kept = absurd z
   right_after (e ∷ es) good long (r ∷ found) z old new was kept =
       right_after es (λ k b lt. good (suc k) b (omega arith)) (λ k b lt. long (suc k) b (omega arith)) found z.1 kept.0 new
-      (right_with T old (normal_of e.0 e.1 e.2) r kept.0 was is kept.1) kept.2
+      (right_with T old (normal_of e.0 e.1 e.2).0 (mark_by (normal_of e.0 e.1 e.2).1 r) kept.0 was is kept.1) kept.2
     where
-      key : IsKey S (normal_of e.0 e.1 e.2)
+      key : IsKey S (normal_of e.0 e.1 e.2).0
       key = is_key S e.0 e.1 e.2 (good 0 e (omega arith)).0 (good 0 e (omega arith)).1 (long 0 e (omega arith))
 
-      is : IsAnswerOf T (normal_of e.0 e.1 e.2) r
+      is : IsAnswerOf T (normal_of e.0 e.1 e.2).0 (mark_by (normal_of e.0 e.1 e.2).1 r)
       is = record {
-        first = keeps.has (normal_of e.0 e.1 e.2).f key.first;
-        second = keeps.has (normal_of e.0 e.1 e.2).g key.second;
-        diagram = (z.0.0, λ x hx. z.0.1 x hx ∙ sym (normal_means S e x) ∙ sym (kept_meaning S T w keeps (normal_of e.0 e.1 e.2) key.first key.second x));
+        first = keeps.has (normal_of e.0 e.1 e.2).0.f key.first;
+        second = keeps.has (normal_of e.0 e.1 e.2).0.g key.second;
+        diagram =
+            let m : Bool = (normal_of e.0 e.1 e.2).1 in
+            let k : Key = (normal_of e.0 e.1 e.2).0 in (
+              IsRef-mark_by (node_at T) m r z.0.0,
+              λ x hx. den-mark_by T m r x ∙ ap (turned m) (z.0.1 x hx ∙ sym (normal_means S e x)) ∙ turned-twice m (meaning S k x) ∙ sym (kept_meaning S T w keeps k key.first key.second x),
+            );
       }
 
   -- and so after a wave
@@ -154,6 +170,16 @@ module _ (S : Nodes) (w : IsSound S) (m : Held) (right : IsRight S m) (es : List
     pub sought_right : AddsDescribed S T (IsWanted S asked) → IsRight T m
     sought_right adds = right_kept S T w adds.keeps m right
 
+    -- a wave over what was sought is one over all entries
+    pub sought_given_up : IsSound T → AddsDescribed S T (IsWanted S asked) → (e : WaveFault) → IsWaveFault S (unknown m es) T e → AnswersWave S es (unknown m es) (Err e) T
+    sought_given_up u adds e f = wave_given_up S es (unknown m es) T e u (sought_adds adds) f
+
+    pub sought_refused : (e : WaveFault) → AnswersWave S asked asked (Err e) T → AnswersWave S es (unknown m es) (Err e) T
+    sought_refused e a = sought_given_up a.sound a.adds e (subst (λ z. IsWaveFault S z T e) only a.fault)
+
+    pub sought_done : (found : Vec Ref Global) → AnswersWave S asked asked (Ok found) T → (answers : Vec Ref Global) → AnswersEach S es T answers.items → AnswersWave S es (unknown m es) (Ok answers) T
+    sought_done found a answers z = wave_done S es (unknown m es) T answers a.sound (sought_adds a.adds) z (subst (λ l. IsWithinLimit S l T) only a.within)
+
     module _ (found slice : List Ref) (same : slice ≡ found) (z : AnswersEach S asked T found) where
       pub found_each : length slice ≡ length s.requests
       found_each = ap (λ (l : List Ref). length l) same ∙ as_many S T asked found z ∙ ap (λ (l : List Entry). length l) are
@@ -187,7 +213,7 @@ unknown_in m (d ∷ es) e c h =
 
 -- where nothing is held, each entry without a short answer is a request
 pub request_unknown : (m : Held) (es : List Entry) → m.pairs ≡ [] → HasRequest es → HasRequest (unknown m es)
-request_unknown m es empty (e, c, long) = (e, unknown_in m es e c (ap (or_held m (normal_of e.0 e.1 e.2)) long ∙ ap (λ pairs. lookup (eq-value.it (normal_of e.0 e.1 e.2)) pairs) empty), long)
+request_unknown m es empty (e, c, long) = (e, unknown_in m es e c (ap (or_held m (normal_of e.0 e.1 e.2)) long ∙ ap (λ pairs. option_map (mark_by (normal_of e.0 e.1 e.2).1) (lookup (eq-value.it (normal_of e.0 e.1 e.2).0) pairs)) empty), long)
 
 -- where a memo holds nothing, a wave is within its limit as its entries are
 pub within_all : (S T : Nodes) (m : Held) (es : List Entry) → m.pairs ≡ [] → IsWithinLimit S (unknown m es) T → IsWithinLimit S es T
@@ -224,13 +250,13 @@ fault_of_all S T m es Full (asked, why) = (
 )
 
 -- after one more entry was kept, what is left of the entries is kept from there on
-pub kept_more : (old m new : Held) (es : List Entry) (rs : List Ref) (i : ℕ) (e : Entry) (r : Ref) (k : Key) → i < length es → length rs ≡ length es
-    → e ≡ slice_index_or es i e → r ≡ slice_index_or rs i r → k ≡ normal_of e.0 e.1 e.2 → Keeps old k r m → AreKept m (drop (i + 1) es) (drop (i + 1) rs) new → AreKept old (drop i es) (drop i rs) new
+pub kept_more : (old m new : Held) (es : List Entry) (rs : List Ref) (i : ℕ) (e : Entry) (r : Ref) (k : Key × Bool) → i < length es → length rs ≡ length es
+    → e ≡ slice_index_or es i e → r ≡ slice_index_or rs i r → k ≡ normal_of e.0 e.1 e.2 → Keeps old k.0 (mark_by k.1 r) m → AreKept m (drop (i + 1) es) (drop (i + 1) rs) new → AreKept old (drop i es) (drop i rs) new
 kept_more old m new es rs i e r k lt len at_e at_r is kept more =
     subst (λ z. AreKept old z (drop i rs) new) (sym (drop_more es i e lt))
     (subst (λ z. AreKept old (slice_index_or es i e ∷ drop (i + 1) es) z new) (sym (drop_more rs i r (subst (λ n. i < n) (sym len) lt))) (
       m,
-      subst (λ (z : Entry). Keeps old (normal_of z.0 z.1 z.2) (slice_index_or rs i r) m) at_e
-          (subst (λ z. Keeps old (normal_of e.0 e.1 e.2) z m) at_r (subst (λ z. Keeps old z r m) is kept)),
+      subst (λ (z : Entry). Keeps old (normal_of z.0 z.1 z.2).0 (mark_by (normal_of z.0 z.1 z.2).1 (slice_index_or rs i r)) m) at_e
+          (subst (λ z. Keeps old (normal_of e.0 e.1 e.2).0 (mark_by (normal_of e.0 e.1 e.2).1 z) m) at_r (subst (λ (z : Key × Bool). Keeps old z.0 (mark_by z.1 r) m) is kept)),
       more,
     ))

@@ -10,6 +10,7 @@ use Rattle.req_table.specs.declared.Key.{Key}
 use Rattle.req_table.specs.declared.Child.{Child}
 use Rattle.req_table.specs.declared.Child.TheVariants.{Done, Ask}
 use Rattle.req_table.specs.declared.Record.{Record}
+use Rattle.dd_store.specs.Functions.{OfEither}
 use Rattle.dd_store.specs.Parts.Part.{node}
 use Rattle.dd_store.specs.Nodes.{Nodes, den, IsSound, count_of}
 use Rattle.dd_store.specs.View.{part, Has, Keeps}
@@ -18,11 +19,12 @@ use Rattle.req_table.specs.Tables.{row_at}
 use Rattle.reduce_up.specs.Levels.{IsAsked, AreRecords, AskedInRows, AreReducedFrom, AreReduced, IsWithinFrom, IsReduceFault}
 use Rattle.reduce_up.proofs.Reduction.{record_kept, kept_meaning, adds_none}
 use Rattle.reduce_up.proofs.Noting.{nothing}
-use Rattle.dd_store.proofs.View.{kept_den, keeps-trans}
+use Rattle.reduce_up.proofs.Opposite.{either_more, either_kept}
+use Rattle.dd_store.proofs.View.{keeps-trans}
 
 ready : (start : Nodes) (rows : List (List Record)) (v : ℕ) (s : Nodes) (pairs : List (Key × Ref)) (k : Key) (bit : Bool) (c : Child) → AreReducedFrom start rows (v + 1) s pairs → IsChild start v k bit c → IsAsked rows c → IsReady pairs c
 ready start rows v s pairs k bit (Done r) d i a = tt
-ready start rows v s pairs k bit (Ask l m) d i a =
+ready start rows v s pairs k bit (Ask l m b) d i a =
     let lt : v < l = i.0 in
     let fit : l < start.levels = i.1.bounded in
     subst (HasAnswer pairs) a.2 (d.done l a.0 (omega arith) fit a.1)
@@ -45,18 +47,18 @@ level_adds start rows v s u S T R lt i j = record { keeps = keeps-trans start s 
     L : Keeps s u
     L = j.keeps
 
-    earlier : (m : Ref) → Has s m → Has start m ⊎ ((w : ℕ) × (lo : Ref) × (hi : Ref) × (part s m ≡ node w lo hi) × AskedInRows start rows w (den s m)) → Has start m ⊎ ((w : ℕ) × (lo : Ref) × (hi : Ref) × (part u m ≡ node w lo hi) × AskedInRows start rows w (den u m))
+    earlier : (m : Ref) → Has s m → Has start m ⊎ ((w : ℕ) × (lo : Ref) × (hi : Ref) × (part s m ≡ node w lo hi) × OfEither (AskedInRows start rows w) (den s m)) → Has start m ⊎ ((w : ℕ) × (lo : Ref) × (hi : Ref) × (part u m ≡ node w lo hi) × OfEither (AskedInRows start rows w) (den u m))
     earlier m h (inl k) = inl k
-    earlier m h (inr k) = inr (k.0, k.1, k.2, L.part_is m h ∙ k.3, (k.4.0, k.4.1, λ x hx. kept_den s u T L m h x ∙ k.4.2 x hx))
+    earlier m h (inr k) = inr (k.0, k.1, k.2, L.part_is m h ∙ k.3, either_kept s u T L (AskedInRows start rows k.0) m h k.4)
 
-    later : (m : Ref) → Has s m ⊎ ((w : ℕ) × (lo : Ref) × (hi : Ref) × (part u m ≡ node w lo hi) × AskedBy s v (row_at rows v) w (den u m)) → Has start m ⊎ ((w : ℕ) × (lo : Ref) × (hi : Ref) × (part u m ≡ node w lo hi) × AskedInRows start rows w (den u m))
+    of_rows : (w : ℕ) (f : List Bool → Bool) → AskedBy s v (row_at rows v) w f → AskedInRows start rows w f
+    of_rows w f (at, (r, c, e)) =
+        let key : IsRecordAt start v r = R.records v r lt c in
+        (r, subst (λ w. Contains (row_at rows w) r) (sym at) c, λ x hx. e x (hx ∙ sym K.levels) ∙ kept_meaning start s S K r.key key.key.first key.key.second x)
+
+    later : (m : Ref) → Has s m ⊎ ((w : ℕ) × (lo : Ref) × (hi : Ref) × (part u m ≡ node w lo hi) × OfEither (AskedBy s v (row_at rows v) w) (den u m)) → Has start m ⊎ ((w : ℕ) × (lo : Ref) × (hi : Ref) × (part u m ≡ node w lo hi) × OfEither (AskedInRows start rows w) (den u m))
     later m (inl h) = earlier m h (i.described m h)
-    later m (inr k) =
-        let r : Record = k.4.1.0 in
-        let at : k.0 ≡ v = k.4.0 in
-        let member : Contains (row_at rows k.0) r = subst (λ w. Contains (row_at rows w) r) (sym at) k.4.1.1 in
-        let key : IsRecordAt start v r = R.records v r lt k.4.1.1 in
-        inr (k.0, k.1, k.2, k.3, (r, member, λ x hx. k.4.1.2 x (hx ∙ sym K.levels) ∙ kept_meaning start s S K r.key key.key.first key.key.second x))
+    later m (inr k) = inr (k.0, k.1, k.2, k.3, either_more (AskedBy s v (row_at rows v) k.0) (AskedInRows start rows k.0) (of_rows k.0) (den u m) k.4)
 
 level_within : (start : Nodes) (rows : List (List Record)) (v : ℕ) (s u : Nodes) → IsWithinFrom start rows (v + 1) s → IsRowWithin s (row_at rows v) u → IsWithinFrom start rows v u
 level_within start rows v s u h (inl le) = inl le

@@ -1,4 +1,6 @@
+pub mod Naming
 pub mod Noting
+pub mod Opposite
 pub mod Placing
 pub mod Reduction
 pub mod Levelling

@@ -1,16 +1,14 @@
 -- Nodes that are made one after the other for the records of a row.
-use Rattle.std.proofs.Common.{◌≡◌, ◌≢◌, ℕ, ◌+◌, ◌<◌, ◌≤◌, ◌⊎◌, inl, inr, List, [], ◌∷◌, ◌++◌, length, drop, get_or, set, get_or-set_same, get_or-set_other, length-append, Some, Contains, refl, sym, ap, ◌∙◌, subst, arith}
+use Rattle.std.proofs.Common.{◌≡◌, ◌≢◌, ℕ, ◌+◌, ◌<◌, ◌≤◌, ◌⊎◌, inl, inr, List, [], ◌∷◌, ◌++◌, length, drop, get_or, set, get_or-set_same, get_or-set_other, length-append, Contains, refl, sym, ap, ◌∙◌, subst, arith}
 use Rattle.std.specs.List.{AllZip}
 use mathlib.Core.List.{reverse}
 use Rattle.dd_store.specs.declared.StoreFault.{StoreFault}
 use Rattle.dd_store.specs.declared.StoreFault.TheVariants.{Full, OutOfMemory}
 use Rattle.dd_store.specs.declared.reference.Ref.{Ref}
-use Rattle.dd_store.specs.declared.reference.Reference.TheVariants.{False, True, Node}
 use Rattle.dd_store.specs.Graph.{Pair}
 use Rattle.dd_store.specs.Graph.{top as level_of}
-use Rattle.dd_store.specs.Nodes.{Nodes, IsSound, IsThere, Extends}
-use Rattle.dd_store.specs.Parts.Part.{node}
-use Rattle.dd_store.specs.View.{Has, Keeps, part, part_of, IsMade, IsFull}
+use Rattle.dd_store.specs.Nodes.{Nodes, IsSound, Extends}
+use Rattle.dd_store.specs.View.{Has, Keeps, IsOneNode, IsMade, IsFull}
 use Rattle.dd_store.proofs.View.{keeps-trans}
 use Rattle.req_table.specs.declared.Key.{Key}
 use Rattle.req_table.specs.declared.Record.{Record}
@@ -24,20 +22,9 @@ use native.Mathlib.Decide.{ℕ_discrete}
 use Rattle.expand_work.specs.Expanded.{row_of}
 use Rattle.expand_work.specs.Gathered.{PartsView}
 use Rattle.reduce_up.specs.Team.{AnswersView, AreLeft, AreAllLeft, AreMadeOf, asked_above, team_row, told}
-use Rattle.reduce_up.specs.Sharing.{IsPairOf, IsAnswered, CanStand, RowCanStand, AddsRow, IsRowRefused}
-
-pub made_there : (T : Nodes) (v : ℕ) (lo hi r : Ref) → Has T r → ((lo ≡ hi) × (r ≡ lo)) ⊎ ((lo ≢ hi) × (part T r ≡ node v lo hi)) → IsThere T v lo hi r
-made_there T v lo hi r h (inl e) = inl e
-made_there T v lo hi False h (inr e) = absurd (let z = e.1 in cc)
-made_there T v lo hi True h (inr e) = absurd (let z = e.1 in cc)
-made_there T v lo hi (Node m) h (inr e) =
-    let at : node m.level h.0.0 h.0.1 ≡ node v lo hi = sym (ap (part_of m) h.1) ∙ e.1 in
-    let l : m.level ≡ v = cc in let a : h.0.0 ≡ lo = cc in let b : h.0.1 ≡ hi = cc in
-    inr (e.0, (m, refl, l, h.1 ∙ (λ i. Some (a i, b i))))
-
-there_still : (S T : Nodes) (v : ℕ) (lo hi r : Ref) → Extends S T → IsThere S v lo hi r → IsThere T v lo hi r
-there_still S T v lo hi r x (inl e) = inl e
-there_still S T v lo hi r x (inr e) = inr (e.0, (e.1.0, e.1.1, e.1.2, x.nodes e.1.0 (lo, hi) e.1.3))
+use Rattle.reduce_up.specs.Sharing.{IsPairOf, IsAnswered, CanStand, RowCanStand, IsOfPair, AddsRow, IsRowRefused}
+use Rattle.reduce_up.proofs.Naming.{there_still, part_there}
+use Rattle.reduce_up.proofs.Opposite.{of_pair_kept}
 
 -- what has a diagram keeps it
 pub answered_still : (results : List (Key × Ref)) (S T : Nodes) (v : ℕ) → Extends S T → (row : List Record) (answers : List Ref) → AllZip (IsAnswered results S v) row answers → AllZip (IsAnswered results T v) row answers
@@ -64,23 +51,23 @@ row_stands_on results S T v row k c = λ d p i e. stands_on S T v p k (c d p i e
 pub adds_none : (results : List (Key × Ref)) (S : Nodes) (v : ℕ) (row : List Record) → AddsRow results S S v row
 adds_none results S v row = record { keeps = record { levels = refl; limit = refl; has = λ r h. h; part_is = λ r h. refl }; only = λ m h. inl h }
 
-module _ (results : List (Key × Ref)) (S T U : Nodes) (v : ℕ) (row : List Record) (a : AddsRow results S T v row) where
-  old_node : Keeps T U → (q : Ref) → Has T q → Has S q ⊎ ((d : Record) × (p : Pair) × Contains row d × IsPairOf results d p × (p.0 ≢ p.1) × (part U q ≡ node v p.0 p.1))
-  old_node k q h = elim (a.only q h) [ inl i ↦ inl i | inr w ↦ inr (w.0, w.1, w.2, w.3, w.4, k.part_is q h ∙ w.5) ]
+module _ (results : List (Key × Ref)) (S T U : Nodes) (v : ℕ) (row : List Record) (sound : IsSound T) (a : AddsRow results S T v row) where
+  old_node : Keeps T U → (q : Ref) → Has T q → Has S q ⊎ ((d : Record) × (p : Pair) × Contains row d × IsPairOf results d p × (p.0 ≢ p.1) × IsOfPair U v p q)
+  old_node k q h = elim (a.only q h) [ inl i ↦ inl i | inr w ↦ inr (w.0, w.1, w.2, w.3, w.4, of_pair_kept T U sound k v w.1 q h w.5) ]
 
   -- more nodes of the same row
   pub adds_on : AddsRow results T U v row → AddsRow results S U v row
   adds_on b = record { keeps = keeps-trans S T U a.keeps b.keeps; only = λ q h. elim (b.only q h) [ inl old ↦ old_node b.keeps q old | inr new ↦ inr new ] }
 
   -- one node more
-  pub adds_one : (d : Record) (p : Pair) (r : Ref) → Contains row d → IsPairOf results d p → Has T p.0 → IsMade T U v p.0 p.1 r → AddsRow results S U v row
-  adds_one d p r c e low m = record { keeps = keeps-trans S T U a.keeps m.keeps; only = λ q h. of q (m.no_other q h) }
+  pub adds_one : (d : Record) (p : Pair) (r : Ref) → Contains row d → IsPairOf results d p → IsMade T U v p.0 p.1 r → AddsRow results S U v row
+  adds_one d p r c e m = record { keeps = keeps-trans S T U a.keeps m.keeps; only = λ q h. of q (m.no_other q h) }
     where
-      of : (q : Ref) → Has T q ⊎ (q ≡ r) → Has S q ⊎ ((d : Record) × (p : Pair) × Contains row d × IsPairOf results d p × (p.0 ≢ p.1) × (part U q ≡ node v p.0 p.1))
+      of : (q : Ref) → Has T q ⊎ ((p.0 ≢ p.1) × IsOneNode U q r) → Has S q ⊎ ((d : Record) × (p : Pair) × Contains row d × IsPairOf results d p × (p.0 ≢ p.1) × IsOfPair U v p q)
       of q (inl h) = old_node m.keeps q h
       of q (inr s) = elim m.is [
-        | inl w ↦ old_node m.keeps q (subst (Has T) (sym (s ∙ w.1)) low)
-        | inr w ↦ inr (d, p, c, e, w.0, ap (part U) s ∙ w.1)
+        | inl w ↦ absurd (s.0 w.0)
+        | inr w ↦ inr (d, p, c, e, w.0, (r, (m.has, w.1), s.1))
       ]
 
 -- so many records of a part of the row have their diagrams
@@ -92,7 +79,7 @@ pub record AreMaking (results : List (Key × Ref)) (S : Nodes) (v : ℕ) (row ow
 
 -- the node of a record is made
 pub one_made : (results : List (Key × Ref)) (T U : Nodes) (v : ℕ) (d : Record) (p : Pair) (r : Ref) → IsPairOf results d p → IsMade T U v p.0 p.1 r → IsAnswered results U v d r
-one_made results T U v d p r e m = (p, e, made_there U v p.0 p.1 r m.has m.is)
+one_made results T U v d p r e m = (p, e, part_there U v p.0 p.1 r m.has m.is)
 
 -- or refused
 pub one_refused : (results : List (Key × Ref)) (T U : Nodes) (v : ℕ) (row : List Record) (d : Record) (p : Pair) → Contains row d → IsPairOf results d p → U ≡ T → (f : StoreFault) → IsFull T v p.0 p.1 f → IsRowRefused results U v row f
@@ -123,7 +110,7 @@ module _ (n : ℕ) (roots : List Key) (p : PartsView) (a : AnswersView) (S : Nod
       → (answers' : List (Vec Ref Global)) → answers' ≡ answers ++ part ∷ [] → AreMakingLevel n roots p a S v (m + 1) U answers' (set lefts m left)
   making_more U sound x adds part made left own answers' is = record {
     sound = sound;
-    adds = adds_on (told n p a) S T U v (team_row n p v) h.adds adds;
+    adds = adds_on (told n p a) S T U v (team_row n p v) h.sound h.adds adds;
     made = record {
       long = ap (λ z. length z) is ∙ length-append answers (part ∷ []) ∙ ap (λ z. z + 1) h.made.long;
       each = λ k d l. dite (ℕ_discrete k m)

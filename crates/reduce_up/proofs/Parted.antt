@@ -1,8 +1,6 @@
 -- What is read of a worker's records of a level, divided by shard.
-use Rattle.std.proofs.Common.{◌≡◌, ◌≢◌, ℕ, zero, suc, ◌+◌, ◌<◌, ◌≤◌, ◌⊎◌, inl, inr, List, [], ◌∷◌, ◌++◌, length, map, take, drop, get_or, slice_get, Some, Contains, All, refl, sym, ap, ◌∙◌, subst, arith, append_assoc, append-nil, length-append}
+use Rattle.std.proofs.Common.{◌≡◌, ◌≢◌, ℕ, ◌+◌, ◌<◌, ◌≤◌, inl, inr, List, [], ◌∷◌, ◌++◌, length, drop, get_or, All, refl, sym, ap, ◌∙◌, subst, arith, length-append}
 use Rattle.std.specs.List.{AllZip}
-use Rattle.std.specs.declared.vec.Vec.{Vec}
-use Rattle.std.specs.declared.alloc.Global.{Global}
 use Rattle.std.proofs.lemmas.List.{drop_more, reverse-append}
 use Rattle.std.proofs.lemmas.List.Elements.{All-push}
 use Rattle.std.proofs.lemmas.Option.{slice_get_within}
@@ -21,7 +19,7 @@ use Rattle.req_table.specs.declared.Record.{Record}
 use Rattle.expand_work.proofs.Zips.{zip_push, zip_long}
 use Rattle.reduce_up.specs.declared.division.Divided.{Divided}
 use Rattle.reduce_up.specs.declared.division.Homes.{Homes}
-use Rattle.reduce_up.specs.Sharing.{IsPairOf, IsListed}
+use Rattle.reduce_up.specs.Sharing.{IsPairOf}
 use Rattle.reduce_up.specs.Division.{chosen, IsDivided, IsPut, AreHomes}
 use Rattle.reduce_up.proofs.Dividing.{came}
 use Rattle.reduce_up.proofs.Parting.{chosen-own, chosen-other, chosen-many}

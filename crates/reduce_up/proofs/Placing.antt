@@ -1,5 +1,5 @@
 -- Diagrams by level: what the levels hold together, and what is found by place.
-use Rattle.std.proofs.Common.{◌≡◌, ℕ, zero, suc, ◌+◌, ◌<◌, ◌≤◌, ◌⊎◌, inl, inr, Bool, true, false, eqb, List, [], ◌∷◌, ◌++◌, length, map, get_or, set, slice_get, Some, None, refl, sym, ◌∙◌, ap, subst, arith, Contains, eqb-true, eq-eqb, get_or-set_same, get_or-set_other, length-append}
+use Rattle.std.proofs.Common.{◌≡◌, ℕ, zero, suc, ◌<◌, ◌≤◌, ◌⊎◌, inl, inr, true, false, eqb, List, [], ◌∷◌, ◌++◌, length, map, get_or, set, slice_get, Some, None, refl, sym, ◌∙◌, ap, subst, arith, Contains, eqb-true, eq-eqb, get_or-set_same, get_or-set_other}
 use Rattle.std.specs.Prelude.{Option, MatchOption, IsSome, Result, Ok, Err, OnOk, OnErr, All, min}
 use Rattle.std.specs.declared.alloc.AllocError.{AllocError}
 use Rattle.std.proofs.lemmas.List.{get_or_default, set-get_or, length-map}
@@ -232,13 +232,13 @@ module _ (rows : List (List (Key × Ref))) (i : ℕ) (row : List Record) (answer
 tops : (n v : ℕ) (f g : Ref) → n ≤ 4096 → v < n → min (top n f) (top n g) ≡ v → min (top 4096 f) (top 4096 g) ≡ v
 tops n v False False s l e = absurd (omega (arith, l, e))
 tops n v False True s l e = absurd (omega (arith, l, e))
-tops n v False (Node b) s l e = omega (arith, s, l, e)
+tops n v False (Node b bm) s l e = omega (arith, s, l, e)
 tops n v True False s l e = absurd (omega (arith, l, e))
 tops n v True True s l e = absurd (omega (arith, l, e))
-tops n v True (Node b) s l e = omega (arith, s, l, e)
-tops n v (Node a) False s l e = omega (arith, s, l, e)
-tops n v (Node a) True s l e = omega (arith, s, l, e)
-tops n v (Node a) (Node b) s l e = e
+tops n v True (Node b bm) s l e = omega (arith, s, l, e)
+tops n v (Node a am) False s l e = omega (arith, s, l, e)
+tops n v (Node a am) True s l e = omega (arith, s, l, e)
+tops n v (Node a am) (Node b bm) s l e = e
 
 pub place_at : (S : Nodes) (v : ℕ) (k : Key) → S.levels ≤ 4096 → IsKeyAt S v k → place_of k ≡ v
 place_at S v k small at = tops S.levels v k.f k.g small at.bounded at.level

@@ -1,5 +1,5 @@
 -- What is read of the workers' parts: a child's place by its number, and its diagram by its place.
-use Rattle.std.proofs.Common.{◌≡◌, ◌≢◌, ℕ, zero, suc, ◌+◌, ◌-◌, ◌*◌, ◌<◌, ◌≤◌, Bool, true, false, cond, eqb, List, [], ◌∷◌, ◌++◌, length, map, filter, take, drop, get_or, set, slice_get, Some, replicate, Contains, All, inl, inr, refl, sym, ap, ◌∙◌, subst, arith, append_assoc, append-nil, eq-eqb, ne_eqb, get_or-set_same, get_or-set_other, length-append}
+use Rattle.std.proofs.Common.{◌≡◌, ℕ, zero, suc, ◌+◌, ◌-◌, ◌*◌, ◌<◌, Bool, true, false, cond, List, [], ◌∷◌, ◌++◌, length, map, filter, take, drop, get_or, set, slice_get, Some, replicate, Contains, refl, sym, ap, ◌∙◌, subst, arith, append_assoc, append-nil, eq-eqb, ne_eqb, get_or-set_same, get_or-set_other, length-append}
 use Rattle.std.specs.List.{AllZip}
 use Rattle.std.proofs.lemmas.List.{take_more, take_all, take-append-drop, length-set, length-map, map-append, get_or_append_left, get_or-map, get_or_default, drop_more, reverse-append}
 use Rattle.std.proofs.Math.Seq.{drop-length}
@@ -10,7 +10,6 @@ use Rattle.std.proofs.lemmas.List.Elements.{filter-append}
 use Rattle.std.proofs.lemmas.Option.{slice_get_within, get_or_from_slice_get, slice_get-get_or}
 use Rattle.std.specs.declared.vec.Vec.{Vec}
 use Rattle.std.specs.declared.alloc.Global.{Global}
-use Rattle.std.proofs.Math.ListN.{get_or-eq_default}
 use mathlib.Core.Logic.{dite}
 use native.Mathlib.Decide.{ℕ_discrete}
 use Rattle.dd_store.specs.declared.reference.Ref.{Ref}
@@ -22,8 +21,8 @@ use Rattle.req_table.specs.declared.Record.{Record}
 use Rattle.req_table.specs.declared.placed.Placed.{Placed}
 use Rattle.req_table.specs.declared.placed.PlacedChild.TheVariants as placed
 use Rattle.expand_work.specs.Lean.{lean, lean_row}
-use Rattle.req_table.specs.Keys.{level_of, owner, wave_of}
-use Rattle.req_table.specs.Settled.{key_of, asked, asked_by, asked_below, dealt_from, level_of_rows, owed}
+use Rattle.req_table.specs.Keys.{level_of, owner}
+use Rattle.req_table.specs.Settled.{key_of, asked, asked_by, asked_below, dealt_from, level_of_rows}
 use Rattle.req_table.specs.Tables.{row_at}
 use Rattle.expand_work.specs.Work.{owned_by}
 use Rattle.expand_work.specs.Expanded.{row_of}
@@ -31,21 +30,9 @@ use Rattle.expand_work.specs.Gathered.{PartsView, AreParts, noted_of}
 use Rattle.expand_work.proofs.Counting.{asked_by-append}
 use Rattle.req_table.specs.Short.{op_number}
 use Rattle.dd_store.specs.Codes.{code_of}
-use Rattle.std.specs.Prelude.{Result, Ok, ◌⊎◌}
-use Rattle.std.proofs.lemmas.List.Elements.{All-contains}
-use Rattle.dd_store.specs.declared.StoreFault.{StoreFault}
-use Rattle.dd_store.specs.declared.StoreFault.TheVariants.{Full, OutOfMemory}
-use Rattle.dd_store.proofs.View.{keeps-trans}
-use Rattle.std.specs.declared.alloc.AllocError.{AllocError}
-use Rattle.dd_store.specs.Graph.{Pair}
-use Rattle.dd_store.specs.declared.reference.Reference.TheVariants.{False, True, Node}
-use Rattle.dd_store.specs.Nodes.{IsSound, IsThere, Extends}
-use Rattle.dd_store.specs.Parts.Part.{node}
-use Rattle.dd_store.specs.View.{Has, part, part_of, IsMade, IsFull}
-use Rattle.expand_work.proofs.Zips.{zip_long, zip_push, zip_weaker}
-use Rattle.reduce_up.specs.Sharing.{IsPairOf, CanStand, AddsPairs, IsPairsFault}
-use Rattle.reduce_up.proofs.Rooted.{item_at, item_next}
-use Rattle.reduce_up.specs.Reducing.{IsChild, IsRecordAt, IsResolved}
+use Rattle.expand_work.proofs.Zips.{zip_long}
+use Rattle.reduce_up.proofs.Rooted.{item_at}
+use Rattle.reduce_up.specs.Reducing.{IsChild, IsRecordAt}
 use Rattle.reduce_up.specs.Placed.{paired, joined}
 use Rattle.reduce_up.specs.Team.{AnswersView, answers_at, in_turn, team_row, gathered, levels_told, told, asked_above, AreLeft, AreFewer, IsLast, IsLevelDone, IsFound, IsHalfway}
 use Rattle.reduce_up.proofs.Placing.{in_left, in_right, joined_in, paired_at}
@@ -170,12 +157,12 @@ module _ (n : ℕ) (p : PartsView) (a : AnswersView) (l : ℕ) (x : Key) (k plac
       (subst (λ z. Contains {X = Key × Ref} z (x, r)) (sym at) (subst (λ z. Contains {X = Key × Ref} (paired (map key_of (team_row n p l)) all) (x, z)) (get_or_from_slice_get all i r r (in_all r f)) w.1))
 
 -- one request of its owner's fewer
-pub one_fewer : (n : ℕ) (l : ℕ) (x : Key) (old : List ℕ) → owner n x < length old → 0 < get_or old (owner n x) 0 → AreFewer n (Ask l x) old (set old (owner n x) (get_or old (owner n x) 0 - 1))
-one_fewer n l x old b some = record {
+pub one_fewer : (n : ℕ) (l : ℕ) (x : Key) (b : Bool) (old : List ℕ) → owner n x < length old → 0 < get_or old (owner n x) 0 → AreFewer n (Ask l x b) old (set old (owner n x) (get_or old (owner n x) 0 - 1))
+one_fewer n l x b old bound some = record {
   long = length-set old (owner n x) (get_or old (owner n x) 0 - 1);
   each = λ k kb. dite (ℕ_discrete k (owner n x))
       (λ e. subst (λ z. get_or old z 0 ≡ get_or (set old (owner n x) (get_or old (owner n x) 0 - 1)) z 0 + length (filter (owned_by n z) (x ∷ []))) (sym e)
-      (let own = get_or-set_same old (owner n x) (get_or old (owner n x) 0 - 1) 0 b in
+      (let own = get_or-set_same old (owner n x) (get_or old (owner n x) 0 - 1) 0 bound in
       let one : length (filter (owned_by n (owner n x)) (x ∷ [])) ≡ 1 = ap (λ t. length (cond t (x ∷ []) [])) (eq-eqb (owner n x) (owner n x) refl) in
       omega (arith, own, one, some)))
       (λ m.
@@ -206,9 +193,9 @@ seam R (u ∷ xs) x ys [] h = absurd h
 seam R (u ∷ xs) x ys (z ∷ zs) h = seam R xs x ys zs h.1
 
 pub reads : (S : Nodes) (n : ℕ) (roots : List Key) (p : PartsView) → AreParts S n roots p → (s : ℕ) → s < n → (xs ys : List Key) (c : Child) (left : List ℕ) → ((x : Key) → owner n x < n)
-    → ((l : ℕ) (x : Key) → c ≡ Ask l x → l ≡ level_of S x) → dealt_from n s 0 roots ++ asked_below S.levels (row_of p.rows s) ≡ (xs ++ asked c) ++ ys → AreLeft n (xs ++ asked c) left → IsLast n p s left c
+    → ((l : ℕ) (x : Key) (b : Bool) → c ≡ Ask l x b → l ≡ level_of S x) → dealt_from n s 0 roots ++ asked_below S.levels (row_of p.rows s) ≡ (xs ++ asked c) ++ ys → AreLeft n (xs ++ asked c) left → IsLast n p s left c
 reads S n roots p a s sb xs ys (Done r) left owned at e h = tt
-reads S n roots p a s sb xs ys (Ask l x) left owned at e h =
+reads S n roots p a s sb xs ys (Ask l x b) left owned at e h =
     let k = owner n x in
     let q = owned_by n k in
     let mine : q x ≡ true = eq-eqb k k refl in
@@ -222,7 +209,7 @@ reads S n roots p a s sb xs ys (Ask l x) left owned at e h =
       w.0,
       omega (arith, count),
       subst (λ m. slice_get (noted_of p.noted k s) m ≡ Some w.0) (sym last) w.1,
-      subst (λ u. slice_get (map key_of (row_of p.rows k u)) w.0 ≡ Some x) (sym (at l x refl)) w.2,
+      subst (λ u. slice_get (map key_of (row_of p.rows k u)) w.0 ≡ Some x) (sym (at l x b refl)) w.2,
     )
 
 -- ---- what was asked for before, told in parts
@@ -275,8 +262,8 @@ module _ (n : ℕ) (roots : List Key) (p : PartsView) (s v : ℕ) where
       ∙ sym (append_assoc (up ++ asked_by t) (asked r.low) (asked r.high))
 
 -- the level that a child is told with is its request's
-pub child_level : (S : Nodes) (v : ℕ) (k : Key) (b : Bool) (c : Child) → IsChild S v k b c → (l : ℕ) (x : Key) → c ≡ Ask l x → l ≡ level_of S x
-child_level S v k b c i l x e = let j = subst (IsChild S v k b) e i in sym j.1.level
+pub child_level : (S : Nodes) (v : ℕ) (k : Key) (b : Bool) (c : Child) → IsChild S v k b c → (l : ℕ) (x : Key) (m : Bool) → c ≡ Ask l x m → l ≡ level_of S x
+child_level S v k b c i l x m e = let j = subst (IsChild S v k b) e i in sym j.1.level
 
 -- ---- lists of lists that are kept in vectors
 list_kept : {V X : Type 0} (f : V → List X) (ls : List V) (l : ℕ) (v : V) (k : ℕ) → v ≡ get_or ls l v → k < length (get_or (map f ls) l []) → get_or (map f ls) l [] ≡ f v
@@ -307,7 +294,7 @@ got found a is l k place level own r level-is own-is r-is b =
 pub owned_within : (n : ℕ) (x : Key) → 0 < n → owner n x < n
 owned_within n x some = mod-lt (op_number x.op + 3 * code_of x.f + 5 * code_of x.g) some
 
-module _ (n : ℕ) (p : PartsView) (a : AnswersView) (s : ℕ) (left : List ℕ) (l : ℕ) (x : Key) (last : IsLast n p s left (Ask l x)) (found : IsFound n p a (Ask l x)) (some : 0 < n) (wide : length left ≡ n)
+module _ (n : ℕ) (p : PartsView) (a : AnswersView) (s : ℕ) (left : List ℕ) (l : ℕ) (x : Key) (m : Bool) (last : IsLast n p s left (Ask l x m)) (found : IsFound n p a (Ask l x m)) (some : 0 < n) (wide : length left ≡ n)
     (k : ℕ) (k-is : k ≡ owner n x) (num : ℕ) (num-is : num ≡ get_or left k num) (ns : List ℕ) (ns-is : ns ≡ noted_of p.noted k s) where
   owned : owner n x < n
   owned = owned_within n x some
@@ -331,26 +318,26 @@ module _ (n : ℕ) (p : PartsView) (a : AnswersView) (s : ℕ) (left : List ℕ)
   pub place_within : get_or ns (num - 1) 0 < length (answers_at a l k)
   place_within = subst (λ (z : ℕ × ℕ). z.1 < length (answers_at a l z.0)) (λ i. (sym k-is i, sym place-is i)) (within_level n p a l x (owner n x) last.0 owned found.0 found.1 last.3)
 
-  pub one_read : AreFewer n (Ask l x) left (set left k (num - 1))
-  one_read = subst (λ (z : ℕ × ℕ). AreFewer n (Ask l x) left (set left z.0 (z.1 - 1))) (λ i. (sym k-is i, sym num-here i)) (one_fewer n l x left (subst (λ z. owner n x < z) (sym wide) owned) last.1)
+  pub one_read : AreFewer n (Ask l x m) left (set left k (num - 1))
+  one_read = subst (λ (z : ℕ × ℕ). AreFewer n (Ask l x m) left (set left z.0 (z.1 - 1))) (λ i. (sym k-is i, sym num-here i)) (one_fewer n l x m left (subst (λ z. owner n x < z) (sym wide) owned) last.1)
 
   pub answer_read : (r : Ref) → slice_get (answers_at a l k) (get_or ns (num - 1) 0) ≡ Some r → Contains {X = Key × Ref} (told n p a) (x, r)
   answer_read r e = found_told n p a l x (owner n x) last.0 owned found.0 found.1 last.3 r
       (subst (λ (z : ℕ × ℕ). slice_get (answers_at a l z.0) z.1 ≡ Some r) (λ i. (k-is i, place-is i)) e)
 
 -- ---- a child in eight bytes
-pub asked_child : (n : ℕ) (e : Placed) (c : Child) (level k : ℕ) → e ≡ placed.Ask level k → e ≡ lean n c → (x : Key) × (c ≡ Ask level x) × (k ≡ owner n x)
-asked_child n e (Done r) level k is f = absurd (let z = sym is ∙ f in cc)
-asked_child n e (Ask l x) level k is f =
-    let z : placed.Ask level k ≡ placed.Ask l (owner n x) = sym is ∙ f in
-    let a : level ≡ l = cc in let b : k ≡ owner n x = cc in
-    (x, ap (λ u. Ask u x) (sym a), b)
+pub asked_child : (n : ℕ) (e : Placed) (c : Child) (level k : ℕ) (m : Bool) → e ≡ placed.Ask level k m → e ≡ lean n c → (x : Key) × (c ≡ Ask level x m) × (k ≡ owner n x)
+asked_child n e (Done r) level k m is f = absurd (let z = sym is ∙ f in cc)
+asked_child n e (Ask l x b) level k m is f =
+    let z : placed.Ask level k m ≡ placed.Ask l (owner n x) b = sym is ∙ f in
+    let at : level ≡ l = cc in let own : k ≡ owner n x = cc in let mark : m ≡ b = cc in
+    (x, (λ i. Ask (sym at i) x (sym mark i)), own)
 
 pub done_child : (n : ℕ) (e : Placed) (c : Child) (r : Ref) → e ≡ placed.Done r → e ≡ lean n c → c ≡ Done r
 done_child n e (Done q) r is f =
     let z : placed.Done r ≡ placed.Done q = sym is ∙ f in
     let a : r ≡ q = cc in ap (λ u. Done u) (sym a)
-done_child n e (Ask l x) r is f = absurd (let z = sym is ∙ f in cc)
+done_child n e (Ask l x b) r is f = absurd (let z = sym is ∙ f in cc)
 
 pub lean-long : (n : ℕ) (records : List Record) → length (lean_row n records) ≡ length records
 lean-long n records = length-map records (λ r. (lean n r.low, lean n r.high))
@@ -398,7 +385,7 @@ module _ (n : ℕ) (roots : List Key) (p : PartsView) (v : ℕ) (a : AnswersView
 
   found_at : (b : Bool) (c : Child) → IsChild h.start v r.key b c → IsFound n p a c
   found_at b (Done q) j = tt
-  found_at b (Ask l x) j = let up = j.0 in (subst (λ z. l < z) (sym h.levels) j.1.bounded, h.done l (omega (arith, up)) j.1.bounded)
+  found_at b (Ask l x m) j = let up = j.0 in (subst (λ z. l < z) (sym h.levels) j.1.bounded, h.done l (omega (arith, up)) j.1.bounded)
 
   pub high_found : IsFound n p a r.high
   high_found = found_at true r.high record_is.high

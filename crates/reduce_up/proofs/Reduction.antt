@@ -12,31 +12,36 @@ use Rattle.req_table.specs.declared.Key.{Key}
 use Rattle.req_table.specs.declared.Child.{Child}
 use Rattle.req_table.specs.declared.Child.TheVariants.{Done, Ask}
 use Rattle.req_table.specs.declared.Record.{Record}
-use Rattle.dd_store.specs.Functions.{Agree}
+use Rattle.dd_store.specs.Functions.{Agree, OfEither}
+use Rattle.dd_store.specs.Nodes.{node as node_at}
+use Rattle.dd_store.specs.Marks.{mark_by, turned}
+use Rattle.dd_store.proofs.Marks.{top-mark_by, IsRef-mark_by, den-mark_by}
 use Rattle.dd_store.specs.Parts.Part.{node}
 use Rattle.dd_store.specs.Nodes.{Nodes, den, IsSound, IsDiagram, count_of}
-use Rattle.dd_store.specs.View.{part, Has, top, Keeps, IsMade}
+use Rattle.dd_store.specs.View.{part, Has, top, Keeps, IsOneNode, IsMade}
 use Rattle.reduce_up.specs.Reducing.{IsKeyAt, IsAnswer, IsAnswerAt, IsChild, IsRecordAt, AreAnswers, HasAnswer, IsReady, IsResolved, AddsDescribed, AskedBy, IsRow, IsRowReduced, Notes, IsRecordFault, IsRowFault, wave_fault}
 use Rattle.req_table.specs.Keys.{meaning}
 use Rattle.req_table.specs.Short.{op_value}
 use Rattle.std.specs.Prelude.{slice_index_or}
 use Rattle.std.proofs.Math.Nat.{eq-or-lt_of_le}
 use Rattle.reduce_up.proofs.Noting.{head_in}
+use Rattle.reduce_up.proofs.Opposite.{either_more, either_kept, one_node_either, one_node_part}
 use Rattle.dd_store.proofs.View.{by_bit, kept_den, kept_top, top-node, keeps-trans, keeps-refl}
 
 -- what a child comes to
 pub resolved : (s : Nodes) (v : ℕ) (k : Key) (b : Bool) (child : Child) (pairs : List (Key × Ref)) (r : Ref) → IsChild s v k b child → AreAnswers s pairs → IsResolved pairs child r → IsAnswerAt s v k b r
 resolved s v k b (Done d) pairs r i a e = subst (IsAnswerAt s v k b) (sym e) i
-resolved s v k b (Ask l c) pairs r i a e =
-    let answer : IsAnswer s c r = a c r e in
+resolved s v k b (Ask l c m) pairs r i a (t, h, e) =
+    let answer : IsAnswer s c t = a c t h in
     let lt : v < l = i.0 in
     let level : min (top s c.f) (top s c.g) ≡ l = i.1.level in
-    let above : min (top s c.f) (top s c.g) ≤ top s r = answer.not_above in
-    record {
-      has = answer.has;
+    let above : min (top s c.f) (top s c.g) ≤ top s t = answer.not_above in
+    let same : top s (mark_by m t) ≡ top s t = top-mark_by s.levels m t in
+    subst (IsAnswerAt s v k b) (sym e) (record {
+      has = IsRef-mark_by (node_at s) m t answer.has;
       below = omega arith;
-      denotes = λ q x hq hx. answer.denotes (q ++ b ∷ x) (simp length-append (omega arith)) ∙ i.2 q x hq hx;
-    }
+      denotes = λ q x hq hx. den-mark_by s m t (q ++ b ∷ x) ∙ ap (turned m) (answer.denotes (q ++ b ∷ x) (simp length-append (omega arith))) ∙ i.2 q x hq hx;
+    })
 
 pub kept_meaning : (old new : Nodes) → IsSound old → Keeps old new → (k : Key) → Has old k.f → Has old k.g → (x : List Bool) → meaning new k x ≡ meaning old k x
 kept_meaning old new S i k hf hg x = ap (λ b. op_value k.op b (den new k.g x)) (kept_den old new S i k.f hf x) ∙ ap (op_value k.op (den old k.f x)) (kept_den old new S i k.g hg x)
@@ -102,28 +107,24 @@ made_answer old new v k lo hi r S T key zero_side one_side K here is =
       denotes = either new.levels v (den new r) (meaning new k) fit (node_case e.1);
     }
 
--- and the only new node denotes the key's function
-pub made_adds : (old new : Nodes) (v : ℕ) (entry : Record) (lo hi r : Ref) → IsSound old → IsKeyAt old v entry.key → Has old lo → IsMade old new v lo hi r → IsAnswer new entry.key r → AddsDescribed old new (AskedBy old v (entry ∷ []))
-made_adds old new v entry lo hi r S key hl m a = record { keeps = m.keeps; described = λ n h. place n (m.no_other n h) m.is }
+-- what agrees with a function that is asked for is asked for
+pub asked_as : (s : Nodes) (v : ℕ) (row : List Record) (w : ℕ) (f g : List Bool → Bool) → Agree s.levels f g → AskedBy s v row w g → AskedBy s v row w f
+asked_as s v row w f g a (at, (r, c, e)) = (at, (r, c, λ x hx. a x hx ∙ e x hx))
+
+-- and the only new node denotes the key's function, or its complement
+pub made_adds : (old new : Nodes) (v : ℕ) (entry : Record) (lo hi r : Ref) → IsSound old → IsSound new → IsKeyAt old v entry.key → IsMade old new v lo hi r → IsAnswer new entry.key r → AddsDescribed old new (AskedBy old v (entry ∷ []))
+made_adds old new v entry lo hi r S T key m a = record { keeps = m.keeps; described = λ n h. place n h (m.no_other n h) m.is }
   where
-    place : (n : Ref) → Has old n ⊎ (n ≡ r) → ((lo ≡ hi) × (r ≡ lo)) ⊎ ((lo ≢ hi) × (part new r ≡ node v lo hi)) → Has old n ⊎ ((w : ℕ) × (lo : Ref) × (hi : Ref) × (part new n ≡ node w lo hi) × AskedBy old v (entry ∷ []) w (den new n))
-    place n (inl h) c = inl h
-    place n (inr e) (inl c) = inl (subst (Has old) (sym (e ∙ c.1)) hl)
-    place n (inr e) (inr c) = inr (
-      v,
-      lo,
-      hi,
-      ap (part new) e ∙ c.1,
-      (
-        refl,
-        (
-          entry,
-          (0, omega arith, refl),
-          λ x hx.
-              ap (λ z. den new z x) e ∙ a.denotes x (hx ∙ sym (m.keeps.levels)) ∙ kept_meaning old new S m.keeps entry.key key.first key.second x,
-        ),
-      ),
-    )
+    asked : AskedBy old v (entry ∷ []) v (den new r)
+    asked = (refl, (entry, (0, omega arith, refl), λ x hx. a.denotes x (hx ∙ sym (m.keeps.levels)) ∙ kept_meaning old new S m.keeps entry.key key.first key.second x))
+
+    place : (n : Ref) → Has new n → Has old n ⊎ ((lo ≢ hi) × IsOneNode new n r) → ((lo ≡ hi) × (r ≡ lo)) ⊎ ((lo ≢ hi) × (part new r ≡ node v lo hi)) →
+        Has old n ⊎ ((w : ℕ) × (lo : Ref) × (hi : Ref) × (part new n ≡ node w lo hi) × OfEither (AskedBy old v (entry ∷ []) w) (den new n))
+    place n h (inl k) c = inl k
+    place n h (inr e) (inl c) = absurd (e.0 c.0)
+    place n h (inr e) (inr c) =
+        let p = one_node_part new T n r v lo hi h m.has c.1 e.1 in
+        inr (v, p.0, p.1, p.2, one_node_either new n r (AskedBy old v (entry ∷ []) v) (λ f g z. asked_as old v (entry ∷ []) v f g (λ x hx. z x (hx ∙ sym (m.keeps.levels)))) e.1 asked)
 
 pub adds_none : (old new : Nodes) (Described : ℕ → (List Bool → Bool) → Type 0) → new ≡ old → AddsDescribed old new Described
 adds_none old new Described e = subst (λ z. AddsDescribed old z Described) (sym e) (record { keeps = keeps-refl old; described = λ m h. inl h })
@@ -133,7 +134,7 @@ pub record_done : (old new : Nodes) (v : ℕ) (entry : Record) (lo hi : Ref) (re
     IfOk result (λ r. IsAnswer new entry.key r) × AddsDescribed old new (AskedBy old v (entry ∷ []))
 record_done old new v entry lo hi (Ok r) S T key zero_side one_side m e =
     let a : IsAnswer new entry.key r = made_answer old new v entry.key lo hi r S T key zero_side one_side m.keeps m.has m.is in
-    (a, made_adds old new v entry lo hi r S key zero_side.has m a)
+    (a, made_adds old new v entry lo hi r S T key m a)
 record_done old new v entry lo hi (Err f) S T key zero_side one_side m e = (tt, adds_none old new (AskedBy old v (entry ∷ [])) e)
 
 -- what is an answer stays one
@@ -165,8 +166,8 @@ child_kept a b S K v k bit (Done r) key i = record {
   below = let t : top b r ≡ top a r = kept_top a b K r in let z : v < top a r = i.below in omega arith;
   denotes = λ q x hq hx. kept_den a b S K r i.has (q ++ bit ∷ x) ∙ i.denotes q x hq (hx ∙ K.levels) ∙ sym (kept_meaning a b S K k key.first key.second (q ++ bit ∷ x));
 }
-child_kept a b S K v k bit (Ask l c) key i =
-    (i.0, key_kept a b K l c i.1, λ q x hq hx. kept_meaning a b S K c i.1.first i.1.second (q ++ bit ∷ x) ∙ i.2 q x hq (hx ∙ K.levels) ∙ sym (kept_meaning a b S K k key.first key.second (q ++ bit ∷ x)))
+child_kept a b S K v k bit (Ask l c m) key i =
+    (i.0, key_kept a b K l c i.1, λ q x hq hx. ap (turned m) (kept_meaning a b S K c i.1.first i.1.second (q ++ bit ∷ x)) ∙ i.2 q x hq (hx ∙ K.levels) ∙ sym (kept_meaning a b S K k key.first key.second (q ++ bit ∷ x)))
 
 pub record_kept : (a b : Nodes) → IsSound a → Keeps a b → (v : ℕ) (r : Record) → IsRecordAt a v r → IsRecordAt b v r
 record_kept a b S K v r i = record {
@@ -177,7 +178,7 @@ record_kept a b S K v r i = record {
 
 pub ready_more : (before pairs : List (Key × Ref)) → ((k : Key) → HasAnswer before k → HasAnswer pairs k) → (c : Child) → IsReady before c → IsReady pairs c
 ready_more before pairs m (Done r) i = i
-ready_more before pairs m (Ask l k) i = m k i
+ready_more before pairs m (Ask l k b) i = m k i
 
 -- described nodes on described nodes
 adds_on : (a b c : Nodes) (v : ℕ) (row : List Record) (entry : Record) → IsSound a → IsSound b → Contains row entry → IsKeyAt a v entry.key → AddsDescribed a b (AskedBy a v row) → AddsDescribed b c (AskedBy b v (entry ∷ [])) → AddsDescribed a c (AskedBy a v row)
@@ -189,33 +190,22 @@ adds_on a b c v row entry S T member key i j = record { keeps = keeps-trans a b 
     L : Keeps b c
     L = j.keeps
 
-    earlier : (m : Ref) → Has b m → Has a m ⊎ ((w : ℕ) × (lo : Ref) × (hi : Ref) × (part b m ≡ node w lo hi) × AskedBy a v row w (den b m)) → Has a m ⊎ ((w : ℕ) × (lo : Ref) × (hi : Ref) × (part c m ≡ node w lo hi) × AskedBy a v row w (den c m))
+    earlier : (m : Ref) → Has b m → Has a m ⊎ ((w : ℕ) × (lo : Ref) × (hi : Ref) × (part b m ≡ node w lo hi) × OfEither (AskedBy a v row w) (den b m)) → Has a m ⊎ ((w : ℕ) × (lo : Ref) × (hi : Ref) × (part c m ≡ node w lo hi) × OfEither (AskedBy a v row w) (den c m))
     earlier m h (inl k) = inl k
-    earlier m h (inr k) = inr (k.0, k.1, k.2, L.part_is m h ∙ k.3, (k.4.0, (k.4.1.0, k.4.1.1, λ x hx. kept_den b c T L m h x ∙ k.4.1.2 x hx)))
+    earlier m h (inr k) = inr (k.0, k.1, k.2, L.part_is m h ∙ k.3, either_kept b c T L (AskedBy a v row k.0) m h k.4)
 
     only_entry : (r : Record) → Contains (entry ∷ []) r → r ≡ entry
     only_entry r (zero, lt, e) = sym e
     only_entry r (suc k, lt, e) = absurd (omega arith)
 
-    later : (m : Ref) → Has b m ⊎ ((w : ℕ) × (lo : Ref) × (hi : Ref) × (part c m ≡ node w lo hi) × AskedBy b v (entry ∷ []) w (den c m)) → Has a m ⊎ ((w : ℕ) × (lo : Ref) × (hi : Ref) × (part c m ≡ node w lo hi) × AskedBy a v row w (den c m))
+    of_row : (w : ℕ) (f : List Bool → Bool) → AskedBy b v (entry ∷ []) w f → AskedBy a v row w f
+    of_row w f (at, (r, r_in, e)) =
+        let same : r ≡ entry = only_entry r r_in in
+        (at, (entry, member, λ x hx. e x (hx ∙ sym K.levels) ∙ ap (λ r. meaning b r.key x) same ∙ kept_meaning a b S K entry.key key.first key.second x))
+
+    later : (m : Ref) → Has b m ⊎ ((w : ℕ) × (lo : Ref) × (hi : Ref) × (part c m ≡ node w lo hi) × OfEither (AskedBy b v (entry ∷ []) w) (den c m)) → Has a m ⊎ ((w : ℕ) × (lo : Ref) × (hi : Ref) × (part c m ≡ node w lo hi) × OfEither (AskedBy a v row w) (den c m))
     later m (inl h) = earlier m h (i.described m h)
-    later m (inr k) =
-        let same : k.4.1.0 ≡ entry = only_entry k.4.1.0 k.4.1.1 in
-        inr (
-          k.0,
-          k.1,
-          k.2,
-          k.3,
-          (
-            k.4.0,
-            (
-              entry,
-              member,
-              λ x hx.
-                  k.4.1.2 x (hx ∙ sym K.levels) ∙ ap (λ r. meaning b r.key x) same ∙ kept_meaning a b S K entry.key key.first key.second x,
-            ),
-          ),
-        )
+    later m (inr k) = inr (k.0, k.1, k.2, k.3, either_more (AskedBy b v (entry ∷ []) k.0) (AskedBy a v row k.0) (of_row k.0) (den c m) k.4)
 
 answers_more : (s : Nodes) (pairs : List (Key × Ref)) (k : Key) (r : Ref) (pairs' : List (Key × Ref)) → AreAnswers s pairs → IsAnswer s k r → Notes pairs k r pairs' → AreAnswers s pairs'
 answers_more s pairs k r pairs' a i n l m c = by (n.only l m c)

@@ -1,17 +1,18 @@
 -- The requests of a list of entries.
-use Rattle.std.proofs.Common.{◌≡◌, ℕ, ◌+◌, ◌<◌, inl, inr, Bool, true, false, not, cond, List, [], ◌∷◌, ◌++◌, length, take, get_or, Option, Some, None, refl, sym, ◌∙◌, ap, subst, append_assoc, true≢false, is_some, Contains, All}
+use Rattle.std.proofs.Common.{◌≡◌, ℕ, ◌+◌, ◌<◌, inl, inr, Bool, true, false, not, List, [], ◌∷◌, ◌++◌, length, take, get_or, Option, Some, None, refl, sym, ◌∙◌, ap, subst, append_assoc, true≢false, is_some, Contains, All}
 use Rattle.std.proofs.lemmas.List.{take_more, append-nil, get_or_default}
 use Rattle.std.proofs.lemmas.List.Elements.{Contains-append_left, Contains-append_right, Contains-append_cases, All-contains}
 use Rattle.dd_store.specs.declared.reference.Ref.{Ref}
 use Rattle.dd_store.specs.Nodes.{Nodes, IsDiagram, den}
 use Rattle.dd_store.specs.View.{Has}
-use Rattle.dd_store.proofs.Laws.{den-false, den-true}
+use Rattle.dd_store.specs.Marks.{turned}
+use Rattle.dd_store.proofs.View.{has-negate}
 use Rattle.req_table.specs.declared.Key.{Key}
-use Rattle.req_table.specs.Short.{short_of, ref_lt}
-use Rattle.req_table.specs.Keys.{key, normal_of, IsKey, meaning}
-use Rattle.req_table.proofs.Means.{Answers, short_means, op_comm}
+use Rattle.req_table.specs.Short.{short_of}
+use Rattle.req_table.specs.Keys.{normal_of, IsKey, meaning}
+use Rattle.req_table.proofs.Means.{Answers, short_means}
 use Rattle.req_table.proofs.Shorts.{OnAnswer, short_is}
-use Rattle.req_table.proofs.Waved.{is_key}
+use Rattle.req_table.proofs.Waved.{is_key, is_value, meaning_normal}
 use Rattle.reduce_up.specs.Waves.{Entry, entry_value, IsEntry, request_of, requests_of}
 use Rattle.reduce_up.proofs.Noting.{nothing, head_in, tail_in, in_cases}
 
@@ -22,7 +23,7 @@ requests_on (d ∷ es) e =
     ap (λ z. request_of (short_of d.0 d.1 d.2) d ++ z) (requests_on es e) ∙ sym (append_assoc (request_of (short_of d.0 d.1 d.2) d) (requests_of es) (request_of (short_of e.0 e.1 e.2) e))
 
 -- a request is that of an entry
-pub of_entry : (es : List Entry) (k : Key) → Contains (requests_of es) k → (e : Entry) × Contains es e × (short_of e.0 e.1 e.2 ≡ None) × (k ≡ normal_of e.0 e.1 e.2)
+pub of_entry : (es : List Entry) (k : Key) → Contains (requests_of es) k → (e : Entry) × Contains es e × (short_of e.0 e.1 e.2 ≡ None) × (k ≡ (normal_of e.0 e.1 e.2).0)
 of_entry [] k c = absurd (nothing k c)
 of_entry (e ∷ es) k c =
     elim (Contains-append_cases (request_of (short_of e.0 e.1 e.2) e) (requests_of es) k c) [
@@ -30,20 +31,20 @@ of_entry (e ∷ es) k c =
       | inr h ↦ let m = of_entry es k h in (m.0, tail_in {X = Entry} e m.0 es m.1, m.2, m.3)
     ]
   where
-    own : (o : Option Ref) → short_of e.0 e.1 e.2 ≡ o → Contains (request_of o e) k → (short_of e.0 e.1 e.2 ≡ None) × (k ≡ normal_of e.0 e.1 e.2)
-    own None h d = (h, elim (in_cases (normal_of e.0 e.1 e.2) k [] d) [ inl same ↦ sym same | inr i ↦ absurd (nothing k i) ])
+    own : (o : Option Ref) → short_of e.0 e.1 e.2 ≡ o → Contains (request_of o e) k → (short_of e.0 e.1 e.2 ≡ None) × (k ≡ (normal_of e.0 e.1 e.2).0)
+    own None h d = (h, elim (in_cases (normal_of e.0 e.1 e.2).0 k [] d) [ inl same ↦ sym same | inr i ↦ absurd (nothing k i) ])
     own (Some r) h d = absurd (nothing k d)
 
 -- an entry that has no short answer has its request
-pub to_request : (es : List Entry) (e : Entry) → Contains es e → short_of e.0 e.1 e.2 ≡ None → Contains (requests_of es) (normal_of e.0 e.1 e.2)
+pub to_request : (es : List Entry) (e : Entry) → Contains es e → short_of e.0 e.1 e.2 ≡ None → Contains (requests_of es) (normal_of e.0 e.1 e.2).0
 to_request [] e c long = absurd (nothing {X = Entry} e c)
 to_request (d ∷ es) e c long =
     elim (in_cases {X = Entry} d e es c) [
       | inl same ↦
-          let own : Contains (request_of (short_of e.0 e.1 e.2) e) (normal_of e.0 e.1 e.2) = subst (λ o. Contains (request_of o e) (normal_of e.0 e.1 e.2)) (sym long) (head_in (normal_of e.0 e.1 e.2) []) in
-          Contains-append_left (request_of (short_of d.0 d.1 d.2) d) (requests_of es) (normal_of e.0 e.1 e.2)
-          (subst (λ (z : Entry). Contains (request_of (short_of z.0 z.1 z.2) z) (normal_of e.0 e.1 e.2)) (sym same) own)
-      | inr i ↦ Contains-append_right (request_of (short_of d.0 d.1 d.2) d) (requests_of es) (normal_of e.0 e.1 e.2) (to_request es e i long)
+          let own : Contains (request_of (short_of e.0 e.1 e.2) e) (normal_of e.0 e.1 e.2).0 = subst (λ o. Contains (request_of o e) (normal_of e.0 e.1 e.2).0) (sym long) (head_in (normal_of e.0 e.1 e.2).0 []) in
+          Contains-append_left (request_of (short_of d.0 d.1 d.2) d) (requests_of es) (normal_of e.0 e.1 e.2).0
+          (subst (λ (z : Entry). Contains (request_of (short_of z.0 z.1 z.2) z) (normal_of e.0 e.1 e.2).0) (sym same) own)
+      | inr i ↦ Contains-append_right (request_of (short_of d.0 d.1 d.2) d) (requests_of es) (normal_of e.0 e.1 e.2).0 (to_request es e i long)
     ]
 
 -- what holds of each element of a list
@@ -59,19 +60,15 @@ requests_good S es h =
     let i : IsEntry S e.0 = All-contains (IsEntry S) es e.0 h e.1 in
     subst (IsKey S) (sym e.3) (is_key S e.0.0 e.0.1 e.0.2 i.0 i.1 e.2))
 
--- the normal key asks for what the entry asks for
-pub normal_means : (S : Nodes) (e : Entry) (x : List Bool) → meaning S (normal_of e.0 e.1 e.2) x ≡ entry_value S e x
-normal_means S e x =
-    elim (ref_lt e.2 e.1) as (λ t. meaning S (cond t (key e.0 e.2 e.1) (key e.0 e.1 e.2)) x ≡ entry_value S e x) [
-      | true ↦ op_comm e.0 (den S e.2 x) (den S e.1 x)
-      | false ↦ refl
-    ]
+-- the normal key asks for what the entry asks for, or for its complement where it has a mark
+pub normal_means : (S : Nodes) (e : Entry) (x : List Bool) → turned (normal_of e.0 e.1 e.2).1 (meaning S (normal_of e.0 e.1 e.2).0 x) ≡ entry_value S e x
+normal_means S e x = meaning_normal S e.0 e.1 e.2 x
 
 -- a short answer is the entry's diagram
 pub short_diagram : (S : Nodes) (e : Entry) → IsEntry S e → (r : Ref) → short_of e.0 e.1 e.2 ≡ Some r → IsDiagram S r (entry_value S e)
 short_diagram S e i r h = (
-  subst (OnAnswer (Has S)) h (short_is (Has S) e.0 e.1 e.2 tt tt i.0 i.1),
-  λ x hx. subst (λ o. Answers (λ r. den S r x) o (entry_value S e x)) h (short_means (λ r. den S r x) (record { at_false = den-false S x; at_true = den-true S x }) e.0 e.1 e.2),
+  subst (OnAnswer (Has S)) h (short_is (Has S) (has-negate S) e.0 e.1 e.2 tt i.0 i.1),
+  λ x hx. subst (λ o. Answers (λ r. den S r x) o (entry_value S e x)) h (short_means (λ r. den S r x) (is_value S x) e.0 e.1 e.2),
 )
 
 -- an element that a loop reads is one of the list
@@ -83,7 +80,7 @@ pub item_next : {X : Type 0} (xs : List X) (i : ℕ) (x : X) → i < length xs �
 item_next xs i x lt is = take_more xs i x lt ∙ ap (λ z. take i xs ++ z ∷ []) (sym is)
 
 -- one more entry's request, or none
-pub request_none : (o : Option Ref) (b : Bool) (e : Entry) → is_some o ≡ not b → b ≡ true → request_of o e ≡ normal_of e.0 e.1 e.2 ∷ []
+pub request_none : (o : Option Ref) (b : Bool) (e : Entry) → is_some o ≡ not b → b ≡ true → request_of o e ≡ (normal_of e.0 e.1 e.2).0 ∷ []
 request_none None b e s t = refl
 request_none (Some r) b e s t = absurd (true≢false (s ∙ ap not t))
 

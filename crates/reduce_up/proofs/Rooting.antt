@@ -1,30 +1,26 @@
 -- The roots of a team's wave, which the workers ask for in turn, and its entries.
-use Rattle.std.proofs.Common.{◌≡◌, ◌≢◌, ℕ, zero, suc, ◌+◌, ◌-◌, ◌%◌, ◌<◌, ◌≤◌, Bool, true, false, cond, eqb, List, [], ◌∷◌, ◌++◌, length, map, filter, take, drop, get_or, set, replicate, Some, None, Contains, refl, sym, ap, ◌∙◌, subst, arith, append_assoc, append-nil, eq-eqb, eqb-true, length-append, get_or-set_same, get_or-set_other, All}
-use Rattle.std.specs.List.{AllZip}
+use Rattle.std.proofs.Common.{◌≡◌, ◌≢◌, ℕ, ◌+◌, ◌%◌, ◌<◌, true, false, cond, eqb, List, [], ◌∷◌, ◌++◌, length, take, drop, get_or, set, replicate, Some, None, refl, sym, ap, ◌∙◌, subst, arith, append_assoc, append-nil, eq-eqb, eqb-true, length-append, get_or-set_same, get_or-set_other, All}
 use Rattle.std.specs.declared.vec.Vec.{Vec}
 use Rattle.std.specs.declared.alloc.Global.{Global}
-use Rattle.std.proofs.lemmas.List.{take_more, take_all, drop_more, take-append-drop, length-take, length-set, length-replicate, get_or-replicate, get_or_default, map-append}
+use Rattle.std.proofs.lemmas.List.{take_more, take_all, drop_more, take-append-drop, length-take, length-set, length-replicate, get_or-replicate}
 use Rattle.std.proofs.Math.Seq.{get_or-append_seam}
-use Rattle.std.proofs.lemmas.List.Elements.{Contains-get_or}
 use mathlib.Core.Logic.{dite}
 use native.Mathlib.Decide.{ℕ_discrete}
 use Rattle.dd_store.specs.declared.reference.Ref.{Ref}
 use Rattle.dd_store.specs.Nodes.{Nodes, IsSound}
 use Rattle.req_table.specs.declared.Key.{Key}
 use Rattle.req_table.specs.declared.Child.TheVariants.{Ask}
-use Rattle.req_table.specs.declared.Record.{Record}
 use Rattle.req_table.specs.Keys.{IsKey, level_of, normal_of, wave_of}
 use Rattle.req_table.specs.Short.{short_of}
 use Rattle.req_table.specs.Reached.{root}
-use Rattle.req_table.specs.Settled.{IsClosure, asked_below, dealt_from, level_of_rows}
+use Rattle.req_table.specs.Settled.{IsClosure, asked_below, dealt_from}
 use Rattle.req_table.specs.Tables.{row_at}
 use Rattle.expand_work.specs.Expanded.{row_of}
 use Rattle.expand_work.specs.Gathered.{PartsView, AreParts}
 use Rattle.expand_work.proofs.Expanding.{closure_same}
 use Rattle.expand_work.proofs.Owing.{dealt-append}
 use Rattle.reduce_up.specs.Waves.{Entry, request_of, requests_of, IsClosureOf}
-use Rattle.reduce_up.specs.Placed.{joined}
-use Rattle.reduce_up.specs.Team.{AnswersView, team_row, gathered, levels_told, told, asked_above, AreLeft, AreAllLeft, AreRootsLeft, AreFewer, IsLast, IsFound, IsHalfway}
+use Rattle.reduce_up.specs.Team.{AnswersView, team_row, gathered, told, AreLeft, AreAllLeft, AreRootsLeft, AreFewer, IsLast, IsFound, IsHalfway}
 use Rattle.reduce_up.proofs.Rooted.{item_next}
 use Rattle.reduce_up.proofs.Closed.{records_of_closure}
 use Rattle.reduce_up.proofs.Reading.{reads, owned_within, left_fewer, gathered_at, gathered-long, told_none}
@@ -76,24 +72,24 @@ module _ (n : ℕ) (roots : List Key) (p : PartsView) (a : AnswersView) (h : IsH
   own_left = subst (λ (z : Vec ℕ Global). AreLeft n (dealt_from n s 0 (take i roots) ++ x ∷ []) z.items) (sym own-is)
       (subst (λ z. AreLeft n z (get_or lefts s own).items) (ap (λ k. dealt_from n k 0 (take (i + 1) roots)) s-is ∙ root_last n roots i x ib x-is ∙ ap (λ k. dealt_from n k 0 (take i roots) ++ x ∷ []) (sym s-is)) (r.each s own sb))
 
-  pub read_last : IsLast n p s own.items (Ask l x)
+  pub read_last : IsLast n p s own.items (Ask l x false)
   read_last =
       let w = root_whole n roots i x ib x-is (asked_below h.start.levels (row_of p.rows s)) in
-      reads h.start n roots p h.parts s sb (dealt_from n s 0 (take i roots)) w.0 (Ask l x) own.items (λ y. owned_within n y h.some) (λ m y e. let b : l ≡ m = cc in let c : x ≡ y = cc in sym b ∙ l-is ∙ ap (level_of h.start) c)
+      reads h.start n roots p h.parts s sb (dealt_from n s 0 (take i roots)) w.0 (Ask l x false) own.items (λ y. owned_within n y h.some) (λ m y t e. let b : l ≡ m = cc in let c : x ≡ y = cc in sym b ∙ l-is ∙ ap (level_of h.start) c)
       (ap (λ k. dealt_from n k 0 roots ++ asked_below h.start.levels (row_of p.rows s)) s-is ∙ w.1 ∙ ap (λ k. (dealt_from n k 0 (take i roots) ++ x ∷ []) ++ w.0) (sym s-is)) own_left
 
-  pub read_found : IsFound n p a (Ask l x)
+  pub read_found : IsFound n p a (Ask l x false)
   read_found =
       let b = (h.parts.closure.recorded x (root (i, ib, sym x-is))).0 in
       let lt : l < h.start.levels = subst (λ z. z < h.start.levels) (sym l-is) b in
       (subst (λ z. l < z) (sym h.levels) lt, h.done l (omega arith) lt)
 
-  pub lefts_read : (new : Vec ℕ Global) (lefts' : List (Vec ℕ Global)) → AreFewer n (Ask l x) own.items new.items → lefts' ≡ set lefts s new → AreRootsLeft n roots i lefts'
+  pub lefts_read : (new : Vec ℕ Global) (lefts' : List (Vec ℕ Global)) → AreFewer n (Ask l x false) own.items new.items → lefts' ≡ set lefts s new → AreRootsLeft n roots i lefts'
   lefts_read new lefts' f is = record {
     long = ap (λ z. length z) is ∙ length-set lefts s new ∙ r.long;
     each = λ t d tb. dite (ℕ_discrete t s)
         (λ e. subst (λ (z : Vec ℕ Global). AreLeft n (dealt_from n t 0 (take i roots)) z.items) (sym (ap (λ z. get_or z t d) is ∙ ap (λ k. get_or (set lefts s new) k d) e ∙ get_or-set_same lefts s new d (let q = r.long in omega (arith, sb, q))))
-        (subst (λ k. AreLeft n (dealt_from n k 0 (take i roots)) new.items) (sym e) (left_fewer n (dealt_from n s 0 (take i roots)) (Ask l x) own.items new.items own_left f)))
+        (subst (λ k. AreLeft n (dealt_from n k 0 (take i roots)) new.items) (sym e) (left_fewer n (dealt_from n s 0 (take i roots)) (Ask l x false) own.items new.items own_left f)))
         (λ m. subst (λ (z : Vec ℕ Global). AreLeft n (dealt_from n t 0 (take i roots)) z.items) (sym (ap (λ z. get_or z t d) is ∙ get_or-set_other lefts s t new d m))
         (subst (λ z. AreLeft n z (get_or lefts t d).items) (root_other n roots i x ib x-is t (λ e. m (e ∙ sym s-is))) (r.each t d tb)));
   }
@@ -149,13 +145,13 @@ module _ (entries : List Entry) (roots : List Key) (roots-is : roots ≡ request
 
   module _ (s : short_of e.0 e.1 e.2 ≡ None) where
     pub root_some : length (requests_of (take (j + 1) entries)) ≡ length (requests_of (take j entries)) + 1
-    root_some = ap (λ z. length z) (next-e ∙ ap (λ o. requests_of (take j entries) ++ request_of o e) s) ∙ length-append (requests_of (take j entries)) (normal_of e.0 e.1 e.2 ∷ [])
+    root_some = ap (λ z. length z) (next-e ∙ ap (λ o. requests_of (take j entries) ++ request_of o e) s) ∙ length-append (requests_of (take j entries)) ((normal_of e.0 e.1 e.2).0 ∷ [])
 
-    all-s : roots ≡ requests_of (take j entries) ++ (normal_of e.0 e.1 e.2 ∷ requests_of (drop (j + 1) entries))
+    all-s : roots ≡ requests_of (take j entries) ++ ((normal_of e.0 e.1 e.2).0 ∷ requests_of (drop (j + 1) entries))
     all-s = all-e ∙ ap (λ o. requests_of (take j entries) ++ (request_of o e ++ requests_of (drop (j + 1) entries))) s
 
     pub root_room : length (requests_of (take j entries)) < length roots
-    root_room = let a = ap (λ z. length z) all-s in let b = length-append (requests_of (take j entries)) (normal_of e.0 e.1 e.2 ∷ requests_of (drop (j + 1) entries)) in omega (arith, a, b)
+    root_room = let a = ap (λ z. length z) all-s in let b = length-append (requests_of (take j entries)) ((normal_of e.0 e.1 e.2).0 ∷ requests_of (drop (j + 1) entries)) in omega (arith, a, b)
 
-    pub root_is : (d : Key) → get_or roots (length (requests_of (take j entries))) d ≡ normal_of e.0 e.1 e.2
-    root_is d = ap (λ z. get_or z (length (requests_of (take j entries))) d) all-s ∙ get_or-append_seam (requests_of (take j entries)) (normal_of e.0 e.1 e.2) (requests_of (drop (j + 1) entries)) d
+    pub root_is : (d : Key) → get_or roots (length (requests_of (take j entries))) d ≡ (normal_of e.0 e.1 e.2).0
+    root_is d = ap (λ z. get_or z (length (requests_of (take j entries))) d) all-s ∙ get_or-append_seam (requests_of (take j entries)) (normal_of e.0 e.1 e.2).0 (requests_of (drop (j + 1) entries)) d

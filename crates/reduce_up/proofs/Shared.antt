@@ -1,12 +1,10 @@
 -- A level whose shards several threads share: what they leave, seen through references, and what it is for the level's records.
-use Rattle.std.proofs.Common.{◌≡◌, ◌≢◌, ℕ, ◌+◌, ◌*◌, ◌<◌, ◌≤◌, ◌⊎◌, inl, inr, true, false, List, [], ◌∷◌, length, get_or, slice_get, Some, None, refl, sym, ◌∙◌, ap, subst, arith, Contains, All}
+use Rattle.std.proofs.Common.{◌≡◌, ◌≢◌, ℕ, ◌+◌, ◌*◌, ◌<◌, ◌≤◌, ◌⊎◌, inl, inr, true, false, List, [], ◌∷◌, length, get_or, Some, None, refl, sym, ◌∙◌, ap, subst, arith, Contains, All}
 use Rattle.std.specs.Prelude.{slice_index_or, Result, Ok, Err, MatchResult, OnOk, IfErr}
 use Rattle.std.specs.List.{AllZip}
 use Rattle.std.proofs.Math.Nat.{eq-or-lt_of_le}
 use Rattle.std.proofs.lemmas.List.Elements.{All-contains, Contains-get_or}
-use Rattle.dd_store.specs.declared.reference.NodeId.{NodeId}
 use Rattle.dd_store.specs.declared.reference.Ref.{Ref}
-use Rattle.dd_store.specs.declared.reference.Reference.TheVariants.{False, True, Node}
 use Rattle.dd_store.specs.declared.StoreFault.{StoreFault}
 use Rattle.dd_store.specs.declared.StoreFault.TheVariants.{Full, OutOfMemory}
 use Rattle.req_table.specs.declared.Key.{Key}
@@ -14,18 +12,22 @@ use Rattle.req_table.specs.declared.Record.{Record}
 use Rattle.dd_store.specs.Graph.{Pair}
 use Rattle.dd_store.specs.Codes.{shard_of_pair}
 use Rattle.dd_store.specs.Growing.{IsIn}
+use Rattle.dd_store.specs.Functions.{OfEither}
 use Rattle.dd_store.specs.Parts.Part.{node}
-use Rattle.dd_store.specs.Nodes.{Nodes, node as node_at, shard_at, den, IsSound, IsThere, count_of}
+use Rattle.dd_store.specs.Nodes.{Nodes, shard_at, den, IsSound, IsThere, count_of}
 use Rattle.dd_store.specs.Adding.{AreReady, GrowsLevel, IsLevelFault}
-use Rattle.dd_store.specs.View.{part_of, part, Has}
-use Rattle.dd_store.proofs.Storing.{node_in_shard, node_from_shard, small_shard, shard-le-count}
-use Rattle.dd_store.proofs.AddingAll.{grown_only, Extends-grown}
+use Rattle.dd_store.specs.Levels.{plain_lists}
+use Rattle.dd_store.specs.View.{part, Has}
+use Rattle.dd_store.proofs.Storing.{small_shard, shard-le-count}
+use Rattle.dd_store.proofs.AddingAll.{Extends-grown, added_there, lacking_absent}
 use Rattle.dd_store.proofs.View.{keeps, same_ref, absent}
 use Rattle.expand_work.proofs.Zips.{zip_at}
 use Rattle.reduce_up.specs.Reducing.{IsKeyAt, IsAnswer, IsAnswerAt, IsRecordAt, AreAnswers, HasAnswer, AddsDescribed, AskedBy, IsRow, IsRowReduced, IsRowFault, Notes, wave_fault}
-use Rattle.reduce_up.specs.Sharing.{IsPairOf, IsAnswered, CanStand, RowCanStand, AreDivided, AddsRow, IsRowRefused, AddsPairs, HasPair, IsPairsFault, NotesFirst}
+use Rattle.reduce_up.specs.Sharing.{IsPairOf, IsAnswered, CanStand, RowCanStand, AreDivided, IsOfPair, AddsRow, IsRowRefused, AddsPairs, HasPair, IsPairsFault, NotesFirst}
+use Rattle.reduce_up.proofs.Naming.{there_part, grown_of_pair}
 use Rattle.reduce_up.proofs.Noting.{nothing, head_in, tail_in, in_cases}
-use Rattle.reduce_up.proofs.Reduction.{resolved, made_answer, kept_meaning, answer_kept, record_kept, row_fault}
+use Rattle.reduce_up.proofs.Opposite.{one_node_either, one_node_part}
+use Rattle.reduce_up.proofs.Reduction.{resolved, asked_as, made_answer, kept_meaning, answer_kept, record_kept, row_fault}
 use Rattle.reduce_up.proofs.Missing.{record_fault}
 
 -- pairs that can stand at a level may be added to it
@@ -42,59 +44,37 @@ ready S v pairs lists lt can d = record {
     of : (s : ℕ) (p : Pair) → IsIn (lists s) p → CanStand S v p
     of s p w = All-contains (CanStand S v) pairs p can (d.only s p w).0
 
--- a name that has two children, by its part
-named : (T : Nodes) (m : NodeId) (v : ℕ) (p : Pair) → node_at T m ≡ Some p → m.level ≡ v → part T (Node m) ≡ node v p.0 p.1
-named T m v p e at = ap (part_of m) e ∙ ap (λ u. node u p.0 p.1) at
-
 -- each new node is that of a pair
-pub adds_pairs : (S T : Nodes) (v : ℕ) (pairs : List Pair) (lists : ℕ → List Pair) → GrowsLevel S T v lists → AreDivided pairs lists → AddsPairs S T v pairs
-adds_pairs S T v pairs lists g d = record { keeps = keeps S T (Extends-grown S T v lists g); only = other }
-  where
-    other : (m : Ref) → Has T m → Has S m ⊎ ((p : Pair) × Contains pairs p × (p.0 ≢ p.1) × (part T m ≡ node v p.0 p.1))
-    other False h = inl tt
-    other True h = inl tt
-    other (Node m) h = elim (grown_only S T v lists g m h.0 h.1) [
-      | inl old ↦ inl (h.0, old)
-      | inr new ↦ let o = d.only m.shard h.0 new.2 in inr (h.0, o.0, o.1, named T m v h.0 h.1 new.0)
-    ]
+pub adds_pairs : (S T : Nodes) (v : ℕ) (pairs : List Pair) (lists : ℕ → List Pair) → GrowsLevel S T v (plain_lists lists) → AreDivided pairs lists → AddsPairs S T v pairs
+adds_pairs S T v pairs lists g d = record {
+  keeps = keeps S T (Extends-grown S T v (plain_lists lists) g);
+  only = λ m h. elim (grown_of_pair S T v lists g m h) [ inl old ↦ inl old | inr new ↦ (let o = d.only new.0 new.1 new.2 in inr (new.1, o.0, o.1, new.3)) ];
+}
 
 -- where no pair is missing, each has its reference
-pub has_pairs : (T : Nodes) (v : ℕ) (pairs : List Pair) (lists : ℕ → List Pair) → AreDivided pairs lists → IsLevelFault T v lists None → (p : Pair) → Contains pairs p → HasPair T v p
+pub has_pairs : (T : Nodes) (v : ℕ) (pairs : List Pair) (lists : ℕ → List Pair) → AreDivided pairs lists → IsLevelFault T v (plain_lists lists) None → (p : Pair) → Contains pairs p → HasPair T v p
 has_pairs T v pairs lists d f p c = elim (same_ref p.0 p.1) [
   | yes e ↦ (p.0, inl (e, refl))
-  | no n ↦
-      let small = small_shard p.0 p.1 in
-      let w = f (shard_of_pair p.0 p.1) p small (d.all p c n) in
-      let m : NodeId = record { level = v; shard = shard_of_pair p.0 p.1; index = w.0 } in
-      (Node m, inr (n, (m, refl, refl, node_from_shard T m p small w.1)))
+  | no n ↦ added_there T v lists f (shard_of_pair p.0 p.1) p (small_shard p.0 p.1) (d.all p c n) n
 ]
 
 -- where one is missing at a shard that is full, the store is full
-pub pairs_fault : (T : Nodes) (v : ℕ) (pairs : List Pair) (lists : ℕ → List Pair) (f : StoreFault) → IsSound T → AreDivided pairs lists → IsLevelFault T v lists (Some f) → IsPairsFault T v pairs f
+pub pairs_fault : (T : Nodes) (v : ℕ) (pairs : List Pair) (lists : ℕ → List Pair) (f : StoreFault) → IsSound T → AreDivided pairs lists → IsLevelFault T v (plain_lists lists) (Some f) → IsPairsFault T v pairs f
 pairs_fault T v pairs lists OutOfMemory w d h = tt
-pairs_fault T v pairs lists Full w d (s, lt, full, (p, in_list, out)) =
-    let o = d.only s p in_list in
-    let enough : length (shard_at T v s) ≤ count_of T = shard-le-count T (16 * v + s) in (
-      p,
-      o.0,
-      (
-        omega arith,
-        o.1,
-        absent T v p.0 p.1 (λ m at e.
-            let here = node_in_shard T m p e in
-            let shard : m.shard ≡ s = w.sharded m p e ∙ o.2 in
-            out (m.index, ap (λ z. slice_get (shard_at T z s) m.index) (sym at) ∙ ap (λ z. slice_get (shard_at T m.level z) m.index) (sym shard) ∙ here.1)),
-      ),
-    )
+pairs_fault T v pairs lists Full w d (s, lt, full, lacks) =
+    let enough : length (shard_at T v s) ≤ count_of T = shard-le-count T (16 * v + s) in
+    let m = lacking_absent T v s (lists s) w (λ p i. (d.only s p i).2) lacks in
+    let o = d.only s m.0 m.1 in
+    (m.0, o.0, (omega (arith, full, enough), o.1, absent T v m.0.0 m.0.1 m.2))
 
 -- both by the answer of the store
 pub pairs_there : (T : Nodes) (v : ℕ) (pairs : List Pair) (lists : ℕ → List Pair) (r : Result (Unit {0}) StoreFault) → AreDivided pairs lists →
-    MatchResult r (λ _. IsLevelFault T v lists None) (λ f. IsLevelFault T v lists (Some f)) → OnOk r (All (HasPair T v) pairs)
+    MatchResult r (λ _. IsLevelFault T v (plain_lists lists) None) (λ f. IsLevelFault T v (plain_lists lists) (Some f)) → OnOk r (All (HasPair T v) pairs)
 pairs_there T v pairs lists (Ok u) d h = λ k e lt. has_pairs T v pairs lists d h (get_or pairs k e) (Contains-get_or pairs k e lt)
 pairs_there T v pairs lists (Err f) d h = tt
 
 pub pairs_refused : (T : Nodes) (v : ℕ) (pairs : List Pair) (lists : ℕ → List Pair) (r : Result (Unit {0}) StoreFault) → IsSound T → AreDivided pairs lists →
-    MatchResult r (λ _. IsLevelFault T v lists None) (λ f. IsLevelFault T v lists (Some f)) → IfErr r (λ f. IsPairsFault T v pairs f)
+    MatchResult r (λ _. IsLevelFault T v (plain_lists lists) None) (λ f. IsLevelFault T v (plain_lists lists) (Some f)) → IfErr r (λ f. IsPairsFault T v pairs f)
 pairs_refused T v pairs lists (Ok u) w d h = tt
 pairs_refused T v pairs lists (Err f) w d h = pairs_fault T v pairs lists f w d h
 
@@ -141,11 +121,13 @@ module _ (S : Nodes) (before : List (Key × Ref)) (v : ℕ) (row : List Record) 
     row_described : AddsDescribed S T (AskedBy S v row)
     row_described = record { keeps = adds.keeps; described = λ m h. elim (adds.only m h) [ inl old ↦ inl old | inr new ↦ inr (described m h new.0 new.1 new.2 new.3 new.4 new.5) ] }
       where
-        described : (m : Ref) → Has T m → (r : Record) (p : Pair) → Contains row r → IsPairOf before r p → p.0 ≢ p.1 → part T m ≡ node v p.0 p.1 → (w : ℕ) × (lo : Ref) × (hi : Ref) × (part T m ≡ node w lo hi) × AskedBy S v row w (den T m)
-        described m h r p c o n e =
+        described : (m : Ref) → Has T m → (r : Record) (p : Pair) → Contains row r → IsPairOf before r p → p.0 ≢ p.1 → IsOfPair T v p m → (w : ℕ) × (lo : Ref) × (hi : Ref) × (part T m ≡ node w lo hi) × OfEither (AskedBy S v row w) (den T m)
+        described m h r p c o n (q, is, one) =
             let key : IsKeyAt S v r.key = (is_row.records r c).key in
-            let a : IsAnswer T r.key m = answered r p m c o h (inr (n, e)) in
-            (v, p.0, p.1, e, (refl, (r, c, λ x hx. a.denotes x (hx ∙ sym (adds.keeps.levels)) ∙ kept_meaning S T held adds.keeps r.key key.first key.second x)))
+            let a : IsAnswer T r.key q = answered r p q c o is.0 (inr (n, is.1)) in
+            let asked : AskedBy S v row v (den T q) = (refl, (r, c, λ x hx. a.denotes x (hx ∙ sym (adds.keeps.levels)) ∙ kept_meaning S T held adds.keeps r.key key.first key.second x)) in
+            let e = one_node_part T sound m q v p.0 p.1 h is.0 is.1 one in
+            (v, e.0, e.1, e.2, one_node_either T m q (AskedBy S v row v) (λ f g z. asked_as S v row v f g (λ x hx. z x (hx ∙ sym (adds.keeps.levels)))) one asked)
 
     answers_kept : AreAnswers T before
     answers_kept k r c = answer_kept S T held adds.keeps k r (answers k r c)
@@ -165,10 +147,6 @@ module _ (S : Nodes) (before : List (Key × Ref)) (v : ℕ) (row : List Record) 
         (record_fault T T v r.key p.0 p.1 (Err Full) sound i.key (low_of T r p answers_kept i h.3) (high_of T r p answers_kept i h.3) refl h.4)
 
     module _ (found : List Ref) (there : AllZip (IsAnswered before T v) row found) where
-      has_there : (p : Pair) (m : Ref) → Has T p.0 → IsThere T v p.0 p.1 m → Has T m × (((p.0 ≡ p.1) × (m ≡ p.0)) ⊎ ((p.0 ≢ p.1) × (part T m ≡ node v p.0 p.1)))
-      has_there p m h (inl e) = (subst (Has T) (sym e.1) h, inl e)
-      has_there p m h (inr (n, (id, is, at, e))) = (subst (Has T) (sym is) (p, e), inr (n, ap (part T) is ∙ named T id v p e at))
-
       -- the references found are the records' answers
       found_answer : (j : ℕ) (d : Record) (r : Ref) → j < length row → IsAnswer T (slice_index_or row j d).key (slice_index_or found j r)
       found_answer j d r lt =
@@ -177,7 +155,7 @@ module _ (S : Nodes) (before : List (Key × Ref)) (v : ℕ) (row : List Record) 
           let t : IsAnswered before T v entry (get_or found j r) = zip_at (IsAnswered before T v) row found j d r there lt in
           let p : Pair = t.0 in
           let low = low_of S entry p answers (is_row.records entry member) t.1 in
-          let h = has_there p (get_or found j r) (adds.keeps.has p.0 low.has) t.2 in
+          let h = there_part T v p.0 p.1 (get_or found j r) (adds.keeps.has p.0 low.has) t.2 in
           answered entry p (get_or found j r) member t.1 h.0 h.1
 
       -- and once they are noted, the row is reduced

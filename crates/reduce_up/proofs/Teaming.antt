@@ -1,6 +1,5 @@
 -- A level of a team's wave after its diagrams were put in.
-use Rattle.std.proofs.Common.{◌≡◌, ◌≢◌, ℕ, zero, suc, ◌+◌, ◌-◌, ◌%◌, ◌<◌, ◌≤◌, cond, eqb, List, [], ◌∷◌, ◌++◌, length, map, take, drop, get_or, set, Some, Contains, length-append, refl, sym, ap, ◌∙◌, subst, arith, le_refl, append_assoc, append-nil, eq-eqb, get_or-set_same, get_or-set_other}
-use Rattle.std.specs.List.{AllZip}
+use Rattle.std.proofs.Common.{◌≡◌, ◌≢◌, ℕ, zero, suc, ◌+◌, ◌<◌, ◌≤◌, List, [], ◌∷◌, ◌++◌, length, map, take, get_or, set, length-append, refl, sym, ap, ◌∙◌, subst, arith, le_refl, append-nil, get_or-set_same, get_or-set_other}
 use Rattle.std.proofs.lemmas.List.{length-set}
 use mathlib.Core.Logic.{dite}
 use native.Mathlib.Decide.{ℕ_discrete}

@@ -1,22 +1,27 @@
 -- What a reduction of a wave's closure gives its entries, and which nodes it adds.
-use Rattle.std.proofs.Common.{◌≡◌, ◌≢◌, ℕ, suc, ◌<◌, ◌⊎◌, inl, inr, Bool, List, [], ◌∷◌, ◌++◌, length, Option, Some, None, refl, sym, ◌∙◌, ap, subst, arith, Contains, All}
+use Rattle.std.proofs.Common.{◌≡◌, ◌≢◌, ℕ, suc, ◌<◌, ◌⊎◌, inl, inr, Bool, List, [], ◌∷◌, length, Option, Some, None, refl, sym, ◌∙◌, ap, subst, arith, Contains, All}
+use Rattle.std.specs.Prelude.{not, Ok, Err}
 use Rattle.std.specs.List.{AllZip}
+use Rattle.std.specs.declared.vec.Vec.{Vec}
+use Rattle.std.specs.declared.alloc.Global.{Global}
 use Rattle.std.proofs.lemmas.Bool.{cases_lt}
-use Rattle.std.proofs.lemmas.List.{length-append}
 use Rattle.std.proofs.lemmas.List.Elements.{All-contains}
 use Rattle.dd_store.specs.declared.reference.Ref.{Ref}
-use Rattle.dd_store.specs.Functions.{Agree, IsFixedSomehow, DependsOn}
+use Rattle.dd_store.specs.Functions.{Agree, IsFixedSomehow, DependsOn, OfEither}
 use Rattle.dd_store.specs.Parts.{Met}
 use Rattle.dd_store.specs.Parts.Part.{node}
 use Rattle.dd_store.specs.Nodes.{Nodes, IsSound, IsDiagram, den}
-use Rattle.dd_store.specs.View.{part, Has}
-use Rattle.dd_store.proofs.View.{parts}
+use Rattle.dd_store.specs.View.{part, Has, IsOneNode}
+use Rattle.dd_store.proofs.View.{parts, keeps-refl, has-negate}
 use Rattle.expand_work.specs.declared.fault.WaveFault.{WaveFault}
 use Rattle.expand_work.specs.declared.fault.WaveFault.TheVariants.{OutOfMemory, NoWorker, Full, TooManyRequests}
+use Rattle.dd_store.specs.Nodes.{node as node_at}
+use Rattle.dd_store.specs.Marks.{negate_of, turned}
+use Rattle.dd_store.proofs.Marks.{not-not, IsRef-mark_by, den-mark_by, den-negate, turned-twice}
 use Rattle.req_table.specs.declared.Key.{Key}
 use Rattle.req_table.specs.declared.Record.{Record}
 use Rattle.req_table.specs.Keys.{IsKey, meaning, level_of, normal_of, wave_of}
-use Rattle.req_table.specs.Reached.{IsReached, root}
+use Rattle.req_table.specs.Reached.{root}
 use Rattle.req_table.specs.Settled.{IsClosure}
 use Rattle.req_table.specs.Short.{short_of}
 use Rattle.req_table.specs.Tables.{row_at}
@@ -24,34 +29,45 @@ use Rattle.req_table.proofs.AsksFor.{AsksFor, asks_for}
 use Rattle.req_table.proofs.Waved.{is_key, is_wave, are_requests}
 use Rattle.reduce_up.specs.Reducing.{HasAnswer, IsAnswer, AddsDescribed}
 use Rattle.reduce_up.specs.Levels.{AreRecords, AskedInRows, AreReduced, IsWithinFrom, IsReduceFault}
-use Rattle.reduce_up.specs.Waves.{Entry, entry_value, IsEntry, AnswersEach, IsWanted, AddsBelow, HasRequest, IsWithinLimit, IsWaveFault, requests_of, IsTakenFrom, IsClosureOf}
-use Rattle.reduce_up.proofs.Below.{fixed_of, fixed_as, node_reads, lies_below}
-use Rattle.reduce_up.proofs.Closed.{recorded, reached_at, placed_at, records_of_closure}
+use Rattle.reduce_up.specs.Waves.{Entry, entry_value, IsEntry, AnswersEach, IsWanted, AddsBelow, HasRequest, IsWithinLimit, LacksWanted, IsWaveFault, AnswersWave, requests_of, IsTakenFrom, IsClosureOf}
+use Rattle.reduce_up.proofs.Below.{fixed_of, fixed_as, node_reads, lies_below, complement_below}
+use Rattle.reduce_up.proofs.Closed.{reached_key, recorded, reached_at, placed_at, records_of_closure}
 use Rattle.reduce_up.proofs.Levelling.{past_rows}
 use Rattle.reduce_up.proofs.Noting.{nothing, head_in, tail_in, in_cases}
+use Rattle.reduce_up.proofs.Opposite.{either_more, either_either, either_reads, fixed_turned}
 use Rattle.reduce_up.proofs.Reduction.{kept_meaning, diagram_kept}
 use Rattle.reduce_up.proofs.Rooted.{all_of, of_entry, to_request, requests_good, normal_means, short_diagram}
 
+-- f is the function of one of the keys with the bits before level v fixed
+abbrev pub IsKeyFixed : Nodes → List Key → ℕ → (List Bool → Bool) → Type 0
+IsKeyFixed S keys v f = (k : Key) × Contains keys k × IsFixedSomehow S.levels v (meaning S k) f
+
 module _ (S : Nodes) (w : IsSound S) (workers : ℕ) (some : 0 < workers) (roots : List Key) (good : All (IsKey S) roots) (rows : List (List Record)) (closed : IsClosure (wave_of S workers) roots (row_at rows)) where
-  -- each new node denotes a root's function with the bits before the node's level fixed
+  -- what the records of a level ask for is a root's function with the bits before the level fixed, or the complement of one
+  pub root_fixed : (v : ℕ) → v < S.levels → (f : List Bool → Bool) → AskedInRows S rows v f → OfEither (IsKeyFixed S roots v) f
+  root_fixed v lt f (e, e_in, same) =
+      let at : level_of S e.key ≡ v = placed_at S w workers roots good rows closed v e lt e_in in
+      let a : AsksFor (wave_of S workers) (meaning S) roots e.key =
+      asks_for (wave_of S workers) (is_wave S w workers some) (part S) (Has S) (den S) (meaning S) (are_requests S w workers) roots good e.key (reached_at S w workers roots good rows closed v e lt e_in) in
+      let source : List Bool → Bool = λ (x : List Bool). turned a.mark (meaning S a.from x) in
+      let g : IsFixedSomehow S.levels v source (meaning S e.key) = subst (λ z. IsFixedSomehow S.levels z source (meaning S e.key)) at a.fixed in
+      either_more (IsFixedSomehow S.levels v (meaning S a.from)) (IsKeyFixed S roots v) (λ h i. (a.from, a.is_root, i)) f
+      (fixed_turned S.levels v a.mark (meaning S a.from) f (fixed_as S.levels v source (meaning S e.key) f same g))
+
+  -- each new node denotes such a function, or the complement of one
   pub node_described : (T : Nodes) → IsSound T → AddsDescribed S T (AskedInRows S rows) → (m : Ref) → Has T m
-      → Has S m ⊎ ((v : ℕ) × (lo : Ref) × (hi : Ref) × (part T m ≡ node v lo hi) × ((k : Key) × Contains roots k × IsFixedSomehow S.levels v (meaning S k) (den T m)))
+      → Has S m ⊎ ((v : ℕ) × (lo : Ref) × (hi : Ref) × (part T m ≡ node v lo hi) × OfEither (IsKeyFixed S roots v) (den T m))
   node_described T u adds m h = by (adds.described m h)
     where
-      by : Has S m ⊎ ((v : ℕ) × (lo : Ref) × (hi : Ref) × (part T m ≡ node v lo hi) × AskedInRows S rows v (den T m))
-          → Has S m ⊎ ((v : ℕ) × (lo : Ref) × (hi : Ref) × (part T m ≡ node v lo hi) × ((k : Key) × Contains roots k × IsFixedSomehow S.levels v (meaning S k) (den T m)))
+      by : Has S m ⊎ ((v : ℕ) × (lo : Ref) × (hi : Ref) × (part T m ≡ node v lo hi) × OfEither (AskedInRows S rows v) (den T m))
+          → Has S m ⊎ ((v : ℕ) × (lo : Ref) × (hi : Ref) × (part T m ≡ node v lo hi) × OfEither (IsKeyFixed S roots v) (den T m))
       by (inl old) = inl old
       by (inr new) =
           let v : ℕ = new.0 in
-          let e : Record = new.4.0 in
           let same : T.levels ≡ S.levels = adds.keeps.levels in
           let low : v < T.levels = (parts T u).level m v new.1 new.2 h new.3 in
           let lt : v < S.levels = omega arith in
-          let at : level_of S e.key ≡ v = placed_at S w workers roots good rows closed v e lt new.4.1 in
-          let a : AsksFor (wave_of S workers) (meaning S) roots e.key =
-          asks_for (wave_of S workers) (is_wave S w workers some) (part S) (Has S) (den S) (meaning S) (are_requests S w workers) roots good e.key (reached_at S w workers roots good rows closed v e lt new.4.1) in
-          let f : IsFixedSomehow S.levels v (meaning S a.from) (meaning S e.key) = subst (λ z. IsFixedSomehow S.levels z (meaning S a.from) (meaning S e.key)) at a.fixed in
-          inr (v, new.1, new.2, new.3, (a.from, a.is_root, (f.0, f.1, λ q x hq hx. new.4.2 (q ++ x) (simp length-append (omega arith)) ∙ f.2 q x hq hx)))
+          inr (v, new.1, new.2, new.3, either_either (IsKeyFixed S roots v) (den T m) (either_more (AskedInRows S rows v) (OfEither (IsKeyFixed S roots v)) (root_fixed v lt) (den T m) new.4))
 
 -- the answer of an entry
 answer_for : (S T : Nodes) (es : List Entry) (answers : List Ref) → AnswersEach S es T answers → (e : Entry) → Contains es e → (r : Ref) × Contains answers r × IsDiagram T r (entry_value S e)
@@ -63,17 +79,29 @@ answer_for S T (d ∷ es) (r ∷ answers) z e c =
       | inr i ↦ let a = answer_for S T es answers z.1 e i in (a.0, tail_in r a.0 answers a.1, a.2)
     ]
 
--- each node that is added for entries lies below one of their answers
+-- each node that is added for entries lies below one of their answers, or is the complement of one that does
 pub adds_below : (S : Nodes) (entries : List Entry) (T : Nodes) → IsSound T → AddsDescribed S T (IsWanted S entries) → (answers : List Ref) → AnswersEach S entries T answers → AddsBelow S T answers
 adds_below S entries T u adds answers z m h = by (adds.described m h)
   where
-    by : Has S m ⊎ ((v : ℕ) × (lo : Ref) × (hi : Ref) × (part T m ≡ node v lo hi) × IsWanted S entries v (den T m)) → Has S m ⊎ ((r : Ref) × Contains answers r × Met (part T) r m)
+    -- what is wanted is an answer's function with the bits before the level fixed
+    answer_fixed : (v : ℕ) (f : List Bool → Bool) → IsWanted S entries v f → (r : Ref) × Contains answers r × Has T r × IsFixedSomehow T.levels v (den T r) f
+    answer_fixed v f wanted =
+        let a = answer_for S T entries answers z wanted.entry wanted.is_entry in
+        let fixed : IsFixedSomehow T.levels v (entry_value S wanted.entry) f = subst (λ n. IsFixedSomehow n v (entry_value S wanted.entry) f) (sym adds.keeps.levels) wanted.fixed in
+        (a.0, a.1, a.2.0, fixed_of T.levels v (den T a.0) (entry_value S wanted.entry) f (λ x hx. a.2.1 x hx) fixed)
+
+    below : (v : ℕ) (lo hi : Ref) → part T m ≡ node v lo hi → OfEither (IsWanted S entries v) (den T m) → (r : Ref) × (c : Ref) × Contains answers r × Met (part T) r c × IsOneNode T m c
+    below v lo hi e (inl wanted) =
+        let a = answer_fixed v (den T m) wanted in
+        (a.0, m, a.1, lies_below T u a.0 m v lo hi a.2 h e a.3, inl refl)
+    below v lo hi e (inr wanted) =
+        let a = answer_fixed v (λ x. not (den T m x)) wanted in
+        let c = complement_below T u a.0 m v lo hi a.2 h e a.3 in
+        (a.0, c.0, a.1, c.1, c.2)
+
+    by : Has S m ⊎ ((v : ℕ) × (lo : Ref) × (hi : Ref) × (part T m ≡ node v lo hi) × OfEither (IsWanted S entries v) (den T m)) → Has S m ⊎ ((r : Ref) × (c : Ref) × Contains answers r × Met (part T) r c × IsOneNode T m c)
     by (inl old) = inl old
-    by (inr new) =
-        let v : ℕ = new.0 in
-        let a = answer_for S T entries answers z new.4.entry new.4.is_entry in
-        let f : IsFixedSomehow T.levels v (entry_value S new.4.entry) (den T m) = subst (λ n. IsFixedSomehow n v (entry_value S new.4.entry) (den T m)) (sym adds.keeps.levels) new.4.fixed in
-        inr (a.0, a.1, lies_below T u a.0 m v new.1 new.2 a.2.0 h new.3 (fixed_of T.levels v (den T a.0) (entry_value S new.4.entry) (den T m) (λ x hx. a.2.1 x hx) f))
+    by (inr new) = inr (below new.0 new.1 new.2 new.3 new.4)
 
 -- Of a wave over the store S: its entries, and the records of all requests that they ask for.
 module _ (S : Nodes) (w : IsSound S) (workers : ℕ) (some : 0 < workers) (entries : List Entry) (good : All (IsEntry S) entries) (rows : List (List Record)) (closed : IsClosureOf S workers (requests_of entries) rows) where
@@ -95,37 +123,45 @@ module _ (S : Nodes) (w : IsSound S) (workers : ℕ) (some : 0 < workers) (entri
       by k c = let m = recorded S w workers (requests_of entries) keys rows closed.closure k (root c) in subst (HasAnswer pairs) m.2 (d.done (level_of S k) m.0 m.1)
 
   module _ (T : Nodes) (u : IsSound T) (adds : AddsDescribed S T (AskedInRows S rows)) where
-    -- each new node denotes what an entry asks for with the bits before its level fixed, and reads the bit of its level
+    -- a request's function with the bits before a level fixed is wanted, or its complement is, where it reads the bit of the level
+    wanted : (v : ℕ) (f : List Bool → Bool) → DependsOn S.levels v f → IsKeyFixed S (requests_of entries) v f → OfEither (IsWanted S entries v) f
+    wanted v f reads (k, k_in, fixed) =
+        let e = of_entry entries k k_in in
+        let m : Bool = (normal_of e.0.0 e.0.1 e.0.2).1 in
+        let source : List Bool → Bool = λ (x : List Bool). turned m (entry_value S e.0 x) in
+        let same : Agree S.levels source (meaning S k) = (λ x hx. ap (turned m) (sym (normal_means S e.0 x)) ∙ turned-twice m (meaning S (normal_of e.0.0 e.0.1 e.0.2).0 x) ∙ ap (λ z. meaning S z x) (sym e.3)) in
+        either_reads S.levels v (IsFixedSomehow S.levels v (entry_value S e.0)) (IsWanted S entries v) (λ g d i. record { entry = e.0; is_entry = e.1; fixed = i; depends = d }) f reads
+        (fixed_turned S.levels v m (entry_value S e.0) f (fixed_of S.levels v source (meaning S k) f same fixed))
+
+    -- and so of what is that or its complement
+    wanted_either : (v : ℕ) (f : List Bool → Bool) → DependsOn S.levels v f → OfEither (IsKeyFixed S (requests_of entries) v) f → OfEither (IsWanted S entries v) f
+    wanted_either v f reads i =
+        either_either (IsWanted S entries v) f (either_reads S.levels v (IsKeyFixed S (requests_of entries) v) (OfEither (IsWanted S entries v)) (wanted v) f reads i)
+
+    -- each new node denotes what is wanted, or the complement
     pub wave_adds : AddsDescribed S T (IsWanted S entries)
     wave_adds = record { keeps = adds.keeps; described = λ m h. by m h (node_described S w workers some (requests_of entries) keys rows closed.closure T u adds m h) }
       where
-        by : (m : Ref) → Has T m → Has S m ⊎ ((v : ℕ) × (lo : Ref) × (hi : Ref) × (part T m ≡ node v lo hi) × ((k : Key) × Contains (requests_of entries) k × IsFixedSomehow S.levels v (meaning S k) (den T m)))
-            → Has S m ⊎ ((v : ℕ) × (lo : Ref) × (hi : Ref) × (part T m ≡ node v lo hi) × IsWanted S entries v (den T m))
+        by : (m : Ref) → Has T m → Has S m ⊎ ((v : ℕ) × (lo : Ref) × (hi : Ref) × (part T m ≡ node v lo hi) × OfEither (IsKeyFixed S (requests_of entries) v) (den T m))
+            → Has S m ⊎ ((v : ℕ) × (lo : Ref) × (hi : Ref) × (part T m ≡ node v lo hi) × OfEither (IsWanted S entries v) (den T m))
         by m h (inl old) = inl old
         by m h (inr new) =
             let v : ℕ = new.0 in
-            let k : Key = new.4.0 in
-            let e = of_entry entries k new.4.1 in
-            inr (
-              v,
-              new.1,
-              new.2,
-              new.3,
-              record {
-                entry = e.0;
-                is_entry = e.1;
-                fixed = fixed_of S.levels v (entry_value S e.0) (meaning S k) (den T m) (λ x hx. sym (normal_means S e.0 x) ∙ ap (λ z. meaning S z x) (sym e.3)) new.4.2;
-                depends = subst (λ n. DependsOn n v (den T m)) adds.keeps.levels (node_reads T u m v new.1 new.2 h new.3);
-              },
-            )
+            let reads : DependsOn S.levels v (den T m) = subst (λ n. DependsOn n v (den T m)) adds.keeps.levels (node_reads T u m v new.1 new.2 h new.3) in
+            inr (v, new.1, new.2, new.3, wanted_either v (den T m) reads new.4)
 
     -- the diagrams of the entries
     pub entry_answered : (pairs : List (Key × Ref)) → AreReduced rows T pairs → (e : Entry) → IsEntry S e → (r : Ref) → (o : Option Ref) → short_of e.0 e.1 e.2 ≡ o → IsTakenFrom pairs o e r → IsDiagram T r (entry_value S e)
     entry_answered pairs d e i r None h taken =
-        let k : Key = normal_of e.0 e.1 e.2 in
-        let a : IsAnswer T k r = d.answers k r taken in
+        let k : Key = (normal_of e.0 e.1 e.2).0 in
+        let m : Bool = (normal_of e.0 e.1 e.2).1 in
+        let t : Ref = taken.0 in
+        let a : IsAnswer T k t = d.answers k t taken.1 in
         let key : IsKey S k = is_key S e.0 e.1 e.2 i.0 i.1 h in
-        (a.has, λ x hx. a.denotes x hx ∙ kept_meaning S T w adds.keeps k key.first key.second x ∙ normal_means S e x)
+        subst (λ z. IsDiagram T z (entry_value S e)) (sym taken.2) (
+          IsRef-mark_by (node_at T) m t a.has,
+          λ x hx. den-mark_by T m t x ∙ ap (turned m) (a.denotes x hx ∙ kept_meaning S T w adds.keeps k key.first key.second x) ∙ normal_means S e x,
+        )
     entry_answered pairs d e i r (Some s) h taken =
         subst (λ z. IsDiagram T z (entry_value S e)) (sym taken) (diagram_kept S T w adds.keeps (entry_value S e) s (short_diagram S e i s h))
 
@@ -135,20 +171,26 @@ module _ (S : Nodes) (w : IsSound S) (workers : ℕ) (some : 0 < workers) (entri
     wave_answers pairs d (e ∷ es) g [] z = z
     wave_answers pairs d (e ∷ es) g (r ∷ answers) z = (entry_answered pairs d e (g 0 e (omega arith)) r (short_of e.0 e.1 e.2) refl z.0, wave_answers pairs d es (λ k b lt. g (suc k) b (omega arith)) answers z.1)
 
-    -- each new node lies below an answer
+    -- each new node lies below an answer, or is the complement of one that does
     pub wave_below : (answers : List Ref) → AnswersEach S entries T answers → AddsBelow S T answers
     wave_below answers z = adds_below S entries T u wave_adds answers z
 
     -- a request is recorded
     has_record : HasRequest entries → (v : ℕ) × (r : Record) × Contains (row_at rows v) r
     has_record h =
-        let k : Key = normal_of h.0.0 h.0.1 h.0.2 in
+        let k : Key = (normal_of h.0.0 h.0.1 h.0.2).0 in
         let m = recorded S w workers (requests_of entries) keys rows closed.closure k (root (to_request entries h.0 h.1 h.2)) in
         (level_of S k, m.0, m.1)
 
     pub wave_within : IsWithinFrom S rows 0 T → IsWithinLimit S entries T
     wave_within (inl le) = inl le
     wave_within (inr none) = inr (λ h. let r = has_record h in none.0 r.0 r.1 (omega arith) r.2, none.1)
+
+    -- what is lacked is wanted, or its complement is wanted and lacked
+    lacks : (v : ℕ) (f : List Bool → Bool) → ((r : Ref) → Has T r → Agree T.levels (den T r) f → ⊥) → OfEither (IsWanted S entries v) f → LacksWanted S entries T
+    lacks v f none (inl i) = (v, f, i, none)
+    lacks v f none (inr i) =
+        (v, λ x. not (f x), i, λ r h agree. none (negate_of r) (has-negate T r h) (λ x hx. den-negate T r x ∙ ap not (agree x hx) ∙ not-not (f x)))
 
     -- the cause of a refusal
     pub wave_refused : (e : WaveFault) → IsReduceFault T rows e → IsWaveFault S entries T e
@@ -160,34 +202,19 @@ module _ (S : Nodes) (w : IsSound S) (workers : ℕ) (some : 0 < workers) (entri
         let r : Record = f.1 in
         let same : T.levels ≡ S.levels = adds.keeps.levels in
         let lt : v < S.levels = elim (cases_lt v S.levels) [ inl lt ↦ lt | inr le ↦ absurd (past_rows rows v r (let e : length rows ≡ S.levels = closed.levels in omega arith) f.2) ] in
-        let reached : IsReached (wave_of S workers) (requests_of entries) r.key = reached_at S w workers (requests_of entries) keys rows closed.closure v r lt f.2 in
-        let a : AsksFor (wave_of S workers) (meaning S) (requests_of entries) r.key =
-        asks_for (wave_of S workers) (is_wave S w workers some) (part S) (Has S) (den S) (meaning S) (are_requests S w workers) (requests_of entries) keys r.key reached in
-        let at : level_of S r.key ≡ v = placed_at S w workers (requests_of entries) keys rows closed.closure v r lt f.2 in
-        let fixed : IsFixedSomehow S.levels v (meaning S a.from) (meaning S r.key) = subst (λ z. IsFixedSomehow S.levels z (meaning S a.from) (meaning S r.key)) at a.fixed in
-        let e = of_entry entries a.from a.is_root in
-        let key : IsKey S r.key = a.held in
-        let kept : (x : List Bool) → meaning T r.key x ≡ meaning S r.key x = kept_meaning S T w adds.keeps r.key key.first key.second in
-        let source : Agree S.levels (entry_value S e.0) (meaning S a.from) = (λ x hx. sym (normal_means S e.0 x) ∙ ap (λ z. meaning S z x) (sym e.3)) in (
-          (e.0, e.1, e.2),
+        let key : IsKey S r.key = reached_key S w workers (requests_of entries) keys r.key (reached_at S w workers (requests_of entries) keys rows closed.closure v r lt f.2) in
+        let asked : AskedInRows S rows v (meaning T r.key) = (r, f.2, λ x hx. kept_meaning S T w adds.keeps r.key key.first key.second x) in
+        let fixed : OfEither (IsKeyFixed S (requests_of entries) v) (meaning T r.key) = root_fixed S w workers some (requests_of entries) keys rows closed.closure v lt (meaning T r.key) asked in (
+          has_request v (meaning T r.key) fixed,
           elim f.3 [
             | inl over ↦ inl over
-            | inr full ↦ inr (
-              full.0,
-              (
-                v,
-                meaning T r.key,
-                record {
-                  entry = e.0;
-                  is_entry = e.1;
-                  fixed = fixed_as S.levels v (entry_value S e.0) (meaning S r.key) (meaning T r.key) (λ x hx. kept x) (fixed_of S.levels v (entry_value S e.0) (meaning S a.from) (meaning S r.key) source fixed);
-                  depends = subst (λ n. DependsOn n v (meaning T r.key)) same full.1.0;
-                },
-                full.1.1,
-              ),
-            )
+            | inr full ↦ inr (full.0, lacks v (meaning T r.key) full.1.1 (wanted_either v (meaning T r.key) (subst (λ n. DependsOn n v (meaning T r.key)) same full.1.0) fixed))
           ],
         )
+      where
+        has_request : (v : ℕ) (g : List Bool → Bool) → OfEither (IsKeyFixed S (requests_of entries) v) g → HasRequest entries
+        has_request v g (inl i) = let e = of_entry entries i.0 i.1 in (e.0, e.1, e.2)
+        has_request v g (inr i) = let e = of_entry entries i.0 i.1 in (e.0, e.1, e.2)
 
 -- a refusal of another cause than Full needs none
 pub not_full : (S : Nodes) (entries : List Entry) (T : Nodes) (e : WaveFault) → e ≢ Full → IsWaveFault S entries T e
@@ -195,3 +222,29 @@ not_full S entries T OutOfMemory differ = tt
 not_full S entries T NoWorker differ = tt
 not_full S entries T TooManyRequests differ = tt
 not_full S entries T Full differ = absurd (differ refl)
+
+-- a wave that was given up before the store changed
+pub wave_unchanged : (S : Nodes) (entries asked : List Entry) (e : WaveFault) → IsSound S → IsWaveFault S asked S e → AnswersWave S entries asked (Err e) S
+wave_unchanged S entries asked e w f = record {
+  sound = w;
+  adds = record { keeps = keeps-refl S; described = λ m h. inl h };
+  answers = tt;
+  no_others = tt;
+  within = tt;
+  fault = f;
+}
+
+-- a wave that was given up, whatever was added
+pub wave_given_up : (S : Nodes) (entries asked : List Entry) (T : Nodes) (e : WaveFault) → IsSound T → AddsDescribed S T (IsWanted S entries) → IsWaveFault S asked T e → AnswersWave S entries asked (Err e) T
+wave_given_up S entries asked T e u adds f = record { sound = u; adds = adds; answers = tt; no_others = tt; within = tt; fault = f }
+
+-- a wave that has come to its end
+pub wave_done : (S : Nodes) (entries asked : List Entry) (T : Nodes) (found : Vec Ref Global) → IsSound T → AddsDescribed S T (IsWanted S entries) → AnswersEach S entries T found.items → IsWithinLimit S asked T → AnswersWave S entries asked (Ok found) T
+wave_done S entries asked T found u adds z within = record {
+  sound = u;
+  adds = adds;
+  answers = z;
+  no_others = adds_below S entries T u adds found.items z;
+  within = within;
+  fault = tt;
+}

@@ -1,5 +1,5 @@
 -- A list that is divided by a number for each of its items, and put together again.
-use Rattle.std.specs.Prelude.{◌≡◌, ◌≢◌, ◌==◌, ◌<◌, ◌≤◌, ℕ, cond, List, [], ◌∷◌, ◌++◌, length, map, slice_index_or, take, drop, All}
+use Rattle.std.specs.Prelude.{◌≡◌, ◌≢◌, ◌==◌, ◌<◌, ◌≤◌, ℕ, cond, List, [], ◌∷◌, ◌++◌, length, slice_index_or, take, drop, All}
 use Rattle.std.specs.List.{AllZip}
 use mathlib.Core.List.{reverse}
 use Rattle.std.specs.declared.vec.Vec.{Vec}

@@ -16,7 +16,7 @@ use Rattle.req_table.specs.Tables.{row_at}
 -- a child that asks is a key of its level
 abbrev pub IsAsked : List (List Record) → Child → Type 0
 IsAsked rows (Done r) = Unit {0}
-IsAsked rows (Ask l k) = (r : Record) × Contains (row_at rows l) r × (r.key ≡ k)
+IsAsked rows (Ask l k m) = (r : Record) × Contains (row_at rows l) r × (r.key ≡ k)
 
 -- a row for each level, of records of that level, whose children are recorded
 pub record AreRecords (s : Nodes) (rows : List (List Record)) : Type 0 where

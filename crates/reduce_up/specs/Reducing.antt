@@ -10,7 +10,8 @@ use Rattle.dd_store.specs.declared.StoreFault.{StoreFault}
 use Rattle.dd_store.specs.declared.StoreFault.TheVariants as store_faults
 use Rattle.expand_work.specs.declared.fault.WaveFault.{WaveFault}
 use Rattle.expand_work.specs.declared.fault.WaveFault.TheVariants as wave_faults
-use Rattle.dd_store.specs.Functions.{Agree, DependsOn}
+use Rattle.dd_store.specs.Functions.{Agree, DependsOn, OfEither}
+use Rattle.dd_store.specs.Marks.{mark_by, turned}
 use Rattle.req_table.specs.Keys.{meaning}
 use Rattle.dd_store.specs.Parts.Part.{node}
 use Rattle.dd_store.specs.Nodes.{Nodes, den, IsSound, count_of}
@@ -37,10 +38,10 @@ pub record IsAnswerAt (s : Nodes) (v : ℕ) (k : Key) (b : Bool) (r : Ref) : Typ
   pub below : v < top s r
   pub denotes : (q x : List Bool) → length q ≡ v → v + suc (length x) ≡ s.levels → den s r (q ++ b ∷ x) ≡ meaning s k (q ++ b ∷ x)
 
--- a child for b: an answer, or a deeper key that asks for the same
+-- a child for b: an answer, or a deeper key that asks for the same, or for its complement
 abbrev pub IsChild : Nodes → ℕ → Key → Bool → Child → Type 0
 IsChild s v k b (Done r) = IsAnswerAt s v k b r
-IsChild s v k b (Ask l c) = (v < l) × IsKeyAt s l c × ((q x : List Bool) → length q ≡ v → v + suc (length x) ≡ s.levels → meaning s c (q ++ b ∷ x) ≡ meaning s k (q ++ b ∷ x))
+IsChild s v k b (Ask l c m) = (v < l) × IsKeyAt s l c × ((q x : List Bool) → length q ≡ v → v + suc (length x) ≡ s.levels → turned m (meaning s c (q ++ b ∷ x)) ≡ meaning s k (q ++ b ∷ x))
 
 -- a record of level v
 pub record IsRecordAt (s : Nodes) (v : ℕ) (r : Record) : Type 0 where
@@ -65,17 +66,18 @@ pub record Notes (old : List (Key × Ref)) (k : Key) (r : Ref) (new : List (Key 
 -- a child that asks has an answer already
 abbrev pub IsReady : List (Key × Ref) → Child → Type 0
 IsReady pairs (Done r) = Unit {0}
-IsReady pairs (Ask l k) = HasAnswer pairs k
+IsReady pairs (Ask l k m) = HasAnswer pairs k
 
--- what a child comes to
+-- what a child comes to: its answer, or that of what it asks for, complemented where it has a mark
 abbrev pub IsResolved : List (Key × Ref) → Child → Ref → Type 0
 IsResolved pairs (Done r) answer = answer ≡ r
-IsResolved pairs (Ask l k) answer = Contains pairs (k, answer)
+IsResolved pairs (Ask l k m) answer = (r : Ref) × Contains pairs (k, r) × (answer ≡ mark_by m r)
 
--- new keeps what old has, and each other node of new denotes a function that is described for the node's level
+-- new keeps what old has, and each other node of new denotes a function that is described for the node's level, or the
+-- complement of one
 pub record AddsDescribed (old new : Nodes) (Described : ℕ → (List Bool → Bool) → Type 0) : Type 0 where
   pub keeps : Keeps old new
-  pub described : (m : Ref) → Has new m → Has old m ⊎ ((v : ℕ) × (lo : Ref) × (hi : Ref) × (part new m ≡ node v lo hi) × Described v (den new m))
+  pub described : (m : Ref) → Has new m → Has old m ⊎ ((v : ℕ) × (lo : Ref) × (hi : Ref) × (part new m ≡ node v lo hi) × OfEither (Described v) (den new m))
 
 -- the functions that the records of a row ask for
 abbrev pub AskedBy : Nodes → ℕ → List Record → ℕ → (List Bool → Bool) → Type 0

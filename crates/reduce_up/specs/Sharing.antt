@@ -10,8 +10,7 @@ use Rattle.dd_store.specs.Graph.{Pair}
 use Rattle.dd_store.specs.Codes.{shard_of_pair}
 use Rattle.dd_store.specs.Growing.{IsIn}
 use Rattle.dd_store.specs.Nodes.{Nodes, IsThere}
-use Rattle.dd_store.specs.Parts.Part.{node}
-use Rattle.dd_store.specs.View.{part, Has, top, Keeps, IsFull}
+use Rattle.dd_store.specs.View.{Has, top, Keeps, IsNode, IsOneNode, IsFull}
 use Rattle.reduce_up.specs.Reducing.{HasAnswer, IsResolved}
 
 -- the pair that the two children of a record come to
@@ -40,19 +39,24 @@ pub record AreDivided (pairs : List Pair) (lists : ℕ → List Pair) : Type 0 w
   pub all : (p : Pair) → Contains pairs p → p.0 ≢ p.1 → IsIn (lists (shard_of_pair p.0 p.1)) p
   pub only : (s : ℕ) (p : Pair) → IsIn (lists s) p → Contains pairs p × (p.0 ≢ p.1) × (shard_of_pair p.0 p.1 ≡ s)
 
--- new keeps what old has, and each other node of new is one of level v for a pair of different children
+-- m is the node of level v for a pair, or the complement of it
+abbrev pub IsOfPair : Nodes → ℕ → Pair → Ref → Type 0
+IsOfPair s v p m = (r : Ref) × IsNode s v p.0 p.1 r × IsOneNode s m r
+
+-- new keeps what old has, and each other node of new is one of level v for a pair of different children, or the complement of one
 pub record AddsPairs (old new : Nodes) (v : ℕ) (pairs : List Pair) : Type 0 where
   pub keeps : Keeps old new
-  pub only : (m : Ref) → Has new m → Has old m ⊎ ((p : Pair) × Contains pairs p × (p.0 ≢ p.1) × (part new m ≡ node v p.0 p.1))
+  pub only : (m : Ref) → Has new m → Has old m ⊎ ((p : Pair) × Contains pairs p × (p.0 ≢ p.1) × IsOfPair new v p m)
 
 -- the pairs of all records of a row can stand at level v
 abbrev pub RowCanStand : List (Key × Ref) → Nodes → ℕ → List Record → Type 0
 RowCanStand results s v row = (d : Record) (p : Pair) → Contains row d → IsPairOf results d p → CanStand s v p
 
--- new keeps what old has, and each other node of new is one of level v for the pair of different children of a record
+-- new keeps what old has, and each other node of new is one of level v for the pair of different children of a record, or the
+-- complement of one
 pub record AddsRow (results : List (Key × Ref)) (old new : Nodes) (v : ℕ) (row : List Record) : Type 0 where
   pub keeps : Keeps old new
-  pub only : (m : Ref) → Has new m → Has old m ⊎ ((d : Record) × (p : Pair) × Contains row d × IsPairOf results d p × (p.0 ≢ p.1) × (part new m ≡ node v p.0 p.1))
+  pub only : (m : Ref) → Has new m → Has old m ⊎ ((d : Record) × (p : Pair) × Contains row d × IsPairOf results d p × (p.0 ≢ p.1) × IsOfPair new v p m)
 
 -- why records have no diagram: Full only where the store has as many nodes as its limit and lacks the node of a record's pair
 abbrev pub IsRowRefused : List (Key × Ref) → Nodes → ℕ → List Record → StoreFault → Type 0

@@ -1,6 +1,6 @@
 -- Reduction where each worker's records stay where they are: what is still to be read of what a worker asked, and diagrams by level and place.
 use Rattle.std.specs.Prelude.{◌≡◌, ℕ, zero, suc, ◌+◌, ◌-◌, ◌<◌, ◌≤◌, List, [], ◌∷◌, ◌++◌, length, map, filter, take, slice_get, slice_index_or, Some}
-use Rattle.std.specs.Prelude.{Result, IfOk, All}
+use Rattle.std.specs.Prelude.{Result, IfOk}
 use mathlib.Core.List.{reverse}
 use Rattle.std.specs.List.{AllZip}
 use Rattle.std.specs.declared.vec.Vec.{Vec}
@@ -16,7 +16,7 @@ use Rattle.req_table.specs.declared.Record.{Record}
 use Rattle.req_table.specs.declared.placed.Placed.{Placed}
 use Rattle.expand_work.specs.Lean.{lean}
 use Rattle.req_table.specs.Keys.{owner}
-use Rattle.req_table.specs.Settled.{key_of, asked, asked_by, asked_below, dealt_from, level_of_rows}
+use Rattle.req_table.specs.Settled.{key_of, asked, asked_below, dealt_from, level_of_rows}
 use Rattle.expand_work.specs.Work.{owned_by}
 use Rattle.expand_work.specs.Expanded.{row_of}
 use Rattle.expand_work.specs.Gathered.{PartsView, AreParts, noted_of}
@@ -86,7 +86,7 @@ pub record AreFewer (n : ℕ) (c : Child) (old new : List ℕ) : Type 0 where
 -- a child that asks is the last of what worker s asked of its owner: this noted its place
 abbrev pub IsLast : ℕ → PartsView → ℕ → List ℕ → Child → Type 0
 IsLast n p s left (Done r) = Unit {0}
-IsLast n p s left (Ask l x) =
+IsLast n p s left (Ask l x m) =
     (place : ℕ) × (0 < slice_index_or left (owner n x) 0)
     × (slice_get (noted_of p.noted (owner n x) s) (slice_index_or left (owner n x) 0 - 1) ≡ Some place)
     × (slice_get (map key_of (row_of p.rows (owner n x) l)) place ≡ Some x)
@@ -98,7 +98,7 @@ IsLevelDone n p v a = (k : ℕ) → k < n → length (answers_at a v k) ≡ leng
 -- the diagrams of the level of a child that asks are known
 abbrev pub IsFound : ℕ → PartsView → AnswersView → Child → Type 0
 IsFound n p a (Done r) = Unit {0}
-IsFound n p a (Ask l x) = (l < length a.found) × IsLevelDone n p l a
+IsFound n p a (Ask l x m) = (l < length a.found) × IsLevelDone n p l a
 
 -- e is a child that worker s asked for as the last of what is still to be read, and its diagram is known
 abbrev pub IsNext : ℕ → PartsView → AnswersView → ℕ → List ℕ → Placed → Child → Type 0

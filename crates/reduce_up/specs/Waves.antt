@@ -1,19 +1,23 @@
 -- Waves: lists of operations on references of a store, whose diagrams are asked for together, and what a wave leaves.
-use Rattle.std.specs.Prelude.{◌≡◌, ℕ, ◌<◌, ◌≤◌, ◌⊎◌, Bool, List, [], ◌∷◌, ◌++◌, length, Contains, Option, None, Some}
+use Rattle.std.specs.Prelude.{◌≡◌, ℕ, ◌<◌, ◌≤◌, ◌⊎◌, Bool, List, [], ◌∷◌, ◌++◌, length, Contains, Option, None, Some, Result, IfOk, IfErr, OnOk}
 use Rattle.std.specs.List.{AllZip}
+use Rattle.std.specs.declared.vec.Vec.{Vec}
+use Rattle.std.specs.declared.alloc.Global.{Global}
 use Rattle.dd_store.specs.declared.reference.Ref.{Ref}
 use Rattle.dd_store.specs.Functions.{Agree, IsFixedSomehow, DependsOn}
 use Rattle.dd_store.specs.Parts.{Met}
-use Rattle.dd_store.specs.Nodes.{Nodes, den, IsDiagram, count_of}
-use Rattle.dd_store.specs.View.{part, Has}
+use Rattle.dd_store.specs.Nodes.{Nodes, den, IsDiagram, IsSound, count_of}
+use Rattle.dd_store.specs.View.{part, Has, IsOneNode}
 use Rattle.req_table.specs.declared.Op.{Op}
 use Rattle.req_table.specs.declared.Key.{Key}
 use Rattle.req_table.specs.declared.Record.{Record}
+use Rattle.dd_store.specs.Marks.{mark_by}
 use Rattle.req_table.specs.Keys.{key, normal_of, meaning, wave_of}
 use Rattle.req_table.specs.Settled.{IsClosure}
 use Rattle.req_table.specs.Tables.{row_at}
 use Rattle.req_table.specs.Short.{short_of}
 use Rattle.expand_work.specs.declared.fault.WaveFault.{WaveFault}
+use Rattle.reduce_up.specs.Reducing.{AddsDescribed}
 use Rattle.expand_work.specs.declared.fault.WaveFault.TheVariants as wave_faults
 
 -- an operation and its two operands
@@ -39,9 +43,9 @@ pub record IsWanted (s : Nodes) (entries : List Entry) (v : ℕ) (f : List Bool 
   pub fixed : IsFixedSomehow s.levels v (entry_value s entry) f
   pub depends : DependsOn s.levels v f
 
--- each node of `new` is one of `old` or lies below an answer
+-- each node of `new` is one of `old`, or lies below an answer, or is the complement of one that does
 abbrev pub AddsBelow : Nodes → Nodes → List Ref → Type 0
-AddsBelow old new answers = (m : Ref) → Has new m → Has old m ⊎ ((r : Ref) × Contains answers r × Met (part new) r m)
+AddsBelow old new answers = (m : Ref) → Has new m → Has old m ⊎ ((r : Ref) × (c : Ref) × Contains answers r × Met (part new) r c × IsOneNode new m c)
 
 -- some entry needs a request: it has no short answer
 abbrev pub HasRequest : List Entry → Type 0
@@ -64,9 +68,19 @@ IsWaveFault old entries new wave_faults.TooManyRequests = Unit {0}
 IsWaveFault old entries new wave_faults.Full =
     HasRequest entries × ((new.limit < count_of new) ⊎ ((count_of new ≡ new.limit) × LacksWanted old entries new))
 
+-- what a wave over entries comes to and leaves; `asked`: the entries that no memo answers
+pub record AnswersWave (old : Nodes) (entries asked : List Entry) (result : Result (Vec Ref Global) WaveFault) (new : Nodes) : Type 0 where
+  pub sound : IsSound new
+  -- it keeps what was there, and each new node denotes a function that is wanted, or the complement of one
+  pub adds : AddsDescribed old new (IsWanted old entries)
+  pub answers : IfOk result (λ found. AnswersEach old entries new found.items)
+  pub no_others : IfOk result (λ found. AddsBelow old new found.items)
+  pub within : OnOk result (IsWithinLimit old asked new)
+  pub fault : IfErr result (λ e. IsWaveFault old asked new e)
+
 -- the request of an entry that has no short answer
 abbrev pub request_of : Option Ref → Entry → List Key
-request_of None e = normal_of e.0 e.1 e.2 ∷ []
+request_of None e = (normal_of e.0 e.1 e.2).0 ∷ []
 request_of (Some r) e = []
 
 -- the requests of a list of entries, in order
@@ -74,9 +88,9 @@ abbrev pub requests_of : List Entry → List Key
 requests_of [] = []
 requests_of (e ∷ es) = request_of (short_of e.0 e.1 e.2) e ++ requests_of es
 
--- r is the short answer of an entry, or what the pairs have for its request
+-- r is the short answer of an entry, or what the pairs have for its request, complemented where it has a mark
 abbrev pub IsTakenFrom : List (Key × Ref) → Option Ref → Entry → Ref → Type 0
-IsTakenFrom pairs None e r = Contains pairs (normal_of e.0 e.1 e.2, r)
+IsTakenFrom pairs None e r = (a : Ref) × Contains pairs ((normal_of e.0 e.1 e.2).0, a) × (r ≡ mark_by (normal_of e.0 e.1 e.2).1 a)
 IsTakenFrom pairs (Some s) e r = r ≡ s
 
 -- the roots' requests and all that they ask for, by level

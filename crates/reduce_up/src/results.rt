@@ -21,7 +21,7 @@ fn depth(reference: Ref) -> usize
     ensures { result ≡ top 4096 reference }
 {
     match reference.view() {
-        Reference::Node(id) => id.level as usize,
+        Reference::Node { id, .. } => id.level as usize,
         _ => PAST,
     }
 }
@@ -220,7 +220,7 @@ impl Results {
     {
         match child {
             Child::Done(answer) => answer,
-            Child::Ask { key, .. } => self.get(&key),
+            Child::Ask { key, mark, .. } => self.get(&key).marked(mark),
         }
     }
 }

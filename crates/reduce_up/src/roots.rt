@@ -8,7 +8,7 @@ ghost use Rattle.reduce_up.specs.Team.{IsHalfway, AreRootsLeft, told};
 
 use crate::team::{Team, resolve};
 use dd_store::{Ref, Store};
-use req_table::requests::{level_of, owner, short};
+use req_table::requests::{level_of, normal, owner, short};
 use req_table::{Op, Placed};
 use std::alloc::{AllocError, Global};
 
@@ -29,7 +29,7 @@ fn root_answer(store: &Store, team: Team<'_>, lefts: &mut Vec<Vec<usize>>, root:
         team,
         sender,
         &mut lefts[sender as usize],
-        Placed::ask(level, owner(key, team.workers)),
+        Placed::ask(level, owner(key, team.workers), false),
     )
 }
 
@@ -57,8 +57,9 @@ pub(crate) fn team_answers(
         let answer = match short(entry.0, entry.1, entry.2) {
             Some(answer) => answer,
             None => {
+                let (_, mark) = normal(entry.0, entry.1, entry.2);
                 root -= 1;
-                root_answer(store, team, lefts, root)
+                root_answer(store, team, lefts, root).marked(mark)
             }
         };
         answers.push(answer)?;

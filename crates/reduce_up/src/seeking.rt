@@ -84,7 +84,8 @@ impl Sought {
     {
         for place in 0..self.requests.len() {
             let (op, f, g) = self.requests[place];
-            memo.keep(normal(op, f, g), found[place]);
+            let (key, mark) = normal(op, f, g);
+            memo.keep(key, found[place].marked(mark));
         }
     }
 

@@ -44,11 +44,12 @@ pub(crate) fn resolve(team: Team<'_>, sender: u32, left: &mut Vec<usize>, child:
         PlacedChild::Ask {
             level,
             place: owner,
+            mark,
         } => {
             let number = left[owner as usize] - 1;
             left[owner as usize] = number;
             let place = team.parts.noted(owner, sender)[number];
-            team.answers.get(level, owner, place)
+            team.answers.get(level, owner, place).marked(mark)
         }
     }
 }

@@ -1,14 +1,13 @@
 //! Waves: the diagrams of a list of operations (Ochi, Yasuoka and Yajima 1993).
-ghost use Rattle.std.specs.Prelude.{◌≡◌, ◌≢◌, ℕ, ◌<◌, ◌≤◌, All, IfOk, IfErr, OnOk, OnErr, None};
+ghost use Rattle.std.specs.Prelude.{◌≡◌, ◌≢◌, ℕ, ◌<◌, ◌≤◌, All, IfOk, IfErr, OnErr, None};
 ghost use Rattle.std.specs.List.{AllZip};
-ghost use Rattle.dd_store.specs.Nodes.{IsSound};
 ghost use Rattle.req_table.specs.Short.{short_of};
 ghost use Rattle.req_table.specs.Keys.{normal_of, IsKey};
 ghost use Rattle.req_table.specs.Memos.{IsRight};
 ghost use Rattle.expand_work.specs.Gathered.{AreParts};
 ghost use Rattle.reduce_up.specs.Known.{unknown, IsKeptWave};
-ghost use Rattle.reduce_up.specs.Reducing.{HasAnswer, AddsDescribed};
-ghost use Rattle.reduce_up.specs.Waves.{IsEntry, AnswersEach, IsWanted, AddsBelow, IsWithinLimit, IsWaveFault, IsClosureOf, requests_of, IsTakenFrom};
+ghost use Rattle.reduce_up.specs.Reducing.{HasAnswer};
+ghost use Rattle.reduce_up.specs.Waves.{IsEntry, AnswersWave, IsClosureOf, requests_of, IsTakenFrom};
 
 use crate::levels::reduce;
 use crate::results::Results;
@@ -32,7 +31,8 @@ pub(crate) fn requests_of(alloc: Global, entries: &[(Op, Ref, Ref)]) -> Result<V
     for entry in entries {
         let (op, f, g) = *entry;
         if short(op, f, g).is_none() {
-            keys.push(normal(op, f, g))?;
+            let (key, _) = normal(op, f, g);
+            keys.push(key)?;
         }
     }
     Ok(keys)
@@ -40,12 +40,15 @@ pub(crate) fn requests_of(alloc: Global, entries: &[(Op, Ref, Ref)]) -> Result<V
 
 /// The diagram of an entry: its short answer, or that of its request.
 fn answer_of(op: Op, f: Ref, g: Ref, results: &Results) -> Ref
-    requires { short_of op f g ≡ None → HasAnswer results.now (normal_of op f g) }
+    requires { short_of op f g ≡ None → HasAnswer results.now (normal_of op f g).0 }
     ensures { IsTakenFrom results.now (short_of op f g) (op, f, g) result }
 {
     match short(op, f, g) {
         Some(answer) => answer,
-        None => results.get(&normal(op, f, g)),
+        None => {
+            let (key, mark) = normal(op, f, g);
+            results.get(&key).marked(mark)
+        }
     }
 }
 
@@ -96,12 +99,7 @@ fn answer_closure<R: Threads + Sync, H: Watch>(
 ) -> Result<Vec<Ref>, WaveFault>
     requires operands { All (IsEntry store.old) entries.now }
     requires closure { (workers : ℕ) × (0 < workers) × IsClosureOf store.old workers (requests_of entries.now) records.now }
-    ensures sound { IsSound store.new }
-    ensures adds { AddsDescribed store.old store.new (IsWanted store.old entries.now) }
-    ensures answers { IfOk result (λ answers. AnswersEach store.old entries.now store.new answers.items) }
-    ensures no_others { IfOk result (λ answers. AddsBelow store.old store.new answers.items) }
-    ensures within { OnOk result (IsWithinLimit store.old entries.now store.new) }
-    ensures fault { IfErr result (λ e. IsWaveFault store.old entries.now store.new e) }
+    ensures wave { AnswersWave store.old entries.now entries.now result store.new }
     ensures served { IfErr result (λ e. e ≢ WaveFault.NoWorker) }
     ensures unbounded { IfErr result (λ e. e ≢ WaveFault.TooManyRequests) }
 {
@@ -127,12 +125,7 @@ fn wave_alone<R: Threads + Sync>(
 ) -> Result<Vec<Ref>, WaveFault>
     requires operands { All (IsEntry store.old) entries.now }
     requires workers { (0 < workers) × (workers ≤ 16) }
-    ensures sound { IsSound store.new }
-    ensures adds { AddsDescribed store.old store.new (IsWanted store.old entries.now) }
-    ensures answers { IfOk result (λ answers. AnswersEach store.old entries.now store.new answers.items) }
-    ensures no_others { IfOk result (λ answers. AddsBelow store.old store.new answers.items) }
-    ensures within { OnOk result (IsWithinLimit store.old entries.now store.new) }
-    ensures fault { IfErr result (λ e. IsWaveFault store.old entries.now store.new e) }
+    ensures wave { AnswersWave store.old entries.now entries.now result store.new }
     ensures served { IfErr result (λ e. e ≢ WaveFault.NoWorker) }
     ensures unbounded { IfErr result (λ e. e ≢ WaveFault.TooManyRequests) }
 {
@@ -163,12 +156,7 @@ pub fn wave_one<R: Threads + Sync>(
     requires operands { All (IsEntry store.old) entries.now }
     requires workers { (0 < workers) × (workers ≤ 16) }
     requires right { IsRight store.old memo.old }
-    ensures sound { IsSound store.new }
-    ensures adds { AddsDescribed store.old store.new (IsWanted store.old entries.now) }
-    ensures answers { IfOk result (λ answers. AnswersEach store.old entries.now store.new answers.items) }
-    ensures no_others { IfOk result (λ answers. AddsBelow store.old store.new answers.items) }
-    ensures within { OnOk result (IsWithinLimit store.old (unknown memo.old entries.now) store.new) }
-    ensures fault { IfErr result (λ e. IsWaveFault store.old (unknown memo.old entries.now) store.new e) }
+    ensures wave { AnswersWave store.old entries.now (unknown memo.old entries.now) result store.new }
     ensures served { IfErr result (λ e. e ≢ WaveFault.NoWorker) }
     ensures unbounded { IfErr result (λ e. e ≢ WaveFault.TooManyRequests) }
     ensures kept { IfOk result (λ answers. IsKeptWave memo.old entries.now answers.items memo.new) }
@@ -199,12 +187,7 @@ fn answer_team<R: Threads + Sync, H: Watch>(
     requires some { 0 < field.workers }
     requires roots { field.roots.now ≡ requests_of entries.now }
     requires parts { AreParts store.old field.workers field.roots.now field.parts.now }
-    ensures sound { IsSound store.new }
-    ensures adds { AddsDescribed store.old store.new (IsWanted store.old entries.now) }
-    ensures answers { IfOk result (λ answers. AnswersEach store.old entries.now store.new answers.items) }
-    ensures no_others { IfOk result (λ answers. AddsBelow store.old store.new answers.items) }
-    ensures within { OnOk result (IsWithinLimit store.old entries.now store.new) }
-    ensures fault { IfErr result (λ e. IsWaveFault store.old entries.now store.new e) }
+    ensures wave { AnswersWave store.old entries.now entries.now result store.new }
     ensures unbounded { IfErr result (λ e. e ≢ WaveFault.TooManyRequests) }
 {
     let _ = store.levels();
@@ -245,12 +228,7 @@ pub fn shared_wave<R: Threads + Wait + Sync, G: Gate>(
 ) -> Result<Vec<Ref>, WaveFault>
     requires operands { All (IsEntry store.old) entries.now }
     requires workers { (0 < workers) × (workers ≤ 16) }
-    ensures sound { IsSound store.new }
-    ensures adds { AddsDescribed store.old store.new (IsWanted store.old entries.now) }
-    ensures answers { IfOk result (λ answers. AnswersEach store.old entries.now store.new answers.items) }
-    ensures no_others { IfOk result (λ answers. AddsBelow store.old store.new answers.items) }
-    ensures within { OnOk result (IsWithinLimit store.old entries.now store.new) }
-    ensures fault { IfErr result (λ e. IsWaveFault store.old entries.now store.new e) }
+    ensures wave { AnswersWave store.old entries.now entries.now result store.new }
     ensures unbounded { IfErr result (λ e. e ≢ WaveFault.TooManyRequests) }
 {
     let _ = store.levels();

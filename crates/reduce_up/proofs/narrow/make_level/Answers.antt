@@ -16,12 +16,12 @@ make_part-requires-clause-ready c =
 pub returns-in_err-part-clause-adds : goal.returns-in_err-part-clause-adds
 returns-in_err-part-clause-adds c =
     let t = c.args.team in let T = told t.workers t.parts.now t.answers.now in
-    adds_on T c.args.store.now c.loop-sender.store c.make_part.new.store c.args.level (team_row t.workers t.parts.now c.args.level) c.loop-sender.invariant.adds c.make_part.ensures.adds
+    adds_on T c.args.store.now c.loop-sender.store c.make_part.new.store c.args.level (team_row t.workers t.parts.now c.args.level) c.loop-sender.invariant.sound c.loop-sender.invariant.adds c.make_part.ensures.adds
 
 pub returns-then-is_err-clause-adds : goal.returns-then-is_err-clause-adds
 returns-then-is_err-clause-adds c =
     let t = c.args.team in let T = told t.workers t.parts.now t.answers.now in
-    adds_on T c.args.store.now c.loop-sender.store c.make_part.new.store c.args.level (team_row t.workers t.parts.now c.args.level) c.loop-sender.invariant.adds c.make_part.ensures.adds
+    adds_on T c.args.store.now c.loop-sender.store c.make_part.new.store c.args.level (team_row t.workers t.parts.now c.args.level) c.loop-sender.invariant.sound c.loop-sender.invariant.adds c.make_part.ensures.adds
 
 pub loop-sender-preserved : goal.loop-sender-preserved
 loop-sender-preserved c =

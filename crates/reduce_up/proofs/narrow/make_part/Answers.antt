@@ -1,11 +1,11 @@
-use Rattle.std.proofs.Common.{rules, ◌≡◌, ℕ, ◌+◌, ◌-◌, ◌<◌, ◌≤◌, ◌++◌, [], ◌∷◌, length, drop, get_or, Contains, sym, ap, ◌∙◌, subst, arith}
+use Rattle.std.proofs.Common.{rules, ◌≡◌, ℕ, ◌+◌, ◌-◌, ◌<◌, ◌++◌, [], ◌∷◌, length, drop, sym, ap, ◌∙◌, subst, arith}
 use Rattle.std.specs.List.{AllZip}
 use mathlib.Core.List.{reverse}
 use Rattle.dd_store.specs.Graph.{Pair}
 use Rattle.req_table.specs.declared.Record.{Record}
 use Rattle.expand_work.specs.Expanded.{row_of}
 use Rattle.reduce_up.specs.Sharing.{IsPairOf, IsAnswered, CanStand}
-use Rattle.reduce_up.specs.Team.{AreLeft, IsNext, asked_above, team_row, told}
+use Rattle.reduce_up.specs.Team.{AreLeft, IsNext, team_row, told}
 use Rattle.reduce_up.proofs.Reading.{before, before_none, before_whole, in_team, lean-long, row_read, high_last, high_found, after_high, low_last, low_found, after_low, next_pair, no_pairs}
 use Rattle.reduce_up.proofs.Rooted.{item_at}
 use Rattle.reduce_up.proofs.Making.{answered_still, extends_on, extends_same, stands_on, adds_none, adds_one, one_made, one_refused}
@@ -220,8 +220,7 @@ returns-then-is_err-clause-adds c =
     let all = team_row n p v in
     let member = in_team n p v s r c.requires.sender (item_at own i r ib w.1) in
     let m = c.loop-next.invariant.making in
-    let can : CanStand c.loop-next.store v q = stands_on c.args.store.now c.loop-next.store v q m.adds.keeps (c.requires.ready r q member of) in
-    adds_one T c.args.store.now c.loop-next.store c.make.new.self v all m.adds r q c.in-Ok-make.answer member of can.has_low c.in-Ok-make.ensures.made
+    adds_one T c.args.store.now c.loop-next.store c.make.new.self v all m.sound m.adds r q c.in-Ok-make.answer member of c.in-Ok-make.ensures.made
 
 pub loop-next-preserved : goal.loop-next-preserved
 loop-next-preserved c =
@@ -244,7 +243,6 @@ loop-next-preserved c =
     let all = team_row n p v in
     let member = in_team n p v s r c.requires.sender (item_at own i r ib w.1) in
     let m = c.loop-next.invariant.making in
-    let can : CanStand c.loop-next.store v q = stands_on c.args.store.now c.loop-next.store v q m.adds.keeps (c.requires.ready r q member of) in
     let answers : c.push.new.self.items ≡ c.loop-next.answers.items ++ c.in-Ok-make.answer ∷ [] = search rules in
     record {
       bound = omega (arith, bound);
@@ -252,7 +250,7 @@ loop-next-preserved c =
       making = record {
         sound = c.make.ensures.sound;
         extends = extends_on c.args.store.now c.loop-next.store c.make.new.self m.extends c.make.ensures.extends;
-        adds = adds_one T c.args.store.now c.loop-next.store c.make.new.self v all m.adds r q c.in-Ok-make.answer member of can.has_low c.in-Ok-make.ensures.made;
+        adds = adds_one T c.args.store.now c.loop-next.store c.make.new.self v all m.sound m.adds r q c.in-Ok-make.answer member of c.in-Ok-make.ensures.made;
         made = next_pair (IsAnswered T c.make.new.self v) own i r c.loop-next.answers.items c.push.new.self.items c.in-Ok-make.answer ib w.1 answers
             (subst (λ z. AllZip (IsAnswered T c.make.new.self v) (drop z own) (reverse c.loop-next.answers.items)) e
             (answered_still T c.loop-next.store c.make.new.self v c.make.ensures.extends (drop c.loop-next.next own) (reverse c.loop-next.answers.items) m.made))
@@ -274,3 +272,6 @@ returns-clause-left c =
     let t = c.args.team in
     let z : c.loop-next.next ≡ 0 = omega arith in
     subst (λ k. AreLeft t.workers k c.loop-next.left.items) (ap (before t.workers t.roots.now t.parts.now c.args.sender c.args.level) z ∙ before_none t.workers t.roots.now t.parts.now c.args.sender c.args.level) c.loop-next.invariant.left
+
+pub returns-then-is_err-clause-extends : goal.returns-then-is_err-clause-extends
+returns-then-is_err-clause-extends c = extends_on c.args.store.now c.loop-next.store c.make.new.self c.loop-next.invariant.making.extends c.make.ensures.extends

@@ -1,4 +1,4 @@
-use Rattle.std.proofs.Common.{◌≡◌, ◌≤◌, length}
+use Rattle.std.proofs.Common.{◌≤◌, length}
 use Rattle.expand_work.specs.Expanded.{row_of}
 use Rattle.reduce_up.specs.Team.{AreLeft, team_row, told}
 use Rattle.reduce_up.proofs.Making.{AreMaking}

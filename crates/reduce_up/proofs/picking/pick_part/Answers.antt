@@ -1,8 +1,8 @@
-use Rattle.std.proofs.Common.{◌≡◌, ℕ, ◌+◌, ◌<◌, ◌≤◌, length, get_or, sym, ap, ◌∙◌, subst, arith}
+use Rattle.std.proofs.Common.{◌+◌, ◌<◌, ◌≤◌, length, get_or, sym, ◌∙◌, subst, arith}
 use Rattle.std.proofs.lemmas.List.{get_or_default}
 use Rattle.std.specs.Prelude.{IfOk}
 use Rattle.dd_store.specs.Levels.{list_at}
-use Rattle.reduce_up.specs.Division.{chosen, source, begin_of, AreHomes, IsPickedOf}
+use Rattle.reduce_up.specs.Division.{chosen, source, AreHomes, IsPickedOf}
 use Rattle.reduce_up.proofs.Joined.{some_of, pick_room, picked_from}
 use Rattle.reduce_up.proofs.picking.pick_part.Goals as goal
 

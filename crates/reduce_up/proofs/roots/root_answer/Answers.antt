@@ -1,4 +1,4 @@
-use Rattle.std.proofs.Common.{◌≡◌, ℕ, ◌%◌, get_or, set, Contains, refl, sym, ap, ◌∙◌, subst}
+use Rattle.std.proofs.Common.{◌≡◌, ℕ, ◌%◌, false, get_or, set, Contains, refl, sym, ap, ◌∙◌, subst}
 use Rattle.std.proofs.lemmas.List.{get_or_default}
 use Rattle.std.proofs.Math.Nat.{mod-lt}
 use Rattle.dd_store.specs.declared.reference.Ref.{Ref}
@@ -18,10 +18,10 @@ resolve-requires-clause-child c =
     let l = c.level_of-level.result in
     let l-is = c.level_of-level.ensures ∙ ap (λ (z : ℕ). level_at z x) (sym c.requires.levels ∙ c.requires.halfway.levels) in
     let last = read_last n t.roots.now t.parts.now t.answers.now c.requires.halfway i x c.requires.root x-is l l-is c.args.lefts.now.items c.requires.lefts (i % n) refl (mod-lt i c.requires.halfway.some) c.index_mut.result.now c.index_mut.ensures.value in
-    let found = read_found n t.roots.now t.parts.now t.answers.now c.requires.halfway i x c.requires.root x-is l l-is c.args.lefts.now.items c.requires.lefts (i % n) refl (mod-lt i c.requires.halfway.some) c.index_mut.result.now c.index_mut.ensures.value in
-    let e-is = c.ask.ensures ∙ ap (λ (z : ℕ). placed.Ask l z) c.owner.ensures in
-    let next : IsNext n t.parts.now t.answers.now (i % n) c.index_mut.result.now.items c.ask.result (Ask l x) = (e-is, last, found) in
-    (Ask l x, next)
+    let known = read_found n t.roots.now t.parts.now t.answers.now c.requires.halfway i x c.requires.root x-is l l-is c.args.lefts.now.items c.requires.lefts (i % n) refl (mod-lt i c.requires.halfway.some) c.index_mut.result.now c.index_mut.ensures.value in
+    let e-is = c.ask.ensures ∙ ap (λ (z : ℕ). placed.Ask l z false) c.owner.ensures in
+    let next : IsNext n t.parts.now t.answers.now (i % n) c.index_mut.result.now.items c.ask.result (Ask l x false) = (e-is, last, known) in
+    (Ask l x false, next)
 
 pub returns-clause-lefts : goal.returns-clause-lefts
 returns-clause-lefts c =
@@ -31,10 +31,10 @@ returns-clause-lefts c =
     let l = c.level_of-level.result in
     let l-is = c.level_of-level.ensures ∙ ap (λ (z : ℕ). level_at z x) (sym c.requires.levels ∙ c.requires.halfway.levels) in
     let last = read_last n t.roots.now t.parts.now t.answers.now c.requires.halfway i x c.requires.root x-is l l-is c.args.lefts.now.items c.requires.lefts (i % n) refl (mod-lt i c.requires.halfway.some) c.index_mut.result.now c.index_mut.ensures.value in
-    let found = read_found n t.roots.now t.parts.now t.answers.now c.requires.halfway i x c.requires.root x-is l l-is c.args.lefts.now.items c.requires.lefts (i % n) refl (mod-lt i c.requires.halfway.some) c.index_mut.result.now c.index_mut.ensures.value in
-    let e-is = c.ask.ensures ∙ ap (λ (z : ℕ). placed.Ask l z) c.owner.ensures in
-    let next : IsNext n t.parts.now t.answers.now (i % n) c.index_mut.result.now.items c.ask.result (Ask l x) = (e-is, last, found) in
-    lefts_read n t.roots.now t.parts.now t.answers.now c.requires.halfway i x c.requires.root x-is l l-is c.args.lefts.now.items c.requires.lefts (i % n) refl (mod-lt i c.requires.halfway.some) c.index_mut.result.now c.index_mut.ensures.value c.resolve.new.left (set c.args.lefts.now.items (i % n) c.resolve.new.left) (c.resolve.ensures.left (Ask l x) next) refl
+    let known = read_found n t.roots.now t.parts.now t.answers.now c.requires.halfway i x c.requires.root x-is l l-is c.args.lefts.now.items c.requires.lefts (i % n) refl (mod-lt i c.requires.halfway.some) c.index_mut.result.now c.index_mut.ensures.value in
+    let e-is = c.ask.ensures ∙ ap (λ (z : ℕ). placed.Ask l z false) c.owner.ensures in
+    let next : IsNext n t.parts.now t.answers.now (i % n) c.index_mut.result.now.items c.ask.result (Ask l x false) = (e-is, last, known) in
+    lefts_read n t.roots.now t.parts.now t.answers.now c.requires.halfway i x c.requires.root x-is l l-is c.args.lefts.now.items c.requires.lefts (i % n) refl (mod-lt i c.requires.halfway.some) c.index_mut.result.now c.index_mut.ensures.value c.resolve.new.left (set c.args.lefts.now.items (i % n) c.resolve.new.left) (c.resolve.ensures.left (Ask l x false) next) refl
 
 pub returns-clause-answer : goal.returns-clause-answer
 returns-clause-answer c =
@@ -44,7 +44,8 @@ returns-clause-answer c =
     let l = c.level_of-level.result in
     let l-is = c.level_of-level.ensures ∙ ap (λ (z : ℕ). level_at z x) (sym c.requires.levels ∙ c.requires.halfway.levels) in
     let last = read_last n t.roots.now t.parts.now t.answers.now c.requires.halfway i x c.requires.root x-is l l-is c.args.lefts.now.items c.requires.lefts (i % n) refl (mod-lt i c.requires.halfway.some) c.index_mut.result.now c.index_mut.ensures.value in
-    let found = read_found n t.roots.now t.parts.now t.answers.now c.requires.halfway i x c.requires.root x-is l l-is c.args.lefts.now.items c.requires.lefts (i % n) refl (mod-lt i c.requires.halfway.some) c.index_mut.result.now c.index_mut.ensures.value in
-    let e-is = c.ask.ensures ∙ ap (λ (z : ℕ). placed.Ask l z) c.owner.ensures in
-    let next : IsNext n t.parts.now t.answers.now (i % n) c.index_mut.result.now.items c.ask.result (Ask l x) = (e-is, last, found) in
-    λ d. subst (λ z. Contains {X = Key × Ref} (told n t.parts.now t.answers.now) (z, c.resolve.result)) (sym (get_or_default t.roots.now i d c.index-team-root.result c.requires.root)) (c.resolve.ensures.answer (Ask l x) next)
+    let known = read_found n t.roots.now t.parts.now t.answers.now c.requires.halfway i x c.requires.root x-is l l-is c.args.lefts.now.items c.requires.lefts (i % n) refl (mod-lt i c.requires.halfway.some) c.index_mut.result.now c.index_mut.ensures.value in
+    let e-is = c.ask.ensures ∙ ap (λ (z : ℕ). placed.Ask l z false) c.owner.ensures in
+    let next : IsNext n t.parts.now t.answers.now (i % n) c.index_mut.result.now.items c.ask.result (Ask l x false) = (e-is, last, known) in
+    let found = c.resolve.ensures.answer (Ask l x false) next in
+    λ d. subst (λ (z : Key × Ref). Contains (told n t.parts.now t.answers.now) z) (λ j. (sym (get_or_default t.roots.now i d c.index-team-root.result c.requires.root) j, sym found.2 j)) found.1

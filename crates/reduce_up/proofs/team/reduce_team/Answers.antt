@@ -1,6 +1,5 @@
 use Rattle.std.proofs.Common.{rules, ◌≡◌, ℕ, ◌+◌, ◌-◌, ◌<◌, length, sym, subst, arith}
 use Rattle.reduce_up.specs.Reducing.{AddsDescribed, AskedBy, IsRow, IsRowReduced, IsRowWithin, IsRowFault}
-use Rattle.req_table.specs.Tables.{row_at}
 use Rattle.reduce_up.specs.Levels.{AreReducedFrom, IsWithinFrom}
 use Rattle.reduce_up.specs.Team.{gathered, team_row, told}
 use Rattle.reduce_up.proofs.Levelling.{level_ready, level_adds, level_next, level_fault, all_reduced}

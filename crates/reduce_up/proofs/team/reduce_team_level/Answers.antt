@@ -1,4 +1,4 @@
-use Rattle.std.proofs.Common.{inl, inr, ◌≡◌, ℕ, ◌+◌, ◌<◌, ◌≤◌, length, map, set, sym, ap, ◌∙◌, subst, arith}
+use Rattle.std.proofs.Common.{inl, ◌<◌, length, sym, subst, arith}
 use Rattle.dd_store.specs.Nodes.{count_of}
 use Rattle.reduce_up.specs.Reducing.{IsRowFault}
 use Rattle.reduce_up.specs.Team.{team_row, told}

@@ -14,7 +14,7 @@ pub answer_of-requires : goal.answer_of-requires
 answer_of-requires c long =
     let i : ℕ = c.loop-entry.entry-index in
     let e : Entry = c.entry-item.result in
-    All-contains (HasAnswer c.args.results.now) (requests_of c.args.entries.now) (normal_of e.0 e.1 e.2) c.requires
+    All-contains (HasAnswer c.args.results.now) (requests_of c.args.entries.now) (normal_of e.0 e.1 e.2).0 c.requires
     (to_request c.args.entries.now e (item_at c.args.entries.now i e c.loop-entry-test.true c.entry-item.is) long)
 
 pub loop-entry-preserved : goal.loop-entry-preserved

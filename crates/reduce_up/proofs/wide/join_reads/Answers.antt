@@ -1,4 +1,4 @@
-use Rattle.std.proofs.Common.{rules, ◌≡◌, ℕ, ◌+◌, ◌++◌, ◌∷◌, [], length, sym, subst, length-append}
+use Rattle.std.proofs.Common.{◌≡◌, ◌+◌, ◌++◌, ◌∷◌, [], length, sym, subst, length-append}
 use Rattle.expand_work.proofs.Zips.{turned}
 use Rattle.reduce_up.specs.Team.{AreDividedBy}
 use Rattle.reduce_up.proofs.Joined.{read_one, reads_more}

@@ -1,4 +1,4 @@
-use Rattle.std.proofs.Common.{rules, ◌≡◌, ℕ, ◌+◌, ◌-◌, ◌<◌, ◌≤◌, ◌++◌, [], ◌∷◌, length, drop, get_or, Contains, sym, ap, ◌∙◌, subst, arith}
+use Rattle.std.proofs.Common.{◌≡◌, ℕ, ◌+◌, ◌-◌, ◌<◌, ◌++◌, length, drop, sym, ap, ◌∙◌, subst, arith}
 use mathlib.Core.List.{reverse}
 use Rattle.std.proofs.Math.Seq.{drop-length}
 use Rattle.dd_store.specs.Graph.{Pair}

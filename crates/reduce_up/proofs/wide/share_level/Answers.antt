@@ -1,12 +1,11 @@
-use Rattle.std.proofs.Common.{◌≡◌, ℕ, ◌<◌, ◌∙◌, length, All, sym, ap, subst, arith}
+use Rattle.std.proofs.Common.{◌≡◌, ℕ, ◌<◌, ◌∙◌, length, All, sym, ap, subst}
 use Rattle.std.specs.List.{AllZip}
 use Rattle.std.specs.declared.vec.Vec.{Vec}
 use Rattle.std.specs.declared.alloc.Global.{Global}
 use Rattle.dd_store.specs.Graph.{Pair}
 use Rattle.dd_store.specs.Nodes.{IsThere}
 use Rattle.dd_store.specs.Adding.{AreReady, GrowsLevel}
-use Rattle.dd_store.specs.Levels.{list_at, all_at, refs_at}
-use Rattle.reduce_up.specs.Division.{AreHomes, AreRefsOf, ArePicked}
+use Rattle.dd_store.specs.Levels.{all_at, refs_at, plain_lists}
 use Rattle.reduce_up.specs.Team.{team_row, told}
 use Rattle.reduce_up.proofs.Joined.{listed_row, all_sixteen, all_homes, all_left, all_made, ready_all, adds_all, refs_all, refused_make, picked_as}
 use Rattle.std.proofs.lemmas.Result.{err_from_is_err_and}
@@ -43,7 +42,7 @@ returns-in_err-refs-clause-adds g c =
     let slice = c.as_slice-lists.ensures.value in
     let listed = listed_row n t.roots.now p a v parts homes lefts D in
     let S = c.args.store.now in let U = c.make_all.new.self in
-    let grows = subst (λ z. GrowsLevel S U v (all_at z)) slice c.make_all.ensures.grows in
+    let grows = subst (λ z. GrowsLevel S U v (plain_lists (all_at z))) slice c.make_all.ensures.grows in
     let adds = adds_all T S v row (all_at parts) listed U grows in
     adds
 
@@ -110,7 +109,7 @@ returns-in_default-pick_all-clause-adds g c =
     let slice = c.as_slice-lists.ensures.value in
     let listed = listed_row n t.roots.now p a v parts homes lefts D in
     let S = c.args.store.now in let U = c.make_all.new.self in
-    let grows = subst (λ z. GrowsLevel S U v (all_at z)) slice c.make_all.ensures.grows in
+    let grows = subst (λ z. GrowsLevel S U v (plain_lists (all_at z))) slice c.make_all.ensures.grows in
     let adds = adds_all T S v row (all_at parts) listed U grows in
     adds
 
@@ -124,7 +123,7 @@ returns-clause-adds g c =
     let slice = c.as_slice-lists.ensures.value in
     let listed = listed_row n t.roots.now p a v parts homes lefts D in
     let S = c.args.store.now in let U = c.make_all.new.self in
-    let grows = subst (λ z. GrowsLevel S U v (all_at z)) slice c.make_all.ensures.grows in
+    let grows = subst (λ z. GrowsLevel S U v (plain_lists (all_at z))) slice c.make_all.ensures.grows in
     let adds = adds_all T S v row (all_at parts) listed U grows in
     adds
 

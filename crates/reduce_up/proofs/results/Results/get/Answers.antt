@@ -1,10 +1,10 @@
-use Rattle.std.proofs.Common.{◌≡◌, ◌<◌, rules, [], Contains, List, length, get_or, sym, subst, ◌∙◌}
+use Rattle.std.proofs.Common.{◌≡◌, ◌<◌, rules, [], Contains, length, get_or, sym, subst, ◌∙◌}
 use Rattle.std.specs.Vec.{vec_len}
 use Rattle.std.proofs.lemmas.List.{get_or_default}
 use Rattle.dd_store.specs.declared.reference.Ref.{Ref}
 use Rattle.req_table.specs.declared.Key.{Key}
 use Rattle.reduce_up.specs.Reducing.{HasAnswer}
-use Rattle.reduce_up.specs.Placed.{place_of, joined}
+use Rattle.reduce_up.specs.Placed.{place_of}
 use Rattle.reduce_up.proofs.Placing.{row_of_key, some_found, found_in, joined_in}
 use Rattle.reduce_up.proofs.results.Results.get.Goals as goal
 

@@ -1,4 +1,4 @@
-use Rattle.std.proofs.Common.{◌≡◌, ◌<◌, rules, List, set, length, sym, ap, ◌∙◌, subst}
+use Rattle.std.proofs.Common.{set, sym, ◌∙◌, subst}
 use Rattle.std.specs.Prelude.{OnOk}
 use Rattle.reduce_up.specs.Reducing.{Notes}
 use Rattle.reduce_up.specs.Placed.{joined}

@@ -1,5 +1,4 @@
-use Rattle.std.proofs.Common.{◌≡◌, ◌≤◌, rules, [], get_or, set, map, length, sym, ap, ◌∙◌, subst, arith}
-use Rattle.req_table.specs.Settled.{key_of}
+use Rattle.std.proofs.Common.{◌≡◌, rules, [], get_or, set, length, sym, ◌∙◌, subst, arith}
 use Rattle.reduce_up.specs.Sharing.{NotesFirst}
 use Rattle.reduce_up.specs.Placed.{joined, ArePlaced}
 use Rattle.reduce_up.proofs.Placing.{row_read, row_notes, row_placed}
