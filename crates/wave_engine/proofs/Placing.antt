@@ -19,7 +19,7 @@ use Rattle.reduce_up.specs.Waves.{Entry, requests_of}
 use Rattle.reduce_up.proofs.Rooted.{to_request}
 use Rattle.req_table.specs.declared.placed.Placed.{Placed}
 use Rattle.req_table.specs.declared.placed.PlacedChild.TheVariants.{Done, Ask}
-use Rattle.wave_engine.specs.Places.{row, StandsAt, Enters, IsPlaced, Admits, AreNone}
+use Rattle.wave_engine.specs.Places.{row, StandsAt, Enters, IsPlaced, AsksAt, Admits, AreNone}
 use Rattle.wave_engine.specs.Down.{IsAdmitted, AreAdmitted, IsSplitAt, Grow, IsRowExpanded, AreExpanded}
 
 pub same_level : (w l : ℕ) → (w ≡ l) ⊎ (w ≢ l)
@@ -62,8 +62,8 @@ entered_only old new k p e q x h =
     ]
 
 -- a request is placed
-pub ask_admits : (T : List (List Key)) (l : ℕ) (k : Key) (p : ℕ) (new : List Key) → l < length T → Enters (row T l) k p new → Admits T (child.Ask l k) (set T l new)
-ask_admits T l k p new lt e = record {
+pub ask_admits : (T : List (List Key)) (l : ℕ) (k : Key) (p : ℕ) (new : List Key) → l < length T → Enters (row T l) k p new → (m : Bool) → Admits T (child.Ask l k m) (set T l new)
+ask_admits T l k p new lt e m = record {
   levels = length-set T l new;
   kept = λ w q x h.
       elim (same_level w l) [
@@ -77,11 +77,11 @@ ask_admits T l k p new lt e = record {
             let at : slice_get new q ≡ Some x = subst (λ (z : List Key). slice_get z q ≡ Some x) (row_own T l new lt) (subst (λ z. StandsAt (set T l new) z q x) d h) in
             elim (entered_only (row T l) new k p e q x at) [
               | inl o ↦ inl (subst (λ z. StandsAt T z q x) (sym d) o)
-              | inr n ↦ inr (ap (λ z. child.Ask z k) (sym d) ∙ ap (λ z. child.Ask w z) (sym n))
+              | inr n ↦ inr (m, ap (λ z. child.Ask z k m) (sym d) ∙ ap (λ z. child.Ask w z m) (sym n))
             ]
         | inr d ↦ inl (subst (λ (z : List Key). slice_get z q ≡ Some x) (row_other T l new w d) h)
       ];
-  others = λ w no. row_other T l new w (λ d. no k (ap (λ z. child.Ask z k) (sym d)));
+  others = λ w no. row_other T l new w (λ d. no k (m, ap (λ z. child.Ask z k m) (sym d)));
 }
 
 -- and stands at its place
@@ -95,7 +95,7 @@ none_admits T c = record { levels = refl; kept = λ w q x h. h; only = λ w q x 
 -- what is placed stays placed
 pub placed_kept : (T U : List (List Key)) → Grow T U → (d : Placed) (c : Child) → IsPlaced T d c → IsPlaced U d c
 placed_kept T U g (Done r) c h = h
-placed_kept T U g (Ask l p) c h = (h.0, g l p h.0 h.1, h.2)
+placed_kept T U g (Ask l p m) c h = (h.0, g l p h.0 h.1, h.2)
 
 pub all_placed_kept : (S : Nodes) (T U : List (List Key)) → Grow T U → (es : List Entry) (ps : List Placed)
     → AllZip (λ e p. IsPlaced T p (child_at S e.0 e.1 e.2)) es ps → AllZip (λ e p. IsPlaced U p (child_at S e.0 e.1 e.2)) es ps
@@ -105,7 +105,7 @@ all_placed_kept S T U g (e ∷ es) [] z = z
 all_placed_kept S T U g (e ∷ es) (p ∷ ps) z = (placed_kept T U g p (child_at S e.0 e.1 e.2) z.0, all_placed_kept S T U g es ps z.1)
 
 pub admitted_more : (S : Nodes) (es : List Entry) (T : List (List Key)) (c : Child) (U : List (List Key)) → AreAdmitted S es T → Admits T c U
-    → ((l : ℕ) (k : Key) → c ≡ child.Ask l k → IsAdmitted S es l k) → AreAdmitted S es U
+    → ((l : ℕ) (k : Key) → AsksAt c l k → IsAdmitted S es l k) → AreAdmitted S es U
 admitted_more S es T c U a m new = record {
   levels = m.levels ∙ a.levels;
   keys = λ w q k h. elim (m.only w q k h) [ inl o ↦ a.keys w q k o | inr e ↦ new w k e ];
@@ -115,29 +115,29 @@ pub none_admitted : (S : Nodes) (es : List Entry) (T : List (List Key)) → leng
 none_admitted S es T l e = record { levels = l; keys = λ w q k h. absurd (stands_none (row T w) q k (e w) h) }
 
 -- what an entry asks for
-asked_entry : (S : Nodes) (e : Entry) (l : ℕ) (k : Key) (t : Option Ref) → answer_of S e.0 e.1 e.2 t ≡ child.Ask l k → (t ≡ None) × (normal_of e.0 e.1 e.2 ≡ k)
-asked_entry S e l k None h = (refl, cc)
-asked_entry S e l k (Some r) h = absurd (cc)
+asked_entry : (S : Nodes) (e : Entry) (l : ℕ) (k : Key) (t : Option Ref) → AsksAt (answer_of S e.0 e.1 e.2 t) l k → (t ≡ None) × ((normal_of e.0 e.1 e.2).0 ≡ k)
+asked_entry S e l k None (m, h) = (refl, cc)
+asked_entry S e l k (Some r) (m, h) = absurd (cc)
 
-pub root_admitted : (S : Nodes) (es : List Entry) (e : Entry) → Contains es e → IsChildIn S (child_at S e.0 e.1 e.2) → (l : ℕ) (k : Key) → child_at S e.0 e.1 e.2 ≡ child.Ask l k → IsAdmitted S es l k
+pub root_admitted : (S : Nodes) (es : List Entry) (e : Entry) → Contains es e → IsChildIn S (child_at S e.0 e.1 e.2) → (l : ℕ) (k : Key) → AsksAt (child_at S e.0 e.1 e.2) l k → IsAdmitted S es l k
 root_admitted S es e c i l k h =
     let a = asked_entry S e l k (short_of e.0 e.1 e.2) h in
-    let in_store : IsKey S k × (l ≡ level_of S k) = subst (IsChildIn S) h i in
+    let in_store : IsKey S k × (l ≡ level_of S k) = subst (IsChildIn S) h.1 i in
     record { key = in_store.0; level = sym in_store.1; reached = root_of (subst (Contains (requests_of es)) a.1 (to_request es e c a.0)) }
 
 -- what a key's child asks for
-pub child_admitted : (S : Nodes) → IsSound S → (es : List Entry) (w : ℕ) (k : Key) (b : Bool) → IsAdmitted S es w k → (l : ℕ) (c : Key) → child_of S k b ≡ child.Ask l c → IsAdmitted S es l c
+pub child_admitted : (S : Nodes) → IsSound S → (es : List Entry) (w : ℕ) (k : Key) (b : Bool) → IsAdmitted S es w k → (l : ℕ) (c : Key) → AsksAt (child_of S k b) l c → IsAdmitted S es l c
 child_admitted S sound es w k b a l c h = record {
-  key = held S sound k c b l a.key h;
-  level = sym (told S sound k c b l h);
-  reached = child_from b l a.reached h;
+  key = held S sound k c b l h.0 a.key h.1;
+  level = sym (told S sound k c b l h.0 h.1);
+  reached = child_from b l h.0 a.reached h.1;
 }
 
 -- and that it is further down
-pub child_below : (S : Nodes) → IsSound S → (es : List Entry) (v : ℕ) (k : Key) (b : Bool) → IsAdmitted S es v k → (l : ℕ) (c : Key) → child_of S k b ≡ child.Ask l c → v < l
+pub child_below : (S : Nodes) → IsSound S → (es : List Entry) (v : ℕ) (k : Key) (b : Bool) → IsAdmitted S es v k → (l : ℕ) (c : Key) → AsksAt (child_of S k b) l c → v < l
 child_below S sound es v k b a l c h =
-    let d : level_of S k < level_of S c = deeper S sound k c b l a.key h in
-    let t : l ≡ level_of S c = told S sound k c b l h in
+    let d : level_of S k < level_of S c = deeper S sound k c b l h.0 a.key h.1 in
+    let t : l ≡ level_of S c = told S sound k c b l h.0 h.1 in
     let m : level_of S k ≡ v = a.level in
     omega (arith, d, t, m)
 
@@ -234,9 +234,9 @@ levels_passed S es roots v u T rows e none = record {
 }
 
 -- a request that is told with its level fits the tables
-pub ask_fits : (S : Nodes) → IsSound S → (T : List (List Key)) (c : Child) (l : ℕ) (k : Key) → length T ≡ S.levels → IsChildIn S c → c ≡ child.Ask l k → l < length T
+pub ask_fits : (S : Nodes) → IsSound S → (T : List (List Key)) (c : Child) (l : ℕ) (k : Key) → length T ≡ S.levels → IsChildIn S c → AsksAt c l k → l < length T
 ask_fits S sound T c l k len i e =
-    let h : IsKey S k × (l ≡ level_of S k) = subst (IsChildIn S) e i in
+    let h : IsKey S k × (l ≡ level_of S k) = subst (IsChildIn S) e.1 i in
     let b : level_of S k < S.levels = bounded S sound k h.0 in
     let t : l ≡ level_of S k = h.1 in
     omega (arith, len, b, t)

@@ -7,11 +7,13 @@ use Rattle.std.proofs.lemmas.Option.{slice_get_within}
 use Rattle.dd_store.specs.declared.reference.Ref.{Ref}
 use Rattle.dd_store.specs.declared.StoreFault.{StoreFault}
 use Rattle.dd_store.specs.declared.StoreFault.TheVariants as store_faults
+use Rattle.dd_store.specs.Functions.{OfEither}
+use Rattle.dd_store.specs.Marks.{mark_by}
 use Rattle.dd_store.specs.Parts.Part.{node}
 use Rattle.dd_store.specs.Nodes.{Nodes, IsSound, den, count_of}
 use Rattle.dd_store.specs.View.{part, Has, Keeps}
 use Rattle.dd_store.proofs.Places.{slice_get_cases-push}
-use Rattle.dd_store.proofs.View.{kept_den, keeps-trans}
+use Rattle.dd_store.proofs.View.{keeps-trans}
 use Rattle.expand_work.specs.declared.fault.WaveFault.{WaveFault}
 use Rattle.expand_work.specs.declared.fault.WaveFault.TheVariants as wave_faults
 use Rattle.req_table.specs.declared.Key.{Key}
@@ -26,6 +28,7 @@ use Rattle.reduce_up.specs.Waves.{Entry, IsEntry, HasRequest, IsWaveFault, reque
 use Rattle.reduce_up.proofs.Reduction.{resolved, record_kept, kept_meaning, answer_kept, adds_none}
 use Rattle.reduce_up.proofs.Noting.{nothing, in_cases}
 use Rattle.reduce_up.proofs.Closed.{key_at, right}
+use Rattle.reduce_up.proofs.Opposite.{either_more, either_kept}
 use Rattle.reduce_up.proofs.Rooted.{of_entry, requests_good}
 use Rattle.req_table.specs.declared.placed.Placed.{Placed}
 use Rattle.req_table.specs.declared.placed.PlacedChild.TheVariants.{Done, Ask}
@@ -42,12 +45,12 @@ rec k lo hi = record { key = k; low = child.Done lo; high = child.Done hi }
 -- what a child comes to is one reference
 one_answer : (A : List (List Ref)) (d : Placed) (r s : Ref) → ComesTo A d r → ComesTo A d s → r ≡ s
 one_answer A (Done x) r s e f = e ∙ sym f
-one_answer A (Ask l p) r s e f = some_same (slice_get (row A l) p) r s e f
+one_answer A (Ask l p m) r s e f = e.2 ∙ ap (mark_by m) (some_same (slice_get (row A l) p) e.0 f.0 e.1 f.1) ∙ sym f.2
 
 -- answers of another level leave it
 comes_on : (A B : List (List Ref)) (v : ℕ) → ((w : ℕ) → (w ≡ v → ⊥) → row B w ≡ row A w) → (d : Placed) → IsBelow v d → (r : Ref) → ComesTo A d r → ComesTo B d r
 comes_on A B v same (Done x) b r c = c
-comes_on A B v same (Ask l p) b r c = subst (λ (z : List Ref). slice_get z p ≡ Some r) (sym (same l (λ e. omega (arith, e, b)))) c
+comes_on A B v same (Ask l p m) b r c = (c.0, subst (λ (z : List Ref). slice_get z p ≡ Some c.0) (sym (same l (λ e. omega (arith, e, b)))) c.1, c.2)
 
 -- answers of a level leave it ready
 pub ready_beside : (s : Nodes) (T : List (List Key)) (pairs : List (Placed × Placed)) (A B : List (List Ref)) (v : ℕ) → ((w : ℕ) → (w ≡ v → ⊥) → row B w ≡ row A w) → IsReadyAt s T pairs A v → IsReadyAt s T pairs B v
@@ -98,18 +101,21 @@ module _ (s0 : Nodes) (sound : IsSound s0) (T : List (List Key)) (pairs : List (
       key : IsKeyAt s0 v here.0
       key = R.keys i here.0 here.1
 
-      earlier : (m : Ref) → Has s m → Has s0 m ⊎ ((w : ℕ) × (lo : Ref) × (hi : Ref) × (part s m ≡ node w lo hi) × AskedAt s0 T v w (den s m)) → Has s0 m ⊎ ((w : ℕ) × (lo : Ref) × (hi : Ref) × (part u m ≡ node w lo hi) × AskedAt s0 T v w (den u m))
+      earlier : (m : Ref) → Has s m → Has s0 m ⊎ ((w : ℕ) × (lo : Ref) × (hi : Ref) × (part s m ≡ node w lo hi) × OfEither (AskedAt s0 T v w) (den s m)) → Has s0 m ⊎ ((w : ℕ) × (lo : Ref) × (hi : Ref) × (part u m ≡ node w lo hi) × OfEither (AskedAt s0 T v w) (den u m))
       earlier m h (inl k) = inl k
-      earlier m h (inr k) = inr (k.0, k.1, k.2, L.part_is m h ∙ k.3, (k.4.0, (k.4.1.0, k.4.1.1, k.4.1.2, λ x hx. kept_den s u so.held L m h x ∙ k.4.1.3 x hx)))
+      earlier m h (inr k) = inr (k.0, k.1, k.2, L.part_is m h ∙ k.3, either_kept s u so.held L (AskedAt s0 T v k.0) m h k.4)
 
       only_entry : (r : Record) → Contains (rec here.0 lo hi ∷ []) r → r ≡ rec here.0 lo hi
       only_entry r c = elim (in_cases (rec here.0 lo hi) r [] c) [ inl e ↦ sym e | inr n ↦ absurd (nothing r n) ]
 
-      later : (m : Ref) → Has s m ⊎ ((w : ℕ) × (lo' : Ref) × (hi' : Ref) × (part u m ≡ node w lo' hi') × AskedBy s v (rec here.0 lo hi ∷ []) w (den u m)) → Has s0 m ⊎ ((w : ℕ) × (lo : Ref) × (hi : Ref) × (part u m ≡ node w lo hi) × AskedAt s0 T v w (den u m))
+      of_level : (w : ℕ) (f : List Bool → Bool) → AskedBy s v (rec here.0 lo hi ∷ []) w f → AskedAt s0 T v w f
+      of_level w f (at, (r, c, e)) =
+          let same : r ≡ rec here.0 lo hi = only_entry r c in
+          (at, (i, here.0, here.1, λ x hx. e x (hx ∙ sym K.levels) ∙ ap (λ (r : Record). meaning s r.key x) same ∙ kept_meaning s0 s sound K here.0 key.first key.second x))
+
+      later : (m : Ref) → Has s m ⊎ ((w : ℕ) × (lo' : Ref) × (hi' : Ref) × (part u m ≡ node w lo' hi') × OfEither (AskedBy s v (rec here.0 lo hi ∷ []) w) (den u m)) → Has s0 m ⊎ ((w : ℕ) × (lo : Ref) × (hi : Ref) × (part u m ≡ node w lo hi) × OfEither (AskedAt s0 T v w) (den u m))
       later m (inl h) = earlier m h (so.adds.described m h)
-      later m (inr k) =
-          let same : k.4.1.0 ≡ rec here.0 lo hi = only_entry k.4.1.0 k.4.1.1 in
-          inr (k.0, k.1, k.2, k.3, (k.4.0, (i, here.0, here.1, λ x hx. k.4.1.2 x (hx ∙ sym K.levels) ∙ ap (λ (r : Record). meaning s r.key x) same ∙ kept_meaning s0 s sound K here.0 key.first key.second x)))
+      later m (inr k) = inr (k.0, k.1, k.2, k.3, either_more (AskedBy s v (rec here.0 lo hi ∷ []) k.0) (AskedAt s0 T v k.0) (of_level k.0) (den u m) k.4)
 
   -- its answer stands next
   pub one_more : (lo hi : Ref) (u : Nodes) → IsSound u → AddsDescribed s u (AskedBy s v (rec here.0 lo hi ∷ [])) → (r : Ref) → IsAnswer u here.0 r → (new : List Ref) → new ≡ own ++ r ∷ [] → IsLevelReduced s0 T v (i + 1) u new
@@ -143,17 +149,17 @@ level_start s T pairs A v S R = record {
 known : (s : Nodes) (T : List (List Key)) (A : List (List Ref)) (v : ℕ) (k : Key) (b : Bool) (d : Placed) (c : Child) → IsPlaced T d c → IsChild s v k b c →
     ((w q : ℕ) (x : Key) → v < w → StandsAt T w q x → length (row A w) ≡ length (row T w)) → ((w q : ℕ) (x : Key) (r : Ref) → v < w → StandsAt T w q x → StandsAt A w q r → IsAnswer s x r) → IsKnown s A v k b d
 known s T A v k b (Done r) c p i counts answered = (tt, (r, refl, subst (IsChild s v k b) p i))
-known s T A v k b (Ask l p) c h i counts answered =
+known s T A v k b (Ask l p m) c h i counts answered =
     let x : Key = h.0 in
-    let j : IsChild s v k b (child.Ask l x) = subst (IsChild s v k b) h.2 i in
+    let j : IsChild s v k b (child.Ask l x m) = subst (IsChild s v k b) h.2 i in
     let within : p < length (row T l) = slice_get_within (row T l) p x h.1 in
     let a = stands_some (row A l) p (let e : length (row A l) ≡ length (row T l) = counts l p x j.0 h.1 in omega (arith, e, within)) in
     let answer : IsAnswer s x a.0 = answered l p x a.0 j.0 h.1 a.1 in
-    let only : AreAnswers s ((x, a.0) ∷ []) = λ y r m. elim (in_cases {X = Key × Ref} (x, a.0) (y, r) [] m) [
+    let only : AreAnswers s ((x, a.0) ∷ []) = λ y r c. elim (in_cases {X = Key × Ref} (x, a.0) (y, r) [] c) [
       | inl e ↦ subst (λ (z : Key × Ref). IsAnswer s z.0 z.1) e answer
       | inr n ↦ absurd (nothing {X = Key × Ref} (y, r) n)
     ] in
-    (j.0, (a.0, a.1, resolved s v k b (child.Ask l x) ((x, a.0) ∷ []) a.0 j only (0, omega arith, refl)))
+    (j.0, (mark_by m a.0, (a.0, a.1, refl), resolved s v k b (child.Ask l x m) ((x, a.0) ∷ []) (mark_by m a.0) j only (a.0, (0, omega arith, refl), refl)))
 
 -- Of a wave over the store S.
 module _ (S : Nodes) (w : IsSound S) (entries : List Entry) (good : All (IsEntry S) entries) (roots : List Placed) (T : List (List Key)) (rows : List (List (Placed × Placed))) (from : ℕ) (E : AreExpanded S entries roots from T rows) where

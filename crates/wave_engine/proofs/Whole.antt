@@ -1,5 +1,5 @@
 -- A wave as a whole: the store moves on where the workers were called in, and the roots' answers are those of the entries.
-use Rattle.std.proofs.Common.{◌≡◌, ℕ, suc, ◌<◌, ◌≤◌, inl, inr, true, false, Bool, cond, List, [], ◌∷◌, ◌++◌, length, Option, Some, None, refl, sym, ◌∙◌, ap, subst, arith, Contains, All}
+use Rattle.std.proofs.Common.{◌≡◌, ℕ, suc, ◌<◌, ◌≤◌, inl, inr, true, false, Bool, cond, List, [], ◌∷◌, length, Option, Some, None, refl, sym, ◌∙◌, ap, subst, arith, Contains, All}
 use Rattle.std.specs.Prelude.{nat_eq, unwrap_or}
 use Rattle.std.specs.Option.{option_map}
 use Rattle.std.specs.List.{AllZip}
@@ -14,7 +14,10 @@ use Rattle.dd_store.specs.Parts.{Part}
 use Rattle.dd_store.specs.Parts.Part.{node}
 use Rattle.dd_store.specs.Nodes.{Nodes, node as node_at, IsSound, IsDiagram, den, count_of, cofactor_of, high_of, low_of, children}
 use Rattle.dd_store.specs.View.{part_of, Has, Keeps, top}
-use Rattle.dd_store.proofs.View.{kept_den, kept_top, keeps-trans}
+use Rattle.dd_store.specs.Marks.{mark_by, mark_both, turned}
+use Rattle.dd_store.proofs.Marks.{IsRef-mark_by, den-mark_by}
+use Rattle.dd_store.proofs.Storing.{children-of}
+use Rattle.dd_store.proofs.View.{kept_top, keeps-trans}
 use Rattle.expand_work.specs.declared.fault.WaveFault.{WaveFault}
 use Rattle.expand_work.specs.declared.fault.WaveFault.TheVariants as wave_faults
 use Rattle.req_table.specs.declared.Op.{Op}
@@ -27,9 +30,10 @@ use Rattle.req_table.specs.Short.{short_of}
 use Rattle.req_table.proofs.Waved.{child_has_value, child_stands}
 use Rattle.reduce_up.specs.Reducing.{AddsDescribed, IsAnswer}
 use Rattle.reduce_up.specs.Waves.{Entry, entry_value, IsEntry, AnswersEach, IsWanted, HasRequest, IsWithinLimit, IsWaveFault, requests_of}
-use Rattle.reduce_up.proofs.Below.{fixed_of, fixed_as}
+use Rattle.reduce_up.proofs.Below.{fixed_of}
 use Rattle.reduce_up.proofs.Closed.{reached_key}
 use Rattle.reduce_up.proofs.Noting.{nothing, in_cases}
+use Rattle.reduce_up.proofs.Opposite.{either_more, either_kept}
 use Rattle.reduce_up.proofs.Reduction.{kept_meaning, diagram_kept}
 use Rattle.reduce_up.proofs.Rooted.{all_of, requests_good}
 use Rattle.req_table.specs.declared.placed.Placed.{Placed}
@@ -44,16 +48,18 @@ module _ (S : Nodes) (w : IsSound S) (entries : List Entry) (good : All (IsEntry
   same_pair : (m : NodeId) (p q : Pair) → ◌≡◌ {A = Part Ref} (node m.level p.0 p.1) (node m.level q.0 q.1) → p ≡ q
   same_pair m p q e = let a : p.0 ≡ q.0 = cc in let b : p.1 ≡ q.1 = cc in λ i. (a i, b i)
 
-  node_kept : (m : NodeId) → Has S (Node m) → node_at U m ≡ node_at S m
-  node_kept m h =
-      let g : Has U (Node m) = K.has (Node m) h in
-      let e : part_of m (Some g.0) ≡ part_of m (Some h.0) = sym (ap (part_of m) g.1) ∙ K.part_is (Node m) h ∙ ap (part_of m) h.1 in
-      g.1 ∙ ap (λ (z : Pair). Some z) (same_pair m g.0 h.0 e) ∙ sym h.1
+  node_kept : (m : NodeId) (b : Bool) → Has S (Node m b) → children U (Node m b) ≡ children S (Node m b)
+  node_kept m b h =
+      let g : Has U (Node m b) = K.has (Node m b) h in
+      let is : children U (Node m b) ≡ Some (mark_both b g.0) = children-of U m b g.0 g.1 in
+      let was : children S (Node m b) ≡ Some (mark_both b h.0) = children-of S m b h.0 h.1 in
+      let e : part_of m (Some (mark_both b g.0)) ≡ part_of m (Some (mark_both b h.0)) = sym (ap (part_of m) is) ∙ K.part_is (Node m b) h ∙ ap (part_of m) was in
+      is ∙ ap (λ (z : Pair). Some z) (same_pair m (mark_both b g.0) (mark_both b h.0) e) ∙ sym was
 
   children_kept : (r : Ref) → Has S r → children U r ≡ children S r
   children_kept False h = refl
   children_kept True h = refl
-  children_kept (Node m) h = node_kept m h
+  children_kept (Node m b) h = node_kept m b h
 
   cofactor_kept : (r : Ref) (v : ℕ) (b : Bool) → Has S r → cofactor_of U r v b ≡ cofactor_of S r v b
   cofactor_kept r v b h =
@@ -64,7 +70,7 @@ module _ (S : Nodes) (w : IsSound S) (entries : List Entry) (good : All (IsEntry
   child_same op f g = by (short_of op f g)
     where
       by : (t : Option Ref) → answer_of U op f g t ≡ answer_of S op f g t
-      by None = ap (λ n. child.Ask (level_at n (normal_of op f g)) (normal_of op f g)) K.levels
+      by None = ap (λ n. child.Ask (level_at n (normal_of op f g).0) (normal_of op f g).0 (normal_of op f g).1) K.levels
       by (Some r) = refl
 
   child_kept : (k : Key) (b : Bool) → IsKey S k → child_of U k b ≡ child_of S k b
@@ -77,8 +83,8 @@ module _ (S : Nodes) (w : IsSound S) (entries : List Entry) (good : All (IsEntry
 
   reached_kept : (k : Key) → IsReached (wave_of S 1) (requests_of entries) k → IsReached (wave_of U 1) (requests_of entries) k
   reached_kept k (root_of c) = root_of c
-  reached_kept k (child_from {x = x} b l i e) =
-      child_from b l (reached_kept x i) (child_kept x b (reached_key S w 1 (requests_of entries) (requests_good S entries good) x i) ∙ e)
+  reached_kept k (child_from {x = x} b l m i e) =
+      child_from b l m (reached_kept x i) (child_kept x b (reached_key S w 1 (requests_of entries) (requests_good S entries good) x i) ∙ e)
 
   admitted_kept : (v : ℕ) (k : Key) → IsAdmitted S entries v k → IsAdmitted U entries v k
   admitted_kept v k i = record {
@@ -136,25 +142,11 @@ module _ (S : Nodes) (w : IsSound S) (entries : List Entry) (good : All (IsEntry
     described = λ m h. elim (b.described m h) [
       | inl o ↦ elim (a.described m o) [
         | inl p ↦ inl p
-        | inr n ↦ inr (n.0, n.1, n.2, b.keeps.part_is m o ∙ n.3, moved n.0 m o n.4)
+        | inr n ↦ inr (n.0, n.1, n.2, b.keeps.part_is m o ∙ n.3, either_kept U s sU b.keeps (IsWanted S entries n.0) m o n.4)
       ]
-      | inr n ↦ inr (n.0, n.1, n.2, n.3, wanted_back n.0 (den s m) n.4)
+      | inr n ↦ inr (n.0, n.1, n.2, n.3, either_more (IsWanted U entries n.0) (IsWanted S entries n.0) (wanted_back n.0) (den s m) n.4)
     ];
   }
-    where
-      moved : (n : ℕ) (m : Ref) → Has U m → IsWanted S entries n (den U m) → IsWanted S entries n (den s m)
-      moved n m h x = record {
-        entry = x.entry;
-        is_entry = x.is_entry;
-        fixed = fixed_as S.levels n (entry_value S x.entry) (den U m) (den s m) (λ y hy. kept_den U s sU b.keeps m h y) x.fixed;
-        depends = (
-          x.depends.0,
-          x.depends.1,
-          x.depends.2,
-          x.depends.3,
-          λ e. x.depends.4 (sym (kept_den U s sU b.keeps m h (x.depends.0 ++ false ∷ x.depends.1)) ∙ e ∙ kept_den U s sU b.keeps m h (x.depends.0 ++ true ∷ x.depends.1)),
-        );
-      }
 
 -- Of a wave over the store S.
 module _ (S : Nodes) (w : IsSound S) (entries : List Entry) (good : All (IsEntry S) entries) where
@@ -165,12 +157,14 @@ module _ (S : Nodes) (w : IsSound S) (entries : List Entry) (good : All (IsEntry
       let has : Has S d = subst (IsChildIn S) h (child_stands S e.0 e.1 e.2 i.0 i.1) in
       let means : (x : List Bool) → den S d x ≡ entry_value S e x = λ x. ap (λ z. child_value S z x) (sym h) ∙ child_has_value S e.0 e.1 e.2 x in
       subst (λ z. IsDiagram s z (entry_value S e)) (sym c) (diagram_kept S s w K (entry_value S e) d (has, λ x hx. means x))
-  root_diagram T A s adm K answered e i (Ask l p) h r c =
+  root_diagram T A s adm K answered e i (Ask l p m) h r c =
       let k : Key = h.0 in
-      let a : IsAnswer s k r = answered l p k r h.1 c in
+      let d : Ref = c.0 in
+      let a : IsAnswer s k d = answered l p k d h.1 c.1 in
       let kk : IsKey S k = (adm.keys l p k h.1).key in
-      let means : (x : List Bool) → meaning S k x ≡ entry_value S e x = λ x. ap (λ z. child_value S z x) (sym h.2) ∙ child_has_value S e.0 e.1 e.2 x in
-      (a.has, λ x hx. a.denotes x hx ∙ kept_meaning S s w K k kk.first kk.second x ∙ means x)
+      let means : (x : List Bool) → turned m (meaning S k x) ≡ entry_value S e x = λ x. ap (λ z. child_value S z x) (sym h.2) ∙ child_has_value S e.0 e.1 e.2 x in
+      subst (λ z. IsDiagram s z (entry_value S e)) (sym c.2)
+      (IsRef-mark_by (node_at s) m d a.has, λ x hx. den-mark_by s m d x ∙ ap (turned m) (a.denotes x hx ∙ kept_meaning S s w K k kk.first kk.second x) ∙ means x)
 
   pub roots_answered : (T : List (List Key)) (A : List (List Ref)) (s : Nodes) → AreAdmitted S entries T → Keeps S s → ((v q : ℕ) (k : Key) (r : Ref) → StandsAt T v q k → StandsAt A v q r → IsAnswer s k r) →
       (es : List Entry) → All (IsEntry S) es → (ps : List Placed) → AllZip (λ e p. IsPlaced T p (child_at S e.0 e.1 e.2)) es ps → (rs : List Ref) → AllZip (ComesTo A) ps rs → AnswersEach S es s rs
@@ -185,7 +179,9 @@ module _ (S : Nodes) (w : IsSound S) (entries : List Entry) (good : All (IsEntry
   -- each root's request has its answer
   root_comes : (T : List (List Key)) (A : List (List Ref)) → ((v q : ℕ) (k : Key) → StandsAt T v q k → length (row A v) ≡ length (row T v)) → (p : Placed) (c : Child) → IsPlaced T p c → (r : Ref) × ComesTo A p r
   root_comes T A counts (Done d) c h = (d, refl)
-  root_comes T A counts (Ask l q) c h = stands_some (row A l) q (let e : length (row A l) ≡ length (row T l) = counts l q h.0 h.1 in let lt : q < length (row T l) = slice_get_within (row T l) q h.0 h.1 in omega (arith, e, lt))
+  root_comes T A counts (Ask l q m) c h =
+      let a = stands_some (row A l) q (let e : length (row A l) ≡ length (row T l) = counts l q h.0 h.1 in let lt : q < length (row T l) = slice_get_within (row T l) q h.0 h.1 in omega (arith, e, lt)) in
+      (mark_by m a.0, (a.0, a.1, refl))
 
   placed_root : (T : List (List Key)) (es : List Entry) (ps : List Placed) → AllZip (λ e p. IsPlaced T p (child_at S e.0 e.1 e.2)) es ps → (p : Placed) → Contains ps p → (c : Child) × IsPlaced T p c
   placed_root T [] [] z p m = absurd (nothing p m)
@@ -207,7 +203,7 @@ module _ (S : Nodes) (w : IsSound S) (entries : List Entry) (good : All (IsEntry
     where
       by : (p : Placed) → IsPlaced T p (ask_of S (normal_of h.0.0 h.0.1 h.0.2)) → ⊥
       by (Done d) e = cc
-      by (Ask l q) e = none l q e.0 e.1
+      by (Ask l q m) e = none l q e.0 e.1
 
   -- within the limit, or nothing was asked
   pub within_both : (T : List (List Key)) (ps : List Placed) → AllZip (λ e p. IsPlaced T p (child_at S e.0 e.1 e.2)) entries ps → (from : ℕ) (U s : Nodes) → IsWithinBelow S T from U → IsWithinBelow U T 0 s → IsWithinLimit S entries s

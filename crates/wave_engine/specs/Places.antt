@@ -1,5 +1,5 @@
 -- Requests by place: what stands at a place of a level, and what is placed there.
-use Rattle.std.specs.Prelude.{◌≡◌, ℕ, ◌+◌, ◌*◌, ◌^◌, ◌<◌, ◌≤◌, ◌⊎◌, List, [], ◌∷◌, ◌++◌, length, slice_get, slice_index_or, Option, None, Some}
+use Rattle.std.specs.Prelude.{◌≡◌, ℕ, ◌+◌, ◌*◌, ◌^◌, ◌<◌, ◌≤◌, ◌⊎◌, Bool, List, [], ◌∷◌, ◌++◌, length, slice_get, slice_index_or, Option, None, Some}
 use Rattle.req_table.specs.declared.Key.{Key}
 use Rattle.req_table.specs.declared.Child.{Child}
 use Rattle.req_table.specs.declared.Child.TheVariants as child
@@ -22,14 +22,18 @@ Enters old k p new = (slice_get new p ≡ Some k) × ((new ≡ old) ⊎ (new ≡
 -- what a placed child stands for: its answer, or the request at its place
 abbrev pub IsPlaced : List (List Key) → Placed → Child → Type 0
 IsPlaced tables (Done r) c = c ≡ child.Done r
-IsPlaced tables (Ask l p) c = (k : Key) × StandsAt tables l p k × (c ≡ child.Ask l k)
+IsPlaced tables (Ask l p m) c = (k : Key) × StandsAt tables l p k × (c ≡ child.Ask l k m)
+
+-- a child asks for a request of a level, or for its complement
+abbrev pub AsksAt : Child → ℕ → Key → Type 0
+AsksAt c l k = (m : Bool) × (c ≡ child.Ask l k m)
 
 -- tables after a child was placed: what stood at a place stands there, and what is new is the child's request at its level
 pub record Admits (old : List (List Key)) (c : Child) (new : List (List Key)) : Type 0 where
   pub levels : length new ≡ length old
   pub kept : (w q : ℕ) (k : Key) → StandsAt old w q k → StandsAt new w q k
-  pub only : (w q : ℕ) (k : Key) → StandsAt new w q k → StandsAt old w q k ⊎ (c ≡ child.Ask w k)
-  pub others : (w : ℕ) → ((k : Key) → c ≡ child.Ask w k → ⊥) → row new w ≡ row old w
+  pub only : (w q : ℕ) (k : Key) → StandsAt new w q k → StandsAt old w q k ⊎ AsksAt c w k
+  pub others : (w : ℕ) → ((k : Key) → AsksAt c w k → ⊥) → row new w ≡ row old w
 
 -- n empty lists
 pub record AreEmpty {X : Type 0} (lists : List (List X)) (n : ℕ) : Type 0 where

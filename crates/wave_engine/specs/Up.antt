@@ -2,6 +2,7 @@
 use Rattle.std.specs.Prelude.{◌≡◌, ℕ, ◌<◌, ◌≤◌, ◌⊎◌, Bool, true, false, List, length, slice_get, Some}
 use Rattle.dd_store.specs.declared.reference.Ref.{Ref}
 use Rattle.dd_store.specs.Functions.{Agree}
+use Rattle.dd_store.specs.Marks.{mark_by}
 use Rattle.dd_store.specs.Nodes.{Nodes, IsSound, count_of}
 use Rattle.req_table.specs.declared.Key.{Key}
 use Rattle.req_table.specs.Keys.{meaning}
@@ -16,12 +17,12 @@ use Rattle.wave_engine.specs.Places.{row, StandsAt}
 -- what a placed child comes to by the answers
 abbrev pub ComesTo : List (List Ref) → Placed → Ref → Type 0
 ComesTo answers (Done d) r = r ≡ d
-ComesTo answers (Ask l p) r = StandsAt answers l p r
+ComesTo answers (Ask l p m) r = (a : Ref) × StandsAt answers l p a × (r ≡ mark_by m a)
 
 -- a placed child of a level below v
 abbrev pub IsBelow : ℕ → Placed → Type 0
 IsBelow v (Done d) = Unit {0}
-IsBelow v (Ask l p) = v < l
+IsBelow v (Ask l p m) = v < l
 
 -- a child whose answer is known, below level v, and is what the key's function is with the bit of level v set to b
 abbrev pub IsKnown : Nodes → List (List Ref) → ℕ → Key → Bool → Placed → Type 0
@@ -64,7 +65,8 @@ abbrev pub IsWithinBelow : Nodes → List (List Key) → ℕ → Nodes → Type 
 IsWithinBelow start tables v s =
     (count_of s ≤ s.limit) ⊎ (((w q : ℕ) (k : Key) → v ≤ w → StandsAt tables w q k → ⊥) × (s ≡ start))
 
--- the levels from v on have their answers: from the store `start` to the store s, which has new nodes only for what the entries ask for
+-- the levels from v on have their answers: from the store `start` to the store s, which has new nodes only for what the entries ask for, or for
+-- its complement
 pub record AreReducedBelow (start : Nodes) (entries : List Entry) (tables : List (List Key)) (v : ℕ) (s : Nodes) (answers : List (List Ref)) : Type 0 where
   pub held : IsSound s
   pub adds : AddsDescribed start s (IsWanted start entries)

@@ -25,9 +25,9 @@ fn place_child(store: &Store, requests: &mut Requests, asked: Child) -> Result<P
     let _ = store.levels();
     match asked {
         Child::Done(answer) => Ok(Placed::done(answer)),
-        Child::Ask { level, key } => {
+        Child::Ask { level, key, mark } => {
             let place = requests.admit(level, key)?;
-            Ok(Placed::ask(level, place))
+            Ok(Placed::ask(level, place, mark))
         }
     }
 }

@@ -3,8 +3,7 @@ ghost use Rattle.std.specs.Prelude.{◌≡◌, ◌≢◌, ◌<◌, ◌-◌, ◌^
 ghost use Rattle.dd_store.specs.Nodes.{Nodes, IsSound};
 ghost use Rattle.req_table.specs.Memos.{IsRight};
 ghost use Rattle.reduce_up.specs.Known.{unknown, IsKeptWave};
-ghost use Rattle.reduce_up.specs.Reducing.{AddsDescribed};
-ghost use Rattle.reduce_up.specs.Waves.{IsEntry, AnswersEach, IsWanted, AddsBelow, IsWithinLimit, IsWaveFault};
+ghost use Rattle.reduce_up.specs.Waves.{IsEntry, AnswersWave};
 ghost use Rattle.expand_work.specs.Bounds.{most_of};
 ghost use Rattle.wave_engine.specs.Bounds.{ArePast};
 
@@ -49,12 +48,7 @@ impl<'a, R: Threads + Wait + Sync, G: Gate> Runner<'a, R, G> {
     ) -> Result<Vec<Ref>, WaveFault>
         requires operands { All (IsEntry store.old) entries.now }
         requires right { IsRight store.old memo.old }
-        ensures sound { IsSound store.new }
-        ensures adds { AddsDescribed store.old store.new (IsWanted store.old entries.now) }
-        ensures answers { IfOk result (λ answers. AnswersEach store.old entries.now store.new answers.items) }
-        ensures no_others { IfOk result (λ answers. AddsBelow store.old store.new answers.items) }
-        ensures within { OnOk result (IsWithinLimit store.old (unknown memo.old entries.now) store.new) }
-        ensures fault { IfErr result (λ e. IsWaveFault store.old (unknown memo.old entries.now) store.new e) }
+        ensures wave { AnswersWave store.old entries.now (unknown memo.old entries.now) result store.new }
         ensures past { result ≡ Err WaveFault.TooManyRequests → ArePast (G.bound self.old.workspace.team.gate.now) store.old (unknown memo.old entries.now) }
         ensures alone { most_of (G.bound self.old.workspace.team.gate.now) < 2 ^ 64 - 1 → result ≢ Err WaveFault.NoWorker }
         ensures gate { self.new.workspace.team.gate ≡ self.old.workspace.team.gate }
@@ -133,12 +127,7 @@ impl<'a, R: Threads + Wait + Sync, G: Gate> Engine<'a, R, G> {
     ) -> Result<Vec<Ref>, WaveFault>
         requires operands { All (IsEntry store.old) entries.now }
         requires right { IsRight store.old self.old.held }
-        ensures sound { IsSound store.new }
-        ensures adds { AddsDescribed store.old store.new (IsWanted store.old entries.now) }
-        ensures answers { IfOk result (λ answers. AnswersEach store.old entries.now store.new answers.items) }
-        ensures no_others { IfOk result (λ answers. AddsBelow store.old store.new answers.items) }
-        ensures within { OnOk result (IsWithinLimit store.old (unknown self.old.held entries.now) store.new) }
-        ensures fault { IfErr result (λ e. IsWaveFault store.old (unknown self.old.held entries.now) store.new e) }
+        ensures wave { AnswersWave store.old entries.now (unknown self.old.held entries.now) result store.new }
         ensures past { result ≡ Err WaveFault.TooManyRequests → ArePast self.old.bound store.old (unknown self.old.held entries.now) }
         ensures alone { most_of self.old.bound < 2 ^ 64 - 1 → result ≢ Err WaveFault.NoWorker }
         ensures kept { IfOk result (λ answers. IsKeptWave self.old.held entries.now answers.items self.new.held) }

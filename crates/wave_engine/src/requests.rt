@@ -1,5 +1,5 @@
 //! The requests of a wave, by level.
-ghost use Rattle.std.specs.Prelude.{◌≡◌, ◌<◌, ◌≤◌, [], ℕ, length, set, IfOk, OnOk, MatchOption};
+ghost use Rattle.std.specs.Prelude.{◌≡◌, ◌<◌, ◌≤◌, [], ℕ, Bool, length, set, IfOk, OnOk, MatchOption};
 ghost use Rattle.slot_table.specs.Lists.{IsOnce};
 ghost use Rattle.req_table.specs.declared.Child.TheVariants as child;
 ghost use Rattle.wave_engine.specs.Places.{row, StandsAt, Admits, AreEmpty, IsNextLevel, IsLastLevel};
@@ -91,7 +91,7 @@ impl Requests {
     pub(crate) fn admit(&mut self, level: u16, key: Key) -> Result<u32, AllocError>
         requires { level < length self.old }
         ensures stands { IfOk result (λ p. StandsAt self.new level p key) }
-        ensures admits { Admits self.old (child.Ask level key) self.new }
+        ensures admits { (mark : Bool) → Admits self.old (child.Ask level key mark) self.new }
     {
         let count = self.count(level);
         let place = self.tables[level as usize].admit(key)?;

@@ -22,7 +22,9 @@ pub(crate) fn resolve(answers: &[Answers], child: Placed) -> Ref
 {
     match child.view() {
         PlacedChild::Done(answer) => answer,
-        PlacedChild::Ask { level, place } => answers[level as usize].at(place as usize),
+        PlacedChild::Ask { level, place, mark } => answers[level as usize]
+            .at(place as usize)
+            .marked(mark),
     }
 }
 

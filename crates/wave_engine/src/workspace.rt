@@ -3,8 +3,7 @@ ghost use Rattle.std.specs.Prelude.{◌≡◌, ◌≢◌, ◌<◌, ◌≤◌, �
 ghost use Rattle.std.specs.List.{AllZip};
 ghost use Rattle.dd_store.specs.declared.reference.Ref.{Ref as RefValue};
 ghost use Rattle.dd_store.specs.Nodes.{IsSound};
-ghost use Rattle.reduce_up.specs.Reducing.{AddsDescribed};
-ghost use Rattle.reduce_up.specs.Waves.{IsEntry, AnswersEach, IsWanted, AddsBelow, IsWithinLimit, IsWaveFault};
+ghost use Rattle.reduce_up.specs.Waves.{IsEntry, AnswersWave};
 ghost use Rattle.expand_work.specs.Bounds.{most_of};
 ghost use Rattle.wave_engine.specs.Bounds.{AreMoreThan, ArePast};
 ghost use Rattle.wave_engine.specs.Down.{IsDown};
@@ -163,12 +162,7 @@ impl<'a, R: Threads + Wait + Sync, G: Gate> Workspace<'a, R, G> {
         entries: &[(Op, Ref, Ref)],
     ) -> Result<Vec<Ref>, WaveFault>
         requires operands { All (IsEntry store.old) entries.now }
-        ensures sound { IsSound store.new }
-        ensures adds { AddsDescribed store.old store.new (IsWanted store.old entries.now) }
-        ensures answers { IfOk result (λ answers. AnswersEach store.old entries.now store.new answers.items) }
-        ensures no_others { IfOk result (λ answers. AddsBelow store.old store.new answers.items) }
-        ensures within { OnOk result (IsWithinLimit store.old entries.now store.new) }
-        ensures fault { IfErr result (λ e. IsWaveFault store.old entries.now store.new e) }
+        ensures wave { AnswersWave store.old entries.now entries.now result store.new }
         ensures past { result ≡ Err WaveFault.TooManyRequests → ArePast (G.bound self.old.team.gate.now) store.old entries.now }
         ensures alone { most_of (G.bound self.old.team.gate.now) < 2 ^ 64 - 1 → result ≢ Err WaveFault.NoWorker }
         ensures gate { self.new.team.gate ≡ self.old.team.gate }

@@ -38,7 +38,7 @@ returns-then-count-eq0-clause-admits c =
     let fits : l < length T = omega (arith, same, c.requires) in
     let read : c.index_mut.result.now ≡ row T l = row_read T l c.index_mut.result.now fits c.index_mut.ensures.value in
     let enters : Enters (row T l) c.args.key c.in_ok-place.place new = subst (λ (z : List Key). Enters z c.args.key c.in_ok-place.place new) read c.in_ok-place.ensures.enters in
-    subst (λ (z : List (List Key)). Admits z (child.Ask l c.args.key) (set T l new)) c.self.view_is (ask_admits T l c.args.key c.in_ok-place.place new fits enters)
+    λ m. subst (λ (z : List (List Key)). Admits z (child.Ask l c.args.key m) (set T l new)) c.self.view_is (ask_admits T l c.args.key c.in_ok-place.place new fits enters m)
 
 pub returns-else-count-eq0-clause-admits : goal.returns-else-count-eq0-clause-admits
 returns-else-count-eq0-clause-admits c =
@@ -49,4 +49,4 @@ returns-else-count-eq0-clause-admits c =
     let fits : l < length T = omega (arith, same, c.requires) in
     let read : c.index_mut.result.now ≡ row T l = row_read T l c.index_mut.result.now fits c.index_mut.ensures.value in
     let enters : Enters (row T l) c.args.key c.in_ok-place.place new = subst (λ (z : List Key). Enters z c.args.key c.in_ok-place.place new) read c.in_ok-place.ensures.enters in
-    subst (λ (z : List (List Key)). Admits z (child.Ask l c.args.key) (set T l new)) c.self.view_is (ask_admits T l c.args.key c.in_ok-place.place new fits enters)
+    λ m. subst (λ (z : List (List Key)). Admits z (child.Ask l c.args.key m) (set T l new)) c.self.view_is (ask_admits T l c.args.key c.in_ok-place.place new fits enters m)

@@ -1,10 +1,11 @@
-use Rattle.std.proofs.Common.{rules, List, All, sym, subst, arith}
+use Rattle.std.proofs.Common.{List, All, sym, subst, arith}
 use Rattle.std.specs.List.{AllZip}
 use Rattle.dd_store.specs.declared.reference.Ref.{Ref}
 use Rattle.req_table.specs.declared.Key.{Key}
 use Rattle.reduce_up.specs.Reducing.{AddsDescribed}
 use Rattle.reduce_up.specs.Waves.{IsWanted, AnswersEach, IsWaveFault}
-use Rattle.reduce_up.proofs.Waving.{adds_below}
+use Rattle.reduce_up.proofs.Waving.{not_full, wave_unchanged, wave_given_up, wave_done}
+use Rattle.std.proofs.lemmas.Result.{err_from_is_err_and}
 use Rattle.req_table.specs.declared.placed.Placed.{Placed}
 use Rattle.wave_engine.specs.Down.{AreExpanded, IsDown}
 use Rattle.wave_engine.specs.Up.{ComesTo, AreReducedBelow, IsWithinBelow}
@@ -20,23 +21,24 @@ reduce-requires-clause-expanded g c =
     let E : AreExpanded c.hand_over.new.store c.args.entries.now ps c.in-Ok.from T rows = expanded_kept c.args.store.now c.levels.ensures.sound c.args.entries.now c.requires.operands c.hand_over.new.store c.hand_over.ensures.adds.keeps ps c.in-Ok.from T rows D.expanded in
     E
 
-pub returns-in_err-reduce-clause-adds : goal.returns-in_err-reduce-clause-adds
-returns-in_err-reduce-clause-adds g c =
-    adds_both c.args.store.now c.levels.ensures.sound c.args.entries.now c.requires.operands c.hand_over.new.store c.hand_over.ensures.adds.keeps c.hand_over.ensures.sound c.reduce.new.store c.hand_over.ensures.adds c.reduce.ensures.adds
+pub returns-in-Err-clause-wave : goal.returns-in-Err-clause-wave
+returns-in-Err-clause-wave g c =
+    wave_unchanged c.args.store.now c.args.entries.now c.args.entries.now c.in-Err.fault c.levels.ensures.sound
+    (not_full c.args.store.now c.args.entries.now c.args.store.now c.in-Err.fault c.in-Err.ensures.refused)
 
-pub returns-in-Ok-root_answers-clause-adds : goal.returns-in-Ok-root_answers-clause-adds
-returns-in-Ok-root_answers-clause-adds g c =
-    adds_both c.args.store.now c.levels.ensures.sound c.args.entries.now c.requires.operands c.hand_over.new.store c.hand_over.ensures.adds.keeps c.hand_over.ensures.sound c.reduce.new.store c.hand_over.ensures.adds c.reduce.ensures.adds
+pub returns-in_err-hand_over-clause-wave : goal.returns-in_err-hand_over-clause-wave
+returns-in_err-hand_over-clause-wave g c =
+    let p = err_from_is_err_and c.from_residual.result c.from_residual.ensures.1 in
+    rw (p.1, p.2) (wave_given_up c.args.store.now c.args.entries.now c.args.entries.now c.hand_over.new.store c.in_err-hand_over.field-0.0 c.hand_over.ensures.sound c.hand_over.ensures.adds c.in_err-hand_over.ensures.fault)
 
-pub returns-in-Err-root_answers-clause-adds : goal.returns-in-Err-root_answers-clause-adds
-returns-in-Err-root_answers-clause-adds g c =
-    adds_both c.args.store.now c.levels.ensures.sound c.args.entries.now c.requires.operands c.hand_over.new.store c.hand_over.ensures.adds.keeps c.hand_over.ensures.sound c.reduce.new.store c.hand_over.ensures.adds c.reduce.ensures.adds
-
-pub returns-in_err-reduce-clause-fault : goal.returns-in_err-reduce-clause-fault
-returns-in_err-reduce-clause-fault g c =
+pub returns-in_err-reduce-clause-wave : goal.returns-in_err-reduce-clause-wave
+returns-in_err-reduce-clause-wave g c =
+    let adds : AddsDescribed c.args.store.now c.reduce.new.store (IsWanted c.args.store.now c.args.entries.now) =
+    adds_both c.args.store.now c.levels.ensures.sound c.args.entries.now c.requires.operands c.hand_over.new.store c.hand_over.ensures.adds.keeps c.hand_over.ensures.sound c.reduce.new.store c.hand_over.ensures.adds c.reduce.ensures.adds in
     let f : IsWaveFault c.args.store.now c.args.entries.now c.reduce.new.store c.in_err-reduce.field-0.0 =
     fault_back c.args.store.now c.levels.ensures.sound c.args.entries.now c.requires.operands c.hand_over.new.store c.hand_over.ensures.adds.keeps c.reduce.new.store c.in_err-reduce.field-0.0 c.in_err-reduce.ensures.fault in
-    search (rules, f)
+    let p = err_from_is_err_and c.from_residual-in_err-reduce.result c.from_residual-in_err-reduce.ensures.1 in
+    rw (p.1, p.2) (wave_given_up c.args.store.now c.args.entries.now c.args.entries.now c.reduce.new.store c.in_err-reduce.field-0.0 c.reduce.ensures.sound adds f)
 
 pub root_answers-requires : goal.root_answers-requires
 root_answers-requires g c =
@@ -49,8 +51,8 @@ root_answers-requires g c =
     (subst (λ (z : List (List Ref)). All (λ p. (r : Ref) × ComesTo z p r) ps) (sym c.as_slice-2.ensures.value)
     (roots_come c.args.store.now c.levels.ensures.sound c.args.entries.now c.requires.operands T c.reduce.new.answers.items (λ v q k h. R.counts v q k (omega arith) h) ps D.expanded.rooted))
 
-pub returns-in-Ok-root_answers-clause-answers : goal.returns-in-Ok-root_answers-clause-answers
-returns-in-Ok-root_answers-clause-answers g c =
+pub returns-in-Ok-root_answers-clause-wave : goal.returns-in-Ok-root_answers-clause-wave
+returns-in-Ok-root_answers-clause-wave g c =
     let T : List (List Key) = c.go_down.new.down.requests in
     let rows : List (List (Placed × Placed)) = c.go_down.new.down.rows.items in
     let ps : List Placed = c.go_down.new.down.roots.items in
@@ -62,29 +64,12 @@ returns-in-Ok-root_answers-clause-answers g c =
     let adds : AddsDescribed c.args.store.now c.reduce.new.store (IsWanted c.args.store.now c.args.entries.now) = adds_both c.args.store.now c.levels.ensures.sound c.args.entries.now c.requires.operands c.hand_over.new.store c.hand_over.ensures.adds.keeps c.hand_over.ensures.sound c.reduce.new.store c.hand_over.ensures.adds c.reduce.ensures.adds in
     let answers : AnswersEach c.args.store.now c.args.entries.now c.reduce.new.store c.in-Ok-root_answers.answers.items =
     roots_answered c.args.store.now c.levels.ensures.sound c.args.entries.now c.requires.operands T c.reduce.new.answers.items c.reduce.new.store D.expanded.admitted adds.keeps (λ v q k r h g. R.answered v q k r (omega arith) h g) c.args.entries.now c.requires.operands ps D.expanded.rooted c.in-Ok-root_answers.answers.items come in
-    answers
-
-pub returns-in-Ok-root_answers-clause-no_others : goal.returns-in-Ok-root_answers-clause-no_others
-returns-in-Ok-root_answers-clause-no_others g c =
-    let T : List (List Key) = c.go_down.new.down.requests in
-    let rows : List (List (Placed × Placed)) = c.go_down.new.down.rows.items in
-    let ps : List Placed = c.go_down.new.down.roots.items in
-    let D : IsDown c.args.store.now c.args.entries.now c.in-Ok.from T rows ps c.go_down.new.answers.items = c.in-Ok.ensures.down in
-    let R : AreReducedBelow c.hand_over.new.store c.args.entries.now T 0 c.reduce.new.store c.reduce.new.answers.items = c.in_ok-reduce.ensures.reduced in
-    let come : AllZip (ComesTo c.reduce.new.answers.items) ps c.in-Ok-root_answers.answers.items =
-    subst (λ (z : List Placed). AllZip (ComesTo c.reduce.new.answers.items) z c.in-Ok-root_answers.answers.items) c.as_slice.ensures.value
-    (subst (λ (z : List (List Ref)). AllZip (ComesTo z) c.as_slice.result.now c.in-Ok-root_answers.answers.items) c.as_slice-2.ensures.value c.in-Ok-root_answers.ensures) in
-    let adds : AddsDescribed c.args.store.now c.reduce.new.store (IsWanted c.args.store.now c.args.entries.now) = adds_both c.args.store.now c.levels.ensures.sound c.args.entries.now c.requires.operands c.hand_over.new.store c.hand_over.ensures.adds.keeps c.hand_over.ensures.sound c.reduce.new.store c.hand_over.ensures.adds c.reduce.ensures.adds in
-    let answers : AnswersEach c.args.store.now c.args.entries.now c.reduce.new.store c.in-Ok-root_answers.answers.items =
-    roots_answered c.args.store.now c.levels.ensures.sound c.args.entries.now c.requires.operands T c.reduce.new.answers.items c.reduce.new.store D.expanded.admitted adds.keeps (λ v q k r h g. R.answered v q k r (omega arith) h g) c.args.entries.now c.requires.operands ps D.expanded.rooted c.in-Ok-root_answers.answers.items come in
-    adds_below c.args.store.now c.args.entries.now c.reduce.new.store c.reduce.ensures.sound adds c.in-Ok-root_answers.answers.items answers
-
-pub returns-in-Ok-root_answers-clause-within : goal.returns-in-Ok-root_answers-clause-within
-returns-in-Ok-root_answers-clause-within g c =
-    let T : List (List Key) = c.go_down.new.down.requests in
-    let rows : List (List (Placed × Placed)) = c.go_down.new.down.rows.items in
-    let ps : List Placed = c.go_down.new.down.roots.items in
-    let D : IsDown c.args.store.now c.args.entries.now c.in-Ok.from T rows ps c.go_down.new.answers.items = c.in-Ok.ensures.down in
-    let R : AreReducedBelow c.hand_over.new.store c.args.entries.now T 0 c.reduce.new.store c.reduce.new.answers.items = c.in_ok-reduce.ensures.reduced in
     let first : IsWithinBelow c.args.store.now T c.in-Ok.from c.hand_over.new.store = c.in_ok-hand_over.ensures.within in
-    within_both c.args.store.now c.levels.ensures.sound c.args.entries.now c.requires.operands T ps D.expanded.rooted c.in-Ok.from c.hand_over.new.store c.reduce.new.store first R.within
+    wave_done c.args.store.now c.args.entries.now c.args.entries.now c.reduce.new.store c.in-Ok-root_answers.answers c.reduce.ensures.sound adds answers
+    (within_both c.args.store.now c.levels.ensures.sound c.args.entries.now c.requires.operands T ps D.expanded.rooted c.in-Ok.from c.hand_over.new.store c.reduce.new.store first R.within)
+
+pub returns-in-Err-root_answers-clause-wave : goal.returns-in-Err-root_answers-clause-wave
+returns-in-Err-root_answers-clause-wave g c =
+    let adds : AddsDescribed c.args.store.now c.reduce.new.store (IsWanted c.args.store.now c.args.entries.now) =
+    adds_both c.args.store.now c.levels.ensures.sound c.args.entries.now c.requires.operands c.hand_over.new.store c.hand_over.ensures.adds.keeps c.hand_over.ensures.sound c.reduce.new.store c.hand_over.ensures.adds c.reduce.ensures.adds in
+    wave_given_up c.args.store.now c.args.entries.now c.args.entries.now c.reduce.new.store _ c.reduce.ensures.sound adds tt
