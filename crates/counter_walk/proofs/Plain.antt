@@ -25,7 +25,7 @@ module _ (s : Nodes) (S : IsSound s) where
   pub bottom_value : (r : Ref) → Has s r → s.levels ≤ top s r → (x : List Bool) → (r ≡ True → den s r x ≡ true) × (r ≢ True → den s r x ≡ false)
   bottom_value False h le x = ((λ e. cc), (λ ne. den-false s x))
   bottom_value True h le x = ((λ e. den-true s x), (λ ne. absurd (ne refl)))
-  bottom_value (Node m) h le x = let lt : m.level < s.levels = S.reduced.placed m h.0 h.1 in let t : m.level ≡ top s (Node m) = top-part s s.levels (Node m) h in absurd (omega arith)
+  bottom_value (Node m b) h le x = let lt : m.level < s.levels = S.reduced.placed m h.0 h.1 in let t : m.level ≡ top s (Node m b) = top-part s s.levels (Node m b) h in absurd (omega arith)
 
 -- the walk in a store, from a level on
 abbrev pub store_walk : Nodes → ℕ → ℕ → Ref → Ref → List Bool
