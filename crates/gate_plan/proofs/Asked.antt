@@ -1,5 +1,5 @@
 -- Where a build leaves a store over its limit, no step of a gate had to be asked for.
-use Rattle.std.proofs.Common.{◌≡◌, ◌≢◌, ℕ, ◌+◌, ◌-◌, ◌<◌, ◌≤◌, inl, inr, Bool, true, false, cond, min, List, [], length, map, get_or, Option, Some, None, refl, sym, ◌∙◌, ap, subst, arith, eq-eqb}
+use Rattle.std.proofs.Common.{◌≡◌, ◌≢◌, ℕ, ◌+◌, ◌-◌, ◌<◌, ◌≤◌, inl, inr, Bool, cond, min, List, [], length, map, get_or, Option, Some, None, refl, sym, ◌∙◌, ap, subst, arith, eq-eqb}
 use Rattle.std.specs.Prelude.{Contains, slice_index, unwrap_or}
 use Rattle.std.proofs.lemmas.Bool.{ne_eqb}
 use Rattle.dd_store.specs.declared.reference.Ref.{Ref}
@@ -26,7 +26,7 @@ use Rattle.gate_plan.specs.Asking.{first_taken, second_taken, IsAsked, Asks, Any
 use Rattle.gate_plan.proofs.Lists.{same_number}
 use Rattle.gate_plan.proofs.Together.{image, of_map, refs_there, asked_has, asked_holds}
 use Rattle.gate_plan.proofs.Ranks.{above_none, operand_lower, some_operand, operand_below, rank_top}
-use Rattle.gate_plan.proofs.Picking.{has_pick, in_picks, step_is, folds_within, has_step_of, step_one, step_many, folds_one, folds_many, among_operands}
+use Rattle.gate_plan.proofs.Picking.{has_pick, in_picks, step_is, folds_within, has_step_of, among_operands}
 
 module _ (net : Net) (h : IsNet net) (level : ℕ → ℕ) where
   -- references that denote one value by the labels are one
@@ -43,15 +43,8 @@ module _ (net : Net) (h : IsNet net) (level : ℕ → ℕ) where
         let lower : slice_index net.ranks (operand_at g i) < rank_of net g = operand_lower net h g (operand_at g i) among (among_operands g i few) in
         w.right.below (operand_at g i) (operand_below net h g (operand_at g i) among (among_operands g i few)) (omega arith) x bits hx l
 
-    abbrev Second : Step → Type 0
-    Second s = Denotes (circuit net) level S (reference_of refs s.second) (λ bits. bit_of bits s.second)
-
     takes_second : Denotes (circuit net) level S (reference_of refs (step_at g j).second) (second_taken g j)
-    takes_second = by (same_number (length g.operands) 1)
-      where
-        by : Dec (length g.operands ≡ 1) → Second (step_at g j)
-        by (yes e) = subst Second (sym (step_one g j e)) (operand 0 some)
-        by (no ne) = subst Second (sym (step_many g j ne)) (operand (j + 1) (let n : folds_of g ≡ length g.operands - 1 = folds_many g ne in omega arith))
+    takes_second = operand (j + 1) (omega arith)
 
     abbrev First : Ref → Type 0
     First f = Denotes (circuit net) level S f (first_taken g j)
@@ -59,38 +52,18 @@ module _ (net : Net) (h : IsNet net) (level : ℕ → ℕ) where
     at_zero : j ≡ 0 → First (reference_of refs (operand_at g 0))
     at_zero z x bits hx l = operand 0 some x bits hx l ∙ ap (λ b. cond b (bit_of bits (operand_at g 0)) (value_after g (j + 1) bits)) (sym (eq-eqb j 0 z))
 
-    past_zero : length g.operands ≢ 1 → j ≢ 0 → First (reference_of refs g.out)
-    past_zero ne nz x bits hx l =
-        let n : folds_of g ≡ length g.operands - 1 = folds_many g ne in
+    past_zero : j ≢ 0 → First (reference_of refs g.out)
+    past_zero nz x bits hx l =
         w.here g among rank (inl (omega arith)) x bits hx l
         ∙ ap (λ k. value_after g k bits) (let k : min (j + 1) (length g.operands) ≡ j + 1 = omega arith in k)
         ∙ ap (λ b. cond b (bit_of bits (operand_at g 0)) (value_after g (j + 1) bits)) (sym (ne_eqb j 0 nz))
 
     takes_first : First (reference_of refs (first_operand (step_at g j)))
-    takes_first = by (same_number (length g.operands) 1) (same_number j 0)
+    takes_first = by (same_number j 0)
       where
-        single : length g.operands ≡ 1 → j ≢ 0 → ⊥
-        single e nz = few (is_one e)
-          where
-            few : j < 1 → ⊥
-            few small = absurd (nz (omega arith))
-
-            bounded : (b : Bool) → j < cond b 1 0 → j < 1
-            bounded true k = k
-            bounded false k = absurd (omega arith)
-
-            is_one : length g.operands ≡ 1 → j < 1
-            is_one e = bounded _ (subst (λ n. j < n) (folds_one g e) lt)
-
-        by : Dec (length g.operands ≡ 1) → Dec (j ≡ 0) → First (reference_of refs (first_operand (step_at g j)))
-        by (yes e) (yes z) = subst (λ (s : Step). First (reference_of refs (first_operand s))) (sym (step_one g j e)) (at_zero z)
-        by (yes e) (no nz) = absurd (single e nz)
-        by (no ne) (yes z) =
-            subst (λ (s : Step). First (reference_of refs (first_operand s))) (sym (step_many g j ne))
-            (subst (λ b. First (reference_of refs (unwrap_or (cond b (Some (operand_at g 0)) None) g.out))) (sym (eq-eqb j 0 z)) (at_zero z))
-        by (no ne) (no nz) =
-            subst (λ (s : Step). First (reference_of refs (first_operand s))) (sym (step_many g j ne))
-            (subst (λ b. First (reference_of refs (unwrap_or (cond b (Some (operand_at g 0)) None) g.out))) (sym (ne_eqb j 0 nz)) (past_zero ne nz))
+        by : Dec (j ≡ 0) → First (reference_of refs (first_operand (step_at g j)))
+        by (yes z) = subst (λ b. First (reference_of refs (unwrap_or (cond b (Some (operand_at g 0)) None) g.out))) (sym (eq-eqb j 0 z)) (at_zero z)
+        by (no nz) = subst (λ b. First (reference_of refs (unwrap_or (cond b (Some (operand_at g 0)) None) g.out))) (sym (ne_eqb j 0 nz)) (past_zero nz)
 
   -- a step that has to be asked for is a request of its wave
   pub asked_step : (S : Nodes) (refs : List Ref) (r j : ℕ) → IsSound S → AreFolded net level S refs r j → (g : GateLine) → Contains net.gates g → rank_of net g ≡ r → IsAsked (circuit net) level S g j →

@@ -51,7 +51,7 @@ unknown_requests m es k c =
 
 reached_more : (w : Wave) (few all : List Key) → ((k : Key) → Contains few k → Contains all k) → (k : Key) → IsReached w few k → IsReached w all k
 reached_more w few all more k (root c) = root (more k c)
-reached_more w few all more k (child b l r asks) = child b l (reached_more w few all more _ r) asks
+reached_more w few all more k (child b l m r asks) = child b l m (reached_more w few all more _ r) asks
 
 -- more requests than the bound are reached from all entries, where they are from those of which nothing is known
 pub past_all : (o : Option ℕ) (S : Nodes) (m : Held) (es : List Entry) → ArePast o S (unknown m es) → ArePast o S es

@@ -1,28 +1,31 @@
 -- The nodes that a build adds are counted, its answer Full has its cause, and what it leaves of a store without nodes is what its netlists need.
 use Rattle.std.proofs.Common.{◌≡◌, ◌≢◌, ℕ, suc, ◌+◌, ◌*◌, ◌-◌, ◌<◌, ◌≤◌, ◌⊎◌, inl, inr, Bool, true, false, true≢false, List, [], ◌∷◌, ◌++◌, length, get_or, replicate, refl, sym, ◌∙◌, ap, subst, arith}
-use Rattle.std.specs.Prelude.{Contains, Result, Option, None, Some}
+use Rattle.std.specs.Prelude.{Contains, Result}
 use Rattle.std.proofs.Math.Seq.{get_or-append_seam}
 use Rattle.std.proofs.lemmas.Bool.{cases_lt}
-use Rattle.std.proofs.lemmas.List.{length-replicate, get_or-append_right}
+use Rattle.std.proofs.lemmas.List.{length-append, length-replicate, get_or-append_right}
 use Rattle.std.proofs.lemmas.Option.{slice_get_within}
 use Rattle.dd_store.specs.declared.StoreFault.{StoreFault}
 use Rattle.dd_store.specs.declared.StoreFault.TheVariants as store_faults
 use Rattle.dd_store.specs.declared.reference.Ref.{Ref}
 use Rattle.dd_store.specs.declared.reference.Reference.TheVariants.{False, True}
-use Rattle.dd_store.specs.Functions.{Agree}
+use Rattle.dd_store.specs.Functions.{Agree, DependsOn, OfEither}
 use Rattle.dd_store.specs.Graph.{bit}
+use Rattle.dd_store.specs.Marks.{mark_both}
 use Rattle.dd_store.specs.Nodes.{Nodes, den, IsSound, count_of, shard_at, with_node, Makes, IsNeeded as IsMissing}
 use Rattle.dd_store.specs.Parts.{Part, top_of}
 use Rattle.dd_store.specs.Parts.Part.{node}
-use Rattle.dd_store.specs.View.{part, Has, Keeps, IsMade, IsFull}
+use Rattle.dd_store.specs.View.{part, Has, Keeps, IsOneNode, IsMade, IsFull}
 use Rattle.dd_store.proofs.Lacking.{no_diagram}
 use Rattle.dd_store.proofs.Laws.{den-false, den-true}
-use Rattle.dd_store.proofs.Storing.{Makes-cases, count-with_node, shard-le-count, node_in_shard}
-use Rattle.dd_store.proofs.View.{parts, denotes, same_ref, keeps-refl, keeps-trans, kept_den, of_part}
+use Rattle.dd_store.proofs.Storing.{Makes-cases, count-with_node, shard-le-count, node_in_shard, node-of}
+use Rattle.dd_store.proofs.View.{parts, denotes, same_ref, keeps-refl, keeps-trans, of_part}
 use Rattle.expand_work.specs.declared.fault.WaveFault.{WaveFault}
 use Rattle.expand_work.specs.declared.fault.WaveFault.TheVariants as wave_faults
 use Rattle.reduce_up.specs.Reducing.{AddsDescribed}
 use Rattle.reduce_up.specs.Waves.{Entry, entry_value, IsWanted, IsWaveFault}
+use Rattle.reduce_up.proofs.Below.{fixed_as}
+use Rattle.reduce_up.proofs.Opposite.{either_more, either_kept, one_node_either, one_node_part}
 use Rattle.gate_plan.specs.Building.{wave_fault_of}
 use Rattle.gate_plan.specs.Folds.{IsVariable}
 use Rattle.gate_plan.specs.Need.{IsCounted, IsLean, IsComplete, HasNode}
@@ -30,17 +33,14 @@ use Rattle.gate_plan.specs.Needing.{LacksCounted, IsFullFor, IsBuildFault, IsSti
 
 -- ---- nodes that are added one after the other
 
-same_function : (f g : List Bool → Bool) → ((x : List Bool) → f x ≡ g x) → f ≡ g
-same_function f g h = λ i x. h x i
-
 pub adds_trans : (S T U : Nodes) (D : ℕ → (List Bool → Bool) → Type 0) → IsSound T → AddsDescribed S T D → AddsDescribed T U D → AddsDescribed S U D
 adds_trans S T U D sound i j = record { keeps = keeps-trans S T U i.keeps j.keeps; described = λ m h. later m (j.described m h) }
   where
-    earlier : (m : Ref) → Has T m → Has S m ⊎ ((v : ℕ) × (lo : Ref) × (hi : Ref) × (part T m ≡ node v lo hi) × D v (den T m)) → Has S m ⊎ ((v : ℕ) × (lo : Ref) × (hi : Ref) × (part U m ≡ node v lo hi) × D v (den U m))
+    earlier : (m : Ref) → Has T m → Has S m ⊎ ((v : ℕ) × (lo : Ref) × (hi : Ref) × (part T m ≡ node v lo hi) × OfEither (D v) (den T m)) → Has S m ⊎ ((v : ℕ) × (lo : Ref) × (hi : Ref) × (part U m ≡ node v lo hi) × OfEither (D v) (den U m))
     earlier m h (inl k) = inl k
-    earlier m h (inr k) = inr (k.0, k.1, k.2, j.keeps.part_is m h ∙ k.3, subst (D k.0) (same_function (den T m) (den U m) (λ x. sym (kept_den T U sound j.keeps m h x))) k.4)
+    earlier m h (inr k) = inr (k.0, k.1, k.2, j.keeps.part_is m h ∙ k.3, either_kept T U sound j.keeps (D k.0) m h k.4)
 
-    later : (m : Ref) → Has T m ⊎ ((v : ℕ) × (lo : Ref) × (hi : Ref) × (part U m ≡ node v lo hi) × D v (den U m)) → Has S m ⊎ ((v : ℕ) × (lo : Ref) × (hi : Ref) × (part U m ≡ node v lo hi) × D v (den U m))
+    later : (m : Ref) → Has T m ⊎ ((v : ℕ) × (lo : Ref) × (hi : Ref) × (part U m ≡ node v lo hi) × OfEither (D v) (den U m)) → Has S m ⊎ ((v : ℕ) × (lo : Ref) × (hi : Ref) × (part U m ≡ node v lo hi) × OfEither (D v) (den U m))
     later m (inl h) = earlier m h (i.described m h)
     later m (inr k) = inr k
 
@@ -50,9 +50,9 @@ adds_same S T D e = subst (λ z. AddsDescribed S z D) (sym e) (record { keeps = 
 adds_as : (S T : Nodes) (D E : ℕ → (List Bool → Bool) → Type 0) → ((v : ℕ) (f : List Bool → Bool) → D v f → E v f) → AddsDescribed S T D → AddsDescribed S T E
 adds_as S T D E h i = record { keeps = i.keeps; described = λ m has. by m (i.described m has) }
   where
-    by : (m : Ref) → Has S m ⊎ ((v : ℕ) × (lo : Ref) × (hi : Ref) × (part T m ≡ node v lo hi) × D v (den T m)) → Has S m ⊎ ((v : ℕ) × (lo : Ref) × (hi : Ref) × (part T m ≡ node v lo hi) × E v (den T m))
+    by : (m : Ref) → Has S m ⊎ ((v : ℕ) × (lo : Ref) × (hi : Ref) × (part T m ≡ node v lo hi) × OfEither (D v) (den T m)) → Has S m ⊎ ((v : ℕ) × (lo : Ref) × (hi : Ref) × (part T m ≡ node v lo hi) × OfEither (E v) (den T m))
     by m (inl k) = inl k
-    by m (inr k) = inr (k.0, k.1, k.2, k.3, h k.0 (den T m) k.4)
+    by m (inr k) = inr (k.0, k.1, k.2, k.3, either_more (D k.0) (E k.0) (h k.0) (den T m) k.4)
 
 -- of a store with the levels of an earlier one
 pub adds_next : (S T U : Nodes) (V : ℕ → (List Bool → Bool) → Type 0) → IsSound T → AddsDescribed S T (IsCounted S.levels (V S.levels)) → AddsDescribed T U (IsCounted T.levels (V T.levels)) →
@@ -129,15 +129,29 @@ bit_counted n v f lt h = record {
     back : List Bool
     back = replicate (n - suc v) false
 
--- a variable that is made
-pub variable_adds : (S T : Nodes) (v : ℕ) (r : Ref) → v < S.levels → IsMade S T v False True r → ((x : List Bool) → den T r x ≡ bit x v) → AddsDescribed S T (IsCounted S.levels (IsVariable S.levels))
-variable_adds S T v r lt m h = record { keeps = m.keeps; described = λ k has. by k (m.no_other k has) m.is }
+-- what agrees with a counted function is counted
+counted_as : (n : ℕ) (Values : (List Bool → Bool) → Type 0) (v : ℕ) (f g : List Bool → Bool) → Agree n f g → IsCounted n Values v g → IsCounted n Values v f
+counted_as n Values v f g a c = record { value = c.value; is_value = c.is_value; fixed = fixed_as n v c.value g f a c.fixed; depends = reads c.depends }
   where
-    by : (k : Ref) → Has S k ⊎ (k ≡ r) → ((False ≡ True) × (r ≡ False)) ⊎ ((False ≢ True) × (part T r ≡ node v False True)) →
-        Has S k ⊎ ((w : ℕ) × (lo : Ref) × (hi : Ref) × (part T k ≡ node w lo hi) × IsCounted S.levels (IsVariable S.levels) w (den T k))
-    by k (inl old) is = inl old
-    by k (inr same) (inl never) = absurd (let e : False ≡ True = never.0 in cc)
-    by k (inr same) (inr new) = inr (v, False, True, ap (part T) same ∙ new.1, bit_counted S.levels v (den T k) lt (λ x. ap (λ z. den T z x) same ∙ h x))
+    reads : DependsOn n v g → DependsOn n v f
+    reads (q, r, hq, hr, differ) =
+        let whole : (b : Bool) → length (q ++ b ∷ r) ≡ n = λ b. simp length-append (omega arith) in
+        (q, r, hq, hr, λ e. differ (sym (a (q ++ false ∷ r) (whole false)) ∙ e ∙ a (q ++ true ∷ r) (whole true)))
+
+-- a variable that is made
+pub variable_adds : (S T : Nodes) (v : ℕ) (r : Ref) → IsSound T → v < S.levels → IsMade S T v False True r → ((x : List Bool) → den T r x ≡ bit x v) → AddsDescribed S T (IsCounted S.levels (IsVariable S.levels))
+variable_adds S T v r sound lt m h = record { keeps = m.keeps; described = λ k has. by k has (m.no_other k has) m.is }
+  where
+    counted : IsCounted S.levels (IsVariable S.levels) v (den T r)
+    counted = bit_counted S.levels v (den T r) lt h
+
+    by : (k : Ref) → Has T k → Has S k ⊎ ((False ≢ True) × IsOneNode T k r) → ((False ≡ True) × (r ≡ False)) ⊎ ((False ≢ True) × (part T r ≡ node v False True)) →
+        Has S k ⊎ ((w : ℕ) × (lo : Ref) × (hi : Ref) × (part T k ≡ node w lo hi) × OfEither (IsCounted S.levels (IsVariable S.levels) w) (den T k))
+    by k has (inl old) is = inl old
+    by k has (inr one) (inl never) = absurd (one.0 never.0)
+    by k has (inr one) (inr new) =
+        let p = one_node_part T sound k r v False True has m.has new.1 one.1 in
+        inr (v, p.0, p.1, p.2, one_node_either T k r (IsCounted S.levels (IsVariable S.levels) v) (λ f g a. counted_as S.levels (IsVariable S.levels) v f g (λ x hx. a x (hx ∙ sym m.keeps.levels))) one.1 counted)
 
 pub variable_within : (S T : Nodes) (v : ℕ) (r : Result Ref StoreFault) → IsSound S → v < S.levels → T.limit ≡ S.limit → Makes S v False True r T → IsStillWithin S T
 variable_within S T v r sound lt limit m = by (Makes-cases S T v False True r m)
@@ -177,20 +191,21 @@ variable_fault S v store_faults.Full sound lt f = by (cases_lt S.limit (count_of
 pub no_node : (S : Nodes) → count_of S ≡ 0 → (m : Ref) (v : ℕ) (lo hi : Ref) → Has S m → part S m ≡ node v lo hi → ⊥
 no_node S none m v lo hi h e =
     let at = of_part S m v lo hi h e in
-    let there = node_in_shard S at.0 (lo, hi) at.3 in
+    let pair : Ref × Ref = mark_both at.1 (lo, hi) in
+    let there = node_in_shard S at.0 pair (node-of S at.0 at.1 (lo, hi) at.4) in
     let few : length (get_or S.shards (16 * at.0.level + at.0.shard) []) ≤ count_of S = shard-le-count S (16 * at.0.level + at.0.shard) in
-    let low : at.0.index < length (get_or S.shards (16 * at.0.level + at.0.shard) []) = slice_get_within (shard_at S at.0.level at.0.shard) at.0.index (lo, hi) there.1 in
+    let low : at.0.index < length (get_or S.shards (16 * at.0.level + at.0.shard) []) = slice_get_within (shard_at S at.0.level at.0.shard) at.0.index pair there.1 in
     omega arith
 
 pub lean_from : (S T : Nodes) (n : ℕ) (Values : (List Bool → Bool) → Type 0) → count_of S ≡ 0 → AddsDescribed S T (IsCounted n Values) → IsLean n Values (part T) (Has T) (den T)
 lean_from S T n Values none i = record { counted = λ m v lo hi h e. by m v lo hi h e (i.described m h) }
   where
-    by : (m : Ref) (v : ℕ) (lo hi : Ref) → Has T m → part T m ≡ node v lo hi → Has S m ⊎ ((w : ℕ) × (a : Ref) × (b : Ref) × (part T m ≡ node w a b) × IsCounted n Values w (den T m)) → IsCounted n Values v (den T m)
+    by : (m : Ref) (v : ℕ) (lo hi : Ref) → Has T m → part T m ≡ node v lo hi → Has S m ⊎ ((w : ℕ) × (a : Ref) × (b : Ref) × (part T m ≡ node w a b) × OfEither (IsCounted n Values w) (den T m)) → OfEither (IsCounted n Values v) (den T m)
     by m v lo hi h e (inl old) = absurd (no_node S none m v lo hi old (sym (i.keeps.part_is m old) ∙ e))
     by m v lo hi h e (inr new) =
         let f : ◌≡◌ {A = Part Ref} (node new.0 new.1 new.2) (node v lo hi) = sym new.3 ∙ e in
         let at : new.0 ≡ v = cc in
-        subst (λ w. IsCounted n Values w (den T m)) at new.4
+        subst (λ w. OfEither (IsCounted n Values w) (den T m)) at new.4
 
 -- what lacks a counted function is not complete
 pub not_complete : (S : Nodes) (n : ℕ) (Values : (List Bool → Bool) → Type 0) → LacksCounted n Values S → IsComplete n Values (part S) (Has S) (den S) → ⊥

@@ -2,6 +2,7 @@
 use Rattle.std.proofs.Common.{◌≡◌, ◌≢◌, ℕ, zero, suc, ◌+◌, ◌<◌, Bool, true, false, cond, not, ◌&&◌, ◌||◌, List, [], ◌∷◌, ◌++◌, length, get_or, take, refl, sym, ◌∙◌, ap, arith, add-one, inl, inr}
 use Rattle.std.proofs.lemmas.Bool.{eq-eqb, ne_eqb}
 use Rattle.std.proofs.lemmas.Bool.Decides.{eqb_tells}
+use Rattle.dd_store.specs.Marks.{turned}
 use Rattle.net_bench.specs.declared.netlist.Kind.{Kind}
 use Rattle.net_bench.specs.Labels.{all_ones, some_one, odd, folded, is_complemented, value_of}
 use Rattle.net_bench.specs.declared.netlist.Kind.TheVariants.{And, Nand, Or, Nor, Xor, Xnor, Not, Buff, Dff}
@@ -107,12 +108,8 @@ fold_start kind bits h =
     one_bit Xor b = refl
     one_bit Xnor b = refl
 
-nand_self : (b : Bool) → not (b && b) ≡ not b
-nand_self true = refl
-nand_self false = refl
-
--- with one operand a gate is its operand, or Nand of it with itself
-pub one_operand : (kind : Kind) (b : Bool) → value_of kind (b ∷ []) ≡ cond (is_complemented kind) (not (b && b)) b
+-- with one operand a gate is its operand, or the complement
+pub one_operand : (kind : Kind) (b : Bool) → value_of kind (b ∷ []) ≡ turned (is_complemented kind) b
 one_operand And true = refl
 one_operand And false = refl
 one_operand Nand true = refl

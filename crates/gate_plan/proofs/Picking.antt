@@ -1,5 +1,5 @@
 -- Which steps and copies the lists of a plan have.
-use Rattle.std.proofs.Common.{◌≡◌, ◌≢◌, ℕ, zero, suc, ◌+◌, ◌-◌, ◌<◌, ◌≤◌, ◌==◌, ◌⊎◌, inl, inr, Bool, true, false, cond, List, [], ◌∷◌, ◌++◌, length, map, get_or, nat_lt, nat_le, Option, Some, None, refl, sym, ◌∙◌, ap, subst, arith, eq-eqb}
+use Rattle.std.proofs.Common.{◌≡◌, ℕ, zero, suc, ◌+◌, ◌<◌, ◌≤◌, ◌==◌, ◌⊎◌, inl, inr, Bool, true, false, cond, List, [], ◌∷◌, ◌++◌, length, map, get_or, nat_lt, nat_le, Option, Some, None, refl, sym, ◌∙◌, ap, subst, arith, eq-eqb}
 use Rattle.std.specs.Prelude.{flat_map, Contains, All, unwrap_or}
 use Rattle.std.specs.Option.{option_map_or}
 use Rattle.std.proofs.lemmas.List.Elements.{Contains-append_left, Contains-append_right, Contains-append_cases}
@@ -8,11 +8,10 @@ use Rattle.std.proofs.lemmas.Bool.Decides.{nat_tests}
 use Rattle.net_bench.specs.declared.netlist.GateLine.{GateLine}
 use Rattle.net_bench.specs.Circuit.{Net, IsNet, greatest}
 use Rattle.net_bench.specs.Labels.{is_complemented}
-use Rattle.req_table.specs.declared.Op.TheVariants as ops
 use Rattle.gate_plan.specs.declared.steps.Step.{Step}
 use Rattle.gate_plan.specs.declared.steps.Copied.{Copied}
-use Rattle.gate_plan.specs.Plans.{RankSteps, IsPlan, rank_of, step_of, step_at, copy_of, folds_of, op_at, operand_at, plan_steps, plan_copies, plan_folds}
-use Rattle.gate_plan.specs.Building.{IsStepBelow, IsCopyBelow}
+use Rattle.gate_plan.specs.Plans.{RankSteps, IsPlan, rank_of, step_of, step_at, copy_of, folds_of, operand_at, plan_steps, plan_copies, plan_folds}
+use Rattle.gate_plan.specs.Building.{first_operand, IsStepBelow, IsCopyBelow}
 use Rattle.gate_plan.proofs.Lists.{same_number, lt_or_le}
 use Rattle.gate_plan.proofs.Ranks.{any_default, out_below, operand_below, some_operand}
 
@@ -125,39 +124,19 @@ has_step_of g j lt = ap (λ b. cond b (Some (step_at g j)) None) (let t : nat_lt
 pub no_step_of : (g : GateLine) (j : ℕ) → folds_of g ≤ j → step_of g j ≡ None
 no_step_of g j le = ap (λ b. cond b (Some (step_at g j)) None) (let t : nat_lt j (folds_of g) ≡ false = grind (arith, nat_tests) in t)
 
-abbrev pub nand_step : GateLine → Step
-nand_step g = record { out = g.out; op = ops.Nand; first = Some (operand_at g 0); second = operand_at g 0 }
+-- the copy of a gate with one operand
+abbrev pub copied_of : GateLine → Copied
+copied_of g = record { out = g.out; of = operand_at g 0; mark = is_complemented g.kind }
 
-abbrev pub fold_step_of : GateLine → ℕ → Step
-fold_step_of g j = record { out = g.out; op = op_at g.kind (length g.operands) (j + 1); first = cond (j == 0) (Some (operand_at g 0)) None; second = operand_at g (j + 1) }
-
-pub step_one : (g : GateLine) (j : ℕ) → length g.operands ≡ 1 → step_at g j ≡ nand_step g
-step_one g j e = ap (λ b. cond b (nand_step g) (fold_step_of g j)) (eq-eqb (length g.operands) 1 e)
-
-pub step_many : (g : GateLine) (j : ℕ) → length g.operands ≢ 1 → step_at g j ≡ fold_step_of g j
-step_many g j ne = ap (λ b. cond b (nand_step g) (fold_step_of g j)) (ne_eqb (length g.operands) 1 ne)
-
-pub folds_one : (g : GateLine) → length g.operands ≡ 1 → folds_of g ≡ cond (is_complemented g.kind) 1 0
-folds_one g e = ap (λ b. cond b (cond (is_complemented g.kind) 1 0) (length g.operands - 1)) (eq-eqb (length g.operands) 1 e)
-
-pub folds_many : (g : GateLine) → length g.operands ≢ 1 → folds_of g ≡ length g.operands - 1
-folds_many g ne = ap (λ b. cond b (cond (is_complemented g.kind) 1 0) (length g.operands - 1)) (ne_eqb (length g.operands) 1 ne)
-
-pub copy_is : (g : GateLine) (c : Copied) → copy_of g ≡ Some c → (length g.operands ≡ 1) × (is_complemented g.kind ≡ false) × (c ≡ record { out = g.out; of = operand_at g 0 })
-copy_is g c e = by (length g.operands == 1) (is_complemented g.kind) refl refl
+pub copy_is : (g : GateLine) (c : Copied) → copy_of g ≡ Some c → (length g.operands ≡ 1) × (c ≡ copied_of g)
+copy_is g c e = by (length g.operands == 1) refl
   where
-    f : Bool → Bool → Option Copied
-    f a b = cond (Rattle.std.specs.Prelude.◌&&◌ a (Rattle.std.specs.Prelude.not b)) (Some (record { out = g.out; of = operand_at g 0 })) None
+    by : (b : Bool) → (length g.operands == 1) ≡ b → (length g.operands ≡ 1) × (c ≡ copied_of g)
+    by true t = (is_rank (length g.operands) 1 t, (let f : Some (copied_of g) ≡ Some c = ap (λ b. cond b (Some (copied_of g)) None) (sym t) ∙ e in cc))
+    by false t = absurd (let f : None ≡ Some c = ap (λ b. cond b (Some (copied_of g)) None) (sym t) ∙ e in cc)
 
-    by : (a b : Bool) → (length g.operands == 1) ≡ a → is_complemented g.kind ≡ b → (length g.operands ≡ 1) × (is_complemented g.kind ≡ false) × (c ≡ record { out = g.out; of = operand_at g 0 })
-    by true false p q = (is_rank (length g.operands) 1 p, q, (let h : Some (record { out = g.out; of = operand_at g 0 }) ≡ Some c = ap (λ z. f z false) (sym p) ∙ ap (f (length g.operands == 1)) (sym q) ∙ e in cc))
-    by true true p q = absurd (let h : None ≡ Some c = ap (λ z. f z true) (sym p) ∙ ap (f (length g.operands == 1)) (sym q) ∙ e in cc)
-    by false b p q = absurd (let h : None ≡ Some c = ap (λ z. f z b) (sym p) ∙ ap (f (length g.operands == 1)) (sym q) ∙ e in cc)
-
-pub is_copy : (g : GateLine) → length g.operands ≡ 1 → is_complemented g.kind ≡ false → copy_of g ≡ Some (record { out = g.out; of = operand_at g 0 })
-is_copy g p q =
-    ap (λ a. cond (Rattle.std.specs.Prelude.◌&&◌ a (Rattle.std.specs.Prelude.not (is_complemented g.kind))) (Some (record { out = g.out; of = operand_at g 0 })) None) (eq-eqb (length g.operands) 1 p)
-    ∙ ap (λ b. cond (Rattle.std.specs.Prelude.not b) (Some (record { out = g.out; of = operand_at g 0 })) None) q
+pub is_copy : (g : GateLine) → length g.operands ≡ 1 → copy_of g ≡ Some (copied_of g)
+is_copy g e = ap (λ b. cond b (Some (copied_of g)) None) (eq-eqb (length g.operands) 1 e)
 
 pub among_operands : (g : GateLine) (i : ℕ) → i < length g.operands → Contains g.operands (operand_at g i)
 among_operands g i lt = (i, lt, any_default g.operands i (operand_at g i) 0 lt)
@@ -172,34 +151,16 @@ module _ (net : Net) (h : IsNet net) where
       one c among =
           let p = in_picks net r copy_of net.gates c among in
           let q = copy_is p.0 c p.3 in
-          subst (IsCopyBelow (length net.names)) (sym q.2) (out_below net h p.0 p.1, operand_below net h p.0 (operand_at p.0 0) p.1 (among_operands p.0 0 (some_operand net h p.0 p.1)))
+          subst (IsCopyBelow (length net.names)) (sym q.1) (out_below net h p.0 p.1, operand_below net h p.0 (operand_at p.0 0) p.1 (among_operands p.0 0 (some_operand net h p.0 p.1)))
 
-  step_below : (g : GateLine) (j : ℕ) → Contains net.gates g → j < folds_of g → Dec (length g.operands ≡ 1) → Dec (j ≡ 0) → IsStepBelow (length net.names) (step_at g j)
-  step_below g j among lt (yes e) z =
-      let o = operand_below net h g (operand_at g 0) among (among_operands g 0 (some_operand net h g among)) in
-      subst (IsStepBelow (length net.names)) (sym (step_one g j e)) (out_below net h g among, o, o)
-  step_below g j among lt (no ne) (yes z) =
-      let n : folds_of g ≡ length g.operands - 1 = folds_many g ne in
-      let first : first_of j ≡ operand_at g 0 = ap (λ b. unwrap_or (cond b (Some (operand_at g 0)) None) g.out) (eq-eqb j 0 z) in
-      subst (IsStepBelow (length net.names)) (sym (step_many g j ne)) (
-        out_below net h g among,
-        subst (λ s. s < length net.names) (sym first) (operand_below net h g (operand_at g 0) among (among_operands g 0 (some_operand net h g among))),
-        operand_below net h g (operand_at g (j + 1)) among (among_operands g (j + 1) (omega arith)),
-      )
+  step_below : (g : GateLine) (j : ℕ) → Contains net.gates g → j < folds_of g → IsStepBelow (length net.names) (step_at g j)
+  step_below g j among lt = (out_below net h g among, first (same_number j 0), operand_below net h g (operand_at g (j + 1)) among (among_operands g (j + 1) (omega arith)))
     where
-      first_of : ℕ → ℕ
-      first_of j = unwrap_or (cond (j == 0) (Some (operand_at g 0)) None) g.out
-  step_below g j among lt (no ne) (no z) =
-      let n : folds_of g ≡ length g.operands - 1 = folds_many g ne in
-      let first : first_of j ≡ g.out = ap (λ b. unwrap_or (cond b (Some (operand_at g 0)) None) g.out) (ne_eqb j 0 z) in
-      subst (IsStepBelow (length net.names)) (sym (step_many g j ne)) (
-        out_below net h g among,
-        subst (λ s. s < length net.names) (sym first) (out_below net h g among),
-        operand_below net h g (operand_at g (j + 1)) among (among_operands g (j + 1) (omega arith)),
-      )
-    where
-      first_of : ℕ → ℕ
-      first_of j = unwrap_or (cond (j == 0) (Some (operand_at g 0)) None) g.out
+      first : Dec (j ≡ 0) → first_operand (step_at g j) < length net.names
+      first (yes z) =
+          subst (λ b. unwrap_or (cond b (Some (operand_at g 0)) None) g.out < length net.names) (sym (eq-eqb j 0 z))
+          (operand_below net h g (operand_at g 0) among (among_operands g 0 (some_operand net h g among)))
+      first (no nz) = subst (λ b. unwrap_or (cond b (Some (operand_at g 0)) None) g.out < length net.names) (sym (ne_eqb j 0 nz)) (out_below net h g among)
 
   pub steps_below : (r j : ℕ) → All (IsStepBelow (length net.names)) (plan_steps net net.gates r j)
   steps_below r j = all_of (IsStepBelow (length net.names)) (plan_steps net net.gates r j) one
@@ -208,7 +169,7 @@ module _ (net : Net) (h : IsNet net) where
       one s among =
           let p = in_picks net r (λ g. step_of g j) net.gates s among in
           let q = step_is p.0 j s p.3 in
-          subst (IsStepBelow (length net.names)) (sym q.1) (step_below p.0 j p.1 q.0 (same_number (length p.0.operands) 1) (same_number j 0))
+          subst (IsStepBelow (length net.names)) (sym q.1) (step_below p.0 j p.1 q.0)
 
 -- a rank that has a fold is one of the plan's
 pub planned_rank : (net : Net) (p : List RankSteps) (r j : ℕ) → IsPlan net p → j < plan_folds net net.gates r → r ≤ length p

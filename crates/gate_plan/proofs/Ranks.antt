@@ -53,16 +53,20 @@ module _ (net : Net) (h : IsNet net) where
       by (inr le) (inl lt) = absurd (h.one_gate b.0 a.0 k lt a.1 (ap (λ y. y.out) b.2 ∙ sym e ∙ ap (λ y. y.out) (sym a.2) ∙ ap (λ y. y.out) (any_default net.gates a.0 g k a.1)))
       by (inr le) (inr ge) = let at : a.0 ≡ b.0 = omega arith in sym a.2 ∙ ap (λ i. get_or net.gates i g) at ∙ any_default net.gates b.0 g k b.1 ∙ b.2
 
--- no gate's rank is above the greatest
-pub rank_top : (net : Net) (g : GateLine) → Contains net.gates g → rank_of net g ≤ greatest (map (rank_of net) net.gates)
-rank_top net g among = subst (λ z. z ≤ greatest (map (rank_of net) net.gates)) (at_map net.gates among.0 among.1 ∙ ap (rank_of net) among.2) (greatest_above (map (rank_of net) net.gates) among.0 (long net.gates among.0 among.1))
+-- no item's number is above the greatest
+pub below_greatest : {X : Type 0} (f : X → ℕ) (xs : List X) (x : X) → Contains xs x → f x ≤ greatest (map f xs)
+below_greatest {X = X} f xs x among = subst (λ z. z ≤ greatest (map f xs)) (at_map xs among.0 among.1 ∙ ap f among.2) (greatest_above (map f xs) among.0 (long xs among.0 among.1))
   where
-    long : (gs : List GateLine) (i : ℕ) → i < length gs → i < length (map (rank_of net) gs)
+    long : (ys : List X) (i : ℕ) → i < length ys → i < length (map f ys)
     long [] i lt = absurd (omega arith)
-    long (x ∷ gs) zero lt = omega arith
-    long (x ∷ gs) (suc i) lt = let k : i < length (map (rank_of net) gs) = long gs i (omega arith) in omega arith
+    long (y ∷ ys) zero lt = omega arith
+    long (y ∷ ys) (suc i) lt = let k : i < length (map f ys) = long ys i (omega arith) in omega arith
 
-    at_map : (gs : List GateLine) (i : ℕ) → i < length gs → get_or (map (rank_of net) gs) i 0 ≡ rank_of net (get_or gs i g)
+    at_map : (ys : List X) (i : ℕ) → i < length ys → get_or (map f ys) i 0 ≡ f (get_or ys i x)
     at_map [] i lt = absurd (omega arith)
-    at_map (x ∷ gs) zero lt = refl
-    at_map (x ∷ gs) (suc i) lt = at_map gs i (omega arith)
+    at_map (y ∷ ys) zero lt = refl
+    at_map (y ∷ ys) (suc i) lt = at_map ys i (omega arith)
+
+-- as a gate's rank
+pub rank_top : (net : Net) (g : GateLine) → Contains net.gates g → rank_of net g ≤ greatest (map (rank_of net) net.gates)
+rank_top net g among = below_greatest (rank_of net) net.gates g among

@@ -1,13 +1,15 @@
 -- One fold of a rank takes each gate's value so far to the next, and the copies and folds of a rank make its gates right.
-use Rattle.std.proofs.Common.{◌≡◌, ◌≢◌, ℕ, zero, suc, ◌+◌, ◌-◌, ◌<◌, ◌≤◌, ◌==◌, ◌&&◌, ◌⊎◌, inl, inr, Bool, true, false, not, cond, min, List, [], ◌∷◌, ◌++◌, length, map, get_or, Some, None, refl, sym, ◌∙◌, ap, subst, arith, eq-eqb}
+use Rattle.std.proofs.Common.{◌≡◌, ◌≢◌, ℕ, zero, suc, ◌+◌, ◌<◌, ◌≤◌, ◌==◌, ◌⊎◌, inl, inr, Bool, true, false, cond, min, List, [], ◌∷◌, ◌++◌, length, map, get_or, Some, None, refl, sym, ◌∙◌, ap, subst, arith, eq-eqb}
 use Rattle.std.specs.Prelude.{Contains, All, slice_index, unwrap_or}
 use Rattle.std.proofs.lemmas.List.{length-map, get_or_past}
 use Rattle.std.proofs.lemmas.Bool.{ne_eqb}
 use Rattle.dd_store.specs.declared.reference.Ref.{Ref}
 use Rattle.dd_store.specs.declared.reference.Reference.TheVariants.{False}
 use Rattle.dd_store.specs.Graph.{bit}
-use Rattle.dd_store.specs.Nodes.{Nodes, den, IsSound, IsDiagram}
+use Rattle.dd_store.specs.Marks.{turned}
+use Rattle.dd_store.specs.Nodes.{Nodes, node, den, IsSound, IsDiagram}
 use Rattle.dd_store.specs.View.{Has, Keeps}
+use Rattle.dd_store.proofs.Marks.{den-mark_by, IsRef-mark_by}
 use Rattle.dd_store.proofs.View.{kept_den}
 use Rattle.net_bench.specs.declared.netlist.Kind.{Kind}
 use Rattle.net_bench.specs.declared.netlist.Kind.TheVariants.{And, Nand, Or, Nor, Xor, Xnor, Not, Buff, Dff}
@@ -28,7 +30,7 @@ use Rattle.gate_plan.specs.Needing.{IsPlacedValue}
 use Rattle.gate_plan.proofs.Folding.{fold_step, fold_start, one_operand, so_far_last}
 use Rattle.gate_plan.proofs.Lists.{same_number, lt_or_le, at_end, before_end}
 use Rattle.gate_plan.proofs.Ranks.{any_default, above_none, input_rank, operand_lower, some_operand, operand_below, one_gate, rank_top}
-use Rattle.gate_plan.proofs.Picking.{in_picks, has_pick, folds_within, step_is, has_step_of, nand_step, fold_step_of, step_one, step_many, folds_one, folds_many, copy_is, is_copy, among_operands, copies_below, steps_below, all_of}
+use Rattle.gate_plan.proofs.Picking.{in_picks, has_pick, folds_within, step_is, has_step_of, copied_of, copy_is, is_copy, among_operands, copies_below, steps_below, all_of}
 use Rattle.gate_plan.proofs.Together.{asked_holds, image, of_map, refs_there}
 use Rattle.gate_plan.proofs.Writing.{IsCopiedTo, IsNotCopied, copied_at, length-copied_all, IsAnsweredTo, IsNoStep, answered_at, length-answered_all, zip_at, zip_length}
 
@@ -79,7 +81,7 @@ single (b ∷ []) e = refl
 single (b ∷ c ∷ bs) e = absurd (omega arith)
 
 -- of a gate with one operand, the value after it
-after_one : (g : GateLine) (bits : List Bool) → length g.operands ≡ 1 → value_after g 1 bits ≡ cond (is_complemented g.kind) (not (bit_of bits (operand_at g 0) && bit_of bits (operand_at g 0))) (bit_of bits (operand_at g 0))
+after_one : (g : GateLine) (bits : List Bool) → length g.operands ≡ 1 → value_after g 1 bits ≡ turned (is_complemented g.kind) (bit_of bits (operand_at g 0))
 after_one g bits e =
     let n : length (map (bit_of bits) g.operands) ≡ 1 = length-map g.operands (bit_of bits) ∙ e in
     so_far_last g.kind (map (bit_of bits) g.operands) 1 (sym n)
@@ -111,7 +113,7 @@ module _ (net : Net) (h : IsNet net) (level : ℕ → ℕ) where
       let u = copy_is p.0 c p.3 in
       let v = copy_is q.0 d q.3 in
       let low : slice_index net.ranks (operand_at p.0 0) < rank_of net p.0 = operand_lower net h p.0 (operand_at p.0 0) p.1 (among_operands p.0 0 (some_operand net h p.0 p.1)) in
-      let at : operand_at p.0 0 ≡ q.0.out = ap (λ z. z.of) (sym u.2) ∙ same ∙ ap (λ z. z.out) v.2 in
+      let at : operand_at p.0 0 ≡ q.0.out = ap (λ z. z.of) (sym u.1) ∙ same ∙ ap (λ z. z.out) v.1 in
       let e : slice_index net.ranks (operand_at p.0 0) ≡ rank_of net q.0 = ap (slice_index net.ranks) at in
       let f = p.2 in let g = q.2 in
       omega arith
@@ -135,7 +137,7 @@ module _ (net : Net) (h : IsNet net) (level : ℕ → ℕ) where
       at s = copied_at refs cs s (subst (λ n. All (IsCopyBelow n) cs) (sym w.each) (copies_below net h r)) (apart r)
 
       known : (s : ℕ) → IsCopiedTo refs cs s (reference_of (copied_all refs cs) s) ⊎ (IsNotCopied cs s × (reference_of (copied_all refs cs) s ≡ reference_of refs s)) → Has S (reference_of (copied_all refs cs) s)
-      known s (inl u) = subst (Has S) (sym u.value) (w.known u.copied.of)
+      known s (inl u) = subst (Has S) (sym u.value) (IsRef-mark_by (node S) u.copied.mark (reference_of refs u.copied.of) (w.known u.copied.of))
       known s (inr u) = subst (Has S) (sym u.1) (w.known s)
 
       below : (s : ℕ) → s < length net.names → slice_index net.ranks s < r →
@@ -144,31 +146,31 @@ module _ (net : Net) (h : IsNet net) (level : ℕ → ℕ) where
       below s lt low (inl u) =
           let p = in_picks net r copy_of net.gates u.copied u.among in
           let q = copy_is p.0 u.copied p.3 in
-          let e : rank_of net p.0 ≡ slice_index net.ranks s = ap (slice_index net.ranks) (ap (λ z. z.out) (sym q.2) ∙ u.out) in
+          let e : rank_of net p.0 ≡ slice_index net.ranks s = ap (slice_index net.ranks) (ap (λ z. z.out) (sym q.1) ∙ u.out) in
           let f = p.2 in absurd (omega arith)
 
       here : (g : GateLine) → Contains net.gates g → rank_of net g ≡ r → IsBegun g 0 → Denotes (circuit net) level S (reference_of (copied_all refs cs) g.out) (value_after g (min (0 + 1) (length g.operands)))
       here g among rank (inl lt) = absurd (omega arith)
-      here g among rank (inr (one, plain)) = by (at g.out)
+      here g among rank (inr one) = by (at g.out)
         where
-          c : Copied
-          c = record { out = g.out; of = operand_at g 0 }
-
-          there : Contains cs c
-          there = has_pick net r copy_of net.gates g c among rank (is_copy g one plain)
+          there : Contains cs (copied_of g)
+          there = has_pick net r copy_of net.gates g (copied_of g) among rank (is_copy g one)
 
           by : IsCopiedTo refs cs g.out (reference_of (copied_all refs cs) g.out) ⊎ (IsNotCopied cs g.out × (reference_of (copied_all refs cs) g.out ≡ reference_of refs g.out)) →
               Denotes (circuit net) level S (reference_of (copied_all refs cs) g.out) (value_after g (min (0 + 1) (length g.operands)))
-          by (inr u) = absurd (u.0 c there refl)
+          by (inr u) = absurd (u.0 (copied_of g) there refl)
           by (inl u) = λ x bits hx l.
               let p = in_picks net r copy_of net.gates u.copied u.among in
               let q = copy_is p.0 u.copied p.3 in
-              let same : p.0 ≡ g = one_gate net h p.0 g p.1 among (ap (λ z. z.out) (sym q.2) ∙ u.out) in
-              let of : u.copied.of ≡ operand_at g 0 = ap (λ z. z.of) q.2 ∙ ap (λ z. operand_at z 0) same in
+              let same : p.0 ≡ g = one_gate net h p.0 g p.1 among (ap (λ z. z.out) (sym q.1) ∙ u.out) in
+              let of : u.copied.of ≡ operand_at g 0 = ap (λ z. z.of) q.1 ∙ ap (λ z. operand_at z 0) same in
+              let mark : u.copied.mark ≡ is_complemented g.kind = ap (λ z. z.mark) q.1 ∙ ap (λ z. is_complemented z.kind) same in
               let lower : slice_index net.ranks (operand_at g 0) < rank_of net g = operand_lower net h g (operand_at g 0) among (among_operands g 0 (some_operand net h g among)) in
-              ap (λ z. den S z x) (u.value ∙ ap (reference_of refs) of)
-              ∙ w.below (operand_at g 0) (operand_below net h g (operand_at g 0) among (among_operands g 0 (some_operand net h g among))) (omega arith) x bits hx l
-              ∙ ap (λ b. cond b (not (bit_of bits (operand_at g 0) && bit_of bits (operand_at g 0))) (bit_of bits (operand_at g 0))) (sym plain)
+              ap (λ z. den S z x) u.value
+              ∙ den-mark_by S u.copied.mark (reference_of refs u.copied.of) x
+              ∙ ap (λ b. turned b (den S (reference_of refs u.copied.of) x)) mark
+              ∙ ap (λ s. turned (is_complemented g.kind) (den S (reference_of refs s) x)) of
+              ∙ ap (turned (is_complemented g.kind)) (w.below (operand_at g 0) (operand_below net h g (operand_at g 0) among (among_operands g 0 (some_operand net h g among))) (omega arith) x bits hx l)
               ∙ sym (after_one g bits one)
               ∙ ap (λ k. value_after g k bits) (let k : 1 ≡ min (0 + 1) (length g.operands) = omega arith in k)
 
@@ -183,67 +185,37 @@ module _ (net : Net) (h : IsNet net) (level : ℕ → ℕ) where
   step_value : (S : Nodes) (refs : List Ref) (r j : ℕ) → AreFolded net level S refs r j → (g : GateLine) → Contains net.gates g → rank_of net g ≡ r → j < folds_of g →
       (x bits : List Bool) → length x ≡ S.levels → IsLabelling (circuit net) level x bits →
       entry_value S (entry_of refs (step_at g j)) x ≡ value_after g (min (j + 1 + 1) (length g.operands)) bits
-  step_value S refs r j w g among rank lt x bits hx l = by (same_number (length g.operands) 1) (same_number j 0)
+  step_value S refs r j w g among rank lt x bits hx l =
+      ap (λ c. op_value (op_at g.kind (length g.operands) (j + 1)) c (den S (reference_of refs (operand_at g (j + 1))) x)) (so_far (same_number j 0))
+      ∙ ap (op_value (op_at g.kind (length g.operands) (j + 1)) (value_after g (j + 1) bits)) (operand (j + 1) (omega arith))
+      ∙ op_right g.kind (length g.operands) (j + 1) (value_after g (j + 1) bits) (bit_of bits (operand_at g (j + 1)))
+      ∙ sym (after_next g bits (j + 1) (omega arith))
+      ∙ ap (λ k. value_after g k bits) (let k : j + 1 + 1 ≡ min (j + 1 + 1) (length g.operands) = omega arith in k)
     where
-      some : 0 < length g.operands
-      some = some_operand net h g among
-
       operand : (i : ℕ) → i < length g.operands → den S (reference_of refs (operand_at g i)) x ≡ bit_of bits (operand_at g i)
       operand i lt =
           let lower : slice_index net.ranks (operand_at g i) < rank_of net g = operand_lower net h g (operand_at g i) among (among_operands g i lt) in
           w.right.below (operand_at g i) (operand_below net h g (operand_at g i) among (among_operands g i lt)) (omega arith) x bits hx l
 
-      complemented : (b : Bool) → j < cond b 1 0 → b ≡ true
-      complemented true lt = refl
-      complemented false lt = absurd (omega arith)
-
-      ask : Step → Bool
-      ask s = entry_value S (entry_of refs s) x
-
-      by : Dec (length g.operands ≡ 1) → Dec (j ≡ 0) → entry_value S (entry_of refs (step_at g j)) x ≡ value_after g (min (j + 1 + 1) (length g.operands)) bits
-      by (yes e) z =
-          let b : is_complemented g.kind ≡ true = complemented (is_complemented g.kind) (subst (λ n. j < n) (folds_one g e) lt) in
-          ap ask (step_one g j e)
-          ∙ ap (λ c. not (c && c)) (operand 0 some)
-          ∙ ap (λ b. cond b (not (bit_of bits (operand_at g 0) && bit_of bits (operand_at g 0))) (bit_of bits (operand_at g 0))) (sym b)
-          ∙ sym (after_one g bits e)
-          ∙ ap (λ k. value_after g k bits) (let k : 1 ≡ min (j + 1 + 1) (length g.operands) = omega arith in k)
-      by (no ne) z =
-          let n : folds_of g ≡ length g.operands - 1 = folds_many g ne in
-          ap ask (step_many g j ne)
-          ∙ ap (λ c. op_value (op_at g.kind (length g.operands) (j + 1)) c (den S (reference_of refs (operand_at g (j + 1))) x)) (so_far z)
-          ∙ ap (op_value (op_at g.kind (length g.operands) (j + 1)) (value_after g (j + 1) bits)) (operand (j + 1) (omega arith))
-          ∙ op_right g.kind (length g.operands) (j + 1) (value_after g (j + 1) bits) (bit_of bits (operand_at g (j + 1)))
-          ∙ sym (after_next g bits (j + 1) (omega arith))
-          ∙ ap (λ k. value_after g k bits) (let k : j + 1 + 1 ≡ min (j + 1 + 1) (length g.operands) = omega arith in k)
-        where
-          n' : folds_of g ≡ length g.operands - 1
-          n' = folds_many g ne
-
-          so_far : Dec (j ≡ 0) → den S (reference_of refs (first_operand (fold_step_of g j))) x ≡ value_after g (j + 1) bits
-          so_far (yes z) =
-              ap (λ b. den S (reference_of refs (unwrap_or (cond b (Some (operand_at g 0)) None) g.out)) x) (eq-eqb j 0 z)
-              ∙ operand 0 some ∙ sym (after_first g bits (let m = n' in omega arith)) ∙ ap (λ k. value_after g k bits) (let k : 1 ≡ j + 1 = omega arith in k)
-          so_far (no nz) =
-              ap (λ b. den S (reference_of refs (unwrap_or (cond b (Some (operand_at g 0)) None) g.out)) x) (ne_eqb j 0 nz)
-              ∙ w.here g among rank (inl (omega arith)) x bits hx l ∙ ap (λ k. value_after g k bits) (let k : min (j + 1) (length g.operands) ≡ j + 1 = (let m = n' in omega arith) in k)
+      so_far : Dec (j ≡ 0) → den S (reference_of refs (first_operand (step_at g j))) x ≡ value_after g (j + 1) bits
+      so_far (yes z) =
+          ap (λ b. den S (reference_of refs (unwrap_or (cond b (Some (operand_at g 0)) None) g.out)) x) (eq-eqb j 0 z)
+          ∙ operand 0 (omega arith) ∙ sym (after_first g bits (omega arith)) ∙ ap (λ k. value_after g k bits) (let k : 1 ≡ j + 1 = omega arith in k)
+      so_far (no nz) =
+          ap (λ b. den S (reference_of refs (unwrap_or (cond b (Some (operand_at g 0)) None) g.out)) x) (ne_eqb j 0 nz)
+          ∙ w.here g among rank (inl (omega arith)) x bits hx l ∙ ap (λ k. value_after g k bits) (let k : min (j + 1) (length g.operands) ≡ j + 1 = omega arith in k)
 
   -- a gate whose folds are done has a value
-  begun_after : (g : GateLine) → Contains net.gates g → (j : ℕ) → folds_of g ≤ j → IsBegun g j
-  begun_after g among j le = by (same_number (length g.operands) 1) (is_complemented g.kind) refl
+  begun_after : (g : GateLine) (j : ℕ) → 0 < length g.operands → folds_of g ≤ j → IsBegun g j
+  begun_after g j some le = by (same_number (length g.operands) 1)
     where
-      by : Dec (length g.operands ≡ 1) → (b : Bool) → is_complemented g.kind ≡ b → IsBegun g j
-      by (yes e) false c = inr (e, c)
-      by (yes e) true c = inl (let n : folds_of g ≡ 1 = folds_one g e ∙ ap (λ b. cond b 1 0) c in omega arith)
-      by (no ne) b c = inl (let n : folds_of g ≡ length g.operands - 1 = folds_many g ne in let m = some_operand net h g among in omega arith)
+      by : Dec (length g.operands ≡ 1) → IsBegun g j
+      by (yes e) = inr e
+      by (no ne) = inl (omega arith)
 
   -- and it is the value after all operands
-  all_taken : (g : GateLine) → Contains net.gates g → (j : ℕ) → folds_of g ≤ j → min (j + 1) (length g.operands) ≡ length g.operands
-  all_taken g among j le = by (same_number (length g.operands) 1)
-    where
-      by : Dec (length g.operands ≡ 1) → min (j + 1) (length g.operands) ≡ length g.operands
-      by (yes e) = omega arith
-      by (no ne) = let n : folds_of g ≡ length g.operands - 1 = folds_many g ne in let m = some_operand net h g among in omega arith
+  all_taken : (g : GateLine) (j : ℕ) → folds_of g ≤ j → min (j + 1) (length g.operands) ≡ length g.operands
+  all_taken g j le = omega arith
 
   pub fold_right : (S T : Nodes) (refs : List Ref) (r j : ℕ) (answers : List Ref) → IsSound S → Keeps S T → AreFolded net level S refs r j →
       AnswersEach S (map (entry_of refs) (plan_steps net net.gates r j)) T answers →
@@ -279,17 +251,10 @@ module _ (net : Net) (h : IsNet net) (level : ℕ → ℕ) where
             p.0,
             p.1,
             p.2,
-            out_of p.0 ∙ ap (λ z. z.out) (sym q.1) ∙ u.out d,
+            ap (λ z. z.out) (sym q.1) ∙ u.out d,
             q.0,
             subst (λ v. IsDiagram T v (entry_value S (entry_of refs (step_at p.0 j)))) (sym (u.value False)) (subst (λ v. IsDiagram T (get_or answers u.place False) (entry_value S (entry_of refs v))) q.1 dia),
           )
-        where
-          out_of : (g : GateLine) → g.out ≡ (step_at g j).out
-          out_of g = by (length g.operands == 1)
-            where
-              by : (b : Bool) → g.out ≡ (cond b (nand_step g) (fold_step_of g j)).out
-              by true = refl
-              by false = refl
 
       known : (s : ℕ) → IsAnsweredTo ss answers s (reference_of new s) ⊎ (IsNoStep ss s × (reference_of new s ≡ reference_of refs s)) → Has T (reference_of new s)
       known s (inl u) = (answer s u).5.0
@@ -313,14 +278,10 @@ module _ (net : Net) (h : IsNet net) (level : ℕ → ℕ) where
           let same : p.0 ≡ g = one_gate net h p.0 g p.1 among p.3 in
           let lt : j < folds_of g = subst (λ z. j < folds_of z) same p.4 in
           p.5.1 x hx ∙ ap (λ z. entry_value S (entry_of refs (step_at z j)) x) same ∙ step_value S refs r j w g among rank lt x bits (hx ∙ kept.levels) l
-      here g among rank (inr u) (inl lt) = absurd (u.0 (step_at g j) (has_pick net r (λ g. step_of g j) net.gates g (step_at g j) among rank (has_step_of g j lt)) (out_of (length g.operands == 1)))
-        where
-          out_of : (b : Bool) → (cond b (nand_step g) (fold_step_of g j)).out ≡ g.out
-          out_of true = refl
-          out_of false = refl
+      here g among rank (inr u) (inl lt) = absurd (u.0 (step_at g j) (has_pick net r (λ g. step_of g j) net.gates g (step_at g j) among rank (has_step_of g j lt)) refl)
       here g among rank (inr u) (inr le) = λ x bits hx l.
-          same_den g.out u.1 x ∙ w.here g among rank (begun_after g among j le) x bits (hx ∙ kept.levels) l
-          ∙ ap (λ k. value_after g k bits) (let k : min (j + 1) (length g.operands) ≡ min (j + 1 + 1) (length g.operands) = (let e = all_taken g among j le in omega arith) in k)
+          same_den g.out u.1 x ∙ w.here g among rank (begun_after g j (some_operand net h g among) le) x bits (hx ∙ kept.levels) l
+          ∙ ap (λ k. value_after g k bits) (let k : min (j + 1) (length g.operands) ≡ min (j + 1 + 1) (length g.operands) = (let e = all_taken g j le in omega arith) in k)
 
       -- what the store has, the next one has too
       still : (value : List Bool → Bool) → IsDenoted (circuit net) level S value → IsDenoted (circuit net) level T value
@@ -364,8 +325,8 @@ module _ (net : Net) (h : IsNet net) (level : ℕ → ℕ) where
               let rank : rank_of net g ≡ r = (let e : rank_of net g ≡ slice_index net.ranks s = ap (slice_index net.ranks) out in omega arith) in
               let few : folds_of g ≤ j = (let f : folds_of g ≤ plan_folds net net.gates r = folds_within net r net.gates g among rank in omega arith) in
               ap (λ z. den S (reference_of refs z) x) (sym out)
-              ∙ w.here g among rank (begun_after g among j few) x bits hx l
-              ∙ ap (λ k. value_after g k bits) (all_taken g among j few)
+              ∙ w.here g among rank (begun_after g j (some_operand net h g among) few) x bits hx l
+              ∙ ap (λ k. value_after g k bits) (all_taken g j few)
               ∙ so_far_last g.kind (map (bit_of bits) g.operands) (length g.operands) (sym (length-map g.operands (bit_of bits)))
               ∙ sym (at_contained (λ g. bit_of bits g.out ≡ value_of g.kind (map (bit_of bits) g.operands)) net.gates g l.gates among)
               ∙ ap (bit_of bits) out
@@ -375,8 +336,8 @@ module _ (net : Net) (h : IsNet net) (level : ℕ → ℕ) where
       values g among low (inr here) i pos all =
           let rank : rank_of net g ≡ r = omega arith in
           let few : folds_of g ≤ j = (let f : folds_of g ≤ plan_folds net net.gates r = folds_within net r net.gates g among rank in omega arith) in
-          let most : min (j + 1) (length g.operands) ≡ length g.operands = all_taken g among j few in
-          w.values g among rank (begun_after g among j few) i pos (omega arith)
+          let most : min (j + 1) (length g.operands) ≡ length g.operands = all_taken g j few in
+          w.values g among rank (begun_after g j (some_operand net h g among) few) i pos (omega arith)
 
   -- the inputs denote their labels
   pub inputs_right : (S : Nodes) (variables refs : List Ref) → AreVariables S variables → AreInputs net level variables refs → ((s : ℕ) → Contains (variables_of (circuit net)) s → level s < length variables) → AreRight net level S refs 1

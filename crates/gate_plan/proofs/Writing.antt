@@ -5,6 +5,7 @@ use Rattle.std.specs.List.{AllZip}
 use Rattle.std.proofs.lemmas.List.{get_or-set_same, get_or-set_other, length-set}
 use Rattle.dd_store.specs.declared.reference.Ref.{Ref}
 use Rattle.dd_store.specs.declared.reference.Reference.TheVariants.{False}
+use Rattle.dd_store.specs.Marks.{mark_by}
 use Rattle.gate_plan.specs.declared.steps.Step.{Step}
 use Rattle.gate_plan.specs.declared.steps.Copied.{Copied}
 use Rattle.gate_plan.specs.Building.{reference_of, copied_all, answered_all, IsStepBelow, IsCopyBelow}
@@ -26,7 +27,7 @@ pub record IsCopiedTo (refs : List Ref) (cs : List Copied) (s : ℕ) (r : Ref) :
   pub copied : Copied
   pub among : Contains cs copied
   pub out : copied.out ≡ s
-  pub value : r ≡ reference_of refs copied.of
+  pub value : r ≡ mark_by copied.mark (reference_of refs copied.of)
 
 -- no copy is of the signal
 abbrev pub IsNotCopied : List Copied → ℕ → Type 0
@@ -37,22 +38,25 @@ pub copied_at : (refs : List Ref) (cs : List Copied) (s : ℕ) → All (IsCopyBe
 copied_at refs [] s below apart = inr ((λ c among. absurd (let lt = among.1 in omega arith)), refl)
 copied_at refs (c ∷ cs) s below apart = by (copied_at next cs s below' (λ d e a b. apart d e (deeper c cs d a) (deeper c cs e b)))
   where
+    moved : Ref
+    moved = mark_by c.mark (reference_of refs c.of)
+
     next : List Ref
-    next = set refs c.out (reference_of refs c.of)
+    next = set refs c.out (mark_by c.mark (reference_of refs c.of))
 
     here : IsCopyBelow (length refs) c
     here = first_of_all (IsCopyBelow (length refs)) c cs below
 
     below' : All (IsCopyBelow (length next)) cs
-    below' = subst (λ n. All (IsCopyBelow n) cs) (sym (length-set refs c.out (reference_of refs c.of))) (rest_of_all (IsCopyBelow (length refs)) c cs below)
+    below' = subst (λ n. All (IsCopyBelow n) cs) (sym (length-set refs c.out moved)) (rest_of_all (IsCopyBelow (length refs)) c cs below)
 
     front : Contains (c ∷ cs) c
     front = (0, omega arith, refl)
 
     at_last : IsNotCopied cs s → reference_of (copied_all next cs) s ≡ reference_of next s → Dec (c.out ≡ s) →
         IsCopiedTo refs (c ∷ cs) s (reference_of (copied_all next cs) s) ⊎ (IsNotCopied (c ∷ cs) s × (reference_of (copied_all next cs) s ≡ reference_of refs s))
-    at_last none e (yes same) = inl (record { copied = c; among = front; out = same; value = e ∙ ap (λ z. get_or next z False) (sym same) ∙ get_or-set_same refs c.out (reference_of refs c.of) False here.0 })
-    at_last none e (no ne) = inr (still, e ∙ get_or-set_other refs c.out s (reference_of refs c.of) False (λ z. ne (sym z)))
+    at_last none e (yes same) = inl (record { copied = c; among = front; out = same; value = e ∙ ap (λ z. get_or next z False) (sym same) ∙ get_or-set_same refs c.out moved False here.0 })
+    at_last none e (no ne) = inr (still, e ∙ get_or-set_other refs c.out s moved False (λ z. ne (sym z)))
       where
         still : IsNotCopied (c ∷ cs) s
         still d (zero, lt, f) = subst (λ z. z.out ≢ s) f ne
@@ -64,13 +68,13 @@ copied_at refs (c ∷ cs) s below apart = by (copied_at next cs s below' (λ d e
       copied = w.copied;
       among = deeper c cs w.copied w.among;
       out = w.out;
-      value = w.value ∙ get_or-set_other refs c.out w.copied.of (reference_of refs c.of) False (apart w.copied c (deeper c cs w.copied w.among) front);
+      value = w.value ∙ ap (mark_by w.copied.mark) (get_or-set_other refs c.out w.copied.of moved False (apart w.copied c (deeper c cs w.copied w.among) front));
     })
     by (inr w) = at_last w.0 w.1 (same_number c.out s)
 
 pub length-copied_all : (refs : List Ref) (cs : List Copied) → length (copied_all refs cs) ≡ length refs
 length-copied_all refs [] = refl
-length-copied_all refs (c ∷ cs) = length-copied_all (set refs c.out (reference_of refs c.of)) cs ∙ length-set refs c.out (reference_of refs c.of)
+length-copied_all refs (c ∷ cs) = length-copied_all (set refs c.out (mark_by c.mark (reference_of refs c.of))) cs ∙ length-set refs c.out (mark_by c.mark (reference_of refs c.of))
 
 -- ---- answers
 

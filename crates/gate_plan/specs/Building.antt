@@ -1,5 +1,5 @@
 -- What is built of netlists over the variables of a pairing: for each signal a reference that denotes its function.
-use Rattle.std.specs.Prelude.{◌≡◌, ℕ, ◌+◌, ◌<◌, ◌≤◌, ◌⊎◌, Bool, false, List, [], ◌∷◌, ◌++◌, map, length, min, unwrap_or, Option, Some, None, slice_index, slice_index_or, slice_set, Contains}
+use Rattle.std.specs.Prelude.{◌≡◌, ℕ, ◌+◌, ◌<◌, ◌≤◌, ◌⊎◌, Bool, List, [], ◌∷◌, ◌++◌, map, length, min, unwrap_or, Option, Some, None, slice_index, slice_index_or, slice_set, Contains}
 use Rattle.dd_store.specs.declared.StoreFault.{StoreFault}
 use Rattle.dd_store.specs.declared.StoreFault.TheVariants as store_faults
 use Rattle.dd_store.specs.declared.reference.Ref.{Ref}
@@ -12,7 +12,7 @@ use Rattle.expand_work.specs.declared.fault.WaveFault.TheVariants as wave_faults
 use Rattle.req_table.specs.declared.Op.{Op}
 use Rattle.net_bench.specs.declared.netlist.GateLine.{GateLine}
 use Rattle.net_bench.specs.Circuit.{Circuit, Net, circuit, variables_of}
-use Rattle.net_bench.specs.Labels.{bit_of, is_complemented, IsLabelling, IsFunctionOf}
+use Rattle.net_bench.specs.Labels.{bit_of, IsLabelling, IsFunctionOf}
 use Rattle.net_order.specs.declared.order.Match.{Match}
 use Rattle.net_order.specs.declared.order.Order.{Order}
 use Rattle.net_order.specs.Order.{Paired, IsPairing, first_level, second_level, given_level}
@@ -20,8 +20,9 @@ use Rattle.gate_plan.specs.declared.inputs.Which.{Which}
 use Rattle.gate_plan.specs.declared.inputs.Which.TheVariants.{First, Second, Given}
 use Rattle.gate_plan.specs.declared.steps.Step.{Step}
 use Rattle.gate_plan.specs.declared.steps.Copied.{Copied}
+use Rattle.dd_store.specs.Marks.{mark_by}
 use Rattle.gate_plan.specs.Folds.{value_so_far}
-use Rattle.gate_plan.specs.Plans.{rank_of, plan_steps, plan_copies, IsPlan, RankSteps}
+use Rattle.gate_plan.specs.Plans.{rank_of, plan_steps, plan_copies, plan_folds, IsPlan, RankSteps}
 
 -- a reference for each signal of the first netlist, of the second and of the condition
 pub record References : Type 0 where
@@ -35,6 +36,14 @@ pub record Placed : Type 0 where
   pub which : Which
   pub pairing : Paired
   pub plan : List RankSteps
+
+-- how many ranks its gates have
+abbrev pub ranks_of : Placed → ℕ
+ranks_of one = length one.plan
+
+-- how many folds its gates of a rank have
+abbrev pub folds_at : ℕ → Placed → ℕ
+folds_at rank one = plan_folds one.net one.net.gates rank
 
 -- p is the pairing of the two netlists, with this condition or none, for some way of matching and some order
 abbrev pub IsPaired : Circuit → Circuit → Option Circuit → Paired → Type 0
@@ -112,7 +121,7 @@ IsCopyBelow n c = (c.out < n) × (c.of < n)
 -- the references after the copies, one after the other
 abbrev pub copied_all : List Ref → List Copied → List Ref
 copied_all refs [] = refs
-copied_all refs (c ∷ cs) = copied_all (slice_set refs c.out (reference_of refs c.of)) cs
+copied_all refs (c ∷ cs) = copied_all (slice_set refs c.out (mark_by c.mark (reference_of refs c.of))) cs
 
 -- the references after each step's gate has got the step's answer
 abbrev pub answered_all : List Ref → List Step → List Ref → List Ref
@@ -155,7 +164,7 @@ pub record AreRight (net : Net) (level : ℕ → ℕ) (S : Nodes) (refs : List R
 
 -- a gate has a value after so many folds: after none only if it is a copy
 abbrev pub IsBegun : GateLine → ℕ → Type 0
-IsBegun g fold = (0 < fold) ⊎ ((length g.operands ≡ 1) × (is_complemented g.kind ≡ false))
+IsBegun g fold = (0 < fold) ⊎ (length g.operands ≡ 1)
 
 -- and each gate of this rank denotes its value after so many folds, and the store has all values up to that one
 pub record AreFolded (net : Net) (level : ℕ → ℕ) (S : Nodes) (refs : List Ref) (rank fold : ℕ) : Type 0 where

@@ -25,7 +25,7 @@ IsNeededValue a b given p f = IsValueOf (length p.names) (levelled a b given p) 
 abbrev pub IsNeeded : Circuit → Circuit → Option Circuit → Paired → ℕ → (List Bool → Bool) → Type 0
 IsNeeded a b given p v f = IsCounted (length p.names) (IsNeededValue a b given p) v f
 
--- each node of the store is needed
+-- each node of the store is needed, for its function or for the complement
 abbrev pub IsLeanFor : Circuit → Circuit → Option Circuit → Paired → Nodes → Type 0
 IsLeanFor a b given p S = IsLean (length p.names) (IsNeededValue a b given p) (part S) (Has S) (den S)
 

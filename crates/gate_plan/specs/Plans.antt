@@ -1,5 +1,5 @@
 -- The plan of a netlist: the copies and the steps of its gates, by rank and fold number.
-use Rattle.std.specs.Prelude.{◌≡◌, ℕ, ◌+◌, ◌-◌, ◌<◌, ◌≤◌, ◌==◌, ◌&&◌, cond, not, List, [], ◌∷◌, ◌++◌, map, flat_map, length, Option, Some, None, max, nat_lt, slice_index, slice_index_or}
+use Rattle.std.specs.Prelude.{◌≡◌, ℕ, ◌+◌, ◌-◌, ◌<◌, ◌≤◌, ◌==◌, cond, List, [], ◌∷◌, ◌++◌, map, flat_map, length, Option, Some, None, max, nat_lt, slice_index, slice_index_or}
 use Rattle.std.specs.Option.{option_map_or}
 use Rattle.net_bench.specs.declared.netlist.Kind.{Kind}
 use Rattle.net_bench.specs.declared.netlist.Kind.TheVariants.{And, Nand, Or, Nor, Xor, Xnor, Not, Buff, Dff}
@@ -42,20 +42,17 @@ op_at kind k i = cond (i + 1 == k) (last_op kind) (plain_op kind)
 abbrev pub operand_at : GateLine → ℕ → ℕ
 operand_at g i = slice_index g.operands i
 
--- a gate of one operand that does not complement is a copy of it
+-- a gate of one operand is a copy of it, or of its complement
 abbrev pub copy_of : GateLine → Option Copied
-copy_of g = cond ((length g.operands == 1) && not (is_complemented g.kind)) (Some (record { out = g.out; of = operand_at g 0 })) None
+copy_of g = cond (length g.operands == 1) (Some (record { out = g.out; of = operand_at g 0; mark = is_complemented g.kind })) None
 
 -- how many steps a gate's fold has
 abbrev pub folds_of : GateLine → ℕ
-folds_of g = cond (length g.operands == 1) (cond (is_complemented g.kind) 1 0) (length g.operands - 1)
+folds_of g = length g.operands - 1
 
--- With one operand the step is Nand of it with itself, else it is the operation that takes in operand j + 1.
+-- a step is the operation that takes in operand j + 1
 abbrev pub step_at : GateLine → ℕ → Step
-step_at g j =
-    cond (length g.operands == 1)
-    (record { out = g.out; op = ops.Nand; first = Some (operand_at g 0); second = operand_at g 0 })
-    (record { out = g.out; op = op_at g.kind (length g.operands) (j + 1); first = cond (j == 0) (Some (operand_at g 0)) None; second = operand_at g (j + 1) })
+step_at g j = record { out = g.out; op = op_at g.kind (length g.operands) (j + 1); first = cond (j == 0) (Some (operand_at g 0)) None; second = operand_at g (j + 1) }
 
 -- step j of a gate's fold, if it has one
 abbrev pub step_of : GateLine → ℕ → Option Step

@@ -1,5 +1,5 @@
 //! The building of netlists' diagrams in one store, rank by rank.
-ghost use Rattle.std.specs.Prelude.{◌≡◌, ◌≢◌, ◌+◌, ◌-◌, ◌^◌, ◌<◌, ◌≤◌, Err, [], Contains, length, map, IfOk, IfErr, IfSome, OnOk, slice_get, slice_index_or, Some};
+ghost use Rattle.std.specs.Prelude.{◌≡◌, ◌≢◌, ◌+◌, ◌-◌, ◌^◌, ◌<◌, ◌≤◌, Err, [], Contains, length, map, min, IfOk, IfErr, IfSome, OnOk, slice_get, slice_index_or, Some};
 ghost use Rattle.dd_store.specs.Nodes.{IsSound, count_of};
 ghost use Rattle.dd_store.specs.View.{Keeps};
 ghost use Rattle.net_bench.specs.Circuit.{circuit};
@@ -150,8 +150,10 @@ fn build_rank<R: Threads + Wait + Sync, G: Gate>(
     Ok(())
 }
 
-/// A number as a gate is told it.
-fn told(number: usize) -> u32 {
+/// A number as a gate is told it: the greatest of a u32 stands for what is greater.
+fn told(number: usize) -> u32
+    ensures { result ≡ min number (2 ^ 32 - 1) }
+{
     u32::try_from(number).unwrap_or(u32::MAX)
 }
 

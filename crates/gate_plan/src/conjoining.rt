@@ -1,5 +1,5 @@
 //! Functions where a condition holds.
-ghost use Rattle.std.specs.Prelude.{◌≡◌, ◌≢◌, ◌++◌, ◌-◌, ◌^◌, ◌<◌, ◌≤◌, Err, IfOk, IfErr, OnOk, All};
+ghost use Rattle.std.specs.Prelude.{◌≡◌, ◌≢◌, ◌-◌, ◌^◌, ◌<◌, ◌≤◌, Err, IfOk, IfErr, OnOk, All};
 ghost use Rattle.dd_store.specs.Nodes.{IsSound};
 ghost use Rattle.dd_store.specs.View.{Has};
 ghost use Rattle.expand_work.specs.Bounds.{most_of};

@@ -1,20 +1,20 @@
 //! The copies and the steps of one rank of a netlist, on the references of its signals.
 ghost use Rattle.std.specs.Prelude.{◌≡◌, ◌++◌, map, length, All, OnOk};
-ghost use Rattle.gate_plan.specs.Building.{first_operand, entry_of, IsCopyBelow, IsStepBelow, copied_all, answered_all};
+ghost use Rattle.gate_plan.specs.Building.{entry_of, IsCopyBelow, IsStepBelow, copied_all, answered_all};
 
 use crate::steps::{Copied, Step};
 use dd_store::Ref;
 use req_table::Op;
 use std::alloc::AllocError;
 
-/// Copies operands' references to their gates.
+/// Copies operands' references, or their complements, to their gates.
 pub fn copy_all(references: &mut Vec<Ref>, copies: &[Copied])
     requires { All (IsCopyBelow (length references.old.items)) copies.now }
     ensures { references.new.items ≡ copied_all references.old.items copies.now }
 {
     for copied in copies {
         let of = references[copied.of.number() as usize];
-        references[copied.out.number() as usize] = of;
+        references[copied.out.number() as usize] = of.marked(copied.mark);
     }
 }
 

@@ -1,9 +1,9 @@
 //! The netlists that are built together, and the references of their signals.
-ghost use Rattle.std.specs.Prelude.{◌≡◌, ◌++◌, ◌<◌, ◌≤◌, ℕ, Contains, length, IfOk, OnOk, All, slice_index_or};
-ghost use Rattle.net_bench.specs.Circuit.{circuit, variables_of};
+ghost use Rattle.std.specs.Prelude.{◌≡◌, ◌<◌, ◌≤◌, ℕ, Contains, length, map, IfOk, All};
+ghost use Rattle.net_bench.specs.Circuit.{circuit, greatest, variables_of};
 ghost use Rattle.net_order.specs.Order.{condition};
 ghost use Rattle.gate_plan.specs.Plans.{IsPlan, plan_steps, plan_copies, plan_folds};
-ghost use Rattle.gate_plan.specs.Building.{Placed, input_level, AreInputs, ArePlaced, AreCopied, Each, IsCopyBelow, IsStepBelow, answered_all, asked, copied_all};
+ghost use Rattle.gate_plan.specs.Building.{Placed, ranks_of, folds_at, input_level, AreInputs, ArePlaced, AreCopied, Each, IsCopyBelow, IsStepBelow, answered_all, asked, copied_all};
 
 use crate::folds::{add_entries, copy_all, take_answers};
 use crate::inputs::{Which, input_references};
@@ -168,9 +168,9 @@ pub fn sides_of<'a>(
     Ok(sides)
 }
 
-/// The last rank of all.
+/// The last rank of all netlists.
 pub fn last_rank(sides: &[Side<'_>]) -> usize
-    ensures { (one : Placed) → Contains sides.now one → length one.plan ≤ result }
+    ensures { result ≡ greatest (map ranks_of sides.now) }
 {
     let mut last = 0;
     for i in 0..sides.len() {
@@ -184,7 +184,7 @@ pub fn last_rank(sides: &[Side<'_>]) -> usize
 pub fn most_folds(sides: &[Side<'_>], rank: usize) -> usize
     requires first { 1 ≤ rank }
     requires plans { (one : Placed) → Contains sides.now one → IsPlan one.net one.plan }
-    ensures { (one : Placed) → Contains sides.now one → plan_folds one.net one.net.gates rank ≤ result }
+    ensures { result ≡ greatest (map (folds_at rank) sides.now) }
 {
     let mut most = 0;
     for i in 0..sides.len() {

@@ -20,11 +20,12 @@ pub struct Step {
     pub second: Signal,
 }
 
-/// A gate whose value is that of its operand.
+/// A gate whose value is that of its operand, or the complement where `mark` is set.
 #[derive(Clone, Copy, Debug, PartialEq, Eq)]
 pub struct Copied {
     pub out: Signal,
     pub of: Signal,
+    pub mark: bool,
 }
 
 /// The operation that a gate folds with.
@@ -64,10 +65,11 @@ fn copy_of(gate: &GateLine) -> Option<Copied>
     ensures { result ≡ copy_of gate.now }
 {
     let operands = gate.operands.as_slice();
-    if operands.len() == 1 && !is_complemented(gate.kind) {
+    if operands.len() == 1 {
         Some(Copied {
             out: gate.out,
             of: operands[0],
+            mark: is_complemented(gate.kind),
         })
     } else {
         None
@@ -80,13 +82,7 @@ fn folds_of(gate: &GateLine) -> usize
     ensures { result ≡ folds_of gate.now }
 {
     let operands = gate.operands.as_slice();
-    if operands.len() > 1 {
-        operands.len() - 1
-    } else if is_complemented(gate.kind) {
-        1
-    } else {
-        0
-    }
+    operands.len() - 1
 }
 
 /// Step `fold` of a gate's fold, if it has one.
@@ -98,14 +94,6 @@ fn step_of(gate: &GateLine, fold: usize) -> Option<Step>
         return None;
     }
     let operands = gate.operands.as_slice();
-    if operands.len() == 1 {
-        return Some(Step {
-            out: gate.out,
-            op: Op::Nand,
-            first: Some(operands[0]),
-            second: operands[0],
-        });
-    }
     let is_last = fold + 2 == operands.len();
     Some(Step {
         out: gate.out,

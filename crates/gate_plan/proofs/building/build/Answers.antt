@@ -3,7 +3,7 @@ use Rattle.std.proofs.lemmas.Result.{err_from_is_err_and}
 use Rattle.dd_store.specs.declared.reference.Ref.{Ref}
 use Rattle.net_bench.specs.Circuit.{circuit}
 use Rattle.net_order.specs.Order.{condition, first_level, second_level}
-use Rattle.gate_plan.specs.Building.{ArePlaced, AllRight, AreVariables, input_level}
+use Rattle.gate_plan.specs.Building.{ArePlaced, AllRight, AreVariables, input_level, ranks_of}
 use Rattle.gate_plan.specs.Folds.{IsVariable}
 use Rattle.gate_plan.specs.Needing.{IsPlacedValue}
 use Rattle.gate_plan.specs.Asking.{AnyAsksIn}
@@ -11,6 +11,7 @@ use Rattle.gate_plan.proofs.Asked.{none_unasked, next_unasked, all_unasked, stil
 use Rattle.gate_plan.proofs.Counted.{adds_more, adds_next, fault_next}
 use Rattle.gate_plan.proofs.Needed.{needed_adds, needed_fault, variables_needed, variables_fault, need_left, diagrams_at}
 use Rattle.gate_plan.proofs.Pairs.{placed_fits, given_diagrams}
+use Rattle.gate_plan.proofs.Ranks.{below_greatest}
 use Rattle.gate_plan.proofs.Running.{inputs_right, variables_kept}
 use Rattle.gate_plan.proofs.Together.{lent}
 use Rattle.gate_plan.proofs.building.build.Goals as goal
@@ -134,7 +135,7 @@ returns-clause-first g c =
     let sides = c.as_slice-sides.result.now in
     let placed : ArePlaced a b given p sides = subst (ArePlaced a b given p) (sym c.as_slice-sides.ensures.value) c.in-Ok.ensures in
     diagrams_at a b given p sides placed c.loop-below.store c.loop-below.list.items (c.loop-below.below + 1) c.loop-below.invariant.right (omega arith)
-    (λ one there. let ranks = (placed.plans one there).ranks in let last = c.last_rank-ranks.ensures one there in omega arith)
+    (λ one there. let ranks = (placed.plans one there).ranks in let last = below_greatest ranks_of sides one there in let top = c.last_rank-ranks.ensures in omega arith)
     0 (record { netlist = a; level = first_level p }) (omega arith) refl
 
 pub returns-clause-second : goal.returns-clause-second
@@ -146,7 +147,7 @@ returns-clause-second g c =
     let sides = c.as_slice-sides.result.now in
     let placed : ArePlaced a b given p sides = subst (ArePlaced a b given p) (sym c.as_slice-sides.ensures.value) c.in-Ok.ensures in
     diagrams_at a b given p sides placed c.loop-below.store c.loop-below.list.items (c.loop-below.below + 1) c.loop-below.invariant.right (omega arith)
-    (λ one there. let ranks = (placed.plans one there).ranks in let last = c.last_rank-ranks.ensures one there in omega arith)
+    (λ one there. let ranks = (placed.plans one there).ranks in let last = below_greatest ranks_of sides one there in let top = c.last_rank-ranks.ensures in omega arith)
     1 (record { netlist = b; level = second_level p }) (omega arith) refl
 
 pub returns-clause-given : goal.returns-clause-given
@@ -160,7 +161,7 @@ returns-clause-given g c =
     given_diagrams a b given p c.loop-below.store (get_or c.loop-below.list.items 2 [])
     (λ l lt at.
     diagrams_at a b given p sides placed c.loop-below.store c.loop-below.list.items (c.loop-below.below + 1) c.loop-below.invariant.right (omega arith)
-    (λ one there. let ranks = (placed.plans one there).ranks in let last = c.last_rank-ranks.ensures one there in omega arith)
+    (λ one there. let ranks = (placed.plans one there).ranks in let last = below_greatest ranks_of sides one there in let top = c.last_rank-ranks.ensures in omega arith)
     2 l lt at)
 
 pub returns-clause-adds : goal.returns-clause-adds
@@ -183,7 +184,7 @@ returns-clause-need g c = λ none.
     let placed : ArePlaced a b given p sides = subst (ArePlaced a b given p) (sym c.as_slice-sides.ensures.value) c.in-Ok.ensures in
     need_left a b given p sides placed c.args.store.now c.loop-below.store c.in_ok-variables.variables.items c.loop-below.list.items (c.loop-below.below + 1)
     c.requires.levels c.loop-below.invariant.sound c.loop-below.invariant.adds (still_within c.args.store.now c.loop-below.store _ c.loop-below.invariant.within) c.loop-below.invariant.variables c.loop-below.invariant.right
-    (λ one there. let ranks = (placed.plans one there).ranks in let last = c.last_rank-ranks.ensures one there in omega arith)
+    (λ one there. let ranks = (placed.plans one there).ranks in let last = below_greatest ranks_of sides one there in let top = c.last_rank-ranks.ensures in omega arith)
     none
 
 pub returns-clause-within : goal.returns-clause-within
@@ -195,7 +196,7 @@ returns-clause-within g c =
     let sides = c.as_slice-sides.result.now in
     let placed : ArePlaced a b given p sides = subst (ArePlaced a b given p) (sym c.as_slice-sides.ensures.value) c.in-Ok.ensures in
     all_unasked a b given p sides placed c.args.store.now c.loop-below.store c.loop-below.below
-    (λ one there. let ranks = (placed.plans one there).ranks in let last = c.last_rank-ranks.ensures one there in omega arith)
+    (λ one there. let ranks = (placed.plans one there).ranks in let last = below_greatest ranks_of sides one there in let top = c.last_rank-ranks.ensures in omega arith)
     c.loop-below.invariant.within
 
 pub returns-in_default-new-clause-adds : goal.returns-in_default-new-clause-adds

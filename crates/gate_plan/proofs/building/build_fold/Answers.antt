@@ -28,7 +28,7 @@ wave-requires-clause-operands g c κs within =
 pub returns-in_err-answers-clause-adds : goal.returns-in_err-answers-clause-adds
 returns-in_err-answers-clause-adds g c =
     wave_adds c.args.store.now c.wave.new.store c.as_slice.result.now (IsPlacedValue c.args.store.now.levels c.args.sides.now)
-    (all_asked c.args.sides.now c.requires.plans c.args.store.now c.args.built.now c.args.rank c.args.fold c.as_slice.result.now c.requires.folded (c.as_slice.ensures.value ∙ c.in-Ok.ensures)) c.wave.ensures.adds
+    (all_asked c.args.sides.now c.requires.plans c.args.store.now c.args.built.now c.args.rank c.args.fold c.as_slice.result.now c.requires.folded (c.as_slice.ensures.value ∙ c.in-Ok.ensures)) c.wave.ensures.wave.adds
 
 pub returns-in_err-answers-clause-fault : goal.returns-in_err-answers-clause-fault
 returns-in_err-answers-clause-fault g c =
@@ -36,7 +36,7 @@ returns-in_err-answers-clause-fault g c =
     rw (p.1, p.2) (
     wave_fault c.args.store.now c.wave.new.store c.as_slice.result.now (IsPlacedValue c.args.store.now.levels c.args.sides.now)
     (all_asked c.args.sides.now c.requires.plans c.args.store.now c.args.built.now c.args.rank c.args.fold c.as_slice.result.now c.requires.folded (c.as_slice.ensures.value ∙ c.in-Ok.ensures))
-    c.wave.ensures.adds.keeps _ (fault_of_all c.args.store.now c.wave.new.store c.args.engine.now.held c.as_slice.result.now _ c.in_err-answers.ensures.fault)
+    c.wave.ensures.wave.adds.keeps _ (fault_of_all c.args.store.now c.wave.new.store c.args.engine.now.held c.as_slice.result.now _ c.in_err-answers.ensures.wave.fault)
     )
 
 pub steps-steps-requires-clause-plan : goal.steps-steps-requires-clause-plan
@@ -76,7 +76,7 @@ loop-i-preserved g c =
       left = set_left c.loop-i.built c.args.built.now c.loop-i.i v c.loop-i.invariant.left;
       done = set_each (λ o rs. AreFolded o.net (input_level o) T rs c.args.rank (c.args.fold + 1)) c.args.sides.now c.loop-i.built c.loop-i.i one v low (omega arith) (sym c.index-sides-i.is)
           (fold_next one.net (c.requires.plans one (c.loop-i.i, low, sym c.index-sides-i.is)).sound (input_level one) S T refs refs v c.args.rank c.args.fold c.steps-steps.result.now c.split_at.result.0.now
-          c.levels.ensures.sound c.wave.ensures.adds.keeps (c.requires.folded.1 c.loop-i.i one refs low (sym c.index-sides-i.is) there) refl c.steps-steps.ensures
+          c.levels.ensures.sound c.wave.ensures.wave.adds.keeps (c.requires.folded.1 c.loop-i.i one refs low (sym c.index-sides-i.is) there) refl c.steps-steps.ensures
           (answers_own c.args.sides.now c.args.built.now c.loop-i.i one refs c.args.rank c.args.fold low (omega arith) (sym c.index-sides-i.is) there S T c.loop-i.rest.now c.loop-i.invariant.answers c.steps-steps.result.now c.steps-steps.ensures
           c.split_at.result.0.now c.split_at.ensures.front)
           c.take.ensures)
@@ -88,21 +88,21 @@ loop-i-preserved g c =
 pub returns-clause-adds : goal.returns-clause-adds
 returns-clause-adds g c =
     wave_adds c.args.store.now c.wave.new.store c.as_slice.result.now (IsPlacedValue c.args.store.now.levels c.args.sides.now)
-    (all_asked c.args.sides.now c.requires.plans c.args.store.now c.args.built.now c.args.rank c.args.fold c.as_slice.result.now c.requires.folded (c.as_slice.ensures.value ∙ c.in-Ok.ensures)) c.wave.ensures.adds
+    (all_asked c.args.sides.now c.requires.plans c.args.store.now c.args.built.now c.args.rank c.args.fold c.as_slice.result.now c.requires.folded (c.as_slice.ensures.value ∙ c.in-Ok.ensures)) c.wave.ensures.wave.adds
 
 pub returns-clause-next : goal.returns-clause-next
 returns-clause-next g c = (c.loop-i.invariant.len ∙ c.requires.folded.0, λ k one refs lt at there. c.loop-i.invariant.done k one refs (omega arith) at there)
 
 pub returns-clause-within : goal.returns-clause-within
 returns-clause-within g c =
-    wave_unasked c.args.sides.now c.requires.plans c.args.store.now c.wave.new.store c.levels.ensures.sound c.args.built.now c.args.rank c.args.fold c.as_slice.result.now c.requires.folded (c.as_slice.ensures.value ∙ c.in-Ok.ensures) c.args.engine.now.held c.requires.held c.in_ok-answers.ensures.within
+    wave_unasked c.args.sides.now c.requires.plans c.args.store.now c.wave.new.store c.levels.ensures.sound c.args.built.now c.args.rank c.args.fold c.as_slice.result.now c.requires.folded (c.as_slice.ensures.value ∙ c.in-Ok.ensures) c.args.engine.now.held c.requires.held c.in_ok-answers.ensures.wave.within
 
 pub wave-requires-clause-right : goal.wave-requires-clause-right
 wave-requires-clause-right g c κs within = c.requires.held.right
 
 pub returns-clause-held : goal.returns-clause-held
 returns-clause-held g c =
-    wave_held c.args.store.now c.wave.new.store c.args.engine.now.held c.as_slice.result.now c.in_ok-answers.answers.items c.wave.new.self.held c.requires.held c.in_ok-answers.ensures.within c.in_ok-answers.ensures.kept c.wave.ensures.right
+    wave_held c.args.store.now c.wave.new.store c.args.engine.now.held c.as_slice.result.now c.in_ok-answers.answers.items c.wave.new.self.held c.requires.held c.in_ok-answers.ensures.wave.within c.in_ok-answers.ensures.kept c.wave.ensures.right
 
 pub returns-in_err-answers-clause-past : goal.returns-in_err-answers-clause-past
 returns-in_err-answers-clause-past g c =

@@ -1,11 +1,12 @@
 use Rattle.std.proofs.Common.{refl, inr, ◌∙◌, arith, ◌≤◌}
-use Rattle.gate_plan.specs.Building.{input_level}
+use Rattle.gate_plan.specs.Building.{input_level, folds_at}
 use Rattle.gate_plan.specs.Need.{IsCounted}
 use Rattle.gate_plan.specs.Needing.{IsPlacedValue}
 use Rattle.gate_plan.specs.Asking.{AnyAsksAt}
 use Rattle.gate_plan.specs.Plans.{plan_copies, plan_folds}
 use Rattle.gate_plan.proofs.Asked.{none_unasked, next_unasked, rank_unasked}
 use Rattle.gate_plan.proofs.Counted.{adds_same, adds_next}
+use Rattle.gate_plan.proofs.Ranks.{below_greatest}
 use Rattle.gate_plan.proofs.Running.{copies_fit, all_copied, rank_right}
 use Rattle.gate_plan.proofs.building.build_rank.Goals as goal
 
@@ -44,11 +45,12 @@ pub returns-clause-next : goal.returns-clause-next
 returns-clause-next g c = (
   c.loop-fold.invariant.folded.0,
   λ k one refs lt at there.
-      let most = c.most_folds-fold-end.ensures one (k, lt, at) in
+      let most = below_greatest (folds_at c.args.rank) c.args.sides.now one (k, lt, at) in
+      let top = c.most_folds-fold-end.ensures in
       let few : plan_folds one.net one.net.gates c.args.rank ≤ c.loop-fold.fold = omega arith in
       rank_right one.net (c.requires.plans one (k, lt, at)).sound (input_level one) c.loop-fold.store refs c.args.rank c.loop-fold.fold c.requires.rank few (c.loop-fold.invariant.folded.1 k one refs lt at there),
 )
 
 pub returns-clause-within : goal.returns-clause-within
 returns-clause-within g c =
-    rank_unasked c.args.sides.now c.args.store.now c.loop-fold.store c.args.rank c.loop-fold.fold (λ one there. let most = c.most_folds-fold-end.ensures one there in omega arith) c.loop-fold.invariant.within
+    rank_unasked c.args.sides.now c.args.store.now c.loop-fold.store c.args.rank c.loop-fold.fold (λ one there. let most = below_greatest (folds_at c.args.rank) c.args.sides.now one there in let top = c.most_folds-fold-end.ensures in omega arith) c.loop-fold.invariant.within

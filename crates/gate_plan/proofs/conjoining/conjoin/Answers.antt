@@ -14,17 +14,17 @@ wave-requires-clause-operands g c κs within =
 pub returns-in-Ok-wave-clause-conjoined : goal.returns-in-Ok-wave-clause-conjoined
 returns-in-Ok-wave-clause-conjoined g c =
     conjoined c.args.store.now c.wave.new.store c.args.given c.args.references.now c.in-Ok-wave.answers.items
-    (subst (λ (z : List Entry). AnswersEach c.args.store.now z c.wave.new.store c.in-Ok-wave.answers.items) (c.as_slice.ensures.value ∙ c.in-Ok.ensures) c.in-Ok-wave.ensures.answers)
+    (subst (λ (z : List Entry). AnswersEach c.args.store.now z c.wave.new.store c.in-Ok-wave.answers.items) (c.as_slice.ensures.value ∙ c.in-Ok.ensures) c.in-Ok-wave.ensures.wave.answers)
 
 pub returns-in-Ok-wave-clause-within : goal.returns-in-Ok-wave-clause-within
 returns-in-Ok-wave-clause-within g c =
     subst (λ z. IsWithinLimit c.args.store.now z c.wave.new.store) (c.as_slice.ensures.value ∙ c.in-Ok.ensures)
-    (within_all c.args.store.now c.wave.new.store c.in-Ok-new.engine.held c.as_slice.result.now c.in-Ok-new.ensures.empty c.in-Ok-wave.ensures.within)
+    (within_all c.args.store.now c.wave.new.store c.in-Ok-new.engine.held c.as_slice.result.now c.in-Ok-new.ensures.empty c.in-Ok-wave.ensures.wave.within)
 
 pub returns-clause-fault : goal.returns-clause-fault
 returns-clause-fault g c =
     subst (λ z. IsWaveFault c.args.store.now z c.wave.new.store c.in-Err.fault) (c.as_slice.ensures.value ∙ c.in-Ok.ensures)
-    (fault_of_all c.args.store.now c.wave.new.store c.in-Ok-new.engine.held c.as_slice.result.now _ c.in-Err.ensures.fault)
+    (fault_of_all c.args.store.now c.wave.new.store c.in-Ok-new.engine.held c.as_slice.result.now _ c.in-Err.ensures.wave.fault)
 
 pub returns-clause-past : goal.returns-clause-past
 returns-clause-past g c =

@@ -35,7 +35,7 @@ loop-level-preserved c =
     variable_next S T vs new c.loop-level.level c.in-Ok.variable c.loop-level.invariant.sound kept c.loop-level.invariant.each grown c.in-Ok.ensures.here c.in-Ok.ensures.meaning c.loop-level.invariant.has c.loop-level.invariant.bits in
     record {
       sound = c.variable.ensures.sound;
-      adds = adds_next c.args.store.now S T IsVariable c.loop-level.invariant.sound c.loop-level.invariant.adds (variable_adds S T c.loop-level.level c.in-Ok.variable low c.in-Ok.ensures.made c.in-Ok.ensures.meaning);
+      adds = adds_next c.args.store.now S T IsVariable c.loop-level.invariant.sound c.loop-level.invariant.adds (variable_adds S T c.loop-level.level c.in-Ok.variable c.variable.ensures.sound low c.in-Ok.ensures.made c.in-Ok.ensures.meaning);
       within = within_next c.args.store.now S T c.loop-level.invariant.within (variable_within S T c.loop-level.level c.variable.result c.loop-level.invariant.sound low kept.limit c.variable.ensures.makes);
       each = ap length grown ∙ length-append vs (c.in-Ok.variable ∷ []) ∙ ap (λ n. n + 1) c.loop-level.invariant.each;
       has = λ v lt. (next v lt).0;
@@ -65,7 +65,7 @@ returns-then-is_err-clause-adds c =
     let S = c.loop-level.store in
     let T = c.variable.new.self in
     let low : c.loop-level.level < S.levels = (let e = c.loop-level.invariant.adds.keeps.levels in omega arith) in
-    adds_next c.args.store.now S T IsVariable c.loop-level.invariant.sound c.loop-level.invariant.adds (variable_adds S T c.loop-level.level c.in-Ok.variable low c.in-Ok.ensures.made c.in-Ok.ensures.meaning)
+    adds_next c.args.store.now S T IsVariable c.loop-level.invariant.sound c.loop-level.invariant.adds (variable_adds S T c.loop-level.level c.in-Ok.variable c.variable.ensures.sound low c.in-Ok.ensures.made c.in-Ok.ensures.meaning)
 
 pub returns-then-is_err-clause-within : goal.returns-then-is_err-clause-within
 returns-then-is_err-clause-within c =

@@ -1,7 +1,7 @@
-use Rattle.std.proofs.Common.{◌≡◌, ◌<◌, ◌≤◌, ℕ, get_or}
-use Rattle.gate_plan.specs.Building.{Placed}
-use Rattle.gate_plan.specs.Plans.{plan_folds}
+use Rattle.std.proofs.Common.{◌≡◌, map, take}
+use Rattle.net_bench.specs.Circuit.{greatest}
+use Rattle.gate_plan.specs.Building.{folds_at}
 use Rattle.gate_plan.proofs.sides.most_folds.Given as goal
 
 abbrev pub invariant-loop-i : goal.invariant-loop-i
-invariant-loop-i l = (k : ℕ) (one : Placed) → k < l.i → get_or l.sides k one ≡ one → plan_folds one.net one.net.gates l.rank ≤ l.most
+invariant-loop-i l = l.most ≡ greatest (map (folds_at l.rank) (take l.i l.sides))

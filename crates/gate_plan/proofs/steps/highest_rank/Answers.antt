@@ -1,8 +1,7 @@
-use Rattle.std.proofs.Common.{arith, ◌≡◌, ◌+◌, ◌∷◌, ◌++◌, [], map, take, max, sym, ap, ◌∙◌}
-use Rattle.std.proofs.lemmas.List.{map_more}
+use Rattle.std.proofs.Common.{arith, ◌≡◌, ◌+◌, map, take, max, sym, ◌∙◌}
 use Rattle.net_bench.specs.Circuit.{greatest}
 use Rattle.gate_plan.specs.Plans.{rank_of}
-use Rattle.gate_plan.proofs.Planning.{greatest_more}
+use Rattle.gate_plan.proofs.Planning.{greatest_next}
 use Rattle.gate_plan.proofs.steps.highest_rank.Goals as goal
 use Rattle.gate_plan.proofs.steps.highest_rank.Goals.{then-rank-highest, else-rank-highest}
 
@@ -12,7 +11,7 @@ loop-gate-preserved c =
     let gates = c.gates-gate-items.result.now in
     let i = c.loop-gate.gate-index in
     let next : greatest (map f (take (i + 1) gates)) ≡ max (greatest (map f (take i gates))) (f c.gate-item.result) =
-    ap greatest (map_more f gates i c.gate-item.result c.loop-gate-test.true ∙ ap (λ g. map f (take i gates) ++ f g ∷ []) (sym c.gate-item.is)) ∙ greatest_more (map f (take i gates)) (f c.gate-item.result) in
+    greatest_next f gates i c.gate-item.result c.loop-gate-test.true (sym c.gate-item.is) in
     let inv : c.loop-gate.highest ≡ greatest (map f (take i gates)) = c.loop-gate.invariant in
     let rank : c.rank-rank.result ≡ f c.gate-item.result = c.rank-rank.ensures.value in
     let most : c.if-rank-highest.highest ≡ max (greatest (map f (take i gates))) (f c.gate-item.result) =
