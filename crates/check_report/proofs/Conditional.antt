@@ -6,7 +6,7 @@ use Rattle.std.proofs.lemmas.List.{get_or-append-add, get_or-map, length-map, le
 use Rattle.std.proofs.lemmas.List.Elements.{Contains-append_cases, All-append, All-map, AllZip-get_or, length_all_zip}
 use Rattle.dd_store.specs.declared.reference.Ref.{Ref}
 use Rattle.dd_store.specs.declared.reference.Reference.TheVariants.{False}
-use Rattle.dd_store.specs.Functions.{Agree}
+use Rattle.dd_store.specs.Functions.{Agree, OfEither}
 use Rattle.dd_store.specs.Nodes.{Nodes, den, IsSound, IsDiagram, count_of}
 use Rattle.dd_store.specs.Parts.{Part}
 use Rattle.dd_store.specs.Parts.Part.{node}
@@ -20,6 +20,7 @@ use Rattle.net_order.specs.Order.{Paired, first_level, second_level}
 use Rattle.req_table.specs.declared.Op.TheVariants.{And}
 use Rattle.reduce_up.specs.Reducing.{AddsDescribed}
 use Rattle.reduce_up.specs.Waves.{entry_value, IsWanted, IsWithinLimit, LacksWanted, IsWaveFault}
+use Rattle.reduce_up.proofs.Opposite.{either_more, either_kept}
 use Rattle.gate_plan.specs.Building.{References, reference_of}
 use Rattle.gate_plan.specs.Conjoining.{conjunctions, AreConjoined}
 use Rattle.gate_plan.specs.Need.{IsCounted, IsLean, IsComplete, HasNode}
@@ -38,15 +39,12 @@ use Rattle.check_report.proofs.Wording.{there}
 
 -- ---- more functions, and more nodes
 
-same_function : (f g : List Bool → Bool) → ((x : List Bool) → f x ≡ g x) → f ≡ g
-same_function f g h = λ i x. h x i
-
 module _ (n : ℕ) (Few Values : (List Bool → Bool) → Type 0) (more : (f : List Bool → Bool) → Few f → Values f) where
   counted_more : (v : ℕ) (f : List Bool → Bool) → IsCounted n Few v f → IsCounted n Values v f
   counted_more v f c = record { value = c.value; is_value = more c.value c.is_value; fixed = c.fixed; depends = c.depends }
 
   pub lean_more : (S : Nodes) → IsLean n Few (part S) (Has S) (den S) → IsLean n Values (part S) (Has S) (den S)
-  lean_more S l = record { counted = λ r v lo hi h e. counted_more v (den S r) (l.counted r v lo hi h e) }
+  lean_more S l = record { counted = λ r v lo hi h e. either_more (IsCounted n Few v) (IsCounted n Values v) (counted_more v) (den S r) (l.counted r v lo hi h e) }
 
   pub complete_less : (S : Nodes) → IsComplete n Values (part S) (Has S) (den S) → IsComplete n Few (part S) (Has S) (den S)
   complete_less S c = record { present = λ v g few. c.present v g (counted_more v g few) }
@@ -56,13 +54,12 @@ module _ (n : ℕ) (Values : (List Bool → Bool) → Type 0) (S T : Nodes) (sou
   lean_next : IsLean n Values (part S) (Has S) (den S) → AddsDescribed S T (IsCounted n Values) → IsLean n Values (part T) (Has T) (den T)
   lean_next lean i = record { counted = λ m v lo hi h e. by m v lo hi e (i.described m h) }
     where
-      by : (m : Ref) (v : ℕ) (lo hi : Ref) → part T m ≡ node v lo hi → Has S m ⊎ ((w : ℕ) × (a : Ref) × (b : Ref) × (part T m ≡ node w a b) × IsCounted n Values w (den T m)) → IsCounted n Values v (den T m)
-      by m v lo hi e (inl old) =
-          subst (IsCounted n Values v) (same_function (den S m) (den T m) (λ x. sym (kept_den S T sound i.keeps m old x))) (lean.counted m v lo hi old (sym (i.keeps.part_is m old) ∙ e))
+      by : (m : Ref) (v : ℕ) (lo hi : Ref) → part T m ≡ node v lo hi → Has S m ⊎ ((w : ℕ) × (a : Ref) × (b : Ref) × (part T m ≡ node w a b) × OfEither (IsCounted n Values w) (den T m)) → OfEither (IsCounted n Values v) (den T m)
+      by m v lo hi e (inl old) = either_kept S T sound i.keeps (IsCounted n Values v) m old (lean.counted m v lo hi old (sym (i.keeps.part_is m old) ∙ e))
       by m v lo hi e (inr new) =
           let f : ◌≡◌ {A = Part Ref} (node new.0 new.1 new.2) (node v lo hi) = sym new.3 ∙ e in
           let at : new.0 ≡ v = cc in
-          subst (λ w. IsCounted n Values w (den T m)) at new.4
+          subst (λ w. OfEither (IsCounted n Values w) (den T m)) at new.4
 
   -- nodes that are there stay
   complete_kept : Keeps S T → IsComplete n Values (part S) (Has S) (den S) → IsComplete n Values (part T) (Has T) (den T)
@@ -94,9 +91,9 @@ needed_in a b (Some c) p f v = inl v
 adds_counted : (S T : Nodes) (D E : ℕ → (List Bool → Bool) → Type 0) → ((v : ℕ) (f : List Bool → Bool) → D v f → E v f) → AddsDescribed S T D → AddsDescribed S T E
 adds_counted S T D E h i = record { keeps = i.keeps; described = λ m has. by m (i.described m has) }
   where
-    by : (m : Ref) → Has S m ⊎ ((v : ℕ) × (lo : Ref) × (hi : Ref) × (part T m ≡ node v lo hi) × D v (den T m)) → Has S m ⊎ ((v : ℕ) × (lo : Ref) × (hi : Ref) × (part T m ≡ node v lo hi) × E v (den T m))
+    by : (m : Ref) → Has S m ⊎ ((v : ℕ) × (lo : Ref) × (hi : Ref) × (part T m ≡ node v lo hi) × OfEither (D v) (den T m)) → Has S m ⊎ ((v : ℕ) × (lo : Ref) × (hi : Ref) × (part T m ≡ node v lo hi) × OfEither (E v) (den T m))
     by m (inl k) = inl k
-    by m (inr k) = inr (k.0, k.1, k.2, k.3, h k.0 (den T m) k.4)
+    by m (inr k) = inr (k.0, k.1, k.2, k.3, either_more (D k.0) (E k.0) (h k.0) (den T m) k.4)
 
 -- ---- the references of what is compared
 

@@ -1,11 +1,13 @@
--- All nodes of a store in one list, each once.
-use Rattle.std.proofs.Common.{◌≡◌, ◌∙◌, ℕ, zero, suc, ◌+◌, ◌-◌, ◌*◌, ◌/◌, ◌%◌, ◌<◌, ◌≤◌, ◌⊎◌, inl, inr, List, [], ◌∷◌, ◌++◌, length, get_or, slice_get, Some, refl, sym, ap, subst, arith, length-append}
+-- All nodes of a store in one list, each once: their references without a mark.
+use Rattle.std.proofs.Common.{◌≡◌, ◌∙◌, ℕ, false, zero, suc, ◌+◌, ◌-◌, ◌*◌, ◌/◌, ◌%◌, ◌<◌, ◌≤◌, ◌⊎◌, inl, inr, List, [], ◌∷◌, ◌++◌, length, get_or, slice_get, Some, refl, sym, ap, subst, arith, length-append}
 use Rattle.std.specs.List.{sum_by}
+use Rattle.std.specs.Option.{option_map}
 use Rattle.std.proofs.lemmas.List.Sums.{sum_by-cons}
 use Rattle.dd_store.specs.declared.reference.NodeId.{NodeId}
 use Rattle.dd_store.specs.declared.reference.Ref.{Ref}
 use Rattle.dd_store.specs.declared.reference.Reference.TheVariants.{False, True, Node}
 use Rattle.dd_store.specs.Graph.{Pair}
+use Rattle.dd_store.specs.Marks.{is_marked, mark_both}
 use Rattle.dd_store.specs.Nodes.{Nodes, node as node_at}
 use Rattle.dd_store.specs.Parts.Part.{node}
 use Rattle.dd_store.specs.View.{Has, part, part_of}
@@ -13,9 +15,9 @@ use Rattle.dd_store.proofs.Places.{none_some}
 use Rattle.dd_store.proofs.Storing.{node_in_shard, node_from_shard}
 use Rattle.check_report.proofs.Pigeons.{Among, Distinct, among_left, among_right, among_parts, distinct_parts}
 
--- the node at a place of a shard; the shards of all levels are counted through
+-- the reference, without a mark, of the node at a place of a shard; the shards of all levels are counted through
 abbrev pub named : ℕ → ℕ → Ref
-named i j = Node (record { level = i / 16; shard = i % 16; index = j })
+named i j = Node (record { level = i / 16; shard = i % 16; index = j }) false
 
 abbrev pub shard_refs : ℕ → ℕ → List Pair → List Ref
 shard_refs i j [] = []
@@ -28,12 +30,12 @@ all_refs i (ps ∷ pss) = shard_refs i 0 ps ++ all_refs (suc i) pss
 index_of : Ref → ℕ
 index_of False = 0
 index_of True = 0
-index_of (Node m) = m.index
+index_of (Node m b) = m.index
 
 place_of : Ref → ℕ
 place_of False = 0
 place_of True = 0
-place_of (Node m) = 16 * m.level + m.shard
+place_of (Node m b) = 16 * m.level + m.shard
 
 length-shard_refs : (i j : ℕ) (ps : List Pair) → length (shard_refs i j ps) ≡ length ps
 length-shard_refs i j [] = refl
@@ -122,7 +124,7 @@ abbrev pub refs_of : Nodes → List Ref
 refs_of S = all_refs 0 S.shards
 
 -- each node stands in it
-pub has_each : (S : Nodes) (m : NodeId) (p : Pair) → node_at S m ≡ Some p → Among (Node m) (refs_of S)
+pub has_each : (S : Nodes) (m : NodeId) (p : Pair) → node_at S m ≡ Some p → Among (Node m false) (refs_of S)
 has_each S m p e =
     let h = node_in_shard S m p e in
     let small : m.shard < 16 = h.0 in
@@ -132,8 +134,8 @@ has_each S m p e =
     let zero_more : 0 + (16 * m.level + m.shard) ≡ 16 * m.level + m.shard = omega arith in
     let among : Among (named (16 * m.level + m.shard) m.index) (refs_of S) =
     subst (λ n. Among (named n m.index) (refs_of S)) zero_more (all_have 0 S.shards (16 * m.level + m.shard) m.index p h.1) in
-    subst (λ n. Among (Node (record { level = m.level; shard = n; index = m.index })) (refs_of S)) shard
-    (subst (λ n. Among (Node (record { level = n; shard = (16 * m.level + m.shard) % 16; index = m.index })) (refs_of S)) level among)
+    subst (λ n. Among (Node (record { level = m.level; shard = n; index = m.index }) false) (refs_of S)) shard
+    (subst (λ n. Among (Node (record { level = n; shard = (16 * m.level + m.shard) % 16; index = m.index }) false) (refs_of S)) level among)
 
 at_lt : (ps : List Pair) (k : ℕ) → k < length ps → (p : Pair) × (slice_get ps k ≡ Some p)
 at_lt [] k lt = absurd (omega arith)
@@ -141,7 +143,7 @@ at_lt (p ∷ ps) zero lt = (p, refl)
 at_lt (p ∷ ps) (suc k) lt = at_lt ps k (omega arith)
 
 -- and nothing else
-pub is_node : (S : Nodes) (r : Ref) → Among r (refs_of S) → (v : ℕ) × (lo : Ref) × (hi : Ref) × Has S r × (part S r ≡ node v lo hi)
+pub is_node : (S : Nodes) (r : Ref) → Among r (refs_of S) → (v : ℕ) × (lo : Ref) × (hi : Ref) × Has S r × (part S r ≡ node v lo hi) × (is_marked r ≡ false)
 unfolding IsNamed
 is_node S r a =
     let w = in_all 0 S.shards r a in
@@ -153,4 +155,4 @@ is_node S r a =
     let small : w.0 % 16 < 16 = omega arith in
     let at : slice_get (get_or S.shards (16 * (w.0 / 16) + w.0 % 16) []) w.1 ≡ Some q.0 = subst (λ n. slice_get (get_or S.shards n []) w.1 ≡ Some q.0) same q.1 in
     let e : node_at S m ≡ Some q.0 = node_from_shard S m q.0 small at in
-    subst (λ (x : Ref). (v : ℕ) × (lo : Ref) × (hi : Ref) × Has S x × (part S x ≡ node v lo hi)) (sym w.3) (m.level, q.0.0, q.0.1, (q.0, e), ap (part_of m) e)
+    subst (λ (x : Ref). (v : ℕ) × (lo : Ref) × (hi : Ref) × Has S x × (part S x ≡ node v lo hi) × (is_marked x ≡ false)) (sym w.3) (m.level, q.0.0, q.0.1, (q.0, e), ap (λ z. part_of m (option_map (mark_both false) z)) e, refl)

@@ -34,7 +34,7 @@ abbrev pub IsNeededIn : Circuit → Circuit → Option Circuit → Paired → (L
 IsNeededIn a b None p f = IsNeededValue a b None p f
 IsNeededIn a b (Some c) p f = IsNeededValue a b (Some c) p f ⊎ IsComparedValue a b (Some c) p f
 
--- each node of the store is needed
+-- each node of the store is needed, for its function or for the complement
 abbrev pub HasNeededAlone : Circuit → Circuit → Option Circuit → Paired → Nodes → Type 0
 HasNeededAlone a b given p S = IsLean (length p.names) (IsNeededIn a b given p) (part S) (Has S) (den S)
 

@@ -18,7 +18,7 @@ use Rattle.check_tool.specs.declared.fault.ToolFault.{ToolFault}
 use Rattle.check_tool.specs.declared.fault.ToolFault.TheVariants.{OneFile, InputTwice as DashTwice, CannotOpen, InputUnread, InputTooLong, InputUndivided, BadOrder, Check, OutOfMemory}
 use Rattle.check_tool.specs.Splitting.{IsSplit}
 use Rattle.check_tool.specs.Opening.{Try, Extends, opened, AreTried}
-use Rattle.check_tool.specs.Running.{IsOpenFault, first_paths, second_paths, text_paths, order_paths, given_paths, later_paths, paths_of, IsShort, AreTexts, HasTexts, IsGivenOf, IsOrderOf, IsOrderFaultBehind, IsGivenFault, IsLaterFault, IsCompared, HasReported, HasReportedFront, HasFirstFailed, HasSecondFailed, HasGivenFailed, IsBeyond, IsCompareFault, IsToolFault}
+use Rattle.check_tool.specs.Running.{IsOpenFault, first_paths, second_paths, text_paths, order_paths, given_paths, later_paths, paths_of, IsShort, AreTexts, HasTexts, IsGivenOf, IsOrderOf, IsLaterFault, IsCompared, HasReported, HasReportedFront, HasFirstFailed, HasSecondFailed, HasGivenFailed, IsBeyond, IsCompareFault, IsToolFault}
 use Rattle.check_tool.proofs.Failing.{check_fault}
 
 -- ---- tries

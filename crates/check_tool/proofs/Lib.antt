@@ -2,3 +2,4 @@ pub mod Dividing
 pub mod Composing
 pub mod Failing
 pub mod Preparing
+pub mod Quoting

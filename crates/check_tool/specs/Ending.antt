@@ -1,5 +1,5 @@
 -- How a run ends: what it has written, what it says, and its status.
-use Rattle.std.specs.Prelude.{◌≡◌, ◌≢◌, ◌≤◌, ◌⊎◌, ◌↔◌, ℕ, Bool, true, false, List, ◌++◌, Option, Some, None, IsTrue, string_bytes, codes, decimal}
+use Rattle.std.specs.Prelude.{◌≡◌, ◌≢◌, ◌≤◌, ◌⊎◌, ◌↔◌, ℕ, Bool, true, false, List, [], ◌++◌, Option, Some, None, IsTrue, string_bytes, codes, decimal}
 use Rattle.std.specs.Io.KnownBytes.{Appends, Keeps}
 use Rattle.check_report.specs.declared.outcome.Outcome.{Outcome}
 use Rattle.check_report.specs.declared.choice.Attempt.{Attempt}
@@ -18,8 +18,8 @@ use Rattle.check_tool.specs.declared.fault.ToolFault.TheVariants.{Check, InputUn
 use Rattle.check_tool.specs.declared.process.NoWords.{NoWords}
 use Rattle.check_tool.specs.declared.process.NoWords.TheVariants.{OutOfMemory as NoArguments, NoText}
 use Rattle.check_tool.specs.Faults.{fault_line, fault_status}
-use Rattle.check_tool.specs.Helping.{help_text}
-use Rattle.check_tool.specs.Opening.{Try, Extends, opened}
+use Rattle.check_tool.specs.Helping.{IsHelp, refused_paths}
+use Rattle.check_tool.specs.Opening.{Try, Extends, AreTried, opened}
 use Rattle.check_tool.specs.Running.{paths_of, HasReported, HasReportedFront, IsBeyond, IsToolFault, StandOnInput}
 
 -- what a device held and holds now, and whether it has failed by now, and whether a write has taken nothing of some bytes
@@ -63,9 +63,14 @@ abbrev pub from : Written → Between → Written
 from w b = record { held = b.holds; holds = w.holds; has_failed = w.has_failed; has_stopped = w.has_stopped }
 
 -- what is said of a fault of a run: its line, and behind it, where more is asked for, what helps
-abbrev pub IsSaidOf : (verbose : Bool) → Options → Written → ToolFault → (status : ℕ) → Type 0
-IsSaidOf false o w fault status = IsSaid w fault status
-IsSaidOf true o w fault status = (b : Between) × IsSaid (until w b) fault status × MaySay (from w b) (help_text o fault)
+abbrev pub IsSaidOf : (verbose : Bool) → (told : List ℕ → Option (List ℕ)) → Options → Written → ToolFault → (status : ℕ) → Type 0
+IsSaidOf false told o w fault status = IsSaid w fault status
+IsSaidOf true told o w fault status = (b : Between) × IsSaid (until w b) fault status × (line : List ℕ) × IsHelp told o fault line × MaySay (from w b) line
+
+-- the file that may be opened once more, for the line that was refused: none, unless more is asked for
+abbrev pub asked_again : (verbose : Bool) → Options → ToolFault → List (List ℕ)
+asked_again false o fault = []
+asked_again true o fault = refused_paths o fault
 
 -- the line that names an attempt
 abbrev pub attempt_line : Attempt → List ℕ
@@ -114,14 +119,17 @@ pub record Reports (s : Scene) (o : Options) (done : Done) (status : ℕ) : Type
   pub said : IsDoneSaid o.verbose done s.errors
   pub code : IsDoneStatus done status
 
--- There is a fault: its line was said, and nothing was written but for a front part of the report where the writing failed.
+-- There is a fault: its line was said, and nothing was written but for a front part of the report where the writing failed. The file of a
+-- refused text may have been opened once more, where more is asked for.
 pub record Refuses (broken : List ℕ → Type 0) (s : Scene) (o : Options) (fault : ToolFault) (status : ℕ) : Type 0 where
   pub tries : List Try
-  pub tried : Extends s.tried s.tries tries
+  pub again : List Try
+  pub tried : Extends s.tried s.tries (tries ++ again)
+  pub once_more : AreTried (asked_again o.verbose o fault) again
   pub cause : IsToolFault s.told broken (IsTrue s.input_failed) s.input o tries fault
   pub unread : fault ≡ InputUnread → IsTrue s.input_failed
   pub full : fault ≡ Check (Wave Full) → IsBeyond s.told s.input o
-  pub line : IsSaidOf o.verbose o s.errors fault status
+  pub line : IsSaidOf o.verbose s.told o s.errors fault status
   pub front : fault ≡ Check Write → HasReportedFront s.told s.input o s.output.held s.output.holds s.output.has_failed s.output.has_stopped
   pub nothing : fault ≢ Check Write → Keeps s.output.held s.output.holds
 

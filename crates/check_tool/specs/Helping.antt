@@ -1,5 +1,5 @@
 -- What is said behind a fault's line where more is asked for: where the fault stands, and what helps.
-use Rattle.std.specs.Prelude.{ℕ, List, ◌++◌, Option, Some, None, codes, decimal}
+use Rattle.std.specs.Prelude.{◌≡◌, ◌⊎◌, ℕ, List, [], ◌∷◌, ◌++◌, Option, Some, None, codes, decimal}
 use Rattle.std.specs.Borrow.{Bor}
 use Rattle.net_bench.specs.declared.netlist.BenchFault.{BenchFault}
 use Rattle.net_bench.specs.declared.netlist.BenchFault.TheVariants.{TooLong as LongText, BadByte, BadStatement, UnknownGate, WrongOperands, Redefined, TooMany, Undefined, Cycle, Read as ReadFailed, OutOfMemory as NoTextMemory}
@@ -21,6 +21,8 @@ use Rattle.check_tool.specs.declared.folder.Obstacle.{Obstacle}
 use Rattle.check_tool.specs.declared.folder.Obstacle.TheVariants.{Missing, Forbidden, NoFolder, Links, Other}
 use Rattle.check_tool.specs.declared.help.Spot.{Spot}
 use Rattle.check_tool.specs.declared.help.Spot.TheVariants.{Nowhere, Text, Line}
+use Rattle.check_tool.specs.Quoting.{quotation}
+use Rattle.check_tool.specs.Running.{first_paths, second_paths, order_paths, IsReadOf}
 
 -- what the first text is called: the path of its file, or what it is
 abbrev pub first_name : Texts → List ℕ
@@ -192,3 +194,46 @@ help_line (Some (name, Some line)) help = codes "bddcheck: " ++ (name ++ (codes 
 -- the line that is said behind a fault's own
 abbrev pub help_text : Options → ToolFault → List ℕ
 help_text o fault = help_line (fault_spot o.texts o.given o.order fault) (fault_help o.order fault)
+
+-- the same with what is shown of a line
+abbrev pub help_quoting : Options → ToolFault → List ℕ → List ℕ
+help_quoting o fault quoted = help_line (fault_spot o.texts o.given o.order fault) (fault_help o.order fault ++ (codes ": " ++ quoted))
+
+-- a path, where there is one
+abbrev pub path_in : Option (Bor (List ℕ)) → List (List ℕ)
+path_in None = []
+path_in (Some path) = path.now ∷ []
+
+-- the file of a text that was refused, where it came from one
+abbrev pub refused_paths : Options → ToolFault → List (List ℕ)
+refused_paths o (BadOrder fault) = order_paths o.order
+refused_paths o (Check (First fault)) = first_paths o.texts
+refused_paths o (Check (Second fault)) = second_paths o.texts
+refused_paths o (Check (Given fault)) = path_in o.given
+refused_paths o (Check GivenOutputs) = []
+refused_paths o (Check (Order fault)) = []
+refused_paths o (Check (Wave fault)) = []
+refused_paths o (Check Write) = []
+refused_paths o (Check NoCheckMemory) = []
+refused_paths o (CannotOpen place obstacle) = []
+refused_paths o OneFile = []
+refused_paths o DashTwice = []
+refused_paths o InputUnread = []
+refused_paths o InputTooLong = []
+refused_paths o InputUndivided = []
+refused_paths o OutOfMemory = []
+
+-- this is what is shown of the line that a fault stands in, as the file has it
+pub record IsQuoted (told : List ℕ → Option (List ℕ)) (o : Options) (fault : ToolFault) (quoted : List ℕ) : Type 0 where
+  pub path : List ℕ
+  pub name : List ℕ
+  pub line : ℕ
+  pub text : List ℕ
+  pub file : refused_paths o fault ≡ path ∷ []
+  pub place : fault_spot o.texts o.given o.order fault ≡ on_line name line
+  pub read : IsReadOf (told path) (Some text)
+  pub is : quoted ≡ quotation text line
+
+-- the line that may be said behind a fault's own: with the refused line of a file, or without
+abbrev pub IsHelp : (told : List ℕ → Option (List ℕ)) → Options → ToolFault → List ℕ → Type 0
+IsHelp told o fault line = (line ≡ help_text o fault) ⊎ ((quoted : List ℕ) × IsQuoted told o fault quoted × (line ≡ help_quoting o fault quoted))

@@ -42,6 +42,9 @@ pub trait Folder {
         ensures fresh { IfOk result (λ file. Self.File.has_failed file ≡ false) }
         ensures named { IfOk result (λ file. IfSome (Self.File.origin file) (λ from. from ≡ path.now)) }
         ensures kept { told self.new ≡ told self.old };
+
+    /// Whether a plain file stands at the path: one that is still there when it was read, and that nobody has to write meanwhile.
+    fn is_plain(&self, path: &str) -> bool;
 }
 
 /// Why the system opens no file.
@@ -89,6 +92,13 @@ impl<'a, H: Files> Folder for Disk<'a, H> {
         match fs::open(self.rt, path) {
             Ok(file) => Ok(Through::new(file)),
             Err(error) => Err(fault_of(error.kind())),
+        }
+    }
+
+    fn is_plain(&self, path: &str) -> bool {
+        match fs::metadata(self.rt, path) {
+            Ok(known) => known.is_file(),
+            Err(_) => false,
         }
     }
 }

@@ -1,6 +1,7 @@
 //! What helps against a fault, and where it stands: the line behind a fault's own.
-ghost use Rattle.std.specs.Prelude.{◌≡◌, IfOk, string_bytes};
-ghost use Rattle.check_tool.specs.Helping.{first_name, second_name, in_text, on_line, where_of, text_spot, order_spot, given_spot, fault_spot, text_help, order_help, wave_help, opening_help, fewer_nodes, check_help, fault_help, help_line, help_text};
+ghost use Rattle.std.specs.Prelude.{◌≡◌, ◌∷◌, [], ℕ, List, IfOk, IfSome, string_bytes};
+ghost use Rattle.check_tool.specs.Helping.{first_name, second_name, in_text, on_line, where_of, text_spot, order_spot, given_spot, fault_spot, text_help, order_help, wave_help, opening_help, fewer_nodes, check_help, fault_help, help_line, help_text, help_quoting, path_in, refused_paths};
+ghost use Rattle.check_tool.specs.Running.{first_paths, second_paths, order_paths};
 
 use crate::fault::{Place, ToolFault};
 use crate::folder::Obstacle;
@@ -106,6 +107,61 @@ fn spot_of<'a>(options: &Options<'a>, fault: ToolFault) -> Spot<'a>
         }
         ToolFault::Check(CheckFault::Order(fault)) => spot_in_order(options.order, fault),
         _ => Spot::Nowhere,
+    }
+}
+
+/// The file of the first text.
+fn file_of_first<'a>(texts: Texts<'a>) -> Option<&'a str>
+    ensures { path_in result ≡ first_paths texts.entry }
+{
+    match texts {
+        Texts::Files(first, _) | Texts::FileAndInput(first) => Some(first),
+        _ => None,
+    }
+}
+
+/// The file of the second text.
+fn file_of_second<'a>(texts: Texts<'a>) -> Option<&'a str>
+    ensures { path_in result ≡ second_paths texts.entry }
+{
+    match texts {
+        Texts::Files(_, second) | Texts::InputAndFile(second) => Some(second),
+        _ => None,
+    }
+}
+
+/// The file of an order.
+fn file_of_order<'a>(choice: OrderChoice<'a>) -> Option<&'a str>
+    ensures { path_in result ≡ order_paths choice.entry }
+{
+    match choice {
+        OrderChoice::File(path) => Some(path),
+        _ => None,
+    }
+}
+
+/// The file of a text that was refused.
+fn refused_file<'a>(options: &Options<'a>, fault: ToolFault) -> Option<&'a str>
+    ensures { path_in result ≡ refused_paths options.now fault }
+{
+    match fault {
+        ToolFault::BadOrder(_) => file_of_order(options.order),
+        ToolFault::Check(CheckFault::First(_)) => file_of_first(options.texts),
+        ToolFault::Check(CheckFault::Second(_)) => file_of_second(options.texts),
+        ToolFault::Check(CheckFault::Given(_)) => options.given,
+        _ => None,
+    }
+}
+
+/// The file and the line that a fault stands in.
+pub fn refused_line<'a>(options: &Options<'a>, fault: ToolFault) -> Option<(&'a str, u32)>
+    ensures { IfSome result (λ r. (refused_paths options.now fault ≡ r.0.now ∷ [])
+        × (name : List ℕ) × (fault_spot options.now.texts options.now.given options.now.order fault ≡ on_line name r.1)) }
+{
+    let path = refused_file(options, fault)?;
+    match spot_of(options, fault) {
+        Spot::Line(_, line) => Some((path, line)),
+        _ => None,
     }
 }
 
@@ -247,4 +303,19 @@ pub fn help_of(alloc: Global, options: &Options<'_>, fault: ToolFault) -> Result
     let spot = spot_of(options, fault);
     let help = help_against(options.order, fault);
     line_at(alloc, spot, help)
+}
+
+/// The same line with what is shown of the line of a file.
+pub fn help_with(
+    alloc: Global,
+    options: &Options<'_>,
+    fault: ToolFault,
+    quoted: &str,
+) -> Result<String, AllocError>
+    ensures { IfOk result (λ line. string_bytes line ≡ help_quoting options.now fault quoted.now) }
+{
+    let spot = spot_of(options, fault);
+    let help = help_against(options.order, fault);
+    let both = format!(in alloc; "{help}: {quoted}")?;
+    line_at(alloc, spot, both.as_str())
 }

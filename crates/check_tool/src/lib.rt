@@ -7,6 +7,7 @@ pub mod folder;
 pub mod help;
 pub mod process;
 pub mod progress;
+pub mod quote;
 pub mod run;
 pub mod split;
 pub mod tool;

@@ -54,6 +54,7 @@ fn order_of<F: Folder>(
 ) -> Result<Choice, ToolFault>
     ensures order { IfOk result (IsOrderOf (F.told folder.old) choice.entry) }
     ensures opened { OnOk result (Extends (F.tries folder.old) (F.tries folder.new) (opened (order_paths choice.entry))) }
+    ensures kept { F.told folder.new ≡ F.told folder.old }
     ensures fault { IfErr result (λ fault. (tries : List Try) × Extends (F.tries folder.old) (F.tries folder.new) tries × IsOrderFault (F.told folder.old) (HasFailedAt F.File.origin F.File.has_failed) choice.entry tries fault) }
 {
     match choice {
@@ -98,6 +99,7 @@ fn prepare<F: Folder>(
     ensures named { IfOk result (λ r. IsGivenFrom options.now.given (told_by F.File.origin r.0)) }
     ensures order { IfOk result (λ r. IsOrderOf (F.told folder.old) options.now.order r.1) }
     ensures opened { OnOk result (Extends (F.tries folder.old) (F.tries folder.new) (opened (later_paths options.now))) }
+    ensures kept { F.told folder.new ≡ F.told folder.old }
     ensures fault { IfErr result (λ fault. (tries : List Try) × Extends (F.tries folder.old) (F.tries folder.new) tries × IsLaterFault (F.told folder.old) (HasFailedAt F.File.origin F.File.has_failed) options.now tries fault) }
 {
     let given = open_given(folder, options.given)?;
@@ -117,6 +119,7 @@ fn compare<H: Eprint + Clock + Threads + Wait + Sync, F: Folder, R1: Source, R2:
 ) -> Result<Done, ToolFault>
     ensures report { IfOk result (λ done. (bytes : List ℕ) × IsCompared (F.told folder.old) (R1.remaining first.old) (R2.remaining second.old) options.now done bytes × Appends (W.contents out.old) (W.contents out.new) bytes) }
     ensures opened { OnOk result (Extends (F.tries folder.old) (F.tries folder.new) (opened (later_paths options.now))) }
+    ensures kept { F.told folder.new ≡ F.told folder.old }
     ensures fault { IfErr result (λ fault. (tries : List Try) × Extends (F.tries folder.old) (F.tries folder.new) tries ×
         IsCompareFault (F.told folder.old) (HasFailedAt F.File.origin F.File.has_failed) (R1.remaining first.old) (R2.remaining second.old) (IsTrue (R1.has_failed first.new)) (IsTrue (R2.has_failed second.new)) options.now tries fault) }
     ensures full { result ≡ Err (ToolFault.Check (Wave Full)) → (given : Option (Option (List ℕ))) × (choice : ChoiceValue) × IsGivenOf (F.told folder.old) options.now.given given × IsOrderOf (F.told folder.old) options.now.order choice
@@ -181,6 +184,7 @@ pub fn run_options<H: Eprint + Clock + Threads + Wait + Sync, F: Folder, R: Sour
     ensures report { IfOk result (HasReported (F.told folder.old) (R.remaining input.old) options.now (W.contents out.old) (W.contents out.new)) }
     // Then each file that the options name was opened, in the stated order, and no other.
     ensures opened { OnOk result (Extends (F.tries folder.old) (F.tries folder.new) (opened (paths_of options.now))) }
+    ensures kept { F.told folder.new ≡ F.told folder.old }
     // The nodes that the texts need are within the limit where there is a report, and Full comes only where they are not, in any order
     // that is asked for.
     ensures full { result ≡ Err (ToolFault.Check (Wave Full)) → IsBeyond (F.told folder.old) (R.remaining input.old) options.now }

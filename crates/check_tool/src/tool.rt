@@ -1,13 +1,14 @@
 //! A run of the program: its words, its folder and its devices to a status.
-ghost use Rattle.std.specs.Prelude.{◌≡◌, ◌≤◌, ◌⊎◌, false, IfOk, map, string_bytes};
-ghost use Rattle.check_tool.specs.Ending.{Written, Says, IsSaid, MaySay, IsSaidOf, attempt_line, IsAttemptSaid, IsDoneSaid, AskForMore, IsReportStatus, IsDoneStatus, Scene, IsRun, IsWordEnd};
-ghost use Rattle.check_tool.specs.Helping.{help_text};
-ghost use Rattle.check_tool.specs.Opening.{HasFailedAt};
+ghost use Rattle.std.specs.Prelude.{◌≡◌, ◌≤◌, ◌⊎◌, ℕ, List, false, IfOk, map, string_bytes};
+ghost use Rattle.check_tool.specs.Ending.{Written, Says, IsSaid, MaySay, IsSaidOf, attempt_line, IsAttemptSaid, IsDoneSaid, AskForMore, asked_again, IsReportStatus, IsDoneStatus, Scene, IsRun, IsWordEnd};
+ghost use Rattle.check_tool.specs.Helping.{IsHelp, refused_paths};
+ghost use Rattle.check_tool.specs.Opening.{AreTried, Extends, HasFailedAt, Try};
 
 use crate::done::Done;
 use crate::fault::{ToolFault, line_of, status_of_fault};
 use crate::folder::Folder;
-use crate::help::help_of;
+use crate::help::{help_of, help_with};
+use crate::quote::quote;
 use crate::run::run_options;
 use check_report::{Attempt, Outcome, write_whole};
 use command_line::{Options, Refused, read_options};
@@ -41,24 +42,55 @@ pub fn refuse<E: Sink>(alloc: Global, fault: ToolFault, errors: &mut E) -> u8
     }
 }
 
-/// Says what helps against a fault, where there is memory for it.
-fn help<E: Sink>(alloc: Global, options: &Options<'_>, fault: ToolFault, errors: &mut E)
-    ensures { MaySay (record { held = E.contents errors.old; holds = E.contents errors.new; has_failed = E.has_failed errors.new; has_stopped = E.has_stopped errors.new }) (help_text options.now fault) }
+/// The line that says what helps against a fault, with the refused line of a file where it can be shown.
+fn help_line<F: Folder>(
+    alloc: Global,
+    folder: &mut F,
+    options: &Options<'_>,
+    fault: ToolFault,
+) -> Result<String, AllocError>
+    ensures line { IfOk result (λ line. IsHelp (F.told folder.old) options.now fault (string_bytes line)) }
+    ensures tried { (again : List Try) × Extends (F.tries folder.old) (F.tries folder.new) again × AreTried (refused_paths options.now fault) again }
 {
-    if let Ok(line) = help_of(alloc, options, fault) {
+    match quote(alloc, folder, options, fault) {
+        Some(quoted) if !quoted.is_empty() => help_with(alloc, options, fault, quoted.as_str()),
+        _ => help_of(alloc, options, fault),
+    }
+}
+
+/// Says what helps against a fault, where there is memory for it.
+fn help<F: Folder, E: Sink>(
+    alloc: Global,
+    folder: &mut F,
+    options: &Options<'_>,
+    fault: ToolFault,
+    errors: &mut E,
+)
+    ensures said { (line : List ℕ) × IsHelp (F.told folder.old) options.now fault line
+        × MaySay (record { held = E.contents errors.old; holds = E.contents errors.new; has_failed = E.has_failed errors.new; has_stopped = E.has_stopped errors.new }) line }
+    ensures tried { (again : List Try) × Extends (F.tries folder.old) (F.tries folder.new) again × AreTried (refused_paths options.now fault) again }
+{
+    if let Ok(line) = help_line(alloc, folder, options, fault) {
         say(errors, line.as_bytes());
     }
 }
 
 /// Prints the line of a fault of a run, and what helps where more is asked for, and answers the status.
-fn refuse_run<E: Sink>(alloc: Global, options: &Options<'_>, fault: ToolFault, errors: &mut E) -> u8
-    ensures said { IsSaidOf options.now.verbose options.now (record { held = E.contents errors.old; holds = E.contents errors.new; has_failed = E.has_failed errors.new; has_stopped = E.has_stopped errors.new }) fault result }
+fn refuse_run<F: Folder, E: Sink>(
+    alloc: Global,
+    folder: &mut F,
+    options: &Options<'_>,
+    fault: ToolFault,
+    errors: &mut E,
+) -> u8
+    ensures said { IsSaidOf options.now.verbose (F.told folder.old) options.now (record { held = E.contents errors.old; holds = E.contents errors.new; has_failed = E.has_failed errors.new; has_stopped = E.has_stopped errors.new }) fault result }
+    ensures tried { (again : List Try) × Extends (F.tries folder.old) (F.tries folder.new) again × AreTried (asked_again options.now.verbose options.now fault) again }
     ensures bound { result ≤ 3 }
     ensures refused { 2 ≤ result }
 {
     let status = refuse(alloc, fault, errors);
     if options.verbose {
-        help(alloc, options, fault, errors);
+        help(alloc, folder, options, fault, errors);
     }
     status
 }
@@ -184,6 +216,6 @@ pub fn run_tool<H: Eprint + Clock + Threads + Wait + Sync, F: Folder, R: Source,
             tell(alloc, options.verbose, done, errors);
             status_of_done(done)
         }
-        Err(fault) => refuse_run(alloc, &options, fault, errors),
+        Err(fault) => refuse_run(alloc, folder, &options, fault, errors),
     }
 }

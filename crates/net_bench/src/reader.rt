@@ -19,8 +19,8 @@ use crate::symbols::{Symbol, SymbolTable, first_undefined, symbol_of};
 use std::alloc::Global;
 use std::marker::Model;
 
-/// The most bytes of a text.
-const MAX_TEXT: usize = 67_108_864;
+/// The most bytes of a text, and of an order file.
+pub const MAX_TEXT: usize = 67_108_864;
 
 /// A netlist. Its signals are numbered in the order in which the text counts them.
 #[derive(Drop)]

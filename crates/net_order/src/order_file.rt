@@ -8,11 +8,9 @@ ghost use Rattle.net_order.specs.OrderText.{IsBadText, IsOrderText, IsReadFault,
 use crate::names::Names;
 use crate::order::OrderFault;
 use net_bench::device::{Source, TextFault, read_text};
+use net_bench::reader::MAX_TEXT;
 use net_bench::scan::{Scanner, Token};
 use std::alloc::{AllocError, Global};
-
-/// The most bytes of an order file.
-const MAX_TEXT: usize = 67_108_864;
 
 /// The most bytes of a name.
 const MAX_NAME: usize = 255;

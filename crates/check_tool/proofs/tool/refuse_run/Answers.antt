@@ -8,8 +8,13 @@ returns-then-options-clause-said g c =
     let between = c.refuse-status.new.errors in
     let after = c.help.new.errors in
     let w : Written = record { held = g.E.Sink.contents before; holds = g.E.Sink.contents after; has_failed = g.E.Sink.has_failed after; has_stopped = g.E.Sink.has_stopped after } in
-    subst (λ v. IsSaidOf v c.args.options.now w c.args.fault c.refuse-status.result) (sym c.if-options.true) (
+    subst (λ v. IsSaidOf v (g.F.Folder.told c.args.folder.now) c.args.options.now w c.args.fault c.refuse-status.result) (sym c.if-options.true) (
       record { holds = g.E.Sink.contents between; has_failed = g.E.Sink.has_failed between; has_stopped = g.E.Sink.has_stopped between },
       c.refuse-status.ensures.said,
-      c.help.ensures,
+      c.help.ensures.said.0,
+      c.help.ensures.said.1,
+      c.help.ensures.said.2,
     )
+
+pub returns-then-options-clause-tried : goal.returns-then-options-clause-tried
+returns-then-options-clause-tried g c = rw c.if-options.true c.help.ensures.tried

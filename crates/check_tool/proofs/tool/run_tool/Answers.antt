@@ -4,7 +4,7 @@ use Rattle.check_tool.specs.declared.done.Done.{Done}
 use Rattle.check_report.specs.declared.fault.CheckFault.TheVariants.{Write}
 use Rattle.check_tool.specs.declared.fault.ToolFault.{ToolFault}
 use Rattle.check_tool.specs.declared.fault.ToolFault.TheVariants.{Check, OutOfMemory}
-use Rattle.check_tool.proofs.Composing.{keeps_own, asked_or}
+use Rattle.check_tool.proofs.Composing.{keeps_own, asked_or, extends_more}
 use Rattle.check_tool.proofs.tool.run_tool.Goals as goal
 
 -- the fault of an answer that has one
@@ -32,6 +32,7 @@ returns-in-Ok-run_options-clause-ending g c =
 pub returns-in-Err-run_options-clause-ending : goal.returns-in-Err-run_options-clause-ending
 returns-in-Err-run_options-clause-ending g c =
     let cause = c.in-Err-run_options.ensures.fault in
+    let again = c.refuse_run.ensures.tried in
     inl (
       c.in-Ok.options,
       c.in-Ok.ensures.options,
@@ -39,11 +40,13 @@ returns-in-Err-run_options-clause-ending g c =
         c.in-Err-run_options.fault,
         record {
           tries = cause.0;
-          tried = cause.1;
+          again = again.0;
+          tried = extends_more (g.F.Folder.tries c.args.folder.now) (g.F.Folder.tries c.run_options.new.folder) (g.F.Folder.tries c.refuse_run.new.folder) cause.0 again.0 cause.1 again.1;
+          once_more = again.2;
           cause = cause.2;
           unread = λ e. c.run_options.ensures.read (c.in-Err-run_options.is ∙ ap Err e);
           full = λ e. c.run_options.ensures.full (c.in-Err-run_options.is ∙ ap Err e);
-          line = c.refuse_run.ensures.said;
+          line = rw (← c.run_options.ensures.kept) c.refuse_run.ensures.said;
           front = λ e. c.run_options.ensures.unwritten (c.in-Err-run_options.is ∙ ap Err e);
           nothing = λ other.
               let same = subst (λ r. OnErr r (r ≢ Err (Check Write) → c.run_options.new.out ≡ c.args.out.now)) c.in-Err-run_options.is c.run_options.ensures.untouched (λ e. other (ap fault_in e)) in

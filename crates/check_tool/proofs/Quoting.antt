@@ -1,0 +1,36 @@
+-- Lines of a text, and a file that is opened once more.
+use Rattle.std.proofs.Common.{◌≡◌, ◌≢◌, ◌∙◌, ℕ, zero, suc, ◌+◌, ◌-◌, ◌<◌, ◌≤◌, Bool, true, false, List, [], ◌∷◌, length, drop, get_or, refl, sym, ap, subst, cond, eqb, arith, lt-ltb, ◌++◌, map, take}
+use Rattle.std.proofs.lemmas.List.{drop_all, drop_more}
+use Rattle.std.specs.Prelude.{codes}
+use Rattle.check_tool.specs.Quoting.{behind, shown, excerpt}
+use Rattle.check_tool.specs.Opening.{AreTried}
+
+-- nothing stands behind the end
+pub behind_none : (feeds : ℕ) → behind feeds [] ≡ []
+behind_none zero = refl
+behind_none (suc feeds) = refl
+
+-- one byte further
+pub behind_more : (feeds b : ℕ) (bs : List ℕ) → feeds ≢ 0 → behind feeds (b ∷ bs) ≡ cond (eqb b 10) (behind (feeds - 1) bs) (behind feeds bs)
+behind_more zero b bs ne = absurd (ne refl)
+behind_more (suc feeds) b bs ne =
+    let e : feeds ≡ suc feeds - 1 = omega arith in
+    ap (λ n. cond (eqb b 10) (behind n bs) (behind (suc feeds) bs)) e
+
+-- what is left behind the end
+pub behind_end : (text : List ℕ) (feeds at : ℕ) → length text ≤ at → behind feeds (drop at text) ≡ []
+behind_end text feeds at le = subst (λ t. behind feeds t ≡ []) (sym (drop_all at text le)) (behind_none feeds)
+
+-- what is left behind one byte more of a text
+pub behind_byte : (text : List ℕ) (feeds left at : ℕ) → behind feeds text ≡ behind left (drop at text) → left ≢ 0 → at < length text
+    → behind feeds text ≡ cond (eqb (get_or text at 0) 10) (behind (left - 1) (drop (at + 1) text)) (behind left (drop (at + 1) text))
+behind_byte text feeds left at is ne lt = is ∙ ap (behind left) (drop_more text at 0 lt) ∙ behind_more left (get_or text at 0) (drop (at + 1) text) ne
+
+-- a line that is too long is shown cut
+pub excerpt_cut : (bytes : List ℕ) → 100 < length bytes → map shown (take 100 bytes) ++ codes "... (cut)" ≡ excerpt bytes
+excerpt_cut bytes lt = rw (lt-ltb 100 (length bytes) lt) refl
+
+-- a path that is asked for once, whether its file is opened or not
+pub tried_once : (path : List ℕ) (opened : Bool) → AreTried (path ∷ []) ((path, opened) ∷ [])
+tried_once path true = (refl, tt)
+tried_once path false = (refl, refl)
