@@ -140,7 +140,7 @@ fn given_sizes(rt: HostRuntime) -> Result<(), Fail> {
         sizes: true,
         ..plainly()
     };
-    let report = "EQUAL o size 3\n1 equal, 0 different, 0 unmatched\n";
+    let report = "EQUAL o size 2\n1 equal, 0 different, 0 unmatched\n";
     assert!(rt; reports(&rt, OR, XOR, Some(NAND), asked, report));
     Ok(())
 }

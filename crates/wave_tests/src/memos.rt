@@ -64,7 +64,7 @@ fn request<R: Abort>(rt: &R, store: &Store, op: Op, f: Ref, g: Ref) -> Key
     ensures { IsKey store.now result }
 {
     assert!(rt; short(op, f, g).is_none());
-    normal(op, f, g)
+    normal(op, f, g).0
 }
 
 /// The answer of a child that is done.
@@ -121,7 +121,9 @@ fn forgotten<R: Abort + Threads + Wait + Sync>(
     let (a, b) = variables(rt, &mut store);
     let both = ask(rt, alloc, &mut store, &mut memo, (Op::And, a, b), way)?;
     let some = ask(rt, alloc, &mut store, &mut memo, (Op::Or, a, b), way)?;
-    assert_eq!(rt; memo.peek(&request(rt, &store, Op::Or, a, b)), Some(some));
+    let neither = request(rt, &store, Op::Nor, a, b);
+    assert_eq!(rt; memo.peek(&neither), Some(some.negate()));
+    assert_eq!(rt; done(rt, &store, &memo, Op::Or, a, b), some);
     assert_eq!(rt; memo.peek(&request(rt, &store, Op::And, a, b)), None);
     let again = ask(rt, alloc, &mut store, &mut memo, (Op::And, a, b), way)?;
     assert_eq!(rt; again, both);
@@ -160,19 +162,34 @@ fn memo_after_a_refused_wave(rt: HostRuntime) -> Result<(), Fail> {
     Ok(())
 }
 
-// Where a is 0, not both of (a or b) and b is not b, which is held; where a is 1 it is not held of b.
+/// The three variables of a store.
+fn three_variables<R: Abort>(rt: &R, store: &mut Store) -> (Ref, Ref, Ref)
+    requires { 3 ≤ store.old.levels }
+    ensures first { Has store.new result.0 }
+    ensures second { Has store.new result.1 }
+    ensures third { Has store.new result.2 }
+{
+    let c = store.variable(2).expect(rt, "a variable");
+    let b = store.variable(1).expect(rt, "a variable");
+    let a = store.variable(0).expect(rt, "a variable");
+    (a, b, c)
+}
+
+// Where a is 0, both of (a or else b) and c are both of b and c, which is held; where a is 1 they are both of not b and c, which is not.
+// What is held answers its complement too.
 #[test]
 fn known_children(rt: HostRuntime) -> Result<(), Fail> {
     let alloc = rt.alloc();
-    let mut store = Store::new(alloc, 2, 100)?;
+    let mut store = Store::new(alloc, 3, 100)?;
     let mut memo = Memo::new(alloc, 8)?;
-    let (a, b) = variables(&rt, &mut store);
+    let (a, b, c) = three_variables(&rt, &mut store);
     let way = Way::Alone(&[]);
-    let some = ask(&rt, alloc, &mut store, &mut memo, (Op::Or, a, b), way)?;
-    let not_b = ask(&rt, alloc, &mut store, &mut memo, (Op::Nand, b, b), way)?;
-    let record = split_known(&store, &memo, request(&rt, &store, Op::Nand, some, b));
-    assert_eq!(rt; answer_of(record.low), Some(not_b));
+    let differ = ask(&rt, alloc, &mut store, &mut memo, (Op::Xor, a, b), way)?;
+    let both = ask(&rt, alloc, &mut store, &mut memo, (Op::And, b, c), way)?;
+    let record = split_known(&store, &memo, request(&rt, &store, Op::And, differ, c));
+    assert_eq!(rt; answer_of(record.low), Some(both));
     assert_eq!(rt; answer_of(record.high), None);
+    assert_eq!(rt; done(&rt, &store, &memo, Op::Nand, b, c), both.negate());
     Ok(())
 }
 
@@ -195,7 +212,7 @@ fn told<R: Abort + Threads + Wait + Sync>(
     build(
         rt, alloc, &mut store, &first, &second, None, &pairing, 2, &gate,
     )?;
-    assert_eq!(rt; store.count(), 20);
+    assert_eq!(rt; store.count(), 13);
     Ok(gate.told.load(Ordering::SeqCst))
 }
 

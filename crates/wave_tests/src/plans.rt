@@ -27,7 +27,7 @@ static C17B: &str =
 
 /// Each kind of gate, with one operand or more.
 static KINDS: &str =
-    "INPUT(a)\nINPUT(b)\nINPUT(c)\nOUTPUT(z)\np = NAND(a, b, c)\nq = XNOR(c, a)\nr = OR(b, c)\nx = BUFF(p)\ny = NOT(q)\nw = NOR(r)\nv = XOR(r)\nz = NOR(x, y, w, v)\n";
+    "INPUT(a)\nINPUT(b)\nINPUT(c)\nOUTPUT(z)\np = NAND(a, b, c)\nq = XNOR(c, a)\nr = OR(b, c)\nx = BUFF(p)\ny = NOT(q)\nw = NOR(r)\nv = XOR(r)\nu = NAND(p)\nt = XNOR(q)\nz = NOR(x, y, w, v)\n";
 
 /// A step as it is named in a table: the gate, the operation, and the names of its operands, the first None where it is the
 /// gate's value so far.
@@ -72,23 +72,25 @@ fn compare_steps<R: Abort>(
     }
 }
 
-/// Compares the number of folds of a rank, and its copies with those of a table: the gate and its operand.
+/// Compares the number of folds of a rank, and its copies with those of a table: the gate, its operand, and whether it is the
+/// complement.
 fn compare_copies<R: Abort>(
     rt: &R,
     netlist: &Netlist,
     plan: &Plan,
     rank: usize,
     folds: usize,
-    named: &[(&'static str, &'static str)],
+    named: &[(&'static str, &'static str, bool)],
 ) {
     assert!(rt; 1 <= rank && rank <= plan.ranks());
     assert_eq!(rt; plan.folds(rank), folds);
     let copies = plan.copies(rank);
     assert_eq!(rt; copies.len(), named.len());
     for i in 0..copies.len().min(named.len()) {
-        let (out, of) = named[i];
+        let (out, of, mark) = named[i];
         assert_eq!(rt; copies[i].out, signal(rt, netlist, out), "{out}");
         assert_eq!(rt; copies[i].of, signal(rt, netlist, of), "{out}");
+        assert_eq!(rt; copies[i].mark, mark, "{out}");
     }
 }
 
@@ -129,17 +131,20 @@ fn plan_of_kinds(rt: HostRuntime) -> Result<(), Fail> {
         ("r", Op::Or, Some("b"), "c"),
     ];
     let second = [
-        ("y", Op::Nand, Some("q"), "q"),
-        ("w", Op::Nand, Some("r"), "r"),
+        ("x", "p", false),
+        ("y", "q", true),
+        ("w", "r", true),
+        ("v", "r", false),
+        ("u", "p", true),
+        ("t", "q", true),
     ];
     compare_steps(&rt, &netlist, &plan, 1, 0, &first);
     compare_steps(&rt, &netlist, &plan, 1, 1, &[("p", Op::Nand, None, "c")]);
-    compare_steps(&rt, &netlist, &plan, 2, 0, &second);
     compare_steps(&rt, &netlist, &plan, 3, 0, &[("z", Op::Or, Some("x"), "y")]);
     compare_steps(&rt, &netlist, &plan, 3, 1, &[("z", Op::Or, None, "w")]);
     compare_steps(&rt, &netlist, &plan, 3, 2, &[("z", Op::Nor, None, "v")]);
     compare_copies(&rt, &netlist, &plan, 1, 2, &[]);
-    compare_copies(&rt, &netlist, &plan, 2, 1, &[("x", "p"), ("v", "r")]);
+    compare_copies(&rt, &netlist, &plan, 2, 0, &second);
     compare_copies(&rt, &netlist, &plan, 3, 3, &[]);
     Ok(())
 }
@@ -196,15 +201,55 @@ fn compare_builds<R: Abort + Threads + Wait + Sync>(
     Ok(())
 }
 
-// The numbers of nodes are those of a program that counts subtables.
+// The numbers of nodes are those of a program that counts subtables, of which one and its complement are one.
 #[test]
 fn built_netlists(rt: HostRuntime) -> Result<(), Fail> {
     let first = read(&rt, rt.alloc(), C17);
     let second = read(&rt, rt.alloc(), C17B);
     for workers in [1_u32, 2, 3, 16] {
         let workers = workers.clamp(1, 16);
-        compare_builds(&rt, rt.alloc(), &first, &first, 20, true, workers)?;
-        compare_builds(&rt, rt.alloc(), &first, &second, 23, false, workers)?;
+        compare_builds(&rt, rt.alloc(), &first, &first, 13, true, workers)?;
+        compare_builds(&rt, rt.alloc(), &first, &second, 15, false, workers)?;
+    }
+    Ok(())
+}
+
+/// Gates of one operand, by twos: a gate and one whose value is the complement.
+static COPIES: &str =
+    "INPUT(a)\nOUTPUT(a)\nb = NOT(a)\nc = BUFF(b)\nd = NAND(b)\ne = AND(d)\nf = NOR(e)\ng = OR(f)\nh = XNOR(g)\ni = XOR(h)\nj = NOT(i)\n";
+
+// A gate of one operand has its operand's diagram, or that with a mark: no node is made for any of them.
+#[test]
+fn copies_with_marks(rt: HostRuntime) -> Result<(), Fail> {
+    let alloc = rt.alloc();
+    let netlist = read(&rt, alloc, COPIES);
+    let pairing = pair(
+        alloc,
+        &netlist,
+        &netlist,
+        None,
+        Match::Name,
+        &Order::Declared,
+    )?;
+    let mut store = Store::new(alloc, pairing.names().len() as u16, 1)?;
+    let built = build(
+        &rt, alloc, &mut store, &netlist, &netlist, None, &pairing, 2, &Free,
+    )?;
+    assert_eq!(rt; store.count(), 1);
+    let (a, _) = diagrams(&rt, &store, &netlist, &netlist, &pairing, &built, "a");
+    for (name, mark) in [
+        ("b", true),
+        ("c", true),
+        ("d", false),
+        ("e", false),
+        ("f", true),
+        ("g", true),
+        ("h", false),
+        ("i", false),
+        ("j", true),
+    ] {
+        let both = diagrams(&rt, &store, &netlist, &netlist, &pairing, &built, name);
+        assert_eq!(rt; both, (a.marked(mark), a.marked(mark)), "{name}");
     }
     Ok(())
 }

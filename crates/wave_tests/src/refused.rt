@@ -69,7 +69,7 @@ fn limit_then_old(rt: HostRuntime) -> Result<(), Fail> {
 }
 
 /// The assignments of three variables.
-const ASSIGNMENTS: [[bool; 3]; 8] = [
+pub(crate) const ASSIGNMENTS: [[bool; 3]; 8] = [
     [false, false, false],
     [false, false, true],
     [false, true, false],
@@ -148,14 +148,14 @@ fn refused_expansion(rt: HostRuntime) -> Result<(), Fail> {
     let known = start(&rt, rt.alloc(), &mut store);
     let roots = [
         request(&rt, &store, known.as_slice(), (Op::And, A, C)),
-        request(&rt, &store, known.as_slice(), (Op::Nand, D, D)),
+        request(&rt, &store, known.as_slice(), (Op::And, C, D)),
     ];
     let expanded = expand_all(&rt, rt.alloc(), &store, &roots, 2, &Free)?;
     let records = expanded.records();
     assert_eq!(rt; records.levels(), 4);
     let [first, last] = roots;
     assert!(rt; is_of(records.level(0), first));
-    assert!(rt; is_of(records.level(3), last));
+    assert!(rt; is_of(records.level(2), last));
     Ok(())
 }
 

@@ -196,7 +196,7 @@ pub(crate) fn request<R: Abort>(rt: &R, store: &Store, known: &[Ref], step: Step
     let f = known_at(rt, store, known, first);
     let g = known_at(rt, store, known, second);
     assert!(rt; short(op, f, g).is_none());
-    normal(op, f, g)
+    normal(op, f, g).0
 }
 
 /// The records of all that the roots ask for, by a core of two workers.
@@ -282,7 +282,6 @@ fn wave_entries(rt: HostRuntime) -> Result<(), Fail> {
     Ok(())
 }
 
-// Each operation on two variables. They share the complement of b, so nine nodes are just enough.
 // Each reference is taken together with b, by one wave.
 #[test]
 fn conjoined(rt: HostRuntime) -> Result<(), Fail> {
@@ -305,6 +304,7 @@ fn conjoined(rt: HostRuntime) -> Result<(), Fail> {
     Ok(())
 }
 
+// Each operation on two variables. A function and its complement share their node, so five are just enough.
 #[test]
 fn limit_of_a_wave(rt: HostRuntime) -> Result<(), Fail> {
     let steps = [
@@ -315,7 +315,7 @@ fn limit_of_a_wave(rt: HostRuntime) -> Result<(), Fail> {
         (Op::Nor, A, B),
         (Op::Xnor, A, B),
     ];
-    for (limit, fits) in [(9, true), (8, false), (3, false), (2, false)] {
+    for (limit, fits) in [(5, true), (4, false), (3, false), (2, false)] {
         for way in WAYS {
             let mut store = Store::new(rt.alloc(), 2, limit)?;
             let mut known = start(&rt, rt.alloc(), &mut store);
@@ -323,17 +323,12 @@ fn limit_of_a_wave(rt: HostRuntime) -> Result<(), Fail> {
             let answer = run(&rt, rt.alloc(), &mut store, &mut known, &steps, 2, way);
             if fits {
                 assert!(rt; answer.is_ok());
-                let not_b = node(&rt, &store, 1, Ref::TRUE, Ref::FALSE);
-                let wanted = [
-                    node(&rt, &store, 0, Ref::FALSE, b),
-                    node(&rt, &store, 0, b, Ref::TRUE),
-                    node(&rt, &store, 0, b, not_b),
-                    node(&rt, &store, 0, Ref::TRUE, not_b),
-                    node(&rt, &store, 0, not_b, Ref::FALSE),
-                    node(&rt, &store, 0, not_b, b),
-                ];
+                let and = node(&rt, &store, 0, Ref::FALSE, b);
+                let or = node(&rt, &store, 0, b, Ref::TRUE);
+                let xor = node(&rt, &store, 0, b, b.negate());
+                let wanted = [and, or, xor, and.negate(), or.negate(), xor.negate()];
                 assert_eq!(rt; known.get(6 - 2..), Some(wanted.as_slice()));
-                assert_eq!(rt; store.count(), 9);
+                assert_eq!(rt; store.count(), 5);
             } else {
                 assert!(rt; answer == Err(WaveFault::Full));
                 assert!(rt; store.count() <= limit);
@@ -345,7 +340,7 @@ fn limit_of_a_wave(rt: HostRuntime) -> Result<(), Fail> {
     Ok(())
 }
 
-// On a full store a wave is Ok as long as no node is missing, also where there are requests.
+// On a full store a wave is Ok as long as no node is missing, also where there are requests. A complement misses none.
 #[test]
 fn full_store(rt: HostRuntime) -> Result<(), Fail> {
     let mut store = Store::new(rt.alloc(), 2, 3)?;
@@ -355,7 +350,9 @@ fn full_store(rt: HostRuntime) -> Result<(), Fail> {
         ((Op::Or, A, ONE), true),
         ((Op::And, B, A), true),
         ((Op::Or, A, B), false),
-        ((Op::Nand, A, A), false),
+        ((Op::Nand, A, B), true),
+        ((Op::Nand, A, A), true),
+        ((Op::Xor, A, B), false),
     ] {
         let answer = run(
             &rt,
@@ -369,14 +366,11 @@ fn full_store(rt: HostRuntime) -> Result<(), Fail> {
         assert!(rt; answer.is_ok() == fits);
         assert_eq!(rt; store.count(), 3);
     }
-    let both = node(
-        &rt,
-        &store,
-        0,
-        Ref::FALSE,
-        known_at(&rt, &store, known.as_slice(), B),
-    );
-    assert_eq!(rt; known.get(4..), Some([both, Ref::TRUE, both].as_slice()));
+    let a = known_at(&rt, &store, known.as_slice(), A);
+    let b = known_at(&rt, &store, known.as_slice(), B);
+    let both = node(&rt, &store, 0, Ref::FALSE, b);
+    let wanted = [both, Ref::TRUE, both, both.negate(), a.negate()];
+    assert_eq!(rt; known.get(4..), Some(wanted.as_slice()));
     Ok(())
 }
 
@@ -405,7 +399,7 @@ fn second_wave(rt: HostRuntime) -> Result<(), Fail> {
     Ok(())
 }
 
-// The records of a driven core, reduced: at the first and at the last level a node, and six nodes are just enough.
+// The records of a driven core, reduced: at the first and at the third level a node, and six nodes are just enough.
 #[test]
 fn core_reduced(rt: HostRuntime) -> Result<(), Fail> {
     let alloc = rt.alloc();
@@ -417,9 +411,10 @@ fn core_reduced(rt: HostRuntime) -> Result<(), Fail> {
             let mut store = Store::new(alloc, 4, limit)?;
             let known = start(&rt, alloc, &mut store);
             let c = known_at(&rt, &store, known.as_slice(), C);
+            let d = known_at(&rt, &store, known.as_slice(), D);
             let roots = [
                 request(&rt, &store, known.as_slice(), (Op::And, A, C)),
-                request(&rt, &store, known.as_slice(), (Op::Nand, D, D)),
+                request(&rt, &store, known.as_slice(), (Op::And, C, D)),
             ];
             let records = closure_of(&rt, alloc, &store, &roots, choices);
             closures_are_records(&store, &roots, &records);
@@ -428,9 +423,9 @@ fn core_reduced(rt: HostRuntime) -> Result<(), Fail> {
                 Ok(results) => {
                     assert!(rt; fits);
                     let first = node(&rt, &store, 0, Ref::FALSE, c);
-                    let last = node(&rt, &store, 3, Ref::TRUE, Ref::FALSE);
+                    let last = node(&rt, &store, 2, Ref::FALSE, d);
                     assert_eq!(rt; only(&rt, &records, &results, 0, roots[0]), first);
-                    assert_eq!(rt; only(&rt, &records, &results, 3, roots[1]), last);
+                    assert_eq!(rt; only(&rt, &records, &results, 2, roots[1]), last);
                     assert_eq!(rt; store.count(), 6);
                 }
                 Err(fault) => {

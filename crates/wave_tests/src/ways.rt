@@ -19,7 +19,7 @@ fn of_two_variables(rt: HostRuntime) -> Result<(), Fail> {
     let g = ok(&rt, store.variable(1));
     let ways = two_ways(&rt, rt.alloc(), &mut store, f, g);
     assert!(rt; ways.is_ok_and(|ways| ways.0 == ways.1 && ways.0 != f && ways.0 != g));
-    assert_eq!(rt; store.count(), 5);
+    assert_eq!(rt; store.count(), 3);
     Ok(())
 }
 

@@ -2,23 +2,22 @@
 ghost use Rattle.std.specs.Prelude.{◌≡◌, ◌≤◌, ◌<◌, All};
 ghost use Rattle.req_table.specs.Keys.{IsKey};
 
-use crate::requests::{request, store_of};
+use crate::requests::{REACHED, five_roots, keys_of, request, store_of, store_of_six};
 use dd_store::Store;
-use req_table::{Item, Key, Op, Record};
-use std::alloc::Global;
+use req_table::{Item, Key, Op};
 use std::process::Abort;
 use std::test::Fail;
 use wave_core::{Core, CoreFault, Event};
 
-/// The roots of the walk: a conjunction of the variables of the levels 0 and 2, of worker 0 among two, and the complement
-/// of that of level 3, of worker 1.
+/// The roots of the walk: a conjunction of the variables of the levels 0 and 2, of worker 0 among two, and one of those of the levels 2
+/// and 3, of worker 1.
 fn roots_of(rt: &impl Abort, store: &Store) -> [Key; 2]
     requires { store.now.levels ≡ 4 }
     ensures { All (IsKey store.now) result }
 {
     [
         request(rt, store, Op::And, 0, 2),
-        request(rt, store, Op::Nand, 3, 3),
+        request(rt, store, Op::And, 2, 3),
     ]
 }
 
@@ -46,12 +45,12 @@ fn is_end(item: &Item, sender: u32, at: u16) -> bool {
     matches!(*item, Item::End { from, level } if from == sender && level == at)
 }
 
-/// Drives a core of the walk to its end: it has one record at the first level and one at the last.
+/// Drives a core of the walk to its end: it has one record at the first level and one at the third.
 fn finishes(rt: &impl Abort, mut core: Core) -> Result<(), Fail> {
     assert!(rt; core.drive(&[]).is_ok());
     let records = core.into_records()?;
     assert!(rt; records.levels() == 4);
-    for (level, wanted) in [(0, 1), (1, 0), (2, 0), (3, 1)] {
+    for (level, wanted) in [(0, 1), (1, 0), (2, 1), (3, 0)] {
         assert_eq!(rt; records.level(level).len(), wanted);
     }
     Ok(())
@@ -191,34 +190,11 @@ fn core_keeps_by_choice(rt: HostRuntime) -> Result<(), Fail> {
     Ok(())
 }
 
-/// The keys of the records of a level, as operations on the levels of their operands, in order.
-fn keys_of(alloc: Global, store: &Store, row: &[Record]) -> Result<Vec<(Op, u16, u16)>, Fail> {
-    let mut keys = Vec::new(alloc);
-    for record in row {
-        let key = record.key;
-        keys.push((key.op(), store.top(key.f()), store.top(key.g())))?;
-    }
-    keys.sort()?;
-    Ok(keys)
-}
-
 // A driven core records the same requests whatever is chosen, and by whatever number of workers.
 #[test]
 fn driven_cores(rt: HostRuntime) -> Result<(), Fail> {
-    let store = store_of(&rt, rt.alloc(), 4);
-    let roots = [
-        request(&rt, &store, Op::Xor, 0, 1),
-        request(&rt, &store, Op::And, 0, 2),
-        request(&rt, &store, Op::Nand, 1, 0),
-        request(&rt, &store, Op::Xor, 1, 0),
-        request(&rt, &store, Op::Nand, 3, 3),
-    ];
-    let wanted: [&[(Op, u16, u16)]; 4] = [
-        &[(Op::And, 0, 2), (Op::Xor, 0, 1), (Op::Nand, 0, 1)],
-        &[(Op::Xor, 4, 1), (Op::Nand, 4, 1)],
-        &[],
-        &[(Op::Nand, 3, 3)],
-    ];
+    let store = store_of_six(&rt, rt.alloc());
+    let roots = five_roots(&rt, &store);
     for workers in [1, 2, 3, 16] {
         assert!(rt; 0 < workers && workers <= 16);
         for choices in [[].as_slice(), [0, 1, 2].as_slice(), [255; 200].as_slice()] {
@@ -228,7 +204,7 @@ fn driven_cores(rt: HostRuntime) -> Result<(), Fail> {
             assert_eq!(rt; records.levels(), 4);
             for level in 0..4 {
                 let keys = keys_of(rt.alloc(), &store, records.level(level))?;
-                assert_eq!(rt; keys.as_slice(), wanted[level as usize]);
+                assert_eq!(rt; keys.as_slice(), REACHED[level as usize]);
             }
         }
     }

@@ -4,7 +4,7 @@ ghost use Rattle.reduce_up.specs.Waves.{IsEntry};
 ghost use Rattle.req_table.specs.Keys.{IsKey};
 
 use crate::meeting::{Meeting, TURNS, wait_for};
-use crate::requests::{request, store_of, variable};
+use crate::requests::{REACHED, five_roots, keys_of, request, store_of, store_of_six, variable};
 use dd_store::{Ref, Store, Watch};
 use expand_work::{Free, Gate, Parts, Spaces, expand_all, expand_parts};
 use lane_queue::Port;
@@ -89,14 +89,14 @@ fn merged_roots(rt: HostRuntime) -> Result<(), Fail> {
     Ok(())
 }
 
-/// The conjunction of the variables a and c, and the complement of d, which different workers of two own.
+/// The conjunctions of the variables a and c, and of c and d, which different workers of two own.
 fn two_roots(rt: &impl Abort, store: &Store) -> [Key; 2]
     requires { store.now.levels ≡ 4 }
     ensures { All (IsKey store.now) result }
 {
     [
         request(rt, store, Op::And, 0, 2),
-        request(rt, store, Op::Nand, 3, 3),
+        request(rt, store, Op::And, 2, 3),
     ]
 }
 
@@ -125,10 +125,10 @@ fn two_entries(rt: &impl Abort, store: &Store) -> [(Op, Ref, Ref); 2]
     requires { store.now.levels ≡ 4 }
     ensures { All (IsEntry store.now) result }
 {
-    let d = variable(rt, store, 3);
+    let c = variable(rt, store, 2);
     [
-        (Op::And, variable(rt, store, 0), variable(rt, store, 2)),
-        (Op::Nand, d, d),
+        (Op::And, variable(rt, store, 0), c),
+        (Op::And, c, variable(rt, store, 3)),
     ]
 }
 
@@ -152,8 +152,15 @@ fn two_at_a_level(rt: HostRuntime) -> Result<(), Fail> {
             variable(&rt, &store, 2)
         )
     );
-    assert!(rt; records.level(1).is_empty() && records.level(2).is_empty());
-    assert!(rt; is_record(records.level(3), roots[1], Ref::TRUE, Ref::FALSE));
+    assert!(rt; records.level(1).is_empty() && records.level(3).is_empty());
+    assert!(rt;
+        is_record(
+            records.level(2),
+            roots[1],
+            Ref::FALSE,
+            variable(&rt, &store, 3)
+        )
+    );
     assert!(rt; are_numbered(expanded.ports(), 2));
     assert_eq!(rt; put_by(expanded.ports()), 16);
     let gate = AtFirst(Meeting::of(2));
@@ -161,10 +168,10 @@ fn two_at_a_level(rt: HostRuntime) -> Result<(), Fail> {
     let mut memo = Memo::new(rt.alloc(), 2)?;
     let answers = wave(&rt, rt.alloc(), &mut store, &mut memo, &entries, 2, &gate)?;
     assert!(rt; gate.0.met());
-    let both = store.find(0, Ref::FALSE, entries[0].2);
-    let not_d = store.find(3, Ref::TRUE, Ref::FALSE);
-    assert!(rt; both.is_some() && both == answers.first().copied());
-    assert!(rt; not_d.is_some() && not_d == answers.last().copied());
+    let first = store.find(0, Ref::FALSE, entries[0].2);
+    let last = store.find(2, Ref::FALSE, entries[1].2);
+    assert!(rt; first.is_some() && first == answers.first().copied());
+    assert!(rt; last.is_some() && last == answers.last().copied());
     Ok(())
 }
 
@@ -298,46 +305,13 @@ fn bundles_of_each_length(rt: HostRuntime) -> Result<(), Fail> {
     Ok(())
 }
 
-/// The keys of the records of a level, as operations on the levels of their operands, in order.
-fn keys_of(alloc: Global, store: &Store, row: &[Record]) -> Result<Vec<(Op, u16, u16)>, Fail> {
-    let mut keys = Vec::new(alloc);
-    for record in row {
-        let key = record.key;
-        keys.push((key.op(), store.top(key.f()), store.top(key.g())))?;
-    }
-    keys.sort()?;
-    Ok(keys)
-}
-
-/// Five roots, two of which are one request, and two of which ask for a further one each.
-fn five_roots(rt: &impl Abort, store: &Store) -> [Key; 5]
-    requires { store.now.levels ≡ 4 }
-    ensures { All (IsKey store.now) result }
-{
-    [
-        request(rt, store, Op::Xor, 0, 1),
-        request(rt, store, Op::And, 0, 2),
-        request(rt, store, Op::Nand, 1, 0),
-        request(rt, store, Op::Xor, 1, 0),
-        request(rt, store, Op::Nand, 3, 3),
-    ]
-}
-
-/// The requests that they ask for, by level: the operation and the levels of the operands, where 4 is a terminal's.
-const REACHED: [&[(Op, u16, u16)]; 4] = [
-    &[(Op::And, 0, 2), (Op::Xor, 0, 1), (Op::Nand, 0, 1)],
-    &[(Op::Xor, 4, 1), (Op::Nand, 4, 1)],
-    &[],
-    &[(Op::Nand, 3, 3)],
-];
-
 // However the threads run, the records are the same, and the Ends are put, and a bundle for each two different workers
-// of whom one asks the other at a level: 2 of 2 and of 3 workers, and of 16 one for each of 5 roots and 2 children.
+// of whom one asks the other at a level: 3 of 2 workers, 5 of 3, and of 16 one for each of 5 roots and 2 children.
 #[test]
 fn any_schedule(rt: HostRuntime) -> Result<(), Fail> {
-    let store = store_of(&rt, rt.alloc(), 4);
+    let store = store_of_six(&rt, rt.alloc());
     let roots = five_roots(&rt, &store);
-    for (workers, runs, put) in [(1, 1, 4), (2, 10, 18), (3, 10, 38), (16, 200, 1031)] {
+    for (workers, runs, put) in [(1, 1, 4), (2, 10, 19), (3, 10, 41), (16, 200, 1031)] {
         for _ in 0..runs {
             let expanded = expand_all(&rt, rt.alloc(), &store, &roots, workers, &Free)?;
             assert_eq!(rt; expanded.records().levels(), 4);

@@ -83,12 +83,14 @@ fn of_sender(alloc: Global, loads: &Vec<Load>, sender: u32) -> Result<Vec<Item>,
     Ok(kept)
 }
 
-/// A variable of the store.
-fn variable(rt: &impl Abort, store: &mut Store, level: u16) -> Ref
-    requires { level < store.old.levels }
-    ensures { Has store.new result × (store.new.levels ≡ store.old.levels) }
+/// A store of two levels that has both variables.
+fn two_variables(rt: &impl Abort, alloc: Global) -> Result<Store, AllocError>
+    ensures { IfOk result (λ store. store.levels ≡ 2) }
 {
-    store.variable(level).expect(rt, "a variable is refused")
+    let mut store = Store::new(alloc, 2, 2)?;
+    store.variable(0).expect(rt, "a variable is refused");
+    store.variable(1).expect(rt, "a variable is refused");
+    Ok(store)
 }
 
 /// A variable that the store has.
@@ -108,7 +110,23 @@ fn request_for(rt: &impl Abort, store: &Store, op: Op, f: Ref, g: Ref) -> Key
     ensures { IsKeyOf (sizes_of store.now) result }
 {
     assert!(rt; short(op, f, g).is_none());
-    normal(op, f, g)
+    normal(op, f, g).0
+}
+
+/// The request for the conjunction of the two variables.
+fn conjunction(rt: &impl Abort, store: &Store) -> Key
+    requires { store.now.levels ≡ 2 }
+    ensures { IsKeyOf (sizes_of store.now) result }
+{
+    request_for(rt, store, Op::And, found(rt, store, 0), found(rt, store, 1))
+}
+
+/// The request for where the two variables differ.
+fn difference(rt: &impl Abort, store: &Store) -> Key
+    requires { store.now.levels ≡ 2 }
+    ensures { IsKeyOf (sizes_of store.now) result }
+{
+    request_for(rt, store, Op::Xor, found(rt, store, 0), found(rt, store, 1))
 }
 
 /// Lanes for so many workers, with their ports.
@@ -237,9 +255,8 @@ fn settle_both<R: Wait + Abort>(
 
 #[test]
 fn what_is_left_is_settled(rt: HostRuntime) -> Result<(), Fail> {
-    let mut store = Store::new(rt.alloc(), 1, 1)?;
-    let a = variable(&rt, &mut store, 0);
-    let key = request_for(&rt, &store, Op::Nand, a, a);
+    let store = two_variables(&rt, rt.alloc())?;
+    let key = conjunction(&rt, &store);
     let (lanes, mut ports) = open(rt.alloc(), &store, 2)?;
     let mut second = ports.pop().expect(&rt, "no second port");
     let mut first = ports.pop().expect(&rt, "no first port");
@@ -294,9 +311,8 @@ fn keep<R: Wait + Abort>(rt: &R, store: &Store, lanes: &Lanes, port: &mut Port, 
 // What a port keeps counts as sent and taken, and as no load, and nothing of it is on the lane.
 #[test]
 fn what_is_kept_is_on_no_lane(rt: HostRuntime) -> Result<(), Fail> {
-    let mut store = Store::new(rt.alloc(), 1, 1)?;
-    let a = variable(&rt, &mut store, 0);
-    let key = request_for(&rt, &store, Op::Nand, a, a);
+    let store = two_variables(&rt, rt.alloc())?;
+    let key = conjunction(&rt, &store);
     let (lanes, mut ports) = open(rt.alloc(), &store, 1)?;
     let mut port = ports.pop().expect(&rt, "no port");
     keep(&rt, &store, &lanes, &mut port, key);
@@ -325,9 +341,9 @@ fn send_in_turn<R: Wait + Abort>(
     requires odd { IsKeyOf (sizes_of store.now) odd }
     ensures { IsPortOf lanes.now result }
 {
-    for turn in 0..1000 {
-        let key = if turn % 2 == 0 { even } else { odd };
-        ask(rt, alloc, store, lanes, &mut port, 1, key);
+    for _ in 0..500 {
+        ask(rt, alloc, store, lanes, &mut port, 1, even);
+        ask(rt, alloc, store, lanes, &mut port, 1, odd);
     }
     end(rt, store, lanes, &mut port, 1);
     port
@@ -361,13 +377,9 @@ fn take_at_once<R: Wait + Abort>(rt: &R, lanes: &Lanes, port: &mut Port, count: 
 // Where nobody else steps on a lane, None comes only once it is empty.
 #[test]
 fn what_waits_is_taken_at_once(rt: HostRuntime) -> Result<(), Fail> {
-    let mut store = Store::new(rt.alloc(), 2, 2)?;
-    variable(&rt, &mut store, 0);
-    variable(&rt, &mut store, 1);
-    let a = found(&rt, &store, 0);
-    let b = found(&rt, &store, 1);
-    let even = request_for(&rt, &store, Op::And, a, b);
-    let odd = request_for(&rt, &store, Op::Xor, a, b);
+    let store = two_variables(&rt, rt.alloc())?;
+    let even = conjunction(&rt, &store);
+    let odd = difference(&rt, &store);
     let (lanes, mut ports) = open(rt.alloc(), &store, 2)?;
     let mut second = ports.pop().expect(&rt, "no second port");
     let first = ports.pop().expect(&rt, "no first port");
@@ -415,13 +427,9 @@ fn hand_over<R: Threads + Wait + Abort + Sync>(
 
 #[test]
 fn two_threads_keep_the_order(rt: HostRuntime) -> Result<(), Fail> {
-    let mut store = Store::new(rt.alloc(), 2, 2)?;
-    variable(&rt, &mut store, 0);
-    variable(&rt, &mut store, 1);
-    let a = found(&rt, &store, 0);
-    let b = found(&rt, &store, 1);
-    let even = request_for(&rt, &store, Op::And, a, b);
-    let odd = request_for(&rt, &store, Op::Xor, a, b);
+    let store = two_variables(&rt, rt.alloc())?;
+    let even = conjunction(&rt, &store);
+    let odd = difference(&rt, &store);
     let (lanes, mut ports) = open(rt.alloc(), &store, 2)?;
     let second = ports.pop().expect(&rt, "no second port");
     let first = ports.pop().expect(&rt, "no first port");
@@ -541,9 +549,8 @@ fn come_in_order(rt: &impl Abort, alloc: Global, items: &Vec<Load>, from: u32, k
 
 #[test]
 fn sixteen_ports_send_to_all(rt: HostRuntime) -> Result<(), Fail> {
-    let mut store = Store::new(rt.alloc(), 1, 1)?;
-    let a = variable(&rt, &mut store, 0);
-    let key = request_for(&rt, &store, Op::Nand, a, a);
+    let store = two_variables(&rt, rt.alloc())?;
+    let key = conjunction(&rt, &store);
     let (lanes, ports) = open(rt.alloc(), &store, 16)?;
     let ports = send_to_all(&rt, rt.alloc(), &store, &lanes, ports, key);
     let ports = take_from_all(&rt, rt.alloc(), &lanes, ports, key);

@@ -49,11 +49,11 @@ impl<'a> Gate for Watcher<'a> {
     }
 }
 
-/// What a child says, to be compared: its answer, or its level and owner.
-fn tell(child: Placed) -> Result<Ref, (u16, u32)> {
+/// What a child says, to be compared: its answer, or its level and owner, and whether it is the complement of what is asked for.
+fn tell(child: Placed) -> Result<Ref, (u16, u32, bool)> {
     match child.view() {
         PlacedChild::Done(answer) => Ok(answer),
-        PlacedChild::Ask { level, place } => Err((level, place)),
+        PlacedChild::Ask { level, place, mark } => Err((level, place, mark)),
     }
 }
 
@@ -97,7 +97,7 @@ fn conjunction(rt: &impl Abort, store: &Store, f: Ref, g: Ref) -> Key
     ensures { IsKey store.now result }
 {
     assert!(rt; short(Op::And, f, g).is_none());
-    normal(Op::And, f, g)
+    normal(Op::And, f, g).0
 }
 
 /// A store of the variables a, b, c at the levels 0, 1, 2 and the functions `a or b` and `a or c`.
@@ -157,8 +157,8 @@ fn is_row(
     keys: &[Key],
     row: &[(Placed, Placed)],
     key: Key,
-    low: Result<Ref, (u16, u32)>,
-    high: Result<Ref, (u16, u32)>,
+    low: Result<Ref, (u16, u32, bool)>,
+    high: Result<Ref, (u16, u32, bool)>,
 ) -> bool {
     keys.len() == 1
         && keys[0] == key
@@ -185,7 +185,7 @@ fn one_worker_records_what_it_is_asked_for(rt: HostRuntime) -> Result<(), Fail> 
             tables.keys(0),
             rows.row(0),
             root,
-            Err((1, 0)),
+            Err((1, 0, false)),
             Ok(Ref::TRUE)
         )
     );

@@ -1,5 +1,5 @@
 //! One file on standard input, as a whole; and the version.
-use super::devices::{Shelf, Tape, new_page, start, tape_of};
+use super::devices::{Later, Shelf, Tape, new_page, start, tape_of};
 use super::netlists::{C17, C17B};
 use super::reports::{ALL_EQUAL, words_of};
 use check_tool::tool::run_tool;
@@ -57,6 +57,7 @@ fn dashes_and_the_version(rt: HostRuntime) -> Result<(), Fail> {
             first: tape_of(C17),
             second: tape_of(C17B),
             list: tape_of(""),
+            later: Later::Stays,
             asked: Vec::new(rt.alloc()),
         };
         let mut out = new_page(rt.alloc(), 1_000, false);

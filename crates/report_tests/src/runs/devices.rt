@@ -124,13 +124,34 @@ impl Sink for Page {
     }
 }
 
+/// What becomes of the files of a folder once they were opened.
+#[derive(Clone, Copy, Drop, PartialEq, Eq)]
+pub enum Later {
+    Stays,
+    /// Each file is opened once, and then gone.
+    Gone,
+    /// No file is a plain one.
+    NoFile,
+}
+
 /// A folder with the files `first`, `second` and `list`, which notes the paths that it is asked for.
 #[derive(Drop)]
 pub struct Shelf {
     pub first: Tape,
     pub second: Tape,
     pub list: Tape,
+    pub later: Later,
     pub asked: Vec<u8>,
+}
+
+impl Shelf {
+    /// Whether a path was asked for before.
+    fn was_asked(&self, path: &str) -> bool {
+        self.asked
+            .as_slice()
+            .split(|byte| *byte == b' ')
+            .any(|asked| asked == path.as_bytes())
+    }
 }
 
 impl Folder for Shelf {
@@ -141,10 +162,14 @@ impl Folder for Shelf {
     ghost told = { λ _ _. None };
 
     fn open(&mut self, path: &str) -> Result<Reader, OpenFault> {
+        let gone = self.later == Later::Gone && self.was_asked(path);
         let noted = self.asked.extend_from_slice(path.as_bytes()).is_ok()
             && self.asked.push(b' ').is_ok();
         if !noted {
             return Err(OpenFault::OutOfMemory);
+        }
+        if gone {
+            return Err(OpenFault::Refused(Obstacle::Missing));
         }
         match path {
             "first" => Ok(start(self.first)),
@@ -153,5 +178,9 @@ impl Folder for Shelf {
             "forbidden" => Err(OpenFault::OutOfMemory),
             _ => Err(OpenFault::Refused(Obstacle::Missing)),
         }
+    }
+
+    fn is_plain(&self, _path: &str) -> bool {
+        self.later != Later::NoFile
     }
 }

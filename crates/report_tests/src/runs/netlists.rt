@@ -35,6 +35,13 @@ pub static PAIRS: &str =
 pub static PAIRS13: &str =
     "INPUT(x1)\nINPUT(x2)\nINPUT(x3)\nINPUT(x4)\nINPUT(x5)\nINPUT(x6)\nINPUT(x7)\nINPUT(x8)\nINPUT(x9)\nINPUT(x10)\nINPUT(x11)\nINPUT(x12)\nINPUT(x13)\nINPUT(y1)\nINPUT(y2)\nINPUT(y3)\nINPUT(y4)\nINPUT(y5)\nINPUT(y6)\nINPUT(y7)\nINPUT(y8)\nINPUT(y9)\nINPUT(y10)\nINPUT(y11)\nINPUT(y12)\nINPUT(y13)\nOUTPUT(o)\na1 = AND(x1, y1)\na2 = AND(x2, y2)\na3 = AND(x3, y3)\na4 = AND(x4, y4)\na5 = AND(x5, y5)\na6 = AND(x6, y6)\na7 = AND(x7, y7)\na8 = AND(x8, y8)\na9 = AND(x9, y9)\na10 = AND(x10, y10)\na11 = AND(x11, y11)\na12 = AND(x12, y12)\na13 = AND(x13, y13)\no = OR(a1, a2, a3, a4, a5, a6, a7, a8, a9, a10, a11, a12, a13)\n";
 
+/// Needs fewer nodes by depth than interleaved or as declared, beside the next.
+pub static BY_DEPTH: &str =
+    "INPUT(a)\nINPUT(b)\nINPUT(c)\nINPUT(d)\nOUTPUT(o)\nm = XOR(c, a, d)\nn = OR(b, m)\no = NAND(b, m)\n";
+
+pub static BY_DEPTH_TOO: &str =
+    "INPUT(a)\nINPUT(b)\nINPUT(c)\nINPUT(d)\nOUTPUT(o)\nm = NOR(c, a, b)\nn = XOR(m, d, b)\no = NOR(a, c)\n";
+
 pub static LOOP: &str = "INPUT(c)\nOUTPUT(a)\na = AND(b, c)\nb = NOT(a)\n";
 
 pub static LOOP_AND_MORE: &str = "INPUT(c)\nOUTPUT(a)\na = AND(b, c)\nb = NOT(a)\nOUTPUT(z)\n";

@@ -1,5 +1,5 @@
 //! Reports as JSON.
-use super::devices::{Shelf, new_page, start, tape_of};
+use super::devices::{Later, Shelf, new_page, start, tape_of};
 use super::netlists::{C17, C17B, C17C};
 use super::reports::words_of;
 use check_tool::tool::run_tool;
@@ -25,7 +25,7 @@ fn rows() -> [Row; 4] {
             1,
             "{\"match\":\"name\",\"order\":\"depth\",\"variables\":[\"1\",\"3\",\"2\",\"6\",\"7\"],\"verdicts\":[\
 {\"verdict\":\"EQUAL\",\"of\":\"output\",\"name\":\"22\",\"size\":6},\
-{\"verdict\":\"DIFFER\",\"of\":\"output\",\"name\":\"23\",\"at\":{\"1\":0,\"3\":0,\"2\":0,\"6\":0,\"7\":1},\"first\":1,\"second\":0,\"sizes\":[6,5]}],\
+{\"verdict\":\"DIFFER\",\"of\":\"output\",\"name\":\"23\",\"at\":{\"1\":0,\"3\":0,\"2\":0,\"6\":0,\"7\":1},\"first\":1,\"second\":0,\"sizes\":[6,4]}],\
 \"equal\":1,\"different\":1,\"unmatched\":0}\n",
         ),
         (
@@ -55,6 +55,7 @@ fn reports_as_json(rt: HostRuntime) -> Result<(), Fail> {
             first: tape_of(C17),
             second: tape_of(second),
             list: tape_of(""),
+            later: Later::Stays,
             asked: Vec::new(rt.alloc()),
         };
         let mut out = new_page(rt.alloc(), 10_000, false);

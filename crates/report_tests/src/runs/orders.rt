@@ -1,5 +1,5 @@
 //! Orders that are printed, and taken again.
-use super::devices::{Shelf, new_page, tape_of};
+use super::devices::{Later, Shelf, new_page, tape_of};
 use super::netlists::{BUFFER, C17, C17B, PAIRS, WIRE};
 use super::reports::words_of;
 use check_tool::tool::run_tool;
@@ -26,6 +26,7 @@ fn run_of<R: Eprint + Clock + Threads + Wait + Sync>(
         first: tape_of(first),
         second: tape_of(second),
         list: tape_of(list),
+        later: Later::Stays,
         asked: Vec::new(alloc),
     };
     let mut out = new_page(alloc, 100_000, false);
@@ -108,20 +109,24 @@ fn printed_and_taken(rt: HostRuntime) -> Result<(), Fail> {
 static BY_INTERLEAVE: &str =
     "EQUAL 22\nDIFFER 23 at 3=0 6=0 2=0 7=1 1=0 first=1 second=0\n1 equal, 1 different, 0 unmatched\n";
 
+static REPORT_BY_DEPTH: &str =
+    "EQUAL 22\nDIFFER 23 at 1=0 3=0 2=0 6=0 7=1 first=1 second=0\n1 equal, 1 different, 0 unmatched\n";
+
 static AS_DECLARED: &str =
     "EQUAL 22\nDIFFER 23 at 1=0 2=0 3=0 6=0 7=1 first=1 second=0\n1 equal, 1 different, 0 unmatched\n";
 
-// Interleaved this pair needs 25 nodes, by depth 26, and as declared 23.
+// Interleaved this pair needs 20 nodes, by depth 19, and as declared 15.
 #[test]
 fn best_at_limits(rt: HostRuntime) -> Result<(), Fail> {
     for workers in [1, 2, 3, 16] {
         for (limit, report, status) in [
             (65_536, BY_INTERLEAVE, 1),
             (65_537, BY_INTERLEAVE, 1),
-            (25, BY_INTERLEAVE, 1),
-            (24, AS_DECLARED, 1),
-            (23, AS_DECLARED, 1),
-            (22, "", 3),
+            (20, BY_INTERLEAVE, 1),
+            (19, REPORT_BY_DEPTH, 1),
+            (18, AS_DECLARED, 1),
+            (15, AS_DECLARED, 1),
+            (14, "", 3),
         ] {
             let line = format!(in rt.alloc(); "--order best --workers {workers} --limit {limit}")?;
             let (got, out) = run_of(&rt, rt.alloc(), &line, C17, C17B, "")?;

@@ -1,5 +1,5 @@
 //! Runs over the arguments of a process, and over the files of its disk.
-use super::devices::{Shelf, new_page, start, tape_of};
+use super::devices::{Later, Shelf, new_page, start, tape_of};
 use super::netlists::{C17, C17B};
 use check_tool::folder::Disk;
 use check_tool::process::{NoWords, arguments, status_of};
@@ -74,6 +74,7 @@ fn arguments_of_a_process(rt: HostRuntime) -> Result<(), Fail> {
             first: tape_of(C17),
             second: tape_of(C17B),
             list: tape_of(""),
+            later: Later::Stays,
             asked: Vec::new(rt.alloc()),
         };
         let mut out = new_page(rt.alloc(), 1_000, false);

@@ -1,5 +1,5 @@
 //! What is refused: the line, the status, what was opened until then, and that nothing was written.
-use super::devices::{Page, Reader, Shelf, Tape, new_page, start, tape_of};
+use super::devices::{Later, Page, Reader, Shelf, Tape, new_page, start, tape_of};
 use super::netlists::{C17, C17_CUT, C17_OF_FOUR, LONG_NAME, LOOP, LOOP_AND_MORE, PAIRS};
 use super::reports::words_of;
 use check_tool::folder::Disk;
@@ -23,15 +23,15 @@ type Row = (
 
 /// What a run left behind.
 #[derive(Drop)]
-struct Left {
-    status: u8,
-    written: Vec<u8>,
-    said: Vec<u8>,
-    asked: Vec<u8>,
+pub struct Left {
+    pub status: u8,
+    pub written: Vec<u8>,
+    pub said: Vec<u8>,
+    pub asked: Vec<u8>,
 }
 
 /// A run of the words over a folder and an input, with an output of much room.
-fn left_by<R: AllocGlobal + Eprint + Clock + Threads + Wait + Sync>(
+pub fn left_by<R: AllocGlobal + Eprint + Clock + Threads + Wait + Sync>(
     rt: &R,
     line: &str,
     mut folder: Shelf,
@@ -57,11 +57,13 @@ fn left_by<R: AllocGlobal + Eprint + Clock + Threads + Wait + Sync>(
     })
 }
 
-fn shelf(alloc: Global, first: Tape, second: Tape, list: Tape) -> Shelf {
+/// A folder that stays as it is.
+pub fn shelf(alloc: Global, first: Tape, second: Tape, list: Tape) -> Shelf {
     Shelf {
         first,
         second,
         list,
+        later: Later::Stays,
         asked: Vec::new(alloc),
     }
 }
@@ -176,7 +178,7 @@ fn refused_texts() -> [Row; 20] {
             "order: line 3: not a signal name",
         ),
         (
-            "--limit 19 --workers 1",
+            "--limit 12 --workers 1",
             C17,
             C17,
             "",
@@ -184,7 +186,7 @@ fn refused_texts() -> [Row; 20] {
             "build: more nodes than the limit",
         ),
         (
-            "--limit 19 --workers 2",
+            "--limit 12 --workers 2",
             C17,
             C17,
             "",
@@ -192,7 +194,7 @@ fn refused_texts() -> [Row; 20] {
             "build: more nodes than the limit",
         ),
         (
-            "--limit 19 --workers 3",
+            "--limit 12 --workers 3",
             C17,
             C17,
             "",
@@ -200,7 +202,7 @@ fn refused_texts() -> [Row; 20] {
             "build: more nodes than the limit",
         ),
         (
-            "--limit 19 --workers 16",
+            "--limit 12 --workers 16",
             C17,
             C17,
             "",
@@ -564,7 +566,7 @@ fn outputs_that_fail(rt: HostRuntime) -> Result<(), Fail> {
         ("first second", 0),
         ("first", 2),
         ("--limit x", 2),
-        ("--limit 19 first second", 3),
+        ("--limit 12 first second", 3),
     ] {
         let mut out = new_page(rt.alloc(), 1_000, false);
         let mut errors = new_page(rt.alloc(), 0, true);

@@ -1,4 +1,4 @@
-use Rattle.std.proofs.Common.{rules, ◌≡◌, None, subst, sym}
+use Rattle.std.proofs.Common.{rules, ◌≡◌, Bool, None, subst, sym}
 use Rattle.dd_store.specs.View.{Has}
 use Rattle.req_table.specs.declared.Key.{Key}
 use Rattle.req_table.specs.Short.{short_of}
@@ -12,4 +12,4 @@ pub returns : goal.returns
 returns g c =
     let long : short_of c.args.op c.args.f c.args.g ≡ None = search rules in
     let is : c.normal.result ≡ normal_of c.args.op c.args.f c.args.g = search rules in
-    subst (λ k. IsKeyOf (sizes_of c.args.store.now) k) (sym is) (sizes_of_key c.args.store.now _ (is_key c.args.store.now c.args.op c.args.f c.args.g c.requires.first c.requires.second long))
+    subst (λ (n : Key × Bool). IsKeyOf (sizes_of c.args.store.now) n.0) (sym is) (sizes_of_key c.args.store.now _ (is_key c.args.store.now c.args.op c.args.f c.args.g c.requires.first c.requires.second long))

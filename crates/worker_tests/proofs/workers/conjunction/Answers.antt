@@ -1,4 +1,5 @@
-use Rattle.std.proofs.Common.{rules, ◌≡◌, None, sym, subst}
+use Rattle.std.proofs.Common.{rules, ◌≡◌, Bool, None, sym, subst}
+use Rattle.req_table.specs.declared.Key.{Key}
 use Rattle.req_table.specs.declared.Op.TheVariants.{And}
 use Rattle.req_table.specs.Keys.{IsKey, normal_of}
 use Rattle.req_table.specs.Short.{short_of}
@@ -9,4 +10,4 @@ pub returns : goal.returns
 returns g c =
     let long : short_of And c.args.f c.args.g ≡ None = search rules in
     let key : c.normal.result ≡ normal_of And c.args.f c.args.g = search rules in
-    subst (IsKey c.args.store.now) (sym key) (is_key c.args.store.now And c.args.f c.args.g c.requires.first c.requires.second long)
+    subst (λ (n : Key × Bool). IsKey c.args.store.now n.0) (sym key) (is_key c.args.store.now And c.args.f c.args.g c.requires.first c.requires.second long)
