@@ -46,14 +46,20 @@ class Devices:
     def progress(self):
         """What --verbose tells while the diagrams are built: lines on standard error alone, no more than one a second."""
         one, chain = self.file("one", products(21)), self.file("chain", products(21, "chain"))
-        silent = self.run("--sizes", one, chain)
+        silent = self.run("--sizes", one, chain, seconds=240)
         begun = time.monotonic()
-        seen = self.run("--sizes", "--verbose", one, chain)
+        seen = self.run("--sizes", "--verbose", one, chain, seconds=240)
         seconds = time.monotonic() - begun
         told = seen.err.decode().splitlines()
         is_told = all(re.fullmatch(r"bddcheck: rank \d+ of \d+, \d+ nodes", line) for line in told)
         self.check("a long run, and what is told of it", Run(seen.status, seen.out, b""), silent)
-        self.tally.check("lines of progress", is_told and len(told) <= seconds and (told or seconds < 3), seen)
+        self.tally.check("lines of progress", is_told and len(told) <= seconds, seen)
+
+    def late_progress(self):
+        """The clock of the progress starts before the texts are read: a rank that begins over a second later is told."""
+        late = self.fifo("late", C17B, len(C17B), wait=1.2)
+        told = lines("bddcheck: rank 1 of 3, 5 nodes")
+        self.check("a rank behind a late text", self.run("--verbose", self.c17, late), Run(1, C17_DIFFERS, told))
 
     def full_disk(self):
         for words in (["--sizes"], ["--workers", 1], ["--format", "json"]):
@@ -210,13 +216,14 @@ class Devices:
         told = lines("bddcheck: first: cannot be opened", f"bddcheck: {secret}: permission denied")
         self.check("no permission, and what stands in the way", run(words, **more), Run(2, b"", told))
 
-    def fifo(self, name, text, bytes_at_once):
-        """The path of a fifo that gives so many bytes at each read."""
+    def fifo(self, name, text, bytes_at_once, wait=0):
+        """The path of a fifo that gives so many bytes at each read, the first of them so many seconds after it is opened."""
         path = self.place / name
         os.mkfifo(path)
 
         def give():
             with open(path, "wb", buffering=0) as out:
+                time.sleep(wait)
                 for at in range(0, len(text), bytes_at_once):
                     out.write(text[at : at + bytes_at_once])
 
@@ -229,6 +236,11 @@ class Devices:
             order = self.fifo(f"o{count}", b"1 2 3 6 7", count)
             seen = self.run("--order-file", order, first, second)
             self.check(f"fifos of {count} bytes a read", seen, Run(1, C17_DIFFERS, b""))
+        refused_fifo = self.fifo("refused", b"a = FOO(b)\n", 1)
+        seen = self.run("--verbose", refused_fifo, self.c17)
+        remedy = "abc writes no LUT lines by write_bench -l; for vdd and gnd see docs/FLOWS.md"
+        told = lines("bddcheck: first: line 1: unknown gate", f"bddcheck: {refused_fifo}:1: {remedy}")
+        self.check("a refused fifo is read once", seen, Run(2, b"", told))
         child = subprocess.Popen([self.program], stdin=subprocess.PIPE, stdout=subprocess.PIPE, stderr=subprocess.PIPE, bufsize=0)
         for byte in C17 + b"%%\r\n" + C17:
             child.stdin.write(bytes([byte]))
@@ -272,6 +284,7 @@ def main():
     with kit.folder() as place:
         devices = Devices(sys.argv[1], place, tally)
         devices.progress()
+        devices.late_progress()
         devices.full_disk()
         devices.closed_output()
         devices.closed_errors()

@@ -27,9 +27,9 @@ def adders_equal(seen):
     return seen.status == 0 and seen.out.count(b"EQUAL ") == 9 and seen.out.endswith(b"9 equal, 0 different, 0 unmatched\n")
 
 
-def twenty_four(seen):
+def twenty_three(seen):
     sizes = [int(size) for size in re.findall(rb" size (\d+)\n", seen.out)]
-    return seen.status == 0 and len(sizes) == 9 and max(sizes) == 24
+    return seen.status == 0 and len(sizes) == 9 and max(sizes) == 23
 
 
 def eight_and_fifty_six(seen):
@@ -72,7 +72,7 @@ def register_alone(seen):
 
 SEEN = {
     "examples/adder8_ripple.bench examples/adder8_lookahead.bench": adders_equal,
-    "--sizes --order depth examples/adder8_ripple.bench examples/adder8_lookahead.bench": twenty_four,
+    "--sizes --order depth examples/adder8_ripple.bench examples/adder8_lookahead.bench": twenty_three,
     "examples/adder8_ripple.bench examples/adder8_wrong.bench": eight_and_fifty_six,
     "examples/c17.bench examples/c17b.bench": one_differs,
     "examples/c17.bench examples/c17c.bench": no_partner,

@@ -17,7 +17,7 @@ FEATURES = {
     "registers": True,  # registers are compared
     "given": True,  # --given FILE
     "interleave": True,  # --order interleave
-    "marks": False,  # a function and its complement share their nodes, which --sizes and --limit count
+    "marks": True,  # a function and its complement share their nodes, which --sizes and --limit count
 }
 
 

@@ -153,7 +153,7 @@ def cited():
             known = imports(module.text)
             for name, texts in functions(module):
                 for word in set(re.findall(WORD, " ".join(texts))) & known.keys():
-                    definition, file = known[word]
+                    definition, file = origin(*known[word])
                     found.setdefault((home(file, definition), file), set()).add(f"{crate}::{name}")
     return found
 
@@ -178,6 +178,16 @@ def text_of(file):
 
 def defines(file, name):
     return re.search(rf"^(\w+ )*pub (\w+ )*{re.escape(name)}(?![\w'-])", text_of(file), re.M)
+
+
+def origin(name, file):
+    """The name with the file that defines it, where `file` only hands it on by `pub use`."""
+    for path, names in re.findall(r"^pub use Rattle\.([\w.]+?)\.(\{[^}]*\})", text_of(file), re.M):
+        crate, *rest = path.split(".")
+        for there, alias in names_in(names):
+            if alias == name and rest[:1] == ["specs"] and "declared" not in rest and not defines(file, name):
+                return origin(there, f"{crate}/specs/{'/'.join(rest[1:])}.antt")
+    return name, file
 
 
 def home(file, name):
