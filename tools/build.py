@@ -1,19 +1,18 @@
 #!/usr/bin/env python3
-"""Proves and builds the program, crates side by side. tools/bddcheck.sh calls it.
+"""Proves and builds the program, crate after crate. tools/bddcheck.sh calls it.
 
 usage: tools/build.py [--jobs N]
 
-Each crate that the program stands on is begun as soon as those below it are proved, the one with the longest way to the
-program first, N jobs at a time: by default as many as there are processors, and 3 GB of free memory for each. Where fewer
-crates can be begun than there are jobs, as near the end, a crate gets several, by which it is checked faster. (`rt run` in the
-program's folder does the same one crate after the other; `rt all check --jobs N` proves the crates of tests as well.)
-Standard error tells how many are done, which are worked on, and the time so far. What an earlier call has proved is kept. A
+Each crate that the program stands on is proved behind those below it, by N jobs: as many as there are processors, and 3 GB of
+free memory for each. Two crates are never proved at once: `rt` keeps the crates below the one that it checks to itself, and
+nearly all stand on the same ones. (`rt run` in the program's folder does the same without a word on the way; `rt all check
+--jobs N`, which proves a crate by one job and several at once, takes longer, since most crates stand in one chain.)
+Standard error tells how many are done, which is worked on, and the time so far. What an earlier call has proved is kept. A
 second call waits for the first, and takes what that has built.
 
 Status 0: built. 4: not built, since `rt` is missing or a crate was not proved; the reason is on standard error.
 """
 import argparse
-import concurrent.futures
 import fcntl
 import os
 import pathlib
@@ -51,18 +50,18 @@ def below():
     return needed
 
 
-def ways(needed):
-    """The length of the longest way from each crate up to the program, in bytes of source: what is long is begun first."""
-    above = {crate: [other for other in needed if crate in needed[other]] for crate in needed}
-    sizes = {crate: sum(f.stat().st_size for f in (TOP / "crates" / crate).glob("[!o]*/**/*.*")) for crate in needed}
-    known = {}
+def in_order(needed):
+    """The crates, each behind those below it."""
+    order = []
 
-    def way(crate):
-        if crate not in known:
-            known[crate] = sizes[crate] + max(map(way, above[crate]), default=0)
-        return known[crate]
+    def add(crate):
+        for library in needed[crate]:
+            add(library)
+        if crate not in order:
+            order.append(crate)
 
-    return {crate: way(crate) for crate in needed}
+    add(PROGRAM)
+    return order
 
 
 def free_memory():
@@ -86,30 +85,15 @@ def build(crate, jobs):
 
 
 def build_all(jobs):
-    """Whether all crates were proved. A crate that is begun gets its share of the jobs that are free."""
-    needed = below()
-    order = sorted(needed, key=ways(needed).get, reverse=True)
-    done, running, free = set(), {}, jobs
-    with concurrent.futures.ThreadPoolExecutor(jobs) as pool:
-        while len(done) < len(needed):
-            begun = {crate for crate, _ in running.values()}
-            ready = [crate for crate in order if crate not in done | begun and done.issuperset(needed[crate])]
-            while ready and free:
-                share = -(-free // len(ready))
-                crate = ready.pop(0)
-                running[pool.submit(build, crate, share)] = crate, share
-                free -= share
-            say(f"{len(done)} of {len(needed)} crates proved; now {', '.join(crate for crate, _ in running.values())}")
-            ended, _ = concurrent.futures.wait(running, return_when=concurrent.futures.FIRST_COMPLETED)
-            for task in ended:
-                crate, share = running.pop(task)
-                free += share
-                is_proved, told = task.result()
-                if not is_proved:
-                    say(f"{crate} was not proved:\n{told}")
-                    return False
-                done.add(crate)
-    say(f"{len(done)} of {len(needed)} crates proved; {PROGRAM} is built")
+    """Whether all crates were proved, each by so many jobs."""
+    order = in_order(below())
+    for done, crate in enumerate(order):
+        say(f"{done} of {len(order)} crates proved; now {crate}")
+        is_proved, told = build(crate, jobs)
+        if not is_proved:
+            say(f"{crate} was not proved:\n{told}")
+            return False
+    say(f"{len(order)} of {len(order)} crates proved; {PROGRAM} is built")
     return True
 
 
@@ -136,7 +120,7 @@ def main():
         if alone(lock):
             return 0
         jobs = settings.jobs or jobs_here()
-        say(f"proving and building the program, {jobs} crates at a time: minutes from nothing, and later only what changed")
+        say(f"proving and building the program, each crate by {jobs} jobs: minutes from nothing, and later only what changed")
         if not build_all(jobs):
             return NOT_BUILT
         # So it is newer than each source, also where nothing had to be built.
