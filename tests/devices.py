@@ -51,15 +51,17 @@ class Devices:
         seen = self.run("--sizes", "--verbose", one, chain, seconds=240)
         seconds = time.monotonic() - begun
         told = seen.err.decode().splitlines()
-        is_told = all(re.fullmatch(r"bddcheck: rank \d+ of \d+, \d+ nodes", line) for line in told)
+        is_told = all(re.fullmatch(r"bddcheck: rank \d+ of \d+, \d+ nodes, \d+ requests, \d+ MB", line) for line in told)
         self.check("a long run, and what is told of it", Run(seen.status, seen.out, b""), silent)
         self.tally.check("lines of progress", is_told and len(told) <= seconds, seen)
 
     def late_progress(self):
         """The clock of the progress starts before the texts are read: a rank that begins over a second later is told."""
         late = self.fifo("late", C17B, len(C17B), wait=1.2)
-        told = lines("bddcheck: rank 1 of 3, 5 nodes")
-        self.check("a rank behind a late text", self.run("--verbose", self.c17, late), Run(1, C17_DIFFERS, told))
+        seen = self.run("--verbose", self.c17, late)
+        told = seen.err.decode()
+        self.check("a report behind a late text", Run(seen.status, seen.out, b""), Run(1, C17_DIFFERS, b""))
+        self.tally.check("a rank behind a late text", re.fullmatch(r"bddcheck: rank 1 of 3, 5 nodes, 0 requests, \d+ MB\n", told), seen)
 
     def full_disk(self):
         for words in (["--sizes"], ["--workers", 1], ["--format", "json"]):

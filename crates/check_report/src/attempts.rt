@@ -58,6 +58,10 @@ impl<'a, G: Gate> Gate for Bounded<'a, G> {
     fn at_rank(&self, rank: u32, ranks: u32, nodes: u64) {
         self.gate.at_rank(rank, ranks, nodes);
     }
+
+    fn at_requests(&self, requests: usize) {
+        self.gate.at_requests(requests);
+    }
 }
 
 /// Pairs two netlists in this order, and compares them within so many nodes.

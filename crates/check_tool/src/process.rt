@@ -5,6 +5,7 @@ ghost use Rattle.check_tool.specs.Opening.{HasFailedAt};
 
 use crate::fault::ToolFault;
 use crate::folder::Folder;
+use crate::progress::Meter;
 use crate::tool::{refuse, run_tool, say};
 use net_bench::device::{Sink, Source};
 use std::alloc::Global;
@@ -61,7 +62,7 @@ fn wordless<E: Sink>(alloc: Global, why: NoWords, errors: &mut E) -> u8
 
 /// The status of a run over the arguments and the devices of a process.
 pub fn status_of<
-    H: AllocGlobal + Eprint + Clock + Threads + Wait + Sync,
+    H: AllocGlobal + Eprint + Clock + Meter + Threads + Wait + Sync,
     F: Folder,
     R: Source,
     W: Sink,

@@ -16,7 +16,7 @@ ghost use Rattle.check_tool.specs.Running.{IsOpenFault, order_paths, given_paths
 use crate::done::Done;
 use crate::fault::{Place, ToolFault};
 use crate::folder::{Folder, OpenFault};
-use crate::progress::Progress;
+use crate::progress::{Meter, Progress};
 use crate::split::split_input;
 use check_report::{Choice, Settings, check, print_order};
 use command_line::{Options, OrderChoice, Texts};
@@ -108,7 +108,7 @@ fn prepare<F: Folder>(
 }
 
 /// Compares two texts, or prints the order of their variables. The condition's file is opened, and a file of the order read, before them.
-fn compare<H: Eprint + Clock + Threads + Wait + Sync, F: Folder, R1: Source, R2: Source, W: Sink>(
+fn compare<H: Eprint + Clock + Meter + Threads + Wait + Sync, F: Folder, R1: Source, R2: Source, W: Sink>(
     rt: &H,
     alloc: Global,
     options: &Options<'_>,
@@ -138,7 +138,7 @@ fn compare<H: Eprint + Clock + Threads + Wait + Sync, F: Folder, R1: Source, R2:
         sizes: options.sizes,
         json: options.json,
     };
-    let progress = Progress::new(rt, options.verbose);
+    let progress = Progress::new(rt, alloc, options.verbose);
     if options.print_order {
         return match print_order(
             rt, alloc, first, second, &mut given, &settings, &progress, out,
@@ -172,7 +172,7 @@ fn read_input<R: Source>(alloc: Global, input: &mut R) -> Result<Vec<u8>, ToolFa
 
 /// Compares what the options name: two files, a file and the input, or the two texts of the input. FIRST, SECOND, the condition's file
 /// and the order's are opened in this order; where the input is divided, the latter two are opened behind that.
-pub fn run_options<H: Eprint + Clock + Threads + Wait + Sync, F: Folder, R: Source, W: Sink>(
+pub fn run_options<H: Eprint + Clock + Meter + Threads + Wait + Sync, F: Folder, R: Source, W: Sink>(
     rt: &H,
     alloc: Global,
     options: &Options<'_>,

@@ -8,6 +8,7 @@ use crate::done::Done;
 use crate::fault::{ToolFault, line_of, status_of_fault};
 use crate::folder::Folder;
 use crate::help::{help_of, help_with};
+use crate::progress::Meter;
 use crate::quote::quote;
 use crate::run::run_options;
 use check_report::{Attempt, Outcome, write_whole};
@@ -181,7 +182,7 @@ fn status_of_done(done: Done) -> u8
 
 /// Runs the program on its words, and answers its status.
 #[tactic(auto, using(crate::proofs::Composing::keeps_own, crate::proofs::Composing::extends_none))]
-pub fn run_tool<H: Eprint + Clock + Threads + Wait + Sync, F: Folder, R: Source, W: Sink, E: Sink>(
+pub fn run_tool<H: Eprint + Clock + Meter + Threads + Wait + Sync, F: Folder, R: Source, W: Sink, E: Sink>(
     rt: &H,
     alloc: Global,
     words: &[String],

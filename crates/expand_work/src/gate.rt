@@ -25,6 +25,9 @@ pub trait Gate: Watch + Sync {
     /// Is told of each rank of a build before it is built: its number, from 1 on, how many ranks the build has, and how many nodes the
     /// store has so far.
     fn at_rank(&self, _rank: u32, _ranks: u32, _nodes: u64) {}
+
+    /// Is told how many requests of a level were expanded, by the caller's thread or by a worker.
+    fn at_requests(&self, _requests: usize) {}
 }
 
 /// Up to so many requests of a level the caller's thread was measured, and was as fast as any number of workers.

@@ -74,7 +74,9 @@ fn do_level<R: Wait, G: Gate>(
     let workers = site.lanes.count();
     let row = rows.take(site.alloc, level);
     next.clear();
-    let Ok((row, next)) = expand_row(site.store, tables.keys(level), workers, row, next) else {
+    let keys = tables.keys(level);
+    gate.at_requests(keys.len());
+    let Ok((row, next)) = expand_row(site.store, keys, workers, row, next) else {
         return Err(WorkFault::OutOfMemory);
     };
     rows.put(level, row);

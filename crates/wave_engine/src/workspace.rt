@@ -97,6 +97,18 @@ fn go_down(
     )
 }
 
+/// Tells the gate how many requests the caller's thread has expanded: those of the levels in front of one.
+fn tell_requests<G: Gate>(gate: &G, requests: &Requests, from: u16) {
+    let mut level = 0;
+    while let Some(next) = requests.next_level(level) {
+        if next >= from {
+            return;
+        }
+        gate.at_requests(requests.count(next));
+        level = next + 1;
+    }
+}
+
 /// The answers of the roots.
 fn root_answers(
     alloc: Global,
@@ -183,6 +195,7 @@ impl<'a, R: Threads + Wait + Sync, G: Gate> Workspace<'a, R, G> {
             Ok(from) => from,
             Err(fault) => return Err(fault),
         };
+        tell_requests(self.team.gate, &self.down.requests, from);
         hand_over(
             &self.team,
             &mut self.spaces,

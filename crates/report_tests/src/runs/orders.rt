@@ -2,6 +2,7 @@
 use super::devices::{Later, Shelf, new_page, tape_of};
 use super::netlists::{BUFFER, C17, C17B, PAIRS, WIRE};
 use super::reports::words_of;
+use check_tool::progress::Meter;
 use check_tool::tool::run_tool;
 use net_bench::device::Through;
 use std::alloc::{AllocError, Global};
@@ -11,7 +12,7 @@ use std::test::Fail;
 use std::thread::Threads;
 
 /// What a run with these words over two files, and one with names, writes, and its status.
-fn run_of<R: Eprint + Clock + Threads + Wait + Sync>(
+fn run_of<R: Eprint + Clock + Meter + Threads + Wait + Sync>(
     rt: &R,
     alloc: Global,
     options: &str,

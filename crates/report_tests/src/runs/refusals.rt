@@ -3,6 +3,7 @@ use super::devices::{Later, Page, Reader, Shelf, Tape, new_page, start, tape_of}
 use super::netlists::{C17, C17_CUT, C17_OF_FOUR, LONG_NAME, LOOP, LOOP_AND_MORE, PAIRS};
 use super::reports::words_of;
 use check_tool::folder::Disk;
+use check_tool::progress::Meter;
 use check_tool::tool::run_tool;
 use net_bench::device::Through;
 use std::alloc::Global;
@@ -31,7 +32,7 @@ pub struct Left {
 }
 
 /// A run of the words over a folder and an input, with an output of much room.
-pub fn left_by<R: AllocGlobal + Eprint + Clock + Threads + Wait + Sync>(
+pub fn left_by<R: AllocGlobal + Eprint + Clock + Meter + Threads + Wait + Sync>(
     rt: &R,
     line: &str,
     mut folder: Shelf,
@@ -523,7 +524,7 @@ fn more_variables_than_levels(rt: HostRuntime) -> Result<(), Fail> {
 }
 
 /// A run on two equal netlists, or on the words alone, over an output and an error device.
-fn status_over<R: AllocGlobal + Eprint + Clock + Threads + Wait + Sync>(
+fn status_over<R: AllocGlobal + Eprint + Clock + Meter + Threads + Wait + Sync>(
     rt: &R,
     line: &str,
     out: &mut Page,

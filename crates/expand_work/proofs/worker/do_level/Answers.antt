@@ -22,7 +22,7 @@ send_ends-requires-clause-ended g c = ended_before c.args.site.lanes.now c.args.
 
 pub expand_row-requires-clause-keys : goal.expand_row-requires-clause-keys
 expand_row-requires-clause-keys g c =
-    subst (All (IsKey c.args.site.store.now)) (sym c.keys.ensures)
+    subst (All (IsKey c.args.site.store.now)) (sym c.keys-keys.ensures)
     (keys_held c.args.site.lanes.now c.args.site.store.now c.args.level c.take_until_closed.new.port.taken c.take_until_closed.new.senders.clock c.take_until_closed.new.tables c.requires.working.sizes c.requires.level c.in_ok-take_until_closed.ensures.heard)
 
 pub returns : goal.returns
@@ -32,8 +32,8 @@ returns g c =
     let s = c.args.site.store.now in
     let tables = c.take_until_closed.new.tables in
     let kept = subst (λ ks. HasKept c.send_due.new.port c.keep_own.new.port (map (item_of s c.send_due.new.port.number) ks)) c.list.ensures c.in_ok-keep_own.ensures.kept in
-    let row : c.in-Ok.row.items ≡ lean_row n (records_of s (at tables c.args.level)) = c.in-Ok.ensures.row ∙ (λ i. lean_row (c.count-workers.ensures.count i) (records_of s (c.keys.ensures i))) in
-    let owed = subst (λ (y : ℕ × List Key). (k : ℕ) → k < y.0 → at c.in-Ok.next k ≡ filter (owned_by y.0 k) (asked_by (records_of s y.1))) (λ i. (c.count-workers.ensures.count i, c.keys.ensures i)) c.in-Ok.ensures.due in
+    let row : c.in-Ok.row.items ≡ lean_row n (records_of s (at tables c.args.level)) = c.in-Ok.ensures.row ∙ (λ i. lean_row (c.count-workers.ensures.count i) (records_of s (c.keys-keys.ensures i))) in
+    let owed = subst (λ (y : ℕ × List Key). (k : ℕ) → k < y.0 → at c.in-Ok.next k ≡ filter (owned_by y.0 k) (asked_by (records_of s y.1))) (λ i. (c.count-workers.ensures.count i, c.keys-keys.ensures i)) c.in-Ok.ensures.due in
     let long = c.in-Ok.ensures.long ∙ c.count-workers.ensures.count in (
       level_next c.args.site.lanes.now s c.args.site.roots.now c.args.level c.args.worker c.requires.working c.send_due.new.port c.in_ok-send_due.ensures c.number-own.result c.number-own.ensures.number c.keep_own.new.port kept c.send_ends.new.port c.take_until_closed.new.port c.take_until_closed.new.senders.clock c.keep_own.new.tables tables c.in-Ok.row.items c.in-Ok.next c.args.worker.due c.take-row.new.self c.put.new.self c.requires.level c.in_ok-keep_own.ensures.stays c.in_ok-send_ends.ensures took.same took.heard took.stays took.closed row long c.requires.working.many_due owed c.take-row.ensures.rows c.put.ensures c.take_until_closed.new.senders.noted took.noted,
       number_same c.args.site.lanes.now s c.args.site.roots.now c.args.level c.args.worker c.requires.working c.send_due.new.port c.in_ok-send_due.ensures c.number-own.result c.number-own.ensures.number c.keep_own.new.port kept c.send_ends.new.port c.take_until_closed.new.port c.take_until_closed.new.senders.clock c.keep_own.new.tables tables c.in-Ok.row.items c.in-Ok.next c.args.worker.due c.take-row.new.self c.put.new.self c.requires.level c.in_ok-keep_own.ensures.stays c.in_ok-send_ends.ensures took.same took.heard took.stays took.closed row long c.requires.working.many_due owed c.take-row.ensures.rows c.put.ensures c.take_until_closed.new.senders.noted took.noted,
