@@ -1,5 +1,6 @@
 -- Nodes that are made one after the other for the records of a row.
 use Rattle.std.proofs.Common.{◌≡◌, ◌≢◌, ℕ, ◌+◌, ◌<◌, ◌≤◌, ◌⊎◌, inl, inr, List, [], ◌∷◌, ◌++◌, length, drop, get_or, set, get_or-set_same, get_or-set_other, length-append, Contains, refl, sym, ap, ◌∙◌, subst, arith}
+use Rattle.std.specs.Prelude.{Err}
 use Rattle.std.specs.List.{AllZip}
 use mathlib.Core.List.{reverse}
 use Rattle.dd_store.specs.declared.StoreFault.{StoreFault}
@@ -21,7 +22,7 @@ use mathlib.Core.Logic.{dite}
 use native.Mathlib.Decide.{ℕ_discrete}
 use Rattle.expand_work.specs.Expanded.{row_of}
 use Rattle.expand_work.specs.Gathered.{PartsView}
-use Rattle.reduce_up.specs.Team.{AnswersView, AreLeft, AreAllLeft, AreMadeOf, asked_above, team_row, told}
+use Rattle.reduce_up.specs.Team.{AnswersView, AreLeft, AreAllLeft, AreMadeOf, AnswersLevel, asked_above, team_row, told}
 use Rattle.reduce_up.specs.Sharing.{IsPairOf, IsAnswered, CanStand, RowCanStand, IsOfPair, AddsRow, IsRowRefused}
 use Rattle.reduce_up.proofs.Naming.{there_still, part_there}
 use Rattle.reduce_up.proofs.Opposite.{of_pair_kept}
@@ -85,6 +86,10 @@ one_made results T U v d p r e m = (p, e, part_there U v p.0 p.1 r m.has m.is)
 pub one_refused : (results : List (Key × Ref)) (T U : Nodes) (v : ℕ) (row : List Record) (d : Record) (p : Pair) → Contains row d → IsPairOf results d p → U ≡ T → (f : StoreFault) → IsFull T v p.0 p.1 f → IsRowRefused results U v row f
 one_refused results T U v row d p c e same OutOfMemory h = tt
 one_refused results T U v row d p c e same Full h = (d, p, c, e, subst (λ z. IsFull z v p.0 p.1 Full) (sym same) h)
+
+-- a level of which some records have no diagram
+pub level_refused : (n : ℕ) (roots : List Key) (p : PartsView) (a : AnswersView) (S : Nodes) (v : ℕ) (T : Nodes) (left : List (Vec ℕ Global)) (f : StoreFault) → IsSound T → AddsRow (told n p a) S T v (team_row n p v) → IsRowRefused (told n p a) T v (team_row n p v) f → AnswersLevel n roots p a S v (Err f) T left
+level_refused n roots p a S v T left f sound adds refused = record { sound = sound; adds = adds; made = tt; lefts = tt; fault = refused }
 
 -- so many workers' records have their diagrams
 pub record AreMakingLevel (n : ℕ) (roots : List Key) (p : PartsView) (a : AnswersView) (S : Nodes) (v m : ℕ) (T : Nodes) (answers : List (Vec Ref Global)) (lefts : List (Vec ℕ Global)) : Type 0 where

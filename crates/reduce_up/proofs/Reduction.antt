@@ -3,6 +3,7 @@ use Rattle.std.proofs.Common.{◌≡◌, ◌≢◌, ℕ, zero, suc, ◌+◌, ◌
 use Rattle.std.specs.Prelude.{min, Result, Ok, Err, IfOk, OnErr}
 use Rattle.dd_store.specs.declared.StoreFault.{StoreFault}
 use Rattle.dd_store.specs.declared.StoreFault.TheVariants.{Full, OutOfMemory}
+use Rattle.expand_work.specs.declared.fault.WaveFault.{WaveFault}
 use Rattle.expand_work.specs.declared.fault.WaveFault.TheVariants as wave_faults
 use Rattle.std.proofs.Math.Seq.{get_or-append_seam}
 use Rattle.std.proofs.lemmas.List.{length-append, take-append-drop, get_or_default}
@@ -19,7 +20,7 @@ use Rattle.dd_store.proofs.Marks.{top-mark_by, IsRef-mark_by, den-mark_by}
 use Rattle.dd_store.specs.Parts.Part.{node}
 use Rattle.dd_store.specs.Nodes.{Nodes, den, IsSound, IsDiagram, count_of}
 use Rattle.dd_store.specs.View.{part, Has, top, Keeps, IsOneNode, IsMade}
-use Rattle.reduce_up.specs.Reducing.{IsKeyAt, IsAnswer, IsAnswerAt, IsChild, IsRecordAt, AreAnswers, HasAnswer, IsReady, IsResolved, AddsDescribed, AskedBy, IsRow, IsRowReduced, Notes, IsRecordFault, IsRowFault, wave_fault}
+use Rattle.reduce_up.specs.Reducing.{IsKeyAt, IsAnswer, IsAnswerAt, IsChild, IsRecordAt, AreAnswers, HasAnswer, IsReady, IsResolved, AddsDescribed, AskedBy, IsRow, IsRowReduced, Notes, IsRecordFault, IsRowFault, ReducesRow, wave_fault}
 use Rattle.req_table.specs.Keys.{meaning}
 use Rattle.req_table.specs.Short.{op_value}
 use Rattle.std.specs.Prelude.{slice_index_or}
@@ -262,3 +263,11 @@ row_fault s v row entry Full c f = (entry, c, elim (eq-or-lt_of_le f.0) [ inl e 
 pub row_over : (s : Nodes) (v : ℕ) (row : List Record) → 0 < length row → s.limit < count_of s → IsRowFault s v row wave_faults.Full
 row_over s v [] some over = absurd (omega arith)
 row_over s v (r ∷ row) some over = (r, head_in r row, inl over)
+
+-- a row of which some records have no answer
+pub row_given_up : (start : Nodes) (before : List (Key × Ref)) (v : ℕ) (row : List Record) (i : ℕ) (s : Nodes) (pairs : List (Key × Ref)) (e : WaveFault) → IsRowReduced start before v row i s pairs → IsRowFault s v row e → ReducesRow start before v row (Err e) s pairs
+row_given_up start before v row i s pairs e so f = record { left = none_past start before v row i s pairs so; whole = tt; fault = f }
+
+-- a row whose records all have
+pub row_whole : (start : Nodes) (before : List (Key × Ref)) (v : ℕ) (row : List Record) (s : Nodes) (pairs : List (Key × Ref)) → IsRowReduced start before v row (length row) s pairs → ReducesRow start before v row (Ok tt) s pairs
+row_whole start before v row s pairs so = record { left = none_past start before v row (length row) s pairs so; whole = so; fault = tt }

@@ -1,5 +1,5 @@
 -- Requests of a store, and what their answers are.
-use Rattle.std.specs.Prelude.{◌≡◌, ℕ, ◌+◌, ◌<◌, ◌≤◌, ◌⊎◌, Bool, true, false, List, [], ◌∷◌, ◌++◌, length, Contains, min, slice_index_or}
+use Rattle.std.specs.Prelude.{◌≡◌, ℕ, ◌+◌, ◌<◌, ◌≤◌, ◌⊎◌, Bool, true, false, List, [], ◌∷◌, ◌++◌, length, Contains, min, slice_index_or, Result, Ok, Err, IfErr, OnOk}
 use Rattle.std.proofs.Common.{suc}
 use Rattle.dd_store.specs.declared.reference.Ref.{Ref}
 use Rattle.req_table.specs.declared.Key.{Key}
@@ -124,3 +124,21 @@ IsRowWithin old row new = (count_of new ≤ new.limit) ⊎ ((row ≡ []) × (new
 abbrev pub wave_fault : StoreFault → WaveFault
 wave_fault store_faults.Full = wave_faults.Full
 wave_fault store_faults.OutOfMemory = wave_faults.OutOfMemory
+
+-- what a wave answers where its store answers so
+abbrev pub wave_result : Result (Unit {0}) StoreFault → Result (Unit {0}) WaveFault
+wave_result (Ok u) = Ok u
+wave_result (Err e) = Err (wave_fault e)
+
+-- a row of level v may be reduced: the store is sound, the pairs are answers in it, and what the records' children ask for has one
+pub record MayReduceRow (s : Nodes) (pairs : List (Key × Ref)) (v : ℕ) (records : List Record) : Type 0 where
+  pub held : IsSound s
+  pub answers : AreAnswers s pairs
+  pub row : IsRow s pairs v records
+
+-- what the reduction of a row of level v comes to and leaves: even where it is refused, the pairs are answers and nothing is added
+-- but what the records ask for; all of them have their answers, or else there is a cause
+pub record ReducesRow (old : Nodes) (before : List (Key × Ref)) (v : ℕ) (row : List Record) (result : Result (Unit {0}) WaveFault) (new : Nodes) (pairs : List (Key × Ref)) : Type 0 where
+  pub left : IsRowReduced old before v row 0 new pairs
+  pub whole : OnOk result (IsRowReduced old before v row (length row) new pairs)
+  pub fault : IfErr result (λ e. IsRowFault new v row e)

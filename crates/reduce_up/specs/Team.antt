@@ -1,6 +1,6 @@
 -- Reduction where each worker's records stay where they are: what is still to be read of what a worker asked, and diagrams by level and place.
 use Rattle.std.specs.Prelude.{◌≡◌, ℕ, zero, suc, ◌+◌, ◌-◌, ◌<◌, ◌≤◌, List, [], ◌∷◌, ◌++◌, length, map, filter, take, slice_get, slice_index_or, Some}
-use Rattle.std.specs.Prelude.{Result, IfOk}
+use Rattle.std.specs.Prelude.{Result, IfOk, IfErr, OnOk}
 use mathlib.Core.List.{reverse}
 use Rattle.std.specs.List.{AllZip}
 use Rattle.std.specs.declared.vec.Vec.{Vec}
@@ -8,6 +8,7 @@ use Rattle.std.specs.declared.alloc.Global.{Global}
 use Rattle.std.specs.declared.alloc.AllocError.{AllocError}
 use Rattle.dd_store.specs.Graph.{Pair}
 use Rattle.dd_store.specs.declared.reference.Ref.{Ref}
+use Rattle.dd_store.specs.declared.StoreFault.{StoreFault}
 use Rattle.dd_store.specs.Nodes.{Nodes, IsSound}
 use Rattle.req_table.specs.declared.Key.{Key}
 use Rattle.req_table.specs.declared.Child.{Child}
@@ -26,7 +27,7 @@ use Rattle.reduce_up.specs.declared.division.Divided.{Divided}
 use Rattle.reduce_up.specs.declared.division.Homes.{Homes}
 use Rattle.dd_store.specs.Levels.{list_at}
 use Rattle.reduce_up.specs.Division.{IsDivided}
-use Rattle.reduce_up.specs.Sharing.{IsAnswered}
+use Rattle.reduce_up.specs.Sharing.{IsAnswered, RowCanStand, AddsRow, IsRowRefused}
 
 -- the diagrams of each level, by worker
 pub record AnswersView : Type 0 where
@@ -143,3 +144,40 @@ pub record AreDividedBy (n : ℕ) (roots : List Key) (p : PartsView) (a : Answer
 pub record AreMadeOf (n : ℕ) (p : PartsView) (a : AnswersView) (s : Nodes) (v m : ℕ) (answers : List (Vec Ref Global)) : Type 0 where
   pub long : length answers ≡ m
   pub each : (k : ℕ) (d : Vec Ref Global) → k < m → AllZip (IsAnswered (told n p a) s v) (row_of p.rows k v) (slice_index_or answers k d).items
+
+-- a wave of so many levels is reduced down to level v: the diagrams of the levels from v on are known, and `left` is what is still to
+-- be read of what each worker asked for
+pub record IsReducedTo (n : ℕ) (roots : List Key) (p : PartsView) (count v : ℕ) (a : AnswersView) (left : List (Vec ℕ Global)) : Type 0 where
+  pub halfway : IsHalfway n roots p v a
+  pub levels : length a.found ≡ count
+  pub lefts : AreAllLeft n roots p v left
+
+-- worker s's records of level v may be read: the diagrams of the levels below it are known and no others, and `rest` is what is still
+-- to be read of what s asked for
+pub record MayReadPart (n : ℕ) (roots : List Key) (p : PartsView) (a : AnswersView) (v s : ℕ) (rest : List ℕ) : Type 0 where
+  pub halfway : IsHalfway n roots p (v + 1) a
+  pub found : v < length a.found
+  pub sender : s < n
+  pub left : AreLeft n (asked_above n roots p s (v + 1)) rest
+
+-- each worker's records of level v may be read; `left` is what is still to be read of what each asked for
+pub record MayReadLevel (n : ℕ) (roots : List Key) (p : PartsView) (a : AnswersView) (v : ℕ) (left : List (Vec ℕ Global)) : Type 0 where
+  pub halfway : IsHalfway n roots p (v + 1) a
+  pub found : v < length a.found
+  pub lefts : AreAllLeft n roots p (v + 1) left
+
+-- level v may be reduced: the store is sound and has that level, the level's records may be read, and their pairs can stand there
+pub record MayReduceLevel (n : ℕ) (roots : List Key) (p : PartsView) (a : AnswersView) (s : Nodes) (v : ℕ) (left : List (Vec ℕ Global)) : Type 0 where
+  pub held : IsSound s
+  pub level : v < s.levels
+  pub read : MayReadLevel n roots p a v left
+  pub ready : RowCanStand (told n p a) s v (team_row n p v)
+
+-- what the reduction of level v comes to and leaves: only nodes of its records are added, and each worker's records have their
+-- diagrams and are read; or why some have none
+pub record AnswersLevel (n : ℕ) (roots : List Key) (p : PartsView) (a : AnswersView) (old : Nodes) (v : ℕ) (result : Result (Vec (Vec Ref Global) Global) StoreFault) (new : Nodes) (left : List (Vec ℕ Global)) : Type 0 where
+  pub sound : IsSound new
+  pub adds : AddsRow (told n p a) old new v (team_row n p v)
+  pub made : IfOk result (λ answers. AreMadeOf n p a new v n answers.items)
+  pub lefts : OnOk result (AreAllLeft n roots p v left)
+  pub fault : IfErr result (λ e. IsRowRefused (told n p a) new v (team_row n p v) e)

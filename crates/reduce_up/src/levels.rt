@@ -1,7 +1,7 @@
 //! Reduction of the records of a wave, from the last level up.
-ghost use Rattle.std.specs.Prelude.{◌≡◌, ◌<◌, ◌≤◌, length, IfOk, IfErr, OnOk, [], ◌∷◌};
-ghost use Rattle.dd_store.specs.Nodes.{IsSound, count_of};
-ghost use Rattle.reduce_up.specs.Reducing.{IsReady, IsRecordAt, AreAnswers, IsAnswer, AddsDescribed, AskedBy, IsRow, IsRowReduced, IsRowWithin, IsRecordFault, IsRowFault, wave_fault};
+ghost use Rattle.std.specs.Prelude.{◌≡◌, ◌<◌, IfOk, IfErr, OnOk, [], ◌∷◌};
+ghost use Rattle.dd_store.specs.Nodes.{IsSound};
+ghost use Rattle.reduce_up.specs.Reducing.{IsReady, IsRecordAt, AreAnswers, IsAnswer, AddsDescribed, AskedBy, MayReduceRow, ReducesRow, IsRowWithin, IsRecordFault, wave_fault};
 ghost use Rattle.reduce_up.specs.Levels.{AreRecords, AskedInRows, AreReduced, IsReduceFault, IsWithinFrom};
 
 use crate::parallel::share_row;
@@ -55,12 +55,8 @@ fn reduce_row(
     level: u16,
     row: &[Record],
 ) -> Result<(), WaveFault>
-    requires held { IsSound store.old }
-    requires answers { AreAnswers store.old results.old }
-    requires row { IsRow store.old results.old level row.now }
-    ensures left { IsRowReduced store.old results.old level row.now 0 store.new results.new }
-    ensures whole { OnOk result (IsRowReduced store.old results.old level row.now (length row.now) store.new results.new) }
-    ensures fault { IfErr result (λ e. IsRowFault store.new level row.now e) }
+    requires { MayReduceRow store.old results.old level row.now }
+    ensures { ReducesRow store.old results.old level row.now result store.new results.new }
 {
     for entry in row {
         let answer = match reduce_record(store, results, level, *entry) {
@@ -83,13 +79,9 @@ fn note_row<R: Threads + Sync, H: Watch>(
     row: &[Record],
     watch: &H,
 ) -> Result<(), WaveFault>
-    requires held { IsSound store.old }
     requires level { level < store.old.levels }
-    requires answers { AreAnswers store.old results.old }
-    requires row { IsRow store.old results.old level row.now }
-    ensures left { IsRowReduced store.old results.old level row.now 0 store.new results.new }
-    ensures whole { OnOk result (IsRowReduced store.old results.old level row.now (length row.now) store.new results.new) }
-    ensures fault { IfErr result (λ e. IsRowFault store.new level row.now e) }
+    requires ready { MayReduceRow store.old results.old level row.now }
+    ensures { ReducesRow store.old results.old level row.now result store.new results.new }
 {
     if row.len() < FEWEST_SHARED {
         return reduce_row(store, results, level, row);
@@ -109,14 +101,10 @@ fn reduce_level<R: Threads + Sync, H: Watch>(
     row: &[Record],
     watch: &H,
 ) -> Result<(), WaveFault>
-    requires held { IsSound store.old }
     requires level { level < store.old.levels }
-    requires answers { AreAnswers store.old results.old }
-    requires row { IsRow store.old results.old level row.now }
-    ensures left { IsRowReduced store.old results.old level row.now 0 store.new results.new }
-    ensures whole { OnOk result (IsRowReduced store.old results.old level row.now (length row.now) store.new results.new) }
+    requires ready { MayReduceRow store.old results.old level row.now }
+    ensures row { ReducesRow store.old results.old level row.now result store.new results.new }
     ensures within { OnOk result (IsRowWithin store.old row.now store.new) }
-    ensures fault { IfErr result (λ e. IsRowFault store.new level row.now e) }
 {
     if row.is_empty() {
         return Ok(());

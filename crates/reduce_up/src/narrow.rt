@@ -1,10 +1,10 @@
 //! A level with few records, which the caller's thread reduces: each record's diagram is made when its children are read.
-ghost use Rattle.std.specs.Prelude.{◌≡◌, ◌+◌, ◌<◌, length, IfOk, IfErr, OnOk};
+ghost use Rattle.std.specs.Prelude.{◌<◌, IfOk, IfErr, OnOk};
 ghost use Rattle.std.specs.List.{AllZip};
 ghost use Rattle.dd_store.specs.Nodes.{IsSound, Extends};
 ghost use Rattle.expand_work.specs.Expanded.{row_of};
 ghost use Rattle.reduce_up.specs.Sharing.{IsAnswered, RowCanStand, AddsRow, IsRowRefused};
-ghost use Rattle.reduce_up.specs.Team.{IsHalfway, AreLeft, AreAllLeft, AreMadeOf, asked_above, team_row, told};
+ghost use Rattle.reduce_up.specs.Team.{MayReadPart, MayReduceLevel, AnswersLevel, AreLeft, asked_above, team_row, told};
 
 use crate::team::{Team, resolve};
 use dd_store::{Ref, Store, StoreFault};
@@ -21,10 +21,7 @@ fn make_part(
 ) -> Result<Vec<Ref>, StoreFault>
     requires held { IsSound store.old }
     requires level { level < store.old.levels }
-    requires halfway { IsHalfway team.workers team.roots.now team.parts.now (level + 1) team.answers.now }
-    requires found { level < length team.answers.now.found }
-    requires sender { sender < team.workers }
-    requires left { AreLeft team.workers (asked_above team.workers team.roots.now team.parts.now sender (level + 1)) left.old.items }
+    requires read { MayReadPart team.workers team.roots.now team.parts.now team.answers.now level sender left.old.items }
     requires ready { RowCanStand (told team.workers team.parts.now team.answers.now) store.old level (team_row team.workers team.parts.now level) }
     ensures sound { IsSound store.new }
     ensures extends { Extends store.old store.new }
@@ -64,17 +61,8 @@ pub(crate) fn make_level(
     level: u16,
     lefts: &mut Vec<Vec<usize>>,
 ) -> Result<Vec<Vec<Ref>>, StoreFault>
-    requires held { IsSound store.old }
-    requires level { level < store.old.levels }
-    requires halfway { IsHalfway team.workers team.roots.now team.parts.now (level + 1) team.answers.now }
-    requires found { level < length team.answers.now.found }
-    requires lefts { AreAllLeft team.workers team.roots.now team.parts.now (level + 1) lefts.old.items }
-    requires ready { RowCanStand (told team.workers team.parts.now team.answers.now) store.old level (team_row team.workers team.parts.now level) }
-    ensures sound { IsSound store.new }
-    ensures adds { AddsRow (told team.entry.workers team.entry.parts.now team.entry.answers.now) store.old store.new level (team_row team.entry.workers team.entry.parts.now level) }
-    ensures made { IfOk result (λ answers. AreMadeOf team.entry.workers team.entry.parts.now team.entry.answers.now store.new level team.entry.workers answers.items) }
-    ensures lefts { OnOk result (AreAllLeft team.entry.workers team.entry.roots.now team.entry.parts.now level lefts.new.items) }
-    ensures fault { IfErr result (λ e. IsRowRefused (told team.entry.workers team.entry.parts.now team.entry.answers.now) store.new level (team_row team.entry.workers team.entry.parts.now level) e) }
+    requires { MayReduceLevel team.workers team.roots.now team.parts.now team.answers.now store.old level lefts.old.items }
+    ensures { AnswersLevel team.entry.workers team.entry.roots.now team.entry.parts.now team.entry.answers.now store.old level result store.new lefts.new.items }
 {
     let Ok(mut answers) = Vec::with_capacity(alloc, team.workers as usize) else {
         return Err(StoreFault::OutOfMemory);

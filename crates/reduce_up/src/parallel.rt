@@ -1,10 +1,10 @@
 //! A level with many records, which several threads share: two maps over its records, and the nodes between them, shard by
 //! shard (van Dijk 2016).
-ghost use Rattle.std.specs.Prelude.{◌≡◌, ◌<◌, ℕ, List, length, All, IfOk, IfErr, OnOk};
+ghost use Rattle.std.specs.Prelude.{◌≡◌, ◌<◌, ℕ, length, All, IfOk, IfErr, OnOk};
 ghost use Rattle.std.specs.List.{AllZip};
 ghost use Rattle.dd_store.specs.Levels.{list_at};
 ghost use Rattle.dd_store.specs.Nodes.{IsSound, IsThere};
-ghost use Rattle.reduce_up.specs.Reducing.{IsReady, AreAnswers, IsRow, IsRowReduced, IsRowFault, wave_fault};
+ghost use Rattle.reduce_up.specs.Reducing.{IsReady, MayReduceRow, ReducesRow, wave_result};
 ghost use Rattle.reduce_up.specs.Placed.{IsIndexOf};
 ghost use Rattle.reduce_up.specs.Sharing.{IsPairOf, CanStand, IsListed, AreDivided, AddsPairs, HasPair, IsPairsFault, NotesFirst};
 
@@ -194,13 +194,9 @@ pub(crate) fn share_row<R: Threads + Sync, H: Watch>(
     row: &[Record],
     watch: &H,
 ) -> Result<(), StoreFault>
-    requires held { IsSound store.old }
     requires level { level < store.old.levels }
-    requires answers { AreAnswers store.old results.old }
-    requires row { IsRow store.old results.old level row.now }
-    ensures left { IsRowReduced store.old results.old level row.now 0 store.new results.new }
-    ensures whole { OnOk result (IsRowReduced store.old results.old level row.now (length row.now) store.new results.new) }
-    ensures fault { IfErr result (λ e. IsRowFault store.new level row.now (wave_fault e)) }
+    requires ready { MayReduceRow store.old results.old level row.now }
+    ensures { ReducesRow store.old results.old level row.now (wave_result result) store.new results.new }
 {
     let alloc = results.alloc();
     let Ok(found) = gather(rt, alloc, results, row) else {

@@ -4,11 +4,10 @@ ghost use Rattle.std.specs.Prelude.{◌≡◌, ◌+◌, ◌<◌, ◌≤◌, ℕ,
 ghost use Rattle.dd_store.specs.Nodes.{IsSound};
 ghost use Rattle.req_table.specs.declared.Child.{Child as ChildValue};
 ghost use Rattle.req_table.specs.Keys.{IsKey};
-ghost use Rattle.reduce_up.specs.Reducing.{IsResolved, AreAnswers, AddsDescribed, IsRow, IsRowReduced, IsRowWithin, IsRowFault};
+ghost use Rattle.reduce_up.specs.Reducing.{IsResolved, AddsDescribed, MayReduceRow, ReducesRow, IsRowWithin};
 ghost use Rattle.reduce_up.specs.Levels.{AreRecords, AskedInRows, AreReduced, IsReduceFault, IsWithinFrom};
 ghost use Rattle.expand_work.specs.Gathered.{AreParts};
-ghost use Rattle.reduce_up.specs.Sharing.{RowCanStand, AddsRow, IsRowRefused};
-ghost use Rattle.reduce_up.specs.Team.{IsHalfway, IsNext, AreFewer, AreLeft, AreAllLeft, AreMadeOf, asked_above, gathered, team_row, told};
+ghost use Rattle.reduce_up.specs.Team.{IsReducedTo, MayReduceLevel, AnswersLevel, IsNext, AreFewer, AreLeft, AreAllLeft, asked_above, gathered, team_row, told};
 
 use crate::answers::Answers;
 use crate::levels::{FEWEST_SHARED, wave_fault};
@@ -135,17 +134,8 @@ fn level_answers<R: Threads + Sync, H: Watch>(
     lefts: &mut Vec<Vec<usize>>,
     watch: &H,
 ) -> Result<Vec<Vec<Ref>>, StoreFault>
-    requires held { IsSound store.old }
-    requires level { level < store.old.levels }
-    requires halfway { IsHalfway team.workers team.roots.now team.parts.now (level + 1) team.answers.now }
-    requires found { level < length team.answers.now.found }
-    requires lefts { AreAllLeft team.workers team.roots.now team.parts.now (level + 1) lefts.old.items }
-    requires ready { RowCanStand (told team.workers team.parts.now team.answers.now) store.old level (team_row team.workers team.parts.now level) }
-    ensures sound { IsSound store.new }
-    ensures adds { AddsRow (told team.entry.workers team.entry.parts.now team.entry.answers.now) store.old store.new level (team_row team.entry.workers team.entry.parts.now level) }
-    ensures made { IfOk result (λ answers. AreMadeOf team.entry.workers team.entry.parts.now team.entry.answers.now store.new level team.entry.workers answers.items) }
-    ensures lefts { OnOk result (AreAllLeft team.entry.workers team.entry.roots.now team.entry.parts.now level lefts.new.items) }
-    ensures fault { IfErr result (λ e. IsRowRefused (told team.entry.workers team.entry.parts.now team.entry.answers.now) store.new level (team_row team.entry.workers team.entry.parts.now level) e) }
+    requires { MayReduceLevel team.workers team.roots.now team.parts.now team.answers.now store.old level lefts.old.items }
+    ensures { AnswersLevel team.entry.workers team.entry.roots.now team.entry.parts.now team.entry.answers.now store.old level result store.new lefts.new.items }
 {
     if level_size(team.parts, team.workers, level) < FEWEST_SHARED {
         return make_level(alloc, store, team, level, lefts);
@@ -162,23 +152,13 @@ fn reduce_team_level<R: Threads + Sync, H: Watch>(
     level: u16,
     watch: &H,
 ) -> Result<(), WaveFault>
-    requires held { IsSound store.old }
     requires level { level < store.old.levels }
-    requires levels { length progress.old.answers.found ≡ store.old.levels }
-    requires halfway { IsHalfway field.workers field.roots.now field.parts.now (level + 1) progress.old.answers }
-    requires lefts { AreAllLeft field.workers field.roots.now field.parts.now (level + 1) progress.old.lefts.items }
-    requires answers { AreAnswers store.old (told field.workers field.parts.now progress.old.answers) }
-    requires row { IsRow store.old (told field.workers field.parts.now progress.old.answers) level (team_row field.workers field.parts.now level) }
-    ensures left { IsRowReduced store.old (told field.entry.workers field.entry.parts.now progress.old.answers) level
-        (team_row field.entry.workers field.entry.parts.now level) 0 store.new (told field.entry.workers field.entry.parts.now progress.old.answers) }
-    ensures whole { OnOk result (IsRowReduced store.old (told field.entry.workers field.entry.parts.now progress.old.answers) level
-        (team_row field.entry.workers field.entry.parts.now level) (length (team_row field.entry.workers field.entry.parts.now level))
-        store.new (told field.entry.workers field.entry.parts.now progress.new.answers)) }
-    ensures halfway { OnOk result (IsHalfway field.entry.workers field.entry.roots.now field.entry.parts.now level progress.new.answers) }
-    ensures lefts { OnOk result (AreAllLeft field.entry.workers field.entry.roots.now field.entry.parts.now level progress.new.lefts.items) }
-    ensures levels { OnOk result (length progress.new.answers.found ≡ store.old.levels) }
+    requires reached { IsReducedTo field.workers field.roots.now field.parts.now store.old.levels (level + 1) progress.old.answers progress.old.lefts.items }
+    requires ready { MayReduceRow store.old (told field.workers field.parts.now progress.old.answers) level (team_row field.workers field.parts.now level) }
+    ensures row { ReducesRow store.old (told field.entry.workers field.entry.parts.now progress.old.answers) level
+        (team_row field.entry.workers field.entry.parts.now level) result store.new (told field.entry.workers field.entry.parts.now progress.new.answers) }
+    ensures reached { OnOk result (IsReducedTo field.entry.workers field.entry.roots.now field.entry.parts.now store.old.levels level progress.new.answers progress.new.lefts.items) }
     ensures within { OnOk result (IsRowWithin store.old (team_row field.entry.workers field.entry.parts.now level) store.new) }
-    ensures fault { IfErr result (λ e. IsRowFault store.new level (team_row field.entry.workers field.entry.parts.now level) e) }
 {
     if level_size(field.parts, field.workers, level) == 0 {
         return Ok(());
@@ -206,9 +186,7 @@ pub(crate) fn begin(store: &Store, field: Field<'_>) -> Result<Progress, AllocEr
     requires some { 0 < field.workers }
     requires roots { All (IsKey store.now) field.roots.now }
     requires parts { AreParts store.now field.workers field.roots.now field.parts.now }
-    ensures halfway { IfOk result (λ g. IsHalfway field.entry.workers field.entry.roots.now field.entry.parts.now store.now.levels g.answers) }
-    ensures levels { IfOk result (λ g. length g.answers.found ≡ store.now.levels) }
-    ensures lefts { IfOk result (λ g. AreAllLeft field.entry.workers field.entry.roots.now field.entry.parts.now store.now.levels g.lefts.items) }
+    ensures reached { IfOk result (λ g. IsReducedTo field.entry.workers field.entry.roots.now field.entry.parts.now store.now.levels store.now.levels g.answers g.lefts.items) }
     ensures none { IfOk result (λ g. told field.entry.workers field.entry.parts.now g.answers ≡ []) }
 {
     let levels = store.levels();
@@ -226,17 +204,13 @@ pub(crate) fn reduce_team<R: Threads + Sync, H: Watch>(
     watch: &H,
 ) -> Result<(), WaveFault>
     requires records { AreRecords store.old (gathered store.old.levels (team_row field.workers field.parts.now)) }
-    requires halfway { IsHalfway field.workers field.roots.now field.parts.now store.old.levels progress.old.answers }
-    requires levels { length progress.old.answers.found ≡ store.old.levels }
-    requires lefts { AreAllLeft field.workers field.roots.now field.parts.now store.old.levels progress.old.lefts.items }
+    requires reached { IsReducedTo field.workers field.roots.now field.parts.now store.old.levels store.old.levels progress.old.answers progress.old.lefts.items }
     requires none { told field.workers field.parts.now progress.old.answers ≡ [] }
     ensures sound { IsSound store.new }
     ensures adds { AddsDescribed store.old store.new (AskedInRows store.old (gathered store.old.levels (team_row field.entry.workers field.entry.parts.now))) }
     ensures answers { OnOk result (AreReduced (gathered store.old.levels (team_row field.entry.workers field.entry.parts.now)) store.new
         (told field.entry.workers field.entry.parts.now progress.new.answers)) }
-    ensures halfway { OnOk result (IsHalfway field.entry.workers field.entry.roots.now field.entry.parts.now 0 progress.new.answers) }
-    ensures lefts { OnOk result (AreAllLeft field.entry.workers field.entry.roots.now field.entry.parts.now 0 progress.new.lefts.items) }
-    ensures levels { OnOk result (length progress.new.answers.found ≡ store.old.levels) }
+    ensures reached { OnOk result (IsReducedTo field.entry.workers field.entry.roots.now field.entry.parts.now store.old.levels 0 progress.new.answers progress.new.lefts.items) }
     ensures within { OnOk result (IsWithinFrom store.old (gathered store.old.levels (team_row field.entry.workers field.entry.parts.now)) 0 store.new) }
     ensures fault { IfErr result (λ e. IsReduceFault store.new (gathered store.old.levels (team_row field.entry.workers field.entry.parts.now)) e) }
 {

@@ -1,9 +1,7 @@
 //! A level with many records, which threads reduce in three steps: each reads a worker's records and divides the pairs of their
 //! children by shard, the store makes the nodes of all pairs, and each picks its worker's diagrams. No pair is sought twice.
-ghost use Rattle.std.specs.Prelude.{◌≡◌, ◌+◌, ◌<◌, length, IfOk, IfErr, OnOk};
-ghost use Rattle.dd_store.specs.Nodes.{IsSound};
-ghost use Rattle.reduce_up.specs.Sharing.{RowCanStand, AddsRow, IsRowRefused};
-ghost use Rattle.reduce_up.specs.Team.{IsHalfway, AreLeft, AreAllLeft, AreRead, AreDividedBy, IsPartRead, AreMadeOf, asked_above, team_row, told};
+ghost use Rattle.std.specs.Prelude.{◌<◌, IfOk};
+ghost use Rattle.reduce_up.specs.Team.{MayReadPart, MayReadLevel, MayReduceLevel, AnswersLevel, AreRead, AreDividedBy, IsPartRead};
 
 use crate::division::{Divided, Homes};
 use crate::picking::pick_all;
@@ -32,10 +30,7 @@ fn read_part(
     level: u16,
     left: &[usize],
 ) -> Result<Read, AllocError>
-    requires halfway { IsHalfway team.workers team.roots.now team.parts.now (level + 1) team.answers.now }
-    requires sender { sender < team.workers }
-    requires level { level < length team.answers.now.found }
-    requires left { AreLeft team.workers (asked_above team.workers team.roots.now team.parts.now sender (level + 1)) left.now }
+    requires { MayReadPart team.workers team.roots.now team.parts.now team.answers.now level sender left.now }
     ensures { IfOk result (λ r. IsPartRead team.entry.workers team.entry.roots.now team.entry.parts.now team.entry.answers.now level sender r.0 r.1.items) }
 {
     let row = team.parts.children(sender, level);
@@ -61,16 +56,12 @@ fn read_all<R: Threads + Sync>(
     level: u16,
     lefts: &[Vec<usize>],
 ) -> Result<Vec<Result<Read, AllocError>>, AllocError>
-    requires halfway { IsHalfway team.workers team.roots.now team.parts.now (level + 1) team.answers.now }
-    requires level { level < length team.answers.now.found }
-    requires lefts { AreAllLeft team.workers team.roots.now team.parts.now (level + 1) lefts.now }
+    requires { MayReadLevel team.workers team.roots.now team.parts.now team.answers.now level lefts.now }
     ensures { IfOk result (λ v. AreRead team.entry.workers team.entry.roots.now team.entry.parts.now team.entry.answers.now level team.entry.workers v.items) }
 {
     let read = |sender: usize| -> Result<Read, AllocError>
         requires sender { sender < team.workers }
-        requires halfway { IsHalfway team.workers team.roots.now team.parts.now (level + 1) team.answers.now }
-        requires level { level < length team.answers.now.found }
-        requires lefts { AreAllLeft team.workers team.roots.now team.parts.now (level + 1) lefts.now }
+        requires read { MayReadLevel team.workers team.roots.now team.parts.now team.answers.now level lefts.now }
         ensures { IfOk result (λ r. IsPartRead team.entry.workers team.entry.roots.now team.entry.parts.now team.entry.answers.now level sender r.0 r.1.items) }
     {
         let _workers = team.workers;
@@ -114,9 +105,7 @@ fn read_level<R: Threads + Sync>(
     level: u16,
     lefts: &[Vec<usize>],
 ) -> Result<LevelRead, AllocError>
-    requires halfway { IsHalfway team.workers team.roots.now team.parts.now (level + 1) team.answers.now }
-    requires level { level < length team.answers.now.found }
-    requires lefts { AreAllLeft team.workers team.roots.now team.parts.now (level + 1) lefts.now }
+    requires { MayReadLevel team.workers team.roots.now team.parts.now team.answers.now level lefts.now }
     ensures { IfOk result (λ r. AreDividedBy team.entry.workers team.entry.roots.now team.entry.parts.now team.entry.answers.now level team.entry.workers r.parts.items r.homes.items r.lefts.items) }
 {
     let _workers = team.workers;
@@ -134,17 +123,8 @@ pub(crate) fn share_level<R: Threads + Sync, H: Watch>(
     lefts: &mut Vec<Vec<usize>>,
     watch: &H,
 ) -> Result<Vec<Vec<Ref>>, StoreFault>
-    requires held { IsSound store.old }
-    requires level { level < store.old.levels }
-    requires halfway { IsHalfway team.workers team.roots.now team.parts.now (level + 1) team.answers.now }
-    requires found { level < length team.answers.now.found }
-    requires lefts { AreAllLeft team.workers team.roots.now team.parts.now (level + 1) lefts.old.items }
-    requires ready { RowCanStand (told team.workers team.parts.now team.answers.now) store.old level (team_row team.workers team.parts.now level) }
-    ensures sound { IsSound store.new }
-    ensures adds { AddsRow (told team.entry.workers team.entry.parts.now team.entry.answers.now) store.old store.new level (team_row team.entry.workers team.entry.parts.now level) }
-    ensures made { IfOk result (λ answers. AreMadeOf team.entry.workers team.entry.parts.now team.entry.answers.now store.new level team.entry.workers answers.items) }
-    ensures lefts { OnOk result (AreAllLeft team.entry.workers team.entry.roots.now team.entry.parts.now level lefts.new.items) }
-    ensures fault { IfErr result (λ e. IsRowRefused (told team.entry.workers team.entry.parts.now team.entry.answers.now) store.new level (team_row team.entry.workers team.entry.parts.now level) e) }
+    requires { MayReduceLevel team.workers team.roots.now team.parts.now team.answers.now store.old level lefts.old.items }
+    ensures { AnswersLevel team.entry.workers team.entry.roots.now team.entry.parts.now team.entry.answers.now store.old level result store.new lefts.new.items }
 {
     let Ok(read) = read_level(rt, alloc, team, level, lefts.as_slice()) else {
         return Err(StoreFault::OutOfMemory);

@@ -1,7 +1,9 @@
 use Rattle.std.proofs.Common.{rules, ◌≡◌, ℕ, sym, subst}
 use Rattle.req_table.specs.declared.Record.{Record}
-use Rattle.reduce_up.specs.Reducing.{IsRowReduced, IsRowFault, Notes}
-use Rattle.reduce_up.proofs.Reduction.{member, none_past, record_kept, ready_more, row_stopped, row_next, row_fault}
+use Rattle.std.specs.Prelude.{Err}
+use Rattle.expand_work.specs.declared.fault.WaveFault.TheVariants.{OutOfMemory}
+use Rattle.reduce_up.specs.Reducing.{IsRowFault, ReducesRow, Notes}
+use Rattle.reduce_up.proofs.Reduction.{member, record_kept, ready_more, row_stopped, row_next, row_fault, row_given_up}
 use Rattle.reduce_up.proofs.levels.reduce_row.Goals as goal
 
 pub reduce_record-requires-clause-record_at : goal.reduce_record-requires-clause-record_at
@@ -22,29 +24,26 @@ reduce_record-requires-clause-high_ready c =
     ready_more c.args.results.now c.loop-entry.results c.loop-entry.invariant.more r.high
     (c.requires.row.high_ready r (member c.args.row.now c.loop-entry.entry-index r c.loop-entry-test.true c.entry-item.is))
 
-pub returns-in-Err-clause-left : goal.returns-in-Err-clause-left
-returns-in-Err-clause-left c =
+pub returns-in-Err : goal.returns-in-Err
+returns-in-Err c =
     let i : ℕ = c.loop-entry.entry-index in
     let r : Record = c.entry-item.result in
-    none_past c.args.store.now c.args.results.now c.args.level c.args.row.now i c.reduce_record.new.store c.loop-entry.results
+    let in_row = member c.args.row.now i r c.loop-entry-test.true c.entry-item.is in
+    row_given_up c.args.store.now c.args.results.now c.args.level c.args.row.now i c.reduce_record.new.store c.loop-entry.results c.wave_fault.result
     (row_stopped c.args.store.now c.args.results.now c.args.level c.args.row.now i c.loop-entry.store c.loop-entry.results c.reduce_record.new.store r
-    c.requires.held c.requires.row (member c.args.row.now i r c.loop-entry-test.true c.entry-item.is) c.loop-entry.invariant c.reduce_record.ensures.sound c.reduce_record.ensures.adds)
+    c.requires.held c.requires.row in_row c.loop-entry.invariant c.reduce_record.ensures.sound c.reduce_record.ensures.adds)
+    (subst (IsRowFault c.reduce_record.new.store c.args.level c.args.row.now) (sym c.wave_fault.ensures)
+    (row_fault c.reduce_record.new.store c.args.level c.args.row.now r c.in-Err.fault in_row c.in-Err.ensures.fault))
 
-pub returns-then-is_err-clause-left : goal.returns-then-is_err-clause-left
-returns-then-is_err-clause-left c =
+pub returns-then-is_err : goal.returns-then-is_err
+returns-then-is_err c =
     let i : ℕ = c.loop-entry.entry-index in
     let r : Record = c.entry-item.result in
     let same : c.note.new.self ≡ c.loop-entry.results = search rules in
-    subst (IsRowReduced c.args.store.now c.args.results.now c.args.level c.args.row.now 0 c.reduce_record.new.store) (sym same)
-    (none_past c.args.store.now c.args.results.now c.args.level c.args.row.now i c.reduce_record.new.store c.loop-entry.results
+    subst (ReducesRow c.args.store.now c.args.results.now c.args.level c.args.row.now (Err OutOfMemory) c.reduce_record.new.store) (sym same)
+    (row_given_up c.args.store.now c.args.results.now c.args.level c.args.row.now i c.reduce_record.new.store c.loop-entry.results OutOfMemory
     (row_stopped c.args.store.now c.args.results.now c.args.level c.args.row.now i c.loop-entry.store c.loop-entry.results c.reduce_record.new.store r
-    c.requires.held c.requires.row (member c.args.row.now i r c.loop-entry-test.true c.entry-item.is) c.loop-entry.invariant c.reduce_record.ensures.sound c.reduce_record.ensures.adds))
-
-pub returns-in-Err-clause-fault : goal.returns-in-Err-clause-fault
-returns-in-Err-clause-fault c =
-    let r : Record = c.entry-item.result in
-    subst (IsRowFault c.reduce_record.new.store c.args.level c.args.row.now) (sym c.wave_fault.ensures)
-    (row_fault c.reduce_record.new.store c.args.level c.args.row.now r c.in-Err.fault (member c.args.row.now c.loop-entry.entry-index r c.loop-entry-test.true c.entry-item.is) c.in-Err.ensures.fault)
+    c.requires.held c.requires.row (member c.args.row.now i r c.loop-entry-test.true c.entry-item.is) c.loop-entry.invariant c.reduce_record.ensures.sound c.reduce_record.ensures.adds) tt)
 
 pub loop-entry-preserved : goal.loop-entry-preserved
 loop-entry-preserved c =

@@ -1,27 +1,32 @@
 use Rattle.std.proofs.Common.{rules, ◌≡◌, ◌++◌, ◌∷◌, []}
 use Rattle.reduce_up.specs.Team.{team_row, told}
-use Rattle.reduce_up.proofs.Making.{row_stands_on, adds_on, making_none, making_more}
+use Rattle.std.proofs.lemmas.Result.{err_from_is_err_and}
+use Rattle.reduce_up.proofs.Making.{row_stands_on, adds_on, level_refused, making_none, making_more}
 use Rattle.reduce_up.proofs.narrow.make_level.Goals as goal
 
 pub loop-sender-init : goal.loop-sender-init
 loop-sender-init c =
     let t = c.args.team in
-    making_none t.workers t.roots.now t.parts.now t.answers.now c.args.store.now c.args.level c.in-Ok.answers.items c.args.lefts.now.items c.requires.held c.in-Ok.ensures.items c.requires.lefts
+    making_none t.workers t.roots.now t.parts.now t.answers.now c.args.store.now c.args.level c.in-Ok.answers.items c.args.lefts.now.items c.requires.held c.in-Ok.ensures.items c.requires.read.lefts
 
 pub make_part-requires-clause-ready : goal.make_part-requires-clause-ready
 make_part-requires-clause-ready c =
     let t = c.args.team in let T = told t.workers t.parts.now t.answers.now in
     row_stands_on T c.args.store.now c.loop-sender.store c.args.level (team_row t.workers t.parts.now c.args.level) c.loop-sender.invariant.adds.keeps c.requires.ready
 
-pub returns-in_err-part-clause-adds : goal.returns-in_err-part-clause-adds
-returns-in_err-part-clause-adds c =
+pub returns-in_err-part : goal.returns-in_err-part
+returns-in_err-part c =
     let t = c.args.team in let T = told t.workers t.parts.now t.answers.now in
-    adds_on T c.args.store.now c.loop-sender.store c.make_part.new.store c.args.level (team_row t.workers t.parts.now c.args.level) c.loop-sender.invariant.sound c.loop-sender.invariant.adds c.make_part.ensures.adds
+    let f = err_from_is_err_and c.from_residual.result c.from_residual.ensures.1 in
+    rw (f.1, f.2) (level_refused t.workers t.roots.now t.parts.now t.answers.now c.args.store.now c.args.level c.make_part.new.store _ _ c.make_part.ensures.sound
+    (adds_on T c.args.store.now c.loop-sender.store c.make_part.new.store c.args.level (team_row t.workers t.parts.now c.args.level) c.loop-sender.invariant.sound c.loop-sender.invariant.adds c.make_part.ensures.adds)
+    c.in_err-part.ensures.fault)
 
-pub returns-then-is_err-clause-adds : goal.returns-then-is_err-clause-adds
-returns-then-is_err-clause-adds c =
+pub returns-then-is_err : goal.returns-then-is_err
+returns-then-is_err c =
     let t = c.args.team in let T = told t.workers t.parts.now t.answers.now in
-    adds_on T c.args.store.now c.loop-sender.store c.make_part.new.store c.args.level (team_row t.workers t.parts.now c.args.level) c.loop-sender.invariant.sound c.loop-sender.invariant.adds c.make_part.ensures.adds
+    level_refused t.workers t.roots.now t.parts.now t.answers.now c.args.store.now c.args.level c.make_part.new.store _ _ c.make_part.ensures.sound
+    (adds_on T c.args.store.now c.loop-sender.store c.make_part.new.store c.args.level (team_row t.workers t.parts.now c.args.level) c.loop-sender.invariant.sound c.loop-sender.invariant.adds c.make_part.ensures.adds) tt
 
 pub loop-sender-preserved : goal.loop-sender-preserved
 loop-sender-preserved c =

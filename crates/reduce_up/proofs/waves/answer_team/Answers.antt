@@ -20,10 +20,10 @@ reduce_team-requires-clause-records g c κs within =
     wave_records S c.levels.ensures.sound n c.requires.some c.args.entries.now c.requires.operands rows closure
 
 pub team_answers-requires-clause-levels : goal.team_answers-requires-clause-levels
-team_answers-requires-clause-levels g c = c.in-Ok-reduce_team.ensures.levels ∙ sym c.reduce_team.ensures.adds.keeps.levels
+team_answers-requires-clause-levels g c = c.in-Ok-reduce_team.ensures.reached.levels ∙ sym c.reduce_team.ensures.adds.keeps.levels
 
 pub team_answers-requires-clause-lefts : goal.team_answers-requires-clause-lefts
-team_answers-requires-clause-lefts g c = roots_left c.args.field.workers c.args.field.roots.now c.args.field.parts.now c.reduce_team.new.progress.lefts.items c.in-Ok-reduce_team.ensures.lefts
+team_answers-requires-clause-lefts g c = roots_left c.args.field.workers c.args.field.roots.now c.args.field.parts.now c.reduce_team.new.progress.lefts.items c.in-Ok-reduce_team.ensures.reached.lefts
 
 pub returns-in-Err-clause-wave : goal.returns-in-Err-clause-wave
 returns-in-Err-clause-wave g c =

@@ -41,7 +41,7 @@ resolve-high-requires-clause-child c =
     let w = row_read n p s v c.children-row.result.now c.children-row.ensures c.requires.halfway.parts.many_rows i ib entry c.index-row-next.is in
     let r : Record = w.0 in
     let left = subst (λ z. AreLeft n (before n t.roots.now p s v z) c.loop-next.rest.items) e c.loop-next.invariant.left in
-    let high : IsNext n p a s c.loop-next.rest.items entry.1 r.high = (w.3, high_last n t.roots.now p v a c.requires.halfway s c.requires.sender c.requires.level i r ib w.1 c.loop-next.rest.items left, high_found n t.roots.now p v a c.requires.halfway s c.requires.sender c.requires.level i r ib w.1) in
+    let high : IsNext n p a s c.loop-next.rest.items entry.1 r.high = (w.3, high_last n t.roots.now p v a c.requires.halfway s c.requires.sender c.requires.found i r ib w.1 c.loop-next.rest.items left, high_found n t.roots.now p v a c.requires.halfway s c.requires.sender c.requires.found i r ib w.1) in
     (r.high, high)
 
 pub resolve-low-requires-clause-child : goal.resolve-low-requires-clause-child
@@ -55,9 +55,9 @@ resolve-low-requires-clause-child c =
     let w = row_read n p s v c.children-row.result.now c.children-row.ensures c.requires.halfway.parts.many_rows i ib entry c.index-row-next.is in
     let r : Record = w.0 in
     let left = subst (λ z. AreLeft n (before n t.roots.now p s v z) c.loop-next.rest.items) e c.loop-next.invariant.left in
-    let high : IsNext n p a s c.loop-next.rest.items entry.1 r.high = (w.3, high_last n t.roots.now p v a c.requires.halfway s c.requires.sender c.requires.level i r ib w.1 c.loop-next.rest.items left, high_found n t.roots.now p v a c.requires.halfway s c.requires.sender c.requires.level i r ib w.1) in
-    let mid = after_high n t.roots.now p v a c.requires.halfway s c.requires.sender c.requires.level i r ib w.1 c.loop-next.rest.items c.resolve-high.new.left.items left (c.resolve-high.ensures.left r.high high) in
-    let low : IsNext n p a s c.resolve-high.new.left.items entry.0 r.low = (w.2, low_last n t.roots.now p v a c.requires.halfway s c.requires.sender c.requires.level i r ib w.1 c.resolve-high.new.left.items mid, low_found n t.roots.now p v a c.requires.halfway s c.requires.sender c.requires.level i r ib w.1) in
+    let high : IsNext n p a s c.loop-next.rest.items entry.1 r.high = (w.3, high_last n t.roots.now p v a c.requires.halfway s c.requires.sender c.requires.found i r ib w.1 c.loop-next.rest.items left, high_found n t.roots.now p v a c.requires.halfway s c.requires.sender c.requires.found i r ib w.1) in
+    let mid = after_high n t.roots.now p v a c.requires.halfway s c.requires.sender c.requires.found i r ib w.1 c.loop-next.rest.items c.resolve-high.new.left.items left (c.resolve-high.ensures.left r.high high) in
+    let low : IsNext n p a s c.resolve-high.new.left.items entry.0 r.low = (w.2, low_last n t.roots.now p v a c.requires.halfway s c.requires.sender c.requires.found i r ib w.1 c.resolve-high.new.left.items mid, low_found n t.roots.now p v a c.requires.halfway s c.requires.sender c.requires.found i r ib w.1) in
     (r.low, low)
 
 pub resolve-low-requires-clause-long : goal.resolve-low-requires-clause-long
@@ -71,9 +71,9 @@ resolve-low-requires-clause-long c =
     let w = row_read n p s v c.children-row.result.now c.children-row.ensures c.requires.halfway.parts.many_rows i ib entry c.index-row-next.is in
     let r : Record = w.0 in
     let left = subst (λ z. AreLeft n (before n t.roots.now p s v z) c.loop-next.rest.items) e c.loop-next.invariant.left in
-    let high : IsNext n p a s c.loop-next.rest.items entry.1 r.high = (w.3, high_last n t.roots.now p v a c.requires.halfway s c.requires.sender c.requires.level i r ib w.1 c.loop-next.rest.items left, high_found n t.roots.now p v a c.requires.halfway s c.requires.sender c.requires.level i r ib w.1) in
-    let mid = after_high n t.roots.now p v a c.requires.halfway s c.requires.sender c.requires.level i r ib w.1 c.loop-next.rest.items c.resolve-high.new.left.items left (c.resolve-high.ensures.left r.high high) in
-    let low : IsNext n p a s c.resolve-high.new.left.items entry.0 r.low = (w.2, low_last n t.roots.now p v a c.requires.halfway s c.requires.sender c.requires.level i r ib w.1 c.resolve-high.new.left.items mid, low_found n t.roots.now p v a c.requires.halfway s c.requires.sender c.requires.level i r ib w.1) in
+    let high : IsNext n p a s c.loop-next.rest.items entry.1 r.high = (w.3, high_last n t.roots.now p v a c.requires.halfway s c.requires.sender c.requires.found i r ib w.1 c.loop-next.rest.items left, high_found n t.roots.now p v a c.requires.halfway s c.requires.sender c.requires.found i r ib w.1) in
+    let mid = after_high n t.roots.now p v a c.requires.halfway s c.requires.sender c.requires.found i r ib w.1 c.loop-next.rest.items c.resolve-high.new.left.items left (c.resolve-high.ensures.left r.high high) in
+    let low : IsNext n p a s c.resolve-high.new.left.items entry.0 r.low = (w.2, low_last n t.roots.now p v a c.requires.halfway s c.requires.sender c.requires.found i r ib w.1 c.resolve-high.new.left.items mid, low_found n t.roots.now p v a c.requires.halfway s c.requires.sender c.requires.found i r ib w.1) in
     mid.long
 
 pub loop-next-preserved : goal.loop-next-preserved
@@ -87,10 +87,10 @@ loop-next-preserved c =
     let w = row_read n p s v c.children-row.result.now c.children-row.ensures c.requires.halfway.parts.many_rows i ib entry c.index-row-next.is in
     let r : Record = w.0 in
     let left = subst (λ z. AreLeft n (before n t.roots.now p s v z) c.loop-next.rest.items) e c.loop-next.invariant.left in
-    let high : IsNext n p a s c.loop-next.rest.items entry.1 r.high = (w.3, high_last n t.roots.now p v a c.requires.halfway s c.requires.sender c.requires.level i r ib w.1 c.loop-next.rest.items left, high_found n t.roots.now p v a c.requires.halfway s c.requires.sender c.requires.level i r ib w.1) in
-    let mid = after_high n t.roots.now p v a c.requires.halfway s c.requires.sender c.requires.level i r ib w.1 c.loop-next.rest.items c.resolve-high.new.left.items left (c.resolve-high.ensures.left r.high high) in
-    let low : IsNext n p a s c.resolve-high.new.left.items entry.0 r.low = (w.2, low_last n t.roots.now p v a c.requires.halfway s c.requires.sender c.requires.level i r ib w.1 c.resolve-high.new.left.items mid, low_found n t.roots.now p v a c.requires.halfway s c.requires.sender c.requires.level i r ib w.1) in
-    let fewer = after_low n t.roots.now p v a c.requires.halfway s c.requires.sender c.requires.level i r ib w.1 c.resolve-high.new.left.items c.resolve-low.new.left.items mid (c.resolve-low.ensures.left r.low low) in
+    let high : IsNext n p a s c.loop-next.rest.items entry.1 r.high = (w.3, high_last n t.roots.now p v a c.requires.halfway s c.requires.sender c.requires.found i r ib w.1 c.loop-next.rest.items left, high_found n t.roots.now p v a c.requires.halfway s c.requires.sender c.requires.found i r ib w.1) in
+    let mid = after_high n t.roots.now p v a c.requires.halfway s c.requires.sender c.requires.found i r ib w.1 c.loop-next.rest.items c.resolve-high.new.left.items left (c.resolve-high.ensures.left r.high high) in
+    let low : IsNext n p a s c.resolve-high.new.left.items entry.0 r.low = (w.2, low_last n t.roots.now p v a c.requires.halfway s c.requires.sender c.requires.found i r ib w.1 c.resolve-high.new.left.items mid, low_found n t.roots.now p v a c.requires.halfway s c.requires.sender c.requires.found i r ib w.1) in
+    let fewer = after_low n t.roots.now p v a c.requires.halfway s c.requires.sender c.requires.found i r ib w.1 c.resolve-high.new.left.items c.resolve-low.new.left.items mid (c.resolve-low.ensures.left r.low low) in
     let T = told n p a in
     let q : Pair = (c.resolve-low.result, c.resolve-high.result) in
     let of : IsPairOf T r q = (c.resolve-low.ensures.answer r.low low, c.resolve-high.ensures.answer r.high high) in

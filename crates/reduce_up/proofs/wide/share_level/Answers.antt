@@ -9,6 +9,7 @@ use Rattle.dd_store.specs.Levels.{all_at, refs_at, plain_lists}
 use Rattle.reduce_up.specs.Team.{team_row, told}
 use Rattle.reduce_up.proofs.Joined.{listed_row, all_sixteen, all_homes, all_left, all_made, ready_all, adds_all, refs_all, refused_make, picked_as}
 use Rattle.std.proofs.lemmas.Result.{err_from_is_err_and}
+use Rattle.reduce_up.proofs.Making.{level_refused}
 use Rattle.reduce_up.proofs.wide.share_level.Goals as goal
 
 pub make_all-requires-clause-lists : goal.make_all-requires-clause-lists
@@ -32,8 +33,8 @@ make_all-requires-clause-ready g c κs within =
     let listed = listed_row n t.roots.now p a v parts homes lefts D in
     subst (λ z. AreReady c.args.store.now v (all_at z)) (sym slice) (ready_all T c.args.store.now v row (all_at parts) listed c.requires.level c.requires.ready)
 
-pub returns-in_err-refs-clause-adds : goal.returns-in_err-refs-clause-adds
-returns-in_err-refs-clause-adds g c =
+pub returns-in_err-refs : goal.returns-in_err-refs
+returns-in_err-refs g c =
     let t = c.args.team in let n = t.workers in let p = t.parts.now in let a = t.answers.now in let v = c.args.level in
     let parts = c.in-Ok.read.parts.items in let homes = c.in-Ok.read.homes.items in let lefts = c.in-Ok.read.lefts.items in
     let T = told n p a in
@@ -44,19 +45,9 @@ returns-in_err-refs-clause-adds g c =
     let S = c.args.store.now in let U = c.make_all.new.self in
     let grows = subst (λ z. GrowsLevel S U v (plain_lists (all_at z))) slice c.make_all.ensures.grows in
     let adds = adds_all T S v row (all_at parts) listed U grows in
-    adds
-
-pub returns-in_err-refs-clause-fault : goal.returns-in_err-refs-clause-fault
-returns-in_err-refs-clause-fault g c =
-    let t = c.args.team in let n = t.workers in let p = t.parts.now in let a = t.answers.now in let v = c.args.level in
-    let parts = c.in-Ok.read.parts.items in let homes = c.in-Ok.read.homes.items in let lefts = c.in-Ok.read.lefts.items in
-    let T = told n p a in
-    let row = team_row n p v in
-    let D = c.in-Ok.ensures in
-    let slice = c.as_slice-lists.ensures.value in
-    let listed = listed_row n t.roots.now p a v parts homes lefts D in
     let f = err_from_is_err_and c.from_residual.result c.from_residual.ensures.1 in
-    rw (f.1, f.2) (refused_make T c.args.store.now v row c.as_slice-lists.result.now parts slice listed c.make_all.new.self _ c.make_all.ensures.sound c.in_err-refs.ensures.fault)
+    rw (f.1, f.2) (level_refused n t.roots.now p a S v U _ _ c.make_all.ensures.sound adds
+    (refused_make T S v row c.as_slice-lists.result.now parts slice listed U _ c.make_all.ensures.sound c.in_err-refs.ensures.fault))
 
 pub pick_all-requires-clause-parts : goal.pick_all-requires-clause-parts
 pick_all-requires-clause-parts g c κs within =
@@ -99,8 +90,8 @@ pick_all-requires-clause-homes g c κs within =
     let slice = c.as_slice-lists.ensures.value in
     rw (slice, c.as_slice-homes.ensures.value) (all_homes n t.roots.now p a v parts homes lefts D)
 
-pub returns-in_default-pick_all-clause-adds : goal.returns-in_default-pick_all-clause-adds
-returns-in_default-pick_all-clause-adds g c =
+pub returns-in_default-pick_all : goal.returns-in_default-pick_all
+returns-in_default-pick_all g c =
     let t = c.args.team in let n = t.workers in let p = t.parts.now in let a = t.answers.now in let v = c.args.level in
     let parts = c.in-Ok.read.parts.items in let homes = c.in-Ok.read.homes.items in let lefts = c.in-Ok.read.lefts.items in
     let T = told n p a in
@@ -111,10 +102,10 @@ returns-in_default-pick_all-clause-adds g c =
     let S = c.args.store.now in let U = c.make_all.new.self in
     let grows = subst (λ z. GrowsLevel S U v (plain_lists (all_at z))) slice c.make_all.ensures.grows in
     let adds = adds_all T S v row (all_at parts) listed U grows in
-    adds
+    level_refused n t.roots.now p a S v U _ _ c.make_all.ensures.sound adds tt
 
-pub returns-clause-adds : goal.returns-clause-adds
-returns-clause-adds g c =
+pub returns : goal.returns
+returns g c =
     let t = c.args.team in let n = t.workers in let p = t.parts.now in let a = t.answers.now in let v = c.args.level in
     let parts = c.in-Ok.read.parts.items in let homes = c.in-Ok.read.homes.items in let lefts = c.in-Ok.read.lefts.items in
     let T = told n p a in
@@ -125,26 +116,12 @@ returns-clause-adds g c =
     let S = c.args.store.now in let U = c.make_all.new.self in
     let grows = subst (λ z. GrowsLevel S U v (plain_lists (all_at z))) slice c.make_all.ensures.grows in
     let adds = adds_all T S v row (all_at parts) listed U grows in
-    adds
-
-pub returns-clause-made : goal.returns-clause-made
-returns-clause-made g c =
-    let t = c.args.team in let n = t.workers in let p = t.parts.now in let a = t.answers.now in let v = c.args.level in
-    let parts = c.in-Ok.read.parts.items in let homes = c.in-Ok.read.homes.items in let lefts = c.in-Ok.read.lefts.items in
-    let T = told n p a in
-    let row = team_row n p v in
-    let D = c.in-Ok.ensures in
-    let slice = c.as_slice-lists.ensures.value in
-    let there = λ (s : ℕ) (l : s < 16). subst (λ z. AllZip (λ (q : Pair) r. IsThere c.make_all.new.self v q.0 q.1 r) (all_at z s) (refs_at c.in_ok-refs.refs.items s)) slice (c.in_ok-refs.ensures.answers s l) in
+    let there = λ (s : ℕ) (l : s < 16). subst (λ z. AllZip (λ (q : Pair) r. IsThere U v q.0 q.1 r) (all_at z s) (refs_at c.in_ok-refs.refs.items s)) slice (c.in_ok-refs.ensures.answers s l) in
     let picked = picked_as c.as_slice-lists.result.now c.as_slice-homes.result.now c.as_slice-2.result.now parts homes c.in_ok-refs.refs.items n slice c.as_slice-homes.ensures.value c.as_slice-2.ensures.value D.many_homes c.in-Ok-pick_all.answers.items c.in-Ok-pick_all.ensures in
-    all_made n t.roots.now p a v parts homes lefts D c.make_all.new.self c.in_ok-refs.refs.items there c.in-Ok-pick_all.answers.items picked
-
-pub returns-clause-lefts : goal.returns-clause-lefts
-returns-clause-lefts g c =
-    let t = c.args.team in let n = t.workers in let p = t.parts.now in let a = t.answers.now in let v = c.args.level in
-    let parts = c.in-Ok.read.parts.items in let homes = c.in-Ok.read.homes.items in let lefts = c.in-Ok.read.lefts.items in
-    let T = told n p a in
-    let row = team_row n p v in
-    let D = c.in-Ok.ensures in
-    let slice = c.as_slice-lists.ensures.value in
-    all_left n t.roots.now p a v parts homes lefts D
+    record {
+      sound = c.make_all.ensures.sound;
+      adds = adds;
+      made = all_made n t.roots.now p a v parts homes lefts D U c.in_ok-refs.refs.items there c.in-Ok-pick_all.answers.items picked;
+      lefts = all_left n t.roots.now p a v parts homes lefts D;
+      fault = tt;
+    }
