@@ -195,9 +195,10 @@ fn twice_in_one(
     Ok(lists)
 }
 
-/// Two threads that meet where they come to the shards 0 and 15.
+/// Two threads that meet where they come to the shards 0 and 15 of a level. Another level is one that they miss.
 #[derive(Drop)]
 struct Meeting {
+    level: u16,
     first: AtomicBool,
     last: AtomicBool,
     missed: AtomicBool,
@@ -215,7 +216,10 @@ impl Meeting {
 }
 
 impl Watch for Meeting {
-    fn at_shard(&self, shard: u8, _level: u16) {
+    fn at_shard(&self, shard: u8, level: u16) {
+        if level != self.level {
+            self.missed.store(true, Ordering::SeqCst);
+        }
         if shard == 0 {
             self.first.store(true, Ordering::SeqCst);
             self.wait_for(&self.last);
@@ -229,21 +233,22 @@ impl Watch for Meeting {
 
 #[test]
 fn two_at_shards(rt: HostRuntime) -> Result<(), Fail> {
-    let mut store = Store::new(rt.alloc(), 2, 4)?;
+    let mut store = Store::new(rt.alloc(), 3, 4)?;
     let _a = ok(&rt, store.variable(0));
-    let b = ok(&rt, store.variable(1));
-    assert_eq!(rt; store.top(b), 1);
+    let b = ok(&rt, store.variable(2));
+    assert_eq!(rt; store.top(b), 2);
     let shard = shard_of(Ref::FALSE, b) as usize;
     let lists = twice_in_one(rt.alloc(), shard, (Ref::FALSE, b))?;
     let watch = Meeting {
+        level: 1,
         first: AtomicBool::new(false),
         last: AtomicBool::new(false),
         missed: AtomicBool::new(false),
     };
-    assert!(rt; store.add_all(&rt, 0, lists.as_slice(), &watch) == Ok(()));
+    assert!(rt; store.add_all(&rt, 1, lists.as_slice(), &watch) == Ok(()));
     assert_eq!(rt; store.count(), 3);
-    let made = store.find(0, Ref::FALSE, b).expect(&rt, "no node");
-    assert_eq!(rt; store.find(0, Ref::TRUE, b.negate()), Some(made.negate()));
+    let made = store.find(1, Ref::FALSE, b).expect(&rt, "no node");
+    assert_eq!(rt; store.find(1, Ref::TRUE, b.negate()), Some(made.negate()));
     assert!(rt; watch.first.load(Ordering::SeqCst) && watch.last.load(Ordering::SeqCst));
     assert!(rt; !watch.missed.load(Ordering::SeqCst));
     Ok(())
@@ -290,6 +295,7 @@ fn make_four<R: Threads + Sync + Abort>(
     let second = (Ref::TRUE, Ref::FALSE);
     let parts = four_parts(alloc, 3, first, second)?;
     let watch = Meeting {
+        level: 0,
         first: AtomicBool::new(false),
         last: AtomicBool::new(false),
         missed: AtomicBool::new(false),
