@@ -33,7 +33,7 @@ ready_pair S b shard lists levels has is at only =
     } in
     ready S 1 shard lists (omega arith) (λ s p h.
     let o = only s p h in
-    (λ lt. o.0, subst (CanStand S 1 shard) (sym o.2) (CanStand-turned S 0 shard o.1 (False, b) can)))
+    (λ lt. o.0, subst (CanStand S 1 shard) (sym o.2) (CanStand-turned S 1 shard o.1 (False, b) can)))
 
 -- a variable is a node
 variable_part : (S T : Nodes) (r : Result Ref StoreFault) (b : Ref) → r ≡ Ok b → IfOk r (λ z. IsMade S T 2 False True z)
