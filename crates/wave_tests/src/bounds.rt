@@ -1,0 +1,97 @@
+//! Waves whose requests are bounded.
+ghost use Rattle.std.specs.Prelude.{Option, Some, ℕ};
+
+use crate::waves::{Way, entries_of, run, start};
+use dd_store::{Store, Watch};
+use expand_work::{Gate, WaveFault};
+use req_table::{Memo, Op};
+use std::alloc::Global;
+use std::process::Abort;
+use std::sync::Wait;
+use std::sync::atomic::{AtomicUsize, Ordering};
+use std::test::Fail;
+use std::thread::Threads;
+use wave_engine::wave;
+
+/// Bounds a wave by so many requests, and counts those that it is told of, and how often a worker comes to a level.
+#[derive(Drop)]
+struct Bound {
+    most: usize,
+    told: AtomicUsize,
+    workers: AtomicUsize,
+}
+
+impl Watch for Bound {
+    fn at_shard(&self, _shard: u8, _level: u16) {}
+}
+
+impl Gate for Bound {
+    ghost bound = { λ b. Some b.most };
+
+    fn at_level(&self, _worker: u32, _level: u16) {
+        self.workers.fetch_add(1, Ordering::SeqCst);
+    }
+
+    fn most_requests(&self) -> usize {
+        self.most
+    }
+
+    fn at_requests(&self, requests: usize) {
+        self.told.fetch_add(requests, Ordering::SeqCst);
+    }
+}
+
+/// What a wave within a bound comes to.
+#[derive(Drop)]
+struct Seen {
+    fault: Option<WaveFault>,
+    told: usize,
+    workers: usize,
+    /// How many nodes it has added.
+    added: u64,
+}
+
+/// And of two sums of two variables each, which has one request at the first level, two at the second and four at the third.
+fn within<R: Threads + Wait + Abort + Sync>(
+    rt: &R,
+    alloc: Global,
+    most: usize,
+) -> Result<Seen, Fail> {
+    let mut store = Store::new(alloc, 4, 100)?;
+    let mut known = start(rt, alloc, &mut store);
+    let sums = [(Op::Xor, 2, 4), (Op::Xor, 3, 5)];
+    let made = run(rt, alloc, &mut store, &mut known, &sums, 1, Way::Threads);
+    assert!(rt; made.is_ok());
+    let steps = [(Op::And, 6, 7)];
+    let entries = entries_of(rt, alloc, &store, known.as_slice(), &steps);
+    let gate = Bound {
+        most,
+        told: AtomicUsize::new(0),
+        workers: AtomicUsize::new(0),
+    };
+    let before = store.count();
+    let mut memo = Memo::new(alloc, 1)?;
+    let entries = entries.as_slice();
+    let answers = wave(rt, alloc, &mut store, &mut memo, entries, 4, &gate);
+    Ok(Seen {
+        fault: answers.err(),
+        told: gate.told.load(Ordering::SeqCst),
+        workers: gate.workers.load(Ordering::SeqCst),
+        added: store.count().saturating_sub(before),
+    })
+}
+
+// A wave of seven requests is done within a bound of seven, on the caller's thread, and refused within six, before a node is made.
+#[test]
+fn bound_of_a_wave(rt: HostRuntime) -> Result<(), Fail> {
+    let done = within(&rt, rt.alloc(), 7)?;
+    assert_eq!(rt; done.fault, None);
+    assert_eq!(rt; (done.told, done.workers), (7, 0));
+    assert!(rt; done.added > 0);
+    for most in [0, 1, 2, 3, 6] {
+        let refused = within(&rt, rt.alloc(), most)?;
+        assert_eq!(rt; refused.fault, Some(WaveFault::TooManyRequests));
+        assert_eq!(rt; (refused.told, refused.workers, refused.added), (0, 0, 0));
+    }
+    Ok(())
+}
