@@ -98,8 +98,12 @@ impl<H: Eprint + Clock + Meter + Sync> Gate for Progress<'_, H> {
         self.told.store(now, Ordering::SeqCst);
         let requests = self.requests.load(Ordering::SeqCst);
         let _ = match self.rt.megabytes(self.alloc) {
-            Some(memory) => eprintln!(self.rt; "bddcheck: rank {rank} of {ranks}, {nodes} nodes, {requests} requests, {memory} MB"),
-            None => eprintln!(self.rt; "bddcheck: rank {rank} of {ranks}, {nodes} nodes, {requests} requests"),
+            Some(memory) => eprintln!(self.rt;
+                "bddcheck: rank {rank} of {ranks}, {nodes} nodes, {requests} requests, {memory} MB"
+            ),
+            None => eprintln!(self.rt;
+                "bddcheck: rank {rank} of {ranks}, {nodes} nodes, {requests} requests"
+            ),
         };
     }
 

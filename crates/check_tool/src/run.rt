@@ -108,7 +108,13 @@ fn prepare<F: Folder>(
 }
 
 /// Compares two texts, or prints the order of their variables. The condition's file is opened, and a file of the order read, before them.
-fn compare<H: Eprint + Clock + Meter + Threads + Wait + Sync, F: Folder, R1: Source, R2: Source, W: Sink>(
+fn compare<
+    H: Eprint + Clock + Meter + Threads + Wait + Sync,
+    F: Folder,
+    R1: Source,
+    R2: Source,
+    W: Sink,
+>(
     rt: &H,
     alloc: Global,
     options: &Options<'_>,
@@ -172,7 +178,12 @@ fn read_input<R: Source>(alloc: Global, input: &mut R) -> Result<Vec<u8>, ToolFa
 
 /// Compares what the options name: two files, a file and the input, or the two texts of the input. FIRST, SECOND, the condition's file
 /// and the order's are opened in this order; where the input is divided, the latter two are opened behind that.
-pub fn run_options<H: Eprint + Clock + Meter + Threads + Wait + Sync, F: Folder, R: Source, W: Sink>(
+pub fn run_options<
+    H: Eprint + Clock + Meter + Threads + Wait + Sync,
+    F: Folder,
+    R: Source,
+    W: Sink,
+>(
     rt: &H,
     alloc: Global,
     options: &Options<'_>,

@@ -182,7 +182,13 @@ fn status_of_done(done: Done) -> u8
 
 /// Runs the program on its words, and answers its status.
 #[tactic(auto, using(crate::proofs::Composing::keeps_own, crate::proofs::Composing::extends_none))]
-pub fn run_tool<H: Eprint + Clock + Meter + Threads + Wait + Sync, F: Folder, R: Source, W: Sink, E: Sink>(
+pub fn run_tool<
+    H: Eprint + Clock + Meter + Threads + Wait + Sync,
+    F: Folder,
+    R: Source,
+    W: Sink,
+    E: Sink,
+>(
     rt: &H,
     alloc: Global,
     words: &[String],

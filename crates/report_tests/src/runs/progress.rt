@@ -97,7 +97,10 @@ fn lines_a_second(rt: HostRuntime) -> Result<(), Fail> {
 fn line_of_progress(rt: HostRuntime) -> Result<(), Fail> {
     for (megabytes, wanted) in [
         (None, "bddcheck: rank 3 of 7, 90 nodes, 12 requests"),
-        (Some(41), "bddcheck: rank 3 of 7, 90 nodes, 12 requests, 41 MB"),
+        (
+            Some(41),
+            "bddcheck: rank 3 of 7, 90 nodes, 12 requests, 41 MB",
+        ),
     ] {
         let ticks = Ticks::new(rt.alloc(), megabytes, wanted);
         let progress = Progress::new(&ticks, rt.alloc(), true);
