@@ -16,6 +16,7 @@ use Rattle.req_table.specs.Reached.{root as root_of, child as child_from}
 use Rattle.req_table.specs.Short.{short_of}
 use Rattle.req_table.proofs.Waved.{told, held, deeper, bounded}
 use Rattle.reduce_up.specs.Waves.{Entry, requests_of}
+use Rattle.reduce_up.proofs.Noting.{nothing, in_cases}
 use Rattle.reduce_up.proofs.Rooted.{to_request}
 use Rattle.req_table.specs.declared.placed.Placed.{Placed}
 use Rattle.req_table.specs.declared.placed.PlacedChild.TheVariants.{Done, Ask}
@@ -103,6 +104,12 @@ all_placed_kept S T U g [] [] z = z
 all_placed_kept S T U g [] (p ∷ ps) z = z
 all_placed_kept S T U g (e ∷ es) [] z = z
 all_placed_kept S T U g (e ∷ es) (p ∷ ps) z = (placed_kept T U g p (child_at S e.0 e.1 e.2) z.0, all_placed_kept S T U g es ps z.1)
+
+-- an entry's root
+pub root_for : (S : Nodes) (T : List (List Key)) (es : List Entry) (ps : List Placed) → AllZip (λ e p. IsPlaced T p (child_at S e.0 e.1 e.2)) es ps → (e : Entry) → Contains es e → (p : Placed) × IsPlaced T p (child_at S e.0 e.1 e.2)
+root_for S T [] ps z e m = absurd (nothing {X = Entry} e m)
+root_for S T (d ∷ es) [] z e m = absurd z
+root_for S T (d ∷ es) (p ∷ ps) z e m = elim (in_cases {X = Entry} d e es m) [ inl x ↦ (p, subst (λ (y : Entry). IsPlaced T p (child_at S y.0 y.1 y.2)) x z.0) | inr i ↦ root_for S T es ps z.1 e i ]
 
 pub admitted_more : (S : Nodes) (es : List Entry) (T : List (List Key)) (c : Child) (U : List (List Key)) → AreAdmitted S es T → Admits T c U
     → ((l : ℕ) (k : Key) → AsksAt c l k → IsAdmitted S es l k) → AreAdmitted S es U

@@ -41,7 +41,7 @@ use Rattle.req_table.specs.declared.placed.PlacedChild.TheVariants.{Done, Ask}
 use Rattle.wave_engine.specs.Places.{row, StandsAt, IsPlaced}
 use Rattle.wave_engine.specs.Down.{IsAdmitted, AreAdmitted, AreExpanded}
 use Rattle.wave_engine.specs.Up.{ComesTo, IsWithinBelow}
-use Rattle.wave_engine.proofs.Placing.{stands_some}
+use Rattle.wave_engine.proofs.Placing.{stands_some, root_for}
 
 -- Of a store S and a later one, U.
 module _ (S : Nodes) (w : IsSound S) (entries : List Entry) (good : All (IsEntry S) entries) (U : Nodes) (K : Keeps S U) where
@@ -192,14 +192,8 @@ module _ (S : Nodes) (w : IsSound S) (entries : List Entry) (good : All (IsEntry
   pub roots_come : (T : List (List Key)) (A : List (List Ref)) → ((v q : ℕ) (k : Key) → StandsAt T v q k → length (row A v) ≡ length (row T v)) → (ps : List Placed) → AllZip (λ e p. IsPlaced T p (child_at S e.0 e.1 e.2)) entries ps → All (λ p. (r : Ref) × ComesTo A p r) ps
   roots_come T A counts ps z = all_of (λ p. (r : Ref) × ComesTo A p r) ps (λ p m. let c = placed_root T entries ps z p m in root_comes T A counts p c.0 c.1)
 
-  -- an entry's root
-  root_for : (T : List (List Key)) (es : List Entry) (ps : List Placed) → AllZip (λ e p. IsPlaced T p (child_at S e.0 e.1 e.2)) es ps → (e : Entry) → Contains es e → (p : Placed) × IsPlaced T p (child_at S e.0 e.1 e.2)
-  root_for T [] ps z e m = absurd (nothing {X = Entry} e m)
-  root_for T (d ∷ es) [] z e m = absurd z
-  root_for T (d ∷ es) (p ∷ ps) z e m = elim (in_cases {X = Entry} d e es m) [ inl x ↦ (p, subst (λ (y : Entry). IsPlaced T p (child_at S y.0 y.1 y.2)) x z.0) | inr i ↦ root_for T es ps z.1 e i ]
-
   no_request : (T : List (List Key)) (ps : List Placed) → AllZip (λ e p. IsPlaced T p (child_at S e.0 e.1 e.2)) entries ps → ((v q : ℕ) (k : Key) → StandsAt T v q k → ⊥) → HasRequest entries → ⊥
-  no_request T ps z none h = let p = root_for T entries ps z h.0 h.1 in by p.0 (subst (λ t. IsPlaced T p.0 (answer_of S h.0.0 h.0.1 h.0.2 t)) h.2 p.1)
+  no_request T ps z none h = let p = root_for S T entries ps z h.0 h.1 in by p.0 (subst (λ t. IsPlaced T p.0 (answer_of S h.0.0 h.0.1 h.0.2 t)) h.2 p.1)
     where
       by : (p : Placed) → IsPlaced T p (ask_of S (normal_of h.0.0 h.0.1 h.0.2)) → ⊥
       by (Done d) e = cc

@@ -4,7 +4,7 @@ ghost use Rattle.std.specs.List.{AllZip};
 ghost use Rattle.req_table.specs.Keys.{IsChildIn, child as child_spec};
 ghost use Rattle.reduce_up.specs.Waves.{IsEntry};
 ghost use Rattle.wave_engine.specs.Places.{row, IsPlaced, Admits};
-ghost use Rattle.wave_engine.specs.Bounds.{AreMoreThan};
+ghost use Rattle.wave_engine.specs.Bounds.{AreMoreThan, AreAtMost};
 ghost use Rattle.wave_engine.specs.Down.{AreAdmitted, IsRowExpanded, AreExpanded};
 
 use crate::lists::Row;
@@ -103,6 +103,7 @@ pub(crate) fn expand(
     ensures served { IfErr result (λ e. e ≢ WaveFault.NoWorker) }
     ensures bounded { result ≡ Err WaveFault.TooManyRequests → bound < 2 ^ 64 - 1 }
     ensures past { result ≡ Err WaveFault.TooManyRequests → AreMoreThan bound store.now entries.now }
+    ensures within_bound { bound < 2 ^ 64 - 1 → IfOk result (λ v. v ≡ store.now.levels → AreAtMost bound store.now entries.now) }
 {
     let _ = entries.len();
     let _ = roots.len();

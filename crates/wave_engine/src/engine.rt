@@ -5,7 +5,7 @@ ghost use Rattle.req_table.specs.Memos.{IsRight};
 ghost use Rattle.reduce_up.specs.Known.{unknown, IsKeptWave};
 ghost use Rattle.reduce_up.specs.Waves.{IsEntry, AnswersWave};
 ghost use Rattle.expand_work.specs.Bounds.{most_of};
-ghost use Rattle.wave_engine.specs.Bounds.{ArePast};
+ghost use Rattle.wave_engine.specs.Bounds.{AreAtMost, ArePast};
 
 use crate::team::Workers;
 use crate::workspace::Workspace;
@@ -50,6 +50,7 @@ impl<'a, R: Threads + Wait + Sync, G: Gate> Runner<'a, R, G> {
         requires right { IsRight store.old memo.old }
         ensures wave { AnswersWave store.old entries.now (unknown memo.old entries.now) result store.new }
         ensures past { result ≡ Err WaveFault.TooManyRequests → ArePast (G.bound self.old.workspace.team.gate.now) store.old (unknown memo.old entries.now) }
+        ensures within_bound { most_of (G.bound self.old.workspace.team.gate.now) < 2 ^ 64 - 1 → OnOk result (AreAtMost (most_of (G.bound self.old.workspace.team.gate.now)) store.old (unknown memo.old entries.now)) }
         ensures alone { most_of (G.bound self.old.workspace.team.gate.now) < 2 ^ 64 - 1 → result ≢ Err WaveFault.NoWorker }
         ensures gate { self.new.workspace.team.gate ≡ self.old.workspace.team.gate }
         ensures kept { IfOk result (λ answers. IsKeptWave memo.old entries.now answers.items memo.new) }
@@ -129,6 +130,7 @@ impl<'a, R: Threads + Wait + Sync, G: Gate> Engine<'a, R, G> {
         requires right { IsRight store.old self.old.held }
         ensures wave { AnswersWave store.old entries.now (unknown self.old.held entries.now) result store.new }
         ensures past { result ≡ Err WaveFault.TooManyRequests → ArePast self.old.bound store.old (unknown self.old.held entries.now) }
+        ensures within_bound { most_of self.old.bound < 2 ^ 64 - 1 → OnOk result (AreAtMost (most_of self.old.bound) store.old (unknown self.old.held entries.now)) }
         ensures alone { most_of self.old.bound < 2 ^ 64 - 1 → result ≢ Err WaveFault.NoWorker }
         ensures kept { IfOk result (λ answers. IsKeptWave self.old.held entries.now answers.items self.new.held) }
         ensures refused { OnErr result (self.new ≡ self.old) }

@@ -5,7 +5,7 @@ ghost use Rattle.req_table.specs.Memos.{IsRight};
 ghost use Rattle.reduce_up.specs.Known.{unknown, IsKeptWave};
 ghost use Rattle.reduce_up.specs.Waves.{IsEntry, AnswersWave};
 ghost use Rattle.expand_work.specs.Bounds.{most_of};
-ghost use Rattle.wave_engine.specs.Bounds.{ArePast};
+ghost use Rattle.wave_engine.specs.Bounds.{AreAtMost, ArePast};
 
 use crate::engine::Runner;
 use crate::team::Workers;
@@ -32,6 +32,7 @@ pub fn wave<R: Threads + Wait + Sync, G: Gate>(
     requires right { IsRight store.old memo.old }
     ensures wave { AnswersWave store.old entries.now (unknown memo.old entries.now) result store.new }
     ensures past { result ≡ Err WaveFault.TooManyRequests → ArePast (G.bound gate.now) store.old (unknown memo.old entries.now) }
+    ensures within_bound { most_of (G.bound gate.now) < 2 ^ 64 - 1 → OnOk result (AreAtMost (most_of (G.bound gate.now)) store.old (unknown memo.old entries.now)) }
     ensures alone { most_of (G.bound gate.now) < 2 ^ 64 - 1 → result ≢ Err WaveFault.NoWorker }
     ensures kept { IfOk result (λ answers. IsKeptWave memo.old entries.now answers.items memo.new) }
     ensures refused { OnErr result (memo.new ≡ memo.old) }

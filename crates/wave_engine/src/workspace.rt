@@ -5,7 +5,7 @@ ghost use Rattle.dd_store.specs.declared.reference.Ref.{Ref as RefValue};
 ghost use Rattle.dd_store.specs.Nodes.{IsSound};
 ghost use Rattle.reduce_up.specs.Waves.{IsEntry, AnswersWave};
 ghost use Rattle.expand_work.specs.Bounds.{most_of};
-ghost use Rattle.wave_engine.specs.Bounds.{AreMoreThan, ArePast};
+ghost use Rattle.wave_engine.specs.Bounds.{AreMoreThan, AreAtMost, ArePast};
 ghost use Rattle.wave_engine.specs.Down.{IsDown};
 ghost use Rattle.wave_engine.specs.Up.{ComesTo};
 
@@ -79,6 +79,7 @@ fn go_down(
     ensures served { IfErr result (λ e. e ≢ WaveFault.NoWorker) }
     ensures bounded { result ≡ Err WaveFault.TooManyRequests → bound < 2 ^ 64 - 1 }
     ensures past { result ≡ Err WaveFault.TooManyRequests → AreMoreThan bound store.now entries.now }
+    ensures within_bound { bound < 2 ^ 64 - 1 → IfOk result (λ v. v ≡ store.now.levels → AreAtMost bound store.now entries.now) }
 {
     let levels = store.levels();
     down.requests.restart(alloc, levels)?;
@@ -176,6 +177,7 @@ impl<'a, R: Threads + Wait + Sync, G: Gate> Workspace<'a, R, G> {
         requires operands { All (IsEntry store.old) entries.now }
         ensures wave { AnswersWave store.old entries.now entries.now result store.new }
         ensures past { result ≡ Err WaveFault.TooManyRequests → ArePast (G.bound self.old.team.gate.now) store.old entries.now }
+        ensures within_bound { most_of (G.bound self.old.team.gate.now) < 2 ^ 64 - 1 → OnOk result (AreAtMost (most_of (G.bound self.old.team.gate.now)) store.old entries.now) }
         ensures alone { most_of (G.bound self.old.team.gate.now) < 2 ^ 64 - 1 → result ≢ Err WaveFault.NoWorker }
         ensures gate { self.new.team.gate ≡ self.old.team.gate }
     {

@@ -6,7 +6,7 @@ use Rattle.req_table.specs.declared.placed.Placed.{Placed}
 use Rattle.wave_engine.specs.Places.{IsNextLevel}
 use Rattle.wave_engine.specs.Down.{AreExpanded}
 use Rattle.wave_engine.proofs.Placing.{level_more, levels_passed}
-use Rattle.wave_engine.proofs.Counting.{more_counted, too_many}
+use Rattle.wave_engine.proofs.Counting.{more_counted, too_many, all_counted}
 use Rattle.wave_engine.proofs.down.expand.Goals.{else-bound-lt18446744073709551615-via-then-bound-lt18446744073709551615+else-count-left, else-bound-lt18446744073709551615-via-else-bound-lt18446744073709551615}
 use Rattle.wave_engine.proofs.down.expand.Goals as goal
 
@@ -65,8 +65,8 @@ loop-next-preserved c =
         | else-bound-lt18446744073709551615-via-then-bound-lt18446744073709551615+else-count-left w ↦
             let fits : c.count-count.result ≤ c.loop-next.left = let over = w.if-count-left.false in grind (arith, over) in
             let left : c.saturating_sub-left.result ≡ c.loop-next.left - c.count-count.result = c.saturating_sub-left.ensures in
-            more_counted S es T e.admitted c.args.bound c.loop-next.left c.loop-next.level (c.loop-next.invariant.counted bounded) next h.0 c.count-count.ensures.once
-            c.count-count.result c.saturating_sub-left.result c.count-count.ensures.value (omega (arith, fits, left))
+            more_counted S es T e.admitted c.args.bound c.loop-next.left c.loop-next.level (c.loop-next.invariant.counted bounded) next h.0 c.count-count.ensures.once h.3
+            c.expand_level.new.requests c.in_ok-expand_level.ensures.expanded.above c.count-count.result c.saturating_sub-left.result c.count-count.ensures.value (omega (arith, fits, left))
         | else-bound-lt18446744073709551615-via-else-bound-lt18446744073709551615 w ↦ absurd (let free = w.if-bound-lt18446744073709551615.false in grind (arith, free, bounded))
       ];
       expanded = level_more S es ps next T rows fit e c.expand_level.new.requests c.expand_level.new.pairs c.in_ok-expand_level.ensures.expanded;
@@ -80,3 +80,13 @@ returns-clause-expanded c =
     let T : List (List Key) = c.loop-next.requests in
     let rows : List (List (Placed × Placed)) = c.loop-next.rows.items in
     levels_passed S es ps c.loop-next.level c.levels-levels.result T rows c.loop-next.invariant.expanded (λ w q k le lt h. c.in_default.ensures w q k le h)
+
+pub returns-clause-within_bound : goal.returns-clause-within_bound
+returns-clause-within_bound c = λ bounded same.
+    let S : Nodes = c.args.store.now in
+    let es : List Entry = c.args.entries.now in
+    let ps : List Placed = c.args.roots.now in
+    let T : List (List Key) = c.loop-next.requests in
+    let rows : List (List (Placed × Placed)) = c.loop-next.rows.items in
+    let e : AreExpanded S es ps S.levels T rows = levels_passed S es ps c.loop-next.level S.levels T rows c.loop-next.invariant.expanded (λ w q k le lt h. c.in_default.ensures w q k le h) in
+    all_counted S es ps T rows e c.args.bound c.loop-next.left c.loop-next.level (c.loop-next.invariant.counted bounded) c.in_default.ensures
