@@ -1,21 +1,26 @@
 -- The answers of a wave of conjunctions.
-use Rattle.std.proofs.Common.{◌≡◌, ◌∙◌, ap, sym, ℕ, ◌+◌, ◌<◌, List, [], ◌∷◌, ◌++◌, length, get_or, drop, append_assoc, All, subst, Option, None, Some}
+use Rattle.std.proofs.Common.{◌≡◌, ◌∙◌, refl, ap, sym, Bool, ℕ, ◌+◌, ◌<◌, List, [], ◌∷◌, ◌++◌, length, get_or, drop, append_assoc, All, subst, Option, None, Some}
 use Rattle.std.specs.Prelude.{Contains}
+use Rattle.std.specs.Map.{lookup}
+use Rattle.std.specs.Option.{option_map}
 use Rattle.std.proofs.lemmas.List.{drop_more}
 use Rattle.dd_store.specs.declared.reference.Ref.{Ref}
+use Rattle.dd_store.specs.Marks.{mark_by}
 use Rattle.dd_store.specs.Nodes.{Nodes}
 use Rattle.dd_store.specs.View.{Has}
 use Rattle.req_table.specs.declared.Op.TheVariants.{And}
 use Rattle.req_table.specs.declared.Key.{Key}
-use Rattle.req_table.specs.Keys.{wave_of}
-use Rattle.req_table.specs.Memos.{Held}
+use Rattle.req_table.specs.Keys.{normal_of, wave_of}
+use Rattle.req_table.specs.Memos.{Held, or_held}
 use Rattle.req_table.specs.Reached.{IsReached, root, child}
+use Rattle.req_table.specs.Short.{short_of}
 use Rattle.req_table.specs.Wave.{Wave}
-use Rattle.reduce_up.specs.Known.{unknown}
-use Rattle.reduce_up.specs.Waves.{Entry, IsEntry, AnswersEach, requests_of}
+use Rattle.req_table.specs.contracts.KeyPartialEq.TheImpl.{eq-value}
+use Rattle.reduce_up.specs.Known.{known_entry, unless_known, unknown}
+use Rattle.reduce_up.specs.Waves.{Entry, IsEntry, AnswersEach, request_of, requests_of}
 use Rattle.reduce_up.proofs.Known.{unknown_is}
 use Rattle.reduce_up.proofs.Rooted.{of_entry, to_request}
-use Rattle.wave_engine.specs.Bounds.{ArePast}
+use Rattle.wave_engine.specs.Bounds.{AreAtMost, ArePast}
 use Rattle.gate_plan.specs.Conjoining.{conjunctions, AreConjoined}
 use Rattle.gate_plan.proofs.Picking.{all_of}
 use Rattle.gate_plan.proofs.Together.{of_map}
@@ -62,3 +67,23 @@ past_all (Some n) S m es past = record {
   reached = λ k c. reached_more (wave_of S 1) (requests_of (unknown m es)) (requests_of es) (unknown_requests m es) k (past.reached k c);
   more = past.more;
 }
+
+-- where nothing is held, the entries of which nothing is known have the requests of all
+requests_unknown : (m : Held) (es : List Entry) → m.pairs ≡ [] → requests_of (unknown m es) ≡ requests_of es
+requests_unknown m [] empty = refl
+requests_unknown m (e ∷ es) empty = by (requests_unknown m es empty) (short_of e.0 e.1 e.2) refl
+  where
+    n : Key × Bool
+    n = normal_of e.0 e.1 e.2
+
+    by : requests_of (unknown m es) ≡ requests_of es → (o : Option Ref) → short_of e.0 e.1 e.2 ≡ o → requests_of (unless_known (known_entry m e) e ++ unknown m es) ≡ request_of (short_of e.0 e.1 e.2) e ++ requests_of es
+    by rest None h =
+        let none : known_entry m e ≡ None = ap (or_held m n) h ∙ ap (λ pairs. option_map (mark_by n.1) (lookup (eq-value.it n.0) pairs)) empty in
+        ap (λ o. requests_of (unless_known o e ++ unknown m es)) none ∙ ap (λ ks. request_of (short_of e.0 e.1 e.2) e ++ ks) rest
+    by rest (Some r) h =
+        let some : known_entry m e ≡ Some r = ap (or_held m n) h in
+        ap (λ o. requests_of (unless_known o e ++ unknown m es)) some ∙ rest ∙ sym (ap (λ o. request_of o e ++ requests_of es) h)
+
+-- so at most as many are reached from all
+pub at_most_all : (n : ℕ) (S : Nodes) (m : Held) (es : List Entry) → m.pairs ≡ [] → AreAtMost n S (unknown m es) → AreAtMost n S es
+at_most_all n S m es empty few requests once reached = few requests once (λ k c. subst (λ ks. IsReached (wave_of S 1) ks k) (sym (requests_unknown m es empty)) (reached k c))

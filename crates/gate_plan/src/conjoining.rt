@@ -5,7 +5,7 @@ ghost use Rattle.dd_store.specs.View.{Has};
 ghost use Rattle.expand_work.specs.Bounds.{most_of};
 ghost use Rattle.reduce_up.specs.Reducing.{AddsDescribed};
 ghost use Rattle.reduce_up.specs.Waves.{IsWanted, IsWaveFault, IsWithinLimit};
-ghost use Rattle.wave_engine.specs.Bounds.{ArePast};
+ghost use Rattle.wave_engine.specs.Bounds.{AreAtMost, ArePast};
 ghost use Rattle.gate_plan.specs.Conjoining.{AreConjoined, conjunctions};
 
 use dd_store::{Ref, Store};
@@ -56,6 +56,8 @@ pub fn conjoin<R: Threads + Wait + Sync, G: Gate>(
     ensures fault { IfErr result (IsWaveFault store.old (conjunctions references.now given) store.new) }
     // The wave is refused for its requests only where it reaches more than the gate allows.
     ensures past { result ≡ Err WaveFault.TooManyRequests → ArePast (G.bound gate.now) store.old (conjunctions references.now given) }
+    // A wave that was done reached no more than the gate allows.
+    ensures within_bound { most_of (G.bound gate.now) < 2 ^ 64 - 1 → OnOk result (AreAtMost (most_of (G.bound gate.now)) store.old (conjunctions references.now given)) }
     // Where the gate sets a bound, no worker is wanted.
     ensures alone { most_of (G.bound gate.now) < 2 ^ 64 - 1 → result ≢ Err WaveFault.NoWorker }
 {

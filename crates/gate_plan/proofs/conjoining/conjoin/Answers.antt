@@ -1,9 +1,10 @@
-use Rattle.std.proofs.Common.{rules, ◌≡◌, ◌∙◌, List, Err, subst}
+use Rattle.std.proofs.Common.{rules, ◌≡◌, ◌<◌, ◌-◌, ◌^◌, ◌∙◌, List, Err, subst}
 use Rattle.expand_work.specs.declared.fault.WaveFault.TheVariants.{TooManyRequests}
-use Rattle.wave_engine.specs.Bounds.{ArePast}
+use Rattle.expand_work.specs.Bounds.{most_of}
+use Rattle.wave_engine.specs.Bounds.{AreAtMost, ArePast}
 use Rattle.gate_plan.specs.Conjoining.{conjunctions}
 use Rattle.reduce_up.specs.Waves.{Entry, AnswersEach, IsWaveFault, IsWithinLimit}
-use Rattle.gate_plan.proofs.Conjoined.{conjoined, entries_known, past_all}
+use Rattle.gate_plan.proofs.Conjoined.{conjoined, entries_known, past_all, at_most_all}
 use Rattle.reduce_up.proofs.Known.{fault_of_all, within_all}
 use Rattle.gate_plan.proofs.conjoining.conjoin.Goals as goal
 
@@ -32,3 +33,10 @@ returns-clause-past g c =
     subst (ArePast c.in-Ok-new.engine.bound c.args.store.now) (c.as_slice.ensures.value ∙ c.in-Ok.ensures)
     (past_all c.in-Ok-new.engine.bound c.args.store.now c.in-Ok-new.engine.held c.as_slice.result.now (c.wave.ensures.past refused)) in
     search (rules, past)
+
+pub returns-in-Ok-wave-clause-within_bound : goal.returns-in-Ok-wave-clause-within_bound
+returns-in-Ok-wave-clause-within_bound g c =
+    let within : most_of c.in-Ok-new.engine.bound < 2 ^ 64 - 1 → AreAtMost (most_of c.in-Ok-new.engine.bound) c.args.store.now (conjunctions c.args.references.now c.args.given) = λ bounded.
+    subst (AreAtMost (most_of c.in-Ok-new.engine.bound) c.args.store.now) (c.as_slice.ensures.value ∙ c.in-Ok.ensures)
+    (at_most_all (most_of c.in-Ok-new.engine.bound) c.args.store.now c.in-Ok-new.engine.held c.as_slice.result.now c.in-Ok-new.ensures.empty (c.in-Ok-wave.ensures.within_bound bounded)) in
+    search (rules, within)
