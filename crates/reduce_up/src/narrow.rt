@@ -8,11 +8,9 @@ ghost use Rattle.reduce_up.specs.Team.{MayReadPart, MayReduceLevel, AnswersLevel
 
 use crate::team::{Team, resolve};
 use dd_store::{Ref, Store, StoreFault};
-use std::alloc::Global;
 
 /// The diagrams of a sender's records of a level, in the order in which they stand; missing nodes are made.
 fn make_part(
-    alloc: Global,
     store: &mut Store,
     team: Team<'_>,
     sender: u32,
@@ -32,7 +30,7 @@ fn make_part(
     ensures fault { IfErr result (λ e. IsRowRefused (told team.entry.workers team.entry.parts.now team.entry.answers.now) store.new level (team_row team.entry.workers team.entry.parts.now level) e) }
 {
     let row = team.parts.children(sender, level);
-    let Ok(mut answers) = Vec::with_capacity(alloc, row.len()) else {
+    let Ok(mut answers) = Vec::with_capacity(team.alloc, row.len()) else {
         return Err(StoreFault::OutOfMemory);
     };
     let mut next = row.len();
@@ -55,7 +53,6 @@ fn make_part(
 
 /// The diagrams of a level's records, worker by worker; missing nodes are made.
 pub(crate) fn make_level(
-    alloc: Global,
     store: &mut Store,
     team: Team<'_>,
     level: u16,
@@ -64,12 +61,12 @@ pub(crate) fn make_level(
     requires { MayReduceLevel team.workers team.roots.now team.parts.now team.answers.now store.old level lefts.old.items }
     ensures { AnswersLevel team.entry.workers team.entry.roots.now team.entry.parts.now team.entry.answers.now store.old level result store.new lefts.new.items }
 {
-    let Ok(mut answers) = Vec::with_capacity(alloc, team.workers as usize) else {
+    let Ok(mut answers) = Vec::with_capacity(team.alloc, team.workers as usize) else {
         return Err(StoreFault::OutOfMemory);
     };
     for sender in 0..team.workers {
         let left = &mut lefts[sender as usize];
-        let part = make_part(alloc, store, team, sender, level, left)?;
+        let part = make_part(store, team, sender, level, left)?;
         if answers.push(part).is_err() {
             return Err(StoreFault::OutOfMemory);
         }

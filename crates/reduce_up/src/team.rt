@@ -19,9 +19,10 @@ use req_table::{Key, Placed, PlacedChild};
 use std::alloc::{AllocError, Global};
 use std::thread::Threads;
 
-/// What is read of a wave: what its workers ended with, the roots that they had, and the diagrams that are known.
+/// What is read of a wave: what its workers ended with, the roots that they had, and the diagrams that are known; and where memory is from.
 #[derive(Clone, Copy)]
 pub(crate) struct Team<'a> {
+    pub(crate) alloc: Global,
     pub(crate) parts: &'a Parts,
     pub(crate) roots: &'a [Key],
     pub(crate) answers: &'a Answers,
@@ -127,7 +128,6 @@ fn level_size(parts: &Parts, workers: u32, level: u16) -> usize
 /// The diagrams of a level's records, worker by worker, by threads where there are many; missing nodes are made.
 fn level_answers<R: Threads + Sync, H: Watch>(
     rt: &R,
-    alloc: Global,
     store: &mut Store,
     team: Team<'_>,
     level: u16,
@@ -138,9 +138,9 @@ fn level_answers<R: Threads + Sync, H: Watch>(
     ensures { AnswersLevel team.entry.workers team.entry.roots.now team.entry.parts.now team.entry.answers.now store.old level result store.new lefts.new.items }
 {
     if level_size(team.parts, team.workers, level) < FEWEST_SHARED {
-        return make_level(alloc, store, team, level, lefts);
+        return make_level(store, team, level, lefts);
     }
-    share_level(rt, alloc, store, team, level, lefts, watch)
+    share_level(rt, store, team, level, lefts, watch)
 }
 
 /// Puts the diagrams of a level's requests in, and sees that the store is within its limit where there are some.
@@ -164,13 +164,14 @@ fn reduce_team_level<R: Threads + Sync, H: Watch>(
         return Ok(());
     }
     let team = Team {
+        alloc: field.alloc,
         parts: field.parts,
         roots: field.roots,
         answers: &progress.answers,
         workers: field.workers,
     };
     let lefts = &mut progress.lefts;
-    let answers = match level_answers(rt, field.alloc, store, team, level, lefts, watch) {
+    let answers = match level_answers(rt, store, team, level, lefts, watch) {
         Ok(answers) => answers,
         Err(fault) => return Err(wave_fault(fault)),
     };

@@ -200,6 +200,7 @@ fn answer_team<R: Threads + Sync, H: Watch>(
     }
     let Progress { answers, mut lefts } = progress;
     let team = Team {
+        alloc: field.alloc,
         parts: field.parts,
         roots: field.roots,
         answers: &answers,

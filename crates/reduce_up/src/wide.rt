@@ -7,7 +7,7 @@ use crate::division::{Divided, Homes};
 use crate::picking::pick_all;
 use crate::team::{Team, resolve};
 use dd_store::{Ref, Store, StoreFault, Watch};
-use std::alloc::{AllocError, Global};
+use std::alloc::AllocError;
 use std::thread;
 use std::thread::Threads;
 
@@ -23,20 +23,14 @@ struct LevelRead {
 }
 
 /// Reads a sender's records of a level, from the last to the first.
-fn read_part(
-    alloc: Global,
-    team: Team<'_>,
-    sender: u32,
-    level: u16,
-    left: &[usize],
-) -> Result<Read, AllocError>
+fn read_part(team: Team<'_>, sender: u32, level: u16, left: &[usize]) -> Result<Read, AllocError>
     requires { MayReadPart team.workers team.roots.now team.parts.now team.answers.now level sender left.now }
     ensures { IfOk result (λ r. IsPartRead team.entry.workers team.entry.roots.now team.entry.parts.now team.entry.answers.now level sender r.0 r.1.items) }
 {
     let row = team.parts.children(sender, level);
-    let mut rest = Vec::with_capacity(alloc, left.len())?;
+    let mut rest = Vec::with_capacity(team.alloc, left.len())?;
     rest.extend_from_slice(left)?;
-    let mut divided = Divided::new(alloc, row.len())?;
+    let mut divided = Divided::new(team.alloc, row.len())?;
     let mut next = row.len();
     while next > 0 {
         next -= 1;
@@ -51,7 +45,6 @@ fn read_part(
 /// Reads each worker's records of a level by a thread of its own.
 fn read_all<R: Threads + Sync>(
     rt: &R,
-    alloc: Global,
     team: Team<'_>,
     level: u16,
     lefts: &[Vec<usize>],
@@ -65,14 +58,13 @@ fn read_all<R: Threads + Sync>(
         ensures { IfOk result (λ r. IsPartRead team.entry.workers team.entry.roots.now team.entry.parts.now team.entry.answers.now level sender r.0 r.1.items) }
     {
         let _workers = team.workers;
-        read_part(alloc, team, sender as u32, level, lefts[sender].as_slice())
+        read_part(team, sender as u32, level, lefts[sender].as_slice())
     };
-    thread::map_indices(rt, alloc, team.workers as usize, &read)
+    thread::map_indices(rt, team.alloc, team.workers as usize, &read)
 }
 
 /// What was read of each worker, put side by side.
 fn join_reads(
-    alloc: Global,
     team: Team<'_>,
     level: u16,
     reads: Vec<Result<Read, AllocError>>,
@@ -81,9 +73,9 @@ fn join_reads(
     ensures { IfOk result (λ r. AreDividedBy team.entry.workers team.entry.roots.now team.entry.parts.now team.entry.answers.now level team.entry.workers r.parts.items r.homes.items r.lefts.items) }
 {
     let _workers = team.workers;
-    let mut parts = Vec::new(alloc);
-    let mut homes = Vec::new(alloc);
-    let mut lefts = Vec::new(alloc);
+    let mut parts = Vec::new(team.alloc);
+    let mut homes = Vec::new(team.alloc);
+    let mut lefts = Vec::new(team.alloc);
     for read in reads {
         let (divided, left) = read?;
         parts.push(divided.lists)?;
@@ -100,7 +92,6 @@ fn join_reads(
 /// Reads all records of a level.
 fn read_level<R: Threads + Sync>(
     rt: &R,
-    alloc: Global,
     team: Team<'_>,
     level: u16,
     lefts: &[Vec<usize>],
@@ -109,14 +100,13 @@ fn read_level<R: Threads + Sync>(
     ensures { IfOk result (λ r. AreDividedBy team.entry.workers team.entry.roots.now team.entry.parts.now team.entry.answers.now level team.entry.workers r.parts.items r.homes.items r.lefts.items) }
 {
     let _workers = team.workers;
-    let reads = read_all(rt, alloc, team, level, lefts)?;
-    join_reads(alloc, team, level, reads)
+    let reads = read_all(rt, team, level, lefts)?;
+    join_reads(team, level, reads)
 }
 
 /// The diagrams of a level's records, worker by worker; missing nodes are made.
 pub(crate) fn share_level<R: Threads + Sync, H: Watch>(
     rt: &R,
-    alloc: Global,
     store: &mut Store,
     team: Team<'_>,
     level: u16,
@@ -126,13 +116,13 @@ pub(crate) fn share_level<R: Threads + Sync, H: Watch>(
     requires { MayReduceLevel team.workers team.roots.now team.parts.now team.answers.now store.old level lefts.old.items }
     ensures { AnswersLevel team.entry.workers team.entry.roots.now team.entry.parts.now team.entry.answers.now store.old level result store.new lefts.new.items }
 {
-    let Ok(read) = read_level(rt, alloc, team, level, lefts.as_slice()) else {
+    let Ok(read) = read_level(rt, team, level, lefts.as_slice()) else {
         return Err(StoreFault::OutOfMemory);
     };
     let lists = read.parts.as_slice();
     let refs = store.make_all(rt, level, lists, watch)?;
     let homes = read.homes.as_slice();
-    let Ok(answers) = pick_all(rt, alloc, lists, homes, refs.as_slice()) else {
+    let Ok(answers) = pick_all(rt, team.alloc, lists, homes, refs.as_slice()) else {
         return Err(StoreFault::OutOfMemory);
     };
     *lefts = read.lefts;
