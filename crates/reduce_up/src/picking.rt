@@ -16,6 +16,9 @@ use std::alloc::{AllocError, Global};
 use std::thread;
 use std::thread::Threads;
 
+/// Fewer diagrams are picked on the caller's thread: to start the threads that share them takes longer.
+const FEWEST_PICKED: usize = 16_384;
+
 /// The diagram at a place of a home's.
 fn diagram_at(homes: &Homes, refs: &[Vec<Ref>], home: u8, place: usize) -> Ref
     requires sixteen { length refs.now ≡ 16 }
@@ -132,7 +135,7 @@ fn join_picked(
 }
 
 /// The diagrams of all parts' records, a thread for each part.
-pub(crate) fn pick_all<R: Threads + Sync>(
+fn pick_shared<R: Threads + Sync>(
     rt: &R,
     alloc: Global,
     parts: &[Vec<Vec<(Ref, Ref)>>],
@@ -155,4 +158,54 @@ pub(crate) fn pick_all<R: Threads + Sync>(
     { pick_part(alloc, parts, part, homes, refs) };
     let picked = thread::map_indices(rt, alloc, homes.len(), &pick)?;
     join_picked(alloc, parts, homes, refs, picked)
+}
+
+/// The diagrams of all parts' records, one part after the other.
+fn pick_in_turn(
+    alloc: Global,
+    parts: &[Vec<Vec<(Ref, Ref)>>],
+    homes: &[Homes],
+    refs: &[Vec<Ref>],
+) -> Result<Vec<Vec<Ref>>, AllocError>
+    requires parts { length parts.now ≡ length homes.now }
+    requires lists { All (λ (part : VecValue (VecValue Pair GlobalValue) GlobalValue). length part.items ≡ 16) parts.now }
+    requires refs { AreRefsOf parts.now refs.now }
+    requires homes { (k : ℕ) (d : VecValue (VecValue Pair GlobalValue) GlobalValue) (h : HomesValue) → k < length homes.now → AreHomes (slice_index_or homes.now k h) (list_at (slice_index_or parts.now k d).items) }
+    ensures { IfOk result (λ answers. ArePicked parts.now homes.now refs.now (length homes.now) answers.items) }
+{
+    let mut answers = Vec::new(alloc);
+    for part in 0..homes.len() {
+        let some = pick_part(alloc, parts, part, homes, refs)?;
+        answers.push(some)?;
+    }
+    Ok(answers)
+}
+
+/// How many records there are, or as many as can be counted.
+fn records_of(homes: &[Homes]) -> usize {
+    let mut total: usize = 0;
+    for part in homes {
+        total = total.saturating_add(part.numbers.len());
+    }
+    total
+}
+
+/// The diagrams of all parts' records, by threads where there are many.
+pub(crate) fn pick_all<R: Threads + Sync>(
+    rt: &R,
+    alloc: Global,
+    parts: &[Vec<Vec<(Ref, Ref)>>],
+    homes: &[Homes],
+    refs: &[Vec<Ref>],
+) -> Result<Vec<Vec<Ref>>, AllocError>
+    requires parts { length parts.now ≡ length homes.now }
+    requires lists { All (λ (part : VecValue (VecValue Pair GlobalValue) GlobalValue). length part.items ≡ 16) parts.now }
+    requires refs { AreRefsOf parts.now refs.now }
+    requires homes { (k : ℕ) (d : VecValue (VecValue Pair GlobalValue) GlobalValue) (h : HomesValue) → k < length homes.now → AreHomes (slice_index_or homes.now k h) (list_at (slice_index_or parts.now k d).items) }
+    ensures { IfOk result (λ answers. ArePicked parts.now homes.now refs.now (length homes.now) answers.items) }
+{
+    if records_of(homes) < FEWEST_PICKED {
+        return pick_in_turn(alloc, parts, homes, refs);
+    }
+    pick_shared(rt, alloc, parts, homes, refs)
 }

@@ -112,7 +112,7 @@ pub(crate) struct Progress {
 }
 
 /// How many records of a level there are, or as many as can be counted.
-fn level_size(parts: &Parts, workers: u32, level: u16) -> usize
+pub(crate) fn level_size(parts: &Parts, workers: u32, level: u16) -> usize
     requires many { length parts.now.rows ≡ workers }
     requires levels { (k : ℕ) → k < workers → level < length (slice_index_or parts.now.rows k []) }
     ensures none { result ≡ 0 → team_row workers parts.now level ≡ [] }

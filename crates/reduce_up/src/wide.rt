@@ -1,15 +1,19 @@
 //! A level with many records, which threads reduce in three steps: each reads a worker's records and divides the pairs of their
-//! children by shard, the store makes the nodes of all pairs, and each picks its worker's diagrams. No pair is sought twice.
+//! children by shard, the store makes the nodes of all pairs, and each picks its worker's diagrams. No pair is sought twice. Where a level
+//! has too few records for the start of threads to pay, the caller's thread reads and picks for all workers.
 ghost use Rattle.std.specs.Prelude.{◌<◌, IfOk};
 ghost use Rattle.reduce_up.specs.Team.{MayReadPart, MayReadLevel, MayReduceLevel, AnswersLevel, AreRead, AreDividedBy, IsPartRead};
 
 use crate::division::{Divided, Homes};
 use crate::picking::pick_all;
-use crate::team::{Team, resolve};
+use crate::team::{Team, level_size, resolve};
 use dd_store::{Ref, Store, StoreFault, Watch};
 use std::alloc::AllocError;
 use std::thread;
 use std::thread::Threads;
+
+/// A level with fewer records is read on the caller's thread: to start the threads that share it takes longer.
+const FEWEST_READ: usize = 8192;
 
 /// What is read of a worker's records of a level, and how many requests of each worker are still to be read of it.
 type Read = (Divided, Vec<usize>);
@@ -89,7 +93,28 @@ fn join_reads(
     })
 }
 
-/// Reads all records of a level.
+/// Reads each worker's records of a level, one worker after the other.
+fn read_in_turn(team: Team<'_>, level: u16, lefts: &[Vec<usize>]) -> Result<LevelRead, AllocError>
+    requires { MayReadLevel team.workers team.roots.now team.parts.now team.answers.now level lefts.now }
+    ensures { IfOk result (λ r. AreDividedBy team.entry.workers team.entry.roots.now team.entry.parts.now team.entry.answers.now level team.entry.workers r.parts.items r.homes.items r.lefts.items) }
+{
+    let mut parts = Vec::new(team.alloc);
+    let mut homes = Vec::new(team.alloc);
+    let mut rest = Vec::new(team.alloc);
+    for sender in 0..team.workers {
+        let (divided, left) = read_part(team, sender, level, lefts[sender as usize].as_slice())?;
+        parts.push(divided.lists)?;
+        homes.push(divided.homes)?;
+        rest.push(left)?;
+    }
+    Ok(LevelRead {
+        parts,
+        homes,
+        lefts: rest,
+    })
+}
+
+/// Reads all records of a level, by threads where there are many.
 fn read_level<R: Threads + Sync>(
     rt: &R,
     team: Team<'_>,
@@ -99,7 +124,9 @@ fn read_level<R: Threads + Sync>(
     requires { MayReadLevel team.workers team.roots.now team.parts.now team.answers.now level lefts.now }
     ensures { IfOk result (λ r. AreDividedBy team.entry.workers team.entry.roots.now team.entry.parts.now team.entry.answers.now level team.entry.workers r.parts.items r.homes.items r.lefts.items) }
 {
-    let _workers = team.workers;
+    if level_size(team.parts, team.workers, level) < FEWEST_READ {
+        return read_in_turn(team, level, lefts);
+    }
     let reads = read_all(rt, team, level, lefts)?;
     join_reads(team, level, reads)
 }
