@@ -1,6 +1,7 @@
 //! The workers of a wave in threads.
 #![tactic(auto)]
 
+mod crew;
 mod expand;
 mod expanded;
 mod fault;
@@ -17,6 +18,7 @@ mod table;
 mod team;
 mod worker;
 
+pub use crew::{Crew, Workers};
 pub use expanded::{Expanded, expand_all};
 pub use fault::{WaveFault, WorkFault};
 pub use gate::{Free, Gate};

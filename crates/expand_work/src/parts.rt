@@ -1,5 +1,5 @@
 //! All requests that the roots of a wave ask for, as the workers in threads recorded them: nothing is put together.
-ghost use Rattle.std.specs.Prelude.{◌≡◌, ◌≢◌, ◌<◌, ◌≤◌, length, slice_index_or, All, IfOk, IfErr, []};
+ghost use Rattle.std.specs.Prelude.{◌≡◌, ◌≢◌, ◌<◌, length, slice_index_or, All, IfOk, IfErr, []};
 ghost use Rattle.req_table.specs.Keys.{IsKey};
 ghost use Rattle.expand_work.specs.Expanded.{row_of};
 ghost use Rattle.expand_work.specs.Gathered.{AreParts, noted_of};
@@ -7,11 +7,10 @@ ghost use Rattle.expand_work.specs.Lean.{lean_row};
 
 use crate::merge::split_parts;
 use crate::team::{Wave, run_workers};
-use crate::{Gate, Space, Spaces, WaveFault};
+use crate::{Crew, Gate, Space, Spaces, WaveFault};
 use dd_store::Store;
 use lane_queue::Lanes;
 use req_table::{Key, Placed};
-use std::alloc::Global;
 use std::marker::Model;
 use std::mem;
 use std::snapshot::Snapshot;
@@ -68,21 +67,19 @@ impl Parts {
 /// n-th is found again by this number. The workers work in the memory of an earlier wave as far as there is some; after a refusal it is
 /// given back.
 pub fn expand_parts<R: Threads + Wait + Sync, G: Gate>(
-    rt: &R,
-    alloc: Global,
+    crew: &Crew<'_, R, G>,
     store: &Store,
     roots: &[Key],
-    workers: u32,
-    gate: &G,
     spaces: &mut Spaces,
 ) -> Result<Parts, WaveFault>
-    requires workers { (0 < workers) × (workers ≤ 16) }
     requires roots { All (IsKey store.now) roots.now }
-    ensures parts { IfOk result (λ p. AreParts store.now workers roots.now p) }
+    ensures parts { IfOk result (λ p. AreParts store.now crew.now.workers.count roots.now p) }
     ensures fault { IfErr result (λ f. f ≢ WaveFault.Full) }
     ensures unbounded { IfErr result (λ f. f ≢ WaveFault.TooManyRequests) }
 {
     let _ = store.levels();
+    let alloc = crew.alloc;
+    let workers = crew.workers.count();
     let (lanes, ports) = Lanes::new(alloc, store, workers)?;
     let wave = Wave {
         alloc,
@@ -91,9 +88,9 @@ pub fn expand_parts<R: Threads + Wait + Sync, G: Gate>(
         roots,
     };
     let used = mem::replace(spaces, Spaces::new(alloc));
-    let parts = run_workers(rt, wave, ports, used, gate)?;
+    let parts = run_workers(crew.rt, wave, ports, used, crew.gate)?;
     let (ports, filled) = split_parts(alloc, parts)?;
-    let _ = lanes.settle(rt, ports)?;
+    let _ = lanes.settle(crew.rt, ports)?;
     Ok(Parts {
         spaces: filled,
         store: Snapshot::of(store),

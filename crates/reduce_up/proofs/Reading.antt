@@ -400,6 +400,11 @@ next_pair R row i r pairs new q l r-is is z h =
     (subst (λ xs. AllZip R xs (reverse (pairs ++ q ∷ []))) (sym (drop_more row i r l))
     (subst (λ ys. AllZip R (get_or row i r ∷ drop (i + 1) row) ys) (sym (reverse-append pairs (q ∷ []))) (subst (λ y. R y q) r-is h, z)))
 
+-- the same of an element that is only known to be in the row
+pub next_root : {A B : Type 0} (R : A → B → Type 0) (row : List A) (i : ℕ) (pairs new : List B) (q : B) → i < length row → new ≡ pairs ++ q ∷ [] → AllZip R (drop (i + 1) row) (reverse pairs) → ((d : A) → R (get_or row i d) q) → AllZip R (drop i row) (reverse new)
+next_root R [] i pairs new q l is z h = absurd (omega (arith, l))
+next_root R (x ∷ xs) i pairs new q l is z h = next_pair R (x ∷ xs) i (get_or (x ∷ xs) i x) pairs new q l (get_or_default (x ∷ xs) i x (get_or (x ∷ xs) i x) l) is z (h x)
+
 pub no_pairs : {A B : Type 0} (R : A → B → Type 0) (row : List A) (pairs : List B) → pairs ≡ [] → AllZip R (drop (length row) row) (reverse pairs)
 no_pairs R row pairs is = subst (λ ys. AllZip R (drop (length row) row) (reverse ys)) (sym is) (subst (λ xs. AllZip R xs []) (sym (drop-length row)) tt)
 

@@ -7,15 +7,15 @@ ghost use Rattle.req_table.specs.Memos.{IsRight};
 ghost use Rattle.expand_work.specs.Gathered.{AreParts};
 ghost use Rattle.reduce_up.specs.Known.{unknown, IsKeptWave};
 ghost use Rattle.reduce_up.specs.Reducing.{HasAnswer};
-ghost use Rattle.reduce_up.specs.Waves.{IsEntry, AnswersWave, IsClosureOf, requests_of, IsTakenFrom};
+ghost use Rattle.reduce_up.specs.Waves.{IsEntry, AnswersWave, IsClosureOf, entries_for, requests_of, IsTakenFrom};
 
 use crate::levels::reduce;
 use crate::results::Results;
-use crate::roots::team_answers;
+use crate::roots::root_answers;
 use crate::seeking::Sought;
 use crate::team::{Field, Progress, Team, begin, reduce_team};
 use dd_store::{Ref, Store, Watch};
-use expand_work::{Free, Gate, Spaces, WaveFault, expand_parts};
+use expand_work::{Crew, Free, Gate, Spaces, WaveFault, expand_parts};
 use req_table::requests::{normal, short};
 use req_table::{Key, Memo, Op, Records};
 use std::alloc::{AllocError, Global};
@@ -175,19 +175,17 @@ pub fn wave_one<R: Threads + Sync>(
     }
 }
 
-/// The diagram of each operation, by reduction of what the workers recorded, each for itself.
+/// The diagram of each root, by reduction of what the workers recorded, each for itself.
 fn answer_team<R: Threads + Sync, H: Watch>(
     rt: &R,
     store: &mut Store,
-    entries: &[(Op, Ref, Ref)],
     field: Field<'_>,
     watch: &H,
 ) -> Result<Vec<Ref>, WaveFault>
-    requires operands { All (IsEntry store.old) entries.now }
+    requires roots { All (IsKey store.old) field.roots.now }
     requires some { 0 < field.workers }
-    requires roots { field.roots.now ≡ requests_of entries.now }
     requires parts { AreParts store.old field.workers field.roots.now field.parts.now }
-    ensures wave { AnswersWave store.old entries.now entries.now result store.new }
+    ensures wave { AnswersWave store.old (entries_for field.entry.roots.now) (entries_for field.entry.roots.now) result store.new }
     ensures unbounded { IfErr result (λ e. e ≢ WaveFault.TooManyRequests) }
 {
     let _ = store.levels();
@@ -206,47 +204,40 @@ fn answer_team<R: Threads + Sync, H: Watch>(
         answers: &answers,
         workers: field.workers,
     };
-    match team_answers(field.alloc, store, entries, team, &mut lefts) {
+    match root_answers(store, team, &mut lefts) {
         Ok(found) => Ok(found),
         Err(_) => Err(WaveFault::OutOfMemory),
     }
 }
 
-/// The diagram of each operation on its two operands, without a memo.
+/// The diagram of each request, without a memo.
 ///
-/// The requests of all operations together are expanded by workers in threads, and reduced from the last level up (Ochi,
+/// The requests, and all that they ask for, are expanded by workers in threads, and reduced from the last level up (Ochi,
 /// Yasuoka and Yajima 1993). NoWorker is answered where a worker's thread could not be started;
 /// what no other thread could be started for, the caller's thread does. The workers work in the memory of an earlier wave as far as there
 /// is some, and leave theirs for the next; after a refusal it is given back.
 pub fn shared_wave<R: Threads + Wait + Sync, G: Gate>(
-    rt: &R,
-    alloc: Global,
+    crew: &Crew<'_, R, G>,
     store: &mut Store,
-    entries: &[(Op, Ref, Ref)],
-    workers: u32,
-    gate: &G,
+    roots: &[Key],
     spaces: &mut Spaces,
 ) -> Result<Vec<Ref>, WaveFault>
-    requires operands { All (IsEntry store.old) entries.now }
-    requires workers { (0 < workers) × (workers ≤ 16) }
-    ensures wave { AnswersWave store.old entries.now entries.now result store.new }
+    requires roots { All (IsKey store.old) roots.now }
+    ensures wave { AnswersWave store.old (entries_for roots.now) (entries_for roots.now) result store.new }
     ensures unbounded { IfErr result (λ e. e ≢ WaveFault.TooManyRequests) }
 {
     let _ = store.levels();
-    let Ok(roots) = requests_of(alloc, entries) else {
-        return Err(WaveFault::OutOfMemory);
-    };
-    let parts = match expand_parts(rt, alloc, store, roots.as_slice(), workers, gate, spaces) {
+    let parts = match expand_parts(crew, store, roots, spaces) {
         Ok(parts) => parts,
         Err(fault) => return Err(fault),
     };
     let field = Field {
-        alloc,
+        alloc: crew.alloc,
         parts: &parts,
-        roots: roots.as_slice(),
-        workers,
+        roots,
+        workers: crew.workers.count(),
     };
-    let answers = answer_team(rt, store, entries, field, gate)?;
+    let answers = answer_team(crew.rt, store, field, crew.gate)?;
     *spaces = parts.into_spaces();
     Ok(answers)
 }

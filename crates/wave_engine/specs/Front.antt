@@ -1,16 +1,8 @@
--- What is handed to the workers: the requests from a level on, as entries, and the answers that are put in their places.
-use Rattle.std.specs.Prelude.{◌≡◌, ℕ, ◌+◌, ◌-◌, ◌<◌, ◌≤◌, List, [], ◌∷◌, ◌++◌, length, map, take, drop, slice_get, Some}
+-- What is handed to the workers: the requests from a level on, and the answers that are put in their places.
+use Rattle.std.specs.Prelude.{◌≡◌, ℕ, ◌+◌, ◌-◌, ◌<◌, ◌≤◌, List, [], ◌∷◌, ◌++◌, length, take, drop, slice_get, Some}
 use Rattle.dd_store.specs.declared.reference.Ref.{Ref}
 use Rattle.req_table.specs.declared.Key.{Key}
-use Rattle.reduce_up.specs.Waves.{Entry}
 use Rattle.wave_engine.specs.Places.{row, StandsAt}
-
--- a request as an entry
-abbrev pub entry_for : Key → Entry
-entry_for k = (k.op, k.f, k.g)
-
-abbrev pub front_of : List Key → List Entry
-front_of ks = map entry_for ks
 
 -- the lists one after the other
 abbrev pub joined : {X : Type 0} → List (List X) → List X

@@ -7,10 +7,9 @@ ghost use Rattle.reduce_up.specs.Waves.{IsEntry, AnswersWave};
 ghost use Rattle.expand_work.specs.Bounds.{most_of};
 ghost use Rattle.wave_engine.specs.Bounds.{AreAtMost, ArePast};
 
-use crate::team::Workers;
 use crate::workspace::Workspace;
 use dd_store::{Ref, Store};
-use expand_work::{Gate, WaveFault};
+use expand_work::{Gate, WaveFault, Workers};
 use reduce_up::Sought;
 use req_table::{Memo, Op};
 use std::alloc::{AllocError, Global};
@@ -31,7 +30,7 @@ pub(crate) struct Runner<'a, R, G> {
 impl<'a, R: Threads + Wait + Sync, G: Gate> Runner<'a, R, G> {
     /// A runner that has done no wave. It takes no memory yet.
     pub(crate) fn new(rt: &'a R, alloc: Global, workers: Workers, gate: &'a G) -> Self
-        ensures gate { result.workspace.team.gate.now ≡ gate.now }
+        ensures gate { result.workspace.crew.gate.now ≡ gate.now }
     {
         Runner {
             workspace: Workspace::new(rt, alloc, workers, gate),
@@ -49,10 +48,10 @@ impl<'a, R: Threads + Wait + Sync, G: Gate> Runner<'a, R, G> {
         requires operands { All (IsEntry store.old) entries.now }
         requires right { IsRight store.old memo.old }
         ensures wave { AnswersWave store.old entries.now (unknown memo.old entries.now) result store.new }
-        ensures past { result ≡ Err WaveFault.TooManyRequests → ArePast (G.bound self.old.workspace.team.gate.now) store.old (unknown memo.old entries.now) }
-        ensures within_bound { most_of (G.bound self.old.workspace.team.gate.now) < 2 ^ 64 - 1 → OnOk result (AreAtMost (most_of (G.bound self.old.workspace.team.gate.now)) store.old (unknown memo.old entries.now)) }
-        ensures alone { most_of (G.bound self.old.workspace.team.gate.now) < 2 ^ 64 - 1 → result ≢ Err WaveFault.NoWorker }
-        ensures gate { self.new.workspace.team.gate ≡ self.old.workspace.team.gate }
+        ensures past { result ≡ Err WaveFault.TooManyRequests → ArePast (G.bound self.old.workspace.crew.gate.now) store.old (unknown memo.old entries.now) }
+        ensures within_bound { most_of (G.bound self.old.workspace.crew.gate.now) < 2 ^ 64 - 1 → OnOk result (AreAtMost (most_of (G.bound self.old.workspace.crew.gate.now)) store.old (unknown memo.old entries.now)) }
+        ensures alone { most_of (G.bound self.old.workspace.crew.gate.now) < 2 ^ 64 - 1 → result ≢ Err WaveFault.NoWorker }
+        ensures gate { self.new.workspace.crew.gate ≡ self.old.workspace.crew.gate }
         ensures kept { IfOk result (λ answers. IsKeptWave memo.old entries.now answers.items memo.new) }
         ensures refused { OnErr result (memo.new ≡ memo.old) }
         ensures right { IsRight store.new memo.new }
@@ -82,7 +81,7 @@ impl<'a, R, G: Gate> Model for Engine<'a, R, G> {
 
     ghost Value = { AtRest };
 
-    ghost view = { λ e. record { held = e.memo; bound = G.bound e.runner.workspace.team.gate.now } };
+    ghost view = { λ e. record { held = e.memo; bound = G.bound e.runner.workspace.crew.gate.now } };
 }
 
 impl<'a, R: Threads + Wait + Sync, G: Gate> Engine<'a, R, G> {

@@ -5,41 +5,26 @@ ghost use Rattle.reduce_up.specs.Reducing.{AddsDescribed};
 ghost use Rattle.reduce_up.specs.Waves.{IsEntry, IsWanted, IsWaveFault};
 ghost use Rattle.wave_engine.specs.Down.{AreAdmitted};
 ghost use Rattle.wave_engine.specs.Up.{AreReducedBelow, IsWithinBelow};
-ghost use Rattle.wave_engine.specs.Front.{entry_for, front_of, keys_from, IsCopied, ArePut};
+ghost use Rattle.wave_engine.specs.Front.{keys_from, IsCopied, ArePut};
 
 use crate::lists::Answers;
 use crate::requests::Requests;
-use crate::team::Team;
 use dd_store::{Ref, Store};
-use expand_work::{Gate, Spaces, WaveFault};
+use expand_work::{Crew, Gate, Spaces, WaveFault};
 use reduce_up::shared_wave;
-use req_table::{Key, Op};
+use req_table::Key;
 use std::alloc::{AllocError, Global};
 use std::sync::Wait;
 use std::thread::Threads;
 
-/// Adds requests to a list of entries.
-fn list_keys(front: &mut Vec<(Op, Ref, Ref)>, keys: &[Key]) -> Result<(), AllocError>
-    ensures { OnOk result (front.new.items ≡ front.old.items ++ map entry_for keys.now) }
-{
-    for key in keys {
-        front.push((key.op(), key.f(), key.g()))?;
-    }
-    Ok(())
-}
-
-/// The requests from a level on, as entries.
-fn frontier_of(
-    alloc: Global,
-    requests: &Requests,
-    from: u16,
-) -> Result<Vec<(Op, Ref, Ref)>, AllocError>
+/// The requests from a level on.
+fn frontier_of(alloc: Global, requests: &Requests, from: u16) -> Result<Vec<Key>, AllocError>
     requires { from ≤ length requests.now }
-    ensures { IfOk result (λ es. es.items ≡ front_of (keys_from from requests.now)) }
+    ensures { IfOk result (λ ks. ks.items ≡ keys_from from requests.now) }
 {
     let mut front = Vec::new(alloc);
     for level in from as usize..requests.levels() {
-        list_keys(&mut front, requests.keys(level))?;
+        front.extend_from_slice(requests.keys(level))?;
     }
     Ok(front)
 }
@@ -85,7 +70,7 @@ fn put_answers(
 /// Has the requests from a level on answered by the workers, in one wave, and puts the answers in their places. The workers work in
 /// the memory of an earlier wave as far as there is some.
 pub(crate) fn hand_over<R: Threads + Wait + Sync, G: Gate>(
-    team: &Team<'_, R, G>,
+    crew: &Crew<'_, R, G>,
     spaces: &mut Spaces,
     store: &mut Store,
     entries: &[(Op, Ref, Ref)],
@@ -107,17 +92,14 @@ pub(crate) fn hand_over<R: Threads + Wait + Sync, G: Gate>(
 {
     let _ = store.levels();
     let _ = entries.len();
-    let Ok(front) = frontier_of(team.alloc, requests, from) else {
+    let Ok(front) = frontier_of(crew.alloc, requests, from) else {
         return Err(WaveFault::OutOfMemory);
     };
     let asked = front.as_slice();
     if asked.is_empty() {
         return Ok(());
     }
-    let workers = team.workers.count();
-    let found = match shared_wave(
-        team.rt, team.alloc, store, asked, workers, team.gate, spaces,
-    ) {
+    let found = match shared_wave(crew, store, asked, spaces) {
         Ok(found) => found,
         Err(fault) => return Err(fault),
     };

@@ -7,11 +7,10 @@ mod front;
 mod lists;
 mod marks;
 mod requests;
-mod team;
 mod up;
 mod waves;
 mod workspace;
 
 pub use engine::Engine;
-pub use team::Workers;
+pub use expand_work::Workers;
 pub use waves::wave;

@@ -8,9 +8,8 @@ ghost use Rattle.expand_work.specs.Bounds.{most_of};
 ghost use Rattle.wave_engine.specs.Bounds.{AreAtMost, ArePast};
 
 use crate::engine::Runner;
-use crate::team::Workers;
 use dd_store::{Ref, Store};
-use expand_work::{Gate, WaveFault};
+use expand_work::{Gate, WaveFault, Workers};
 use req_table::{Memo, Op};
 use std::alloc::Global;
 use std::sync::Wait;

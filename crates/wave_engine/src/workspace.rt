@@ -13,10 +13,9 @@ use crate::down::{expand, place_roots};
 use crate::front::hand_over;
 use crate::lists::{Answers, Row};
 use crate::requests::Requests;
-use crate::team::{Team, Workers};
 use crate::up::{reduce, resolve};
 use dd_store::{Ref, Store};
-use expand_work::{Gate, Spaces, WaveFault};
+use expand_work::{Crew, Gate, Spaces, WaveFault, Workers};
 use req_table::{Op, Placed};
 use std::alloc::{AllocError, Global};
 use std::sync::Wait;
@@ -129,7 +128,7 @@ fn root_answers(
 /// Does waves one after the other. It keeps the memory that they take, and nothing else: no wave knows of an earlier one.
 #[derive(Drop)]
 pub(crate) struct Workspace<'a, R, G> {
-    pub(crate) team: Team<'a, R, G>,
+    pub(crate) crew: Crew<'a, R, G>,
     down: Down,
     answers: Vec<Answers>,
     /// The memory of the workers.
@@ -139,10 +138,10 @@ pub(crate) struct Workspace<'a, R, G> {
 impl<'a, R: Threads + Wait + Sync, G: Gate> Workspace<'a, R, G> {
     /// A workspace that has done no wave. It takes no memory yet.
     pub(crate) fn new(rt: &'a R, alloc: Global, workers: Workers, gate: &'a G) -> Self
-        ensures gate { result.team.gate.now ≡ gate.now }
+        ensures gate { result.crew.gate.now ≡ gate.now }
     {
         Workspace {
-            team: Team {
+            crew: Crew {
                 rt,
                 alloc,
                 workers,
@@ -160,7 +159,7 @@ impl<'a, R: Threads + Wait + Sync, G: Gate> Workspace<'a, R, G> {
 
     /// Where its memory is from.
     pub(crate) fn alloc(&self) -> Global {
-        self.team.alloc
+        self.crew.alloc
     }
 
     /// The diagram of each operation on its two operands.
@@ -176,15 +175,15 @@ impl<'a, R: Threads + Wait + Sync, G: Gate> Workspace<'a, R, G> {
     ) -> Result<Vec<Ref>, WaveFault>
         requires operands { All (IsEntry store.old) entries.now }
         ensures wave { AnswersWave store.old entries.now entries.now result store.new }
-        ensures past { result ≡ Err WaveFault.TooManyRequests → ArePast (G.bound self.old.team.gate.now) store.old entries.now }
-        ensures within_bound { most_of (G.bound self.old.team.gate.now) < 2 ^ 64 - 1 → OnOk result (AreAtMost (most_of (G.bound self.old.team.gate.now)) store.old entries.now) }
-        ensures alone { most_of (G.bound self.old.team.gate.now) < 2 ^ 64 - 1 → result ≢ Err WaveFault.NoWorker }
-        ensures gate { self.new.team.gate ≡ self.old.team.gate }
+        ensures past { result ≡ Err WaveFault.TooManyRequests → ArePast (G.bound self.old.crew.gate.now) store.old entries.now }
+        ensures within_bound { most_of (G.bound self.old.crew.gate.now) < 2 ^ 64 - 1 → OnOk result (AreAtMost (most_of (G.bound self.old.crew.gate.now)) store.old entries.now) }
+        ensures alone { most_of (G.bound self.old.crew.gate.now) < 2 ^ 64 - 1 → result ≢ Err WaveFault.NoWorker }
+        ensures gate { self.new.crew.gate ≡ self.old.crew.gate }
     {
         let _ = store.levels();
-        let alloc = self.team.alloc;
-        let most = self.team.most_alone();
-        let bound = self.team.gate.most_requests();
+        let alloc = self.crew.alloc;
+        let most = self.crew.most_alone();
+        let bound = self.crew.gate.most_requests();
         let from = match go_down(
             alloc,
             store,
@@ -197,9 +196,9 @@ impl<'a, R: Threads + Wait + Sync, G: Gate> Workspace<'a, R, G> {
             Ok(from) => from,
             Err(fault) => return Err(fault),
         };
-        tell_requests(self.team.gate, &self.down.requests, from);
+        tell_requests(self.crew.gate, &self.down.requests, from);
         hand_over(
-            &self.team,
+            &self.crew,
             &mut self.spaces,
             store,
             entries,

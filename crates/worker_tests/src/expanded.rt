@@ -6,7 +6,7 @@ ghost use Rattle.req_table.specs.Keys.{IsKey};
 use crate::meeting::{Meeting, TURNS, wait_for};
 use crate::requests::{REACHED, five_roots, keys_of, request, store_of, store_of_six, variable};
 use dd_store::{Ref, Store, Watch};
-use expand_work::{Free, Gate, Parts, Spaces, expand_all, expand_parts};
+use expand_work::{Crew, Free, Gate, Parts, Spaces, Workers, expand_all, expand_parts};
 use lane_queue::Port;
 use req_table::requests::owner;
 use req_table::{Child, Key, Memo, Op, Record};
@@ -205,8 +205,13 @@ fn waves_in_one_memory(rt: HostRuntime) -> Result<(), Fail> {
         assert!(rt; 0 < workers && workers <= 16);
         let store = store_of(&rt, rt.alloc(), levels);
         let root = request(&rt, &store, op, 0, 2);
-        let alloc = rt.alloc();
-        let parts = expand_parts(&rt, alloc, &store, &[root], workers, &Free, &mut spaces)?;
+        let crew = Crew {
+            rt: &rt,
+            alloc: rt.alloc(),
+            workers: Workers::new(workers),
+            gate: &Free,
+        };
+        let parts = expand_parts(&crew, &store, &[root], &mut spaces)?;
         assert_eq!(rt; count_at(&parts, workers, 0), 1);
         assert_eq!(rt; count_at(&parts, workers, 2), 0);
         spaces = parts.into_spaces();

@@ -1,8 +1,8 @@
-//! Who does the waves.
+//! Who does waves by threads.
 ghost use Rattle.std.specs.Prelude.{◌≡◌, ◌<◌, ◌≤◌, ◌⊎◌, ◌-◌, ◌^◌};
 ghost use Rattle.expand_work.specs.Bounds.{most_of};
 
-use expand_work::Gate;
+use crate::Gate;
 use std::alloc::Global;
 
 /// How many workers a wave may call in: 1 to 16.
@@ -33,22 +33,22 @@ impl Workers {
     }
 }
 
-/// What does the waves of an engine: the caller's thread, and workers in threads of their own.
+/// What does waves: the caller's thread, and workers in threads of their own.
 #[derive(Drop)]
-pub(crate) struct Team<'a, R, G> {
+pub struct Crew<'a, R, G> {
     /// Starts the threads.
-    pub(crate) rt: &'a R,
-    pub(crate) alloc: Global,
+    pub rt: &'a R,
+    pub alloc: Global,
     /// How many threads a wave has that calls them in.
-    pub(crate) workers: Workers,
+    pub workers: Workers,
     /// Says when, and is told of the levels that the workers come to.
-    pub(crate) gate: &'a G,
+    pub gate: &'a G,
 }
 
-impl<'a, R, G: Gate> Team<'a, R, G> {
+impl<'a, R, G: Gate> Crew<'a, R, G> {
     /// The most requests that a level may have before the workers are called in. One worker is called in for a whole wave or never,
     /// and none for a wave whose requests are bounded.
-    pub(crate) fn most_alone(&self) -> usize
+    pub fn most_alone(&self) -> usize
         ensures bounded { most_of (G.bound self.now.gate.now) < 2 ^ 64 - 1 → result ≡ 2 ^ 64 - 1 }
         ensures one { self.now.workers.count ≡ 1 → (result ≡ 0) ⊎ (result ≡ 2 ^ 64 - 1) }
     {
