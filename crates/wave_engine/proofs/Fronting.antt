@@ -12,7 +12,7 @@ use Rattle.dd_store.proofs.Places.{slice_get-append}
 use Rattle.req_table.specs.declared.Key.{Key}
 use Rattle.req_table.specs.Keys.{IsKey, meaning}
 use Rattle.reduce_up.specs.Reducing.{AddsDescribed}
-use Rattle.reduce_up.specs.Waves.{Entry, entry_value, IsEntry, AnswersEach, IsWanted, IsWithinLimit, IsWaveFault, HasRequest}
+use Rattle.reduce_up.specs.Waves.{Entry, entry_value, entry_for, entries_for, IsEntry, AnswersEach, IsWanted, IsWithinLimit, IsWaveFault, HasRequest}
 use Rattle.expand_work.specs.declared.fault.WaveFault.{WaveFault}
 use Rattle.expand_work.specs.declared.fault.WaveFault.TheVariants as wave_faults
 use Rattle.reduce_up.proofs.Reduction.{adds_none}
@@ -21,7 +21,7 @@ use Rattle.reduce_up.proofs.Rooted.{all_of}
 use Rattle.wave_engine.specs.Places.{row, StandsAt, AreEmpty, AreNone}
 use Rattle.wave_engine.specs.Down.{AreAdmitted}
 use Rattle.wave_engine.specs.Up.{AreReducedBelow, IsWithinBelow}
-use Rattle.wave_engine.specs.Front.{entry_for, front_of, joined, keys_from, count_before, IsCopied, ArePut}
+use Rattle.wave_engine.specs.Front.{joined, keys_from, count_before, IsCopied, ArePut}
 use Rattle.wave_engine.proofs.Placing.{same_level, stands_none, in_lists, row_own, row_other}
 use Rattle.wave_engine.proofs.Wanted.{AreReachedBy, diagram_answer, adds_through, lacks_through, has_request_of}
 
@@ -136,41 +136,33 @@ pub none_put : (tables : List (List Key)) (v : ℕ) (found : List Ref) (A : List
 none_put tables v found A e = record { levels = e; counts = λ w l m. absurd (omega (arith, l, m)); placed = λ w q r l m. absurd (omega (arith, l, m)) }
 
 -- the list of requests that are handed over, as it grows
-pub list_more : (front : List Entry) (ks : List Key) (i : ℕ) (k : Key) (F G : List Entry) (e : Entry) → slice_get ks i ≡ Some k → F ≡ front ++ map entry_for (take i ks) → e ≡ entry_for k → G ≡ F ++ e ∷ [] → G ≡ front ++ map entry_for (take (i + 1) ks)
-list_more front ks i k F G e at f same g =
-    let lt : i < length ks = slice_get_within ks i k at in
-    let more : take (i + 1) ks ≡ take i ks ++ k ∷ [] = take_more ks i k lt ∙ ap (λ z. take i ks ++ z ∷ []) (get_or_from_slice_get ks i k k at) in
-    g ∙ ap (λ z. z ++ e ∷ []) f ∙ append_assoc front (map entry_for (take i ks)) (e ∷ []) ∙ ap (λ z. front ++ (map entry_for (take i ks) ++ z ∷ [])) same
-    ∙ ap (λ z. front ++ z) (sym (map-append entry_for (take i ks) (k ∷ []))) ∙ ap (λ z. front ++ map entry_for z) (sym more)
-
-pub front_more : (tables : List (List Key)) (v w : ℕ) (F G : List Entry) → v ≤ w → w < length tables → F ≡ front_of (joined (take (w - v) (drop v tables))) → G ≡ F ++ map entry_for (row tables w) → G ≡ front_of (joined (take ((w + 1) - v) (drop v tables)))
+pub front_more : (tables : List (List Key)) (v w : ℕ) (F G : List Key) → v ≤ w → w < length tables → F ≡ joined (take (w - v) (drop v tables)) → G ≡ F ++ row tables w → G ≡ joined (take ((w + 1) - v) (drop v tables))
 front_more tables v w F G le lt f g =
     let n : ℕ = w - v in
     let d : length (drop v tables) ≡ length tables - v = length-drop v tables in
     let m : (w + 1) - v ≡ n + 1 = omega (arith, le) in
     let at : row (drop v tables) n ≡ row tables w = row_drop tables v n ∙ ap (row tables) (omega (arith, le)) in
-    g ∙ ap (λ z. z ++ map entry_for (row tables w)) f
-    ∙ sym (map-append entry_for (joined (take n (drop v tables))) (row tables w))
-    ∙ ap (λ z. front_of (joined (take n (drop v tables)) ++ z)) (sym at)
-    ∙ ap front_of (sym (joined_more (drop v tables) n (omega (arith, d, le, lt))))
-    ∙ ap (λ z. front_of (joined (take z (drop v tables)))) (sym m)
+    g ∙ ap (λ z. z ++ row tables w) f
+    ∙ ap (λ z. joined (take n (drop v tables)) ++ z) (sym at)
+    ∙ sym (joined_more (drop v tables) n (omega (arith, d, le, lt)))
+    ∙ ap (λ z. joined (take z (drop v tables))) (sym m)
 
 -- what an element of a list of entries is
-of_front : (ks : List Key) (e : Entry) → Contains (front_of ks) e → (k : Key) × Contains ks k × (e ≡ entry_for k)
+of_front : (ks : List Key) (e : Entry) → Contains (entries_for ks) e → (k : Key) × Contains ks k × (e ≡ entry_for k)
 of_front [] e c = absurd (nothing {X = Entry} e c)
-of_front (k ∷ ks) e c = elim (in_cases {X = Entry} (entry_for k) e (front_of ks) c) [
+of_front (k ∷ ks) e c = elim (in_cases {X = Entry} (entry_for k) e (entries_for ks) c) [
   | inl d ↦ (k, head_in k ks, sym d)
   | inr i ↦ let m = of_front ks e i in (m.0, tail_in k m.0 ks m.1, m.2)
 ]
 
 -- answers of entries, at a place
-zip_at : (D : Entry → Ref → Type 0) (ks : List Key) (rs : List Ref) → AllZip D (front_of ks) rs → (i : ℕ) (k : Key) (r : Ref) → slice_get ks i ≡ Some k → slice_get rs i ≡ Some r → D (entry_for k) r
+zip_at : (D : Entry → Ref → Type 0) (ks : List Key) (rs : List Ref) → AllZip D (entries_for ks) rs → (i : ℕ) (k : Key) (r : Ref) → slice_get ks i ≡ Some k → slice_get rs i ≡ Some r → D (entry_for k) r
 zip_at D [] rs z i k r a b = absurd (stands_none [] i k refl a)
 zip_at D (x ∷ ks) [] z i k r a b = absurd z
 zip_at D (x ∷ ks) (y ∷ rs) z zero k r a b = let e : x ≡ k = cc in let f : y ≡ r = cc in subst (λ u. D (entry_for u) r) e (subst (D (entry_for x)) f z.0)
 zip_at D (x ∷ ks) (y ∷ rs) z (suc i) k r a b = zip_at D ks rs z.1 i k r a b
 
-pub zip_length : (D : Entry → Ref → Type 0) (ks : List Key) (rs : List Ref) → AllZip D (front_of ks) rs → length rs ≡ length ks
+pub zip_length : (D : Entry → Ref → Type 0) (ks : List Key) (rs : List Ref) → AllZip D (entries_for ks) rs → length rs ≡ length ks
 zip_length D [] [] z = refl
 zip_length D [] (y ∷ rs) z = absurd z
 zip_length D (x ∷ ks) [] z = absurd z
@@ -178,18 +170,21 @@ zip_length D (x ∷ ks) (y ∷ rs) z = ap suc (zip_length D ks rs z.1)
 
 -- Of a wave over the store S: what stands in the tables from level v on is handed over.
 module _ (S : Nodes) (w : IsSound S) (entries : List Entry) (good : All (IsEntry S) entries) (T : List (List Key)) (adm : AreAdmitted S entries T) (v : ℕ) where
-  pub front_reached : AreReachedBy S w entries good (front_of (keys_from v T))
+  pub front_reached : AreReachedBy S w entries good (entries_for (keys_from v T))
   front_reached e c =
       let m = of_front (keys_from v T) e c in
       let p = key_from T v m.0 m.1 in
       (p.0, m.0, adm.keys p.0 p.1 m.0 p.3, λ x hx. ap (λ (z : Entry). entry_value S z x) m.2)
 
-  pub front_entries : All (IsEntry S) (front_of (keys_from v T))
-  front_entries = all_of (IsEntry S) (front_of (keys_from v T)) (λ e c.
+  pub front_entries : All (IsEntry S) (entries_for (keys_from v T))
+  front_entries = all_of (IsEntry S) (entries_for (keys_from v T)) (λ e c.
       let m = of_front (keys_from v T) e c in
       let p = key_from T v m.0 m.1 in
       let i : IsKey S m.0 = (adm.keys p.0 p.1 m.0 p.3).key in
       subst (IsEntry S) (sym m.2) (i.first, i.second))
+
+  pub front_keys : All (IsKey S) (keys_from v T)
+  front_keys = all_of (IsKey S) (keys_from v T) (λ k c. let p = key_from T v k c in (adm.keys p.0 p.1 k p.3).key)
 
   none_stands : keys_from v T ≡ [] → (u q : ℕ) (k : Key) → v ≤ u → StandsAt T u q k → ⊥
   none_stands e u q k le h = stands_none (keys_from v T) (count_before v u T + q) k e (key_before T v u q k le h)
@@ -209,16 +204,16 @@ module _ (S : Nodes) (w : IsSound S) (entries : List Entry) (good : All (IsEntry
   none_within e = inr (λ u q k le h. none_stands e u q k le h, refl)
 
   -- what the workers found is put in place
-  module _ (U : Nodes) (sU : IsSound U) (adds : AddsDescribed S U (IsWanted S (front_of (keys_from v T)))) where
+  module _ (U : Nodes) (sU : IsSound U) (adds : AddsDescribed S U (IsWanted S (entries_for (keys_from v T)))) where
     pub over_adds : AddsDescribed S U (IsWanted S entries)
-    over_adds = adds_through S w entries good U (front_of (keys_from v T)) front_reached adds
+    over_adds = adds_through S w entries good U (entries_for (keys_from v T)) front_reached adds
 
-    asked : (k : Key) (ks : List Key) → keys_from v T ≡ k ∷ ks → HasRequest (front_of (keys_from v T))
+    asked : (k : Key) (ks : List Key) → keys_from v T ≡ k ∷ ks → HasRequest (entries_for (keys_from v T))
     asked k ks e =
         let p = key_from T v k (subst (λ z. Contains z k) (sym e) (head_in k ks)) in
-        (entry_for k, subst (λ z. Contains {X = Entry} (front_of z) (entry_for k)) (sym e) (head_in {X = Entry} (entry_for k) (front_of ks)), (adm.keys p.0 p.1 k p.3).key.long)
+        (entry_for k, subst (λ z. Contains {X = Entry} (entries_for z) (entry_for k)) (sym e) (head_in {X = Entry} (entry_for k) (entries_for ks)), (adm.keys p.0 p.1 k p.3).key.long)
 
-    pub over_within : (keys_from v T ≡ [] → ⊥) → IsWithinLimit S (front_of (keys_from v T)) U → count_of U ≤ U.limit
+    pub over_within : (keys_from v T ≡ [] → ⊥) → IsWithinLimit S (entries_for (keys_from v T)) U → count_of U ≤ U.limit
     over_within some (inl le) = le
     over_within some (inr n) = absurd (by (keys_from v T) refl)
       where
@@ -226,15 +221,15 @@ module _ (S : Nodes) (w : IsSound S) (entries : List Entry) (good : All (IsEntry
         by [] e = some e
         by (k ∷ ks) e = n.0 (asked k ks e)
 
-    pub over_fault : (f : WaveFault) → IsWaveFault S (front_of (keys_from v T)) U f → IsWaveFault S entries U f
+    pub over_fault : (f : WaveFault) → IsWaveFault S (entries_for (keys_from v T)) U f → IsWaveFault S entries U f
     over_fault wave_faults.OutOfMemory x = tt
     over_fault wave_faults.NoWorker x = tt
     over_fault wave_faults.TooManyRequests x = tt
     over_fault wave_faults.Full x =
         let a = front_reached x.0.0 x.0.1 in
-        (has_request_of S w entries good a.0 a.1 a.2, elim x.1 [ inl o ↦ inl o | inr f ↦ inr (f.0, lacks_through S w entries good U (front_of (keys_from v T)) front_reached f.1) ])
+        (has_request_of S w entries good a.0 a.1 a.2, elim x.1 [ inl o ↦ inl o | inr f ↦ inr (f.0, lacks_through S w entries good U (entries_for (keys_from v T)) front_reached f.1) ])
 
-    pub over_reduced : (found : List Ref) (A : List (List Ref)) → AnswersEach S (front_of (keys_from v T)) U found → ArePut T v found (length T) A → count_of U ≤ U.limit → AreReducedBelow U entries T v U A
+    pub over_reduced : (found : List Ref) (A : List (List Ref)) → AnswersEach S (entries_for (keys_from v T)) U found → ArePut T v found (length T) A → count_of U ≤ U.limit → AreReducedBelow U entries T v U A
     over_reduced found A z p within = record {
       held = sU;
       adds = adds_none U U (IsWanted U entries) refl;
@@ -247,6 +242,6 @@ module _ (S : Nodes) (w : IsSound S) (entries : List Entry) (good : All (IsEntry
       within = inl within;
     }
 
-pub front_none : (ks : List Key) → length (front_of ks) ≡ 0 → ks ≡ []
+pub front_none : (ks : List Key) → length ks ≡ 0 → ks ≡ []
 front_none [] e = refl
 front_none (k ∷ ks) e = absurd (omega (arith, e))

@@ -12,7 +12,7 @@ use crate::requests::Requests;
 use dd_store::{Ref, Store};
 use expand_work::{Crew, Gate, Spaces, WaveFault};
 use reduce_up::shared_wave;
-use req_table::Key;
+use req_table::{Key, Op};
 use std::alloc::{AllocError, Global};
 use std::sync::Wait;
 use std::thread::Threads;

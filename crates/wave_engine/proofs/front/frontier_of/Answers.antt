@@ -1,6 +1,5 @@
-use Rattle.std.proofs.Common.{◌∙◌, ◌<◌, ◌++◌, ℕ, List, length, map, ap, arith}
+use Rattle.std.proofs.Common.{◌∙◌, ◌<◌, ◌++◌, ℕ, List, length, ap, arith}
 use Rattle.req_table.specs.declared.Key.{Key}
-use Rattle.wave_engine.specs.Front.{entry_for}
 use Rattle.wave_engine.proofs.Fronting.{front_more}
 use Rattle.wave_engine.proofs.front.frontier_of.Goals as goal
 
@@ -9,7 +8,7 @@ loop-level-preserved c =
     let u : ℕ = c.loop-level.level in
     let fits : u < length c.args.requests.now = omega arith in
     record {
-      listed = front_more c.args.requests.now c.args.from u c.loop-level.front.items c.list_keys.new.front.items c.loop-level.invariant.bound fits c.loop-level.invariant.listed
-          (c.in_ok-list_keys.ensures ∙ ap (λ (z : List Key). c.loop-level.front.items ++ map entry_for z) c.keys.ensures);
+      listed = front_more c.args.requests.now c.args.from u c.loop-level.front.items c.extend_from_slice.new.self.items c.loop-level.invariant.bound fits c.loop-level.invariant.listed
+          (c.in_ok-extend_from_slice.ensures.items ∙ ap (λ (z : List Key). c.loop-level.front.items ++ z) c.keys.ensures);
       bound = omega (arith, c.loop-level.invariant.bound);
     }
