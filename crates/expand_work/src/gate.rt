@@ -31,7 +31,7 @@ pub trait Gate: Watch + Sync {
 }
 
 /// Up to so many requests of a level the caller's thread was measured, and was as fast as any number of workers.
-const WIDE: usize = 1 << 16;
+const WIDE: usize = 1 << 15;
 
 /// A gate that does nothing. A wave is the caller's alone as long as that is known to be faster.
 #[derive(Clone, Copy, Drop, Debug, PartialEq, Eq)]
