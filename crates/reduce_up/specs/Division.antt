@@ -72,3 +72,10 @@ pub record ArePicked (parts : List (Vec (Vec Pair Global) Global)) (homes : List
 pub record AreRefsOf (parts : List (Vec (Vec Pair Global) Global)) (refs : List (Vec Ref Global)) : Type 0 where
   pub sixteen : length refs ≡ 16
   pub many : (s : ℕ) → s < 16 → length (refs_at refs s) ≡ length (all_at parts s)
+
+-- the answers of parts may be picked: each part has sixteen lists of pairs and a home for each of its records, and each pair its reference
+pub record MayPick (parts : List (Vec (Vec Pair Global) Global)) (homes : List Homes) (refs : List (Vec Ref Global)) : Type 0 where
+  pub many : length parts ≡ length homes
+  pub sixteen : All (λ (part : Vec (Vec Pair Global) Global). length part.items ≡ 16) parts
+  pub refs_of : AreRefsOf parts refs
+  pub homes_of : (k : ℕ) (d : Vec (Vec Pair Global) Global) (h : Homes) → k < length homes → AreHomes (slice_index_or homes k h) (list_at (slice_index_or parts k d).items)

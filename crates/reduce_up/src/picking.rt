@@ -8,7 +8,7 @@ ghost use mathlib.Core.List.{reverse};
 ghost use Rattle.dd_store.specs.Graph.{Pair};
 ghost use Rattle.dd_store.specs.Levels.{list_at, all_at, refs_at};
 ghost use Rattle.reduce_up.specs.declared.division.Homes.{Homes as HomesValue};
-ghost use Rattle.reduce_up.specs.Division.{chosen, source, IsPicked, IsPickedOf, ArePicked, AreHomes, AreRefsOf, begin_of};
+ghost use Rattle.reduce_up.specs.Division.{chosen, source, IsPicked, IsPickedOf, ArePicked, AreRefsOf, MayPick, begin_of};
 
 use crate::division::{EQUAL, Homes};
 use dd_store::{Ref, SHARDS};
@@ -105,10 +105,7 @@ fn pick_part(
     refs: &[Vec<Ref>],
 ) -> Result<Vec<Ref>, AllocError>
     requires part { part < length homes.now }
-    requires parts { length parts.now ≡ length homes.now }
-    requires lists { All (λ (part : VecValue (VecValue Pair GlobalValue) GlobalValue). length part.items ≡ 16) parts.now }
-    requires refs { AreRefsOf parts.now refs.now }
-    requires homes { (k : ℕ) (d : VecValue (VecValue Pair GlobalValue) GlobalValue) (h : HomesValue) → k < length homes.now → AreHomes (slice_index_or homes.now k h) (list_at (slice_index_or parts.now k d).items) }
+    requires may { MayPick parts.now homes.now refs.now }
     ensures { (h : HomesValue) → IfOk result (λ answers. IsPickedOf parts.now refs.now part (slice_index_or homes.now part h) answers.items) }
 {
     let starts = starts_of(alloc, parts, part, refs)?;
@@ -142,18 +139,12 @@ fn pick_shared<R: Threads + Sync>(
     homes: &[Homes],
     refs: &[Vec<Ref>],
 ) -> Result<Vec<Vec<Ref>>, AllocError>
-    requires parts { length parts.now ≡ length homes.now }
-    requires lists { All (λ (part : VecValue (VecValue Pair GlobalValue) GlobalValue). length part.items ≡ 16) parts.now }
-    requires refs { AreRefsOf parts.now refs.now }
-    requires homes { (k : ℕ) (d : VecValue (VecValue Pair GlobalValue) GlobalValue) (h : HomesValue) → k < length homes.now → AreHomes (slice_index_or homes.now k h) (list_at (slice_index_or parts.now k d).items) }
+    requires may { MayPick parts.now homes.now refs.now }
     ensures { IfOk result (λ answers. ArePicked parts.now homes.now refs.now (length homes.now) answers.items) }
 {
     let pick = |part: usize| -> Result<Vec<Ref>, AllocError>
         requires part { part < length homes.now }
-        requires parts { length parts.now ≡ length homes.now }
-        requires lists { All (λ (part : VecValue (VecValue Pair GlobalValue) GlobalValue). length part.items ≡ 16) parts.now }
-        requires refs { AreRefsOf parts.now refs.now }
-        requires homes { (k : ℕ) (d : VecValue (VecValue Pair GlobalValue) GlobalValue) (h : HomesValue) → k < length homes.now → AreHomes (slice_index_or homes.now k h) (list_at (slice_index_or parts.now k d).items) }
+        requires may { MayPick parts.now homes.now refs.now }
         ensures { (h : HomesValue) → IfOk result (λ answers. IsPickedOf parts.entry.now refs.entry.now part (slice_index_or homes.entry.now part h) answers.items) }
     { pick_part(alloc, parts, part, homes, refs) };
     let picked = thread::map_indices(rt, alloc, homes.len(), &pick)?;
@@ -167,10 +158,7 @@ fn pick_in_turn(
     homes: &[Homes],
     refs: &[Vec<Ref>],
 ) -> Result<Vec<Vec<Ref>>, AllocError>
-    requires parts { length parts.now ≡ length homes.now }
-    requires lists { All (λ (part : VecValue (VecValue Pair GlobalValue) GlobalValue). length part.items ≡ 16) parts.now }
-    requires refs { AreRefsOf parts.now refs.now }
-    requires homes { (k : ℕ) (d : VecValue (VecValue Pair GlobalValue) GlobalValue) (h : HomesValue) → k < length homes.now → AreHomes (slice_index_or homes.now k h) (list_at (slice_index_or parts.now k d).items) }
+    requires may { MayPick parts.now homes.now refs.now }
     ensures { IfOk result (λ answers. ArePicked parts.now homes.now refs.now (length homes.now) answers.items) }
 {
     let mut answers = Vec::new(alloc);
@@ -198,10 +186,7 @@ pub(crate) fn pick_all<R: Threads + Sync>(
     homes: &[Homes],
     refs: &[Vec<Ref>],
 ) -> Result<Vec<Vec<Ref>>, AllocError>
-    requires parts { length parts.now ≡ length homes.now }
-    requires lists { All (λ (part : VecValue (VecValue Pair GlobalValue) GlobalValue). length part.items ≡ 16) parts.now }
-    requires refs { AreRefsOf parts.now refs.now }
-    requires homes { (k : ℕ) (d : VecValue (VecValue Pair GlobalValue) GlobalValue) (h : HomesValue) → k < length homes.now → AreHomes (slice_index_or homes.now k h) (list_at (slice_index_or parts.now k d).items) }
+    requires may { MayPick parts.now homes.now refs.now }
     ensures { IfOk result (λ answers. ArePicked parts.now homes.now refs.now (length homes.now) answers.items) }
 {
     if records_of(homes) < FEWEST_PICKED {

@@ -10,10 +10,10 @@ pub pick-requires-clause-homes : goal.pick-requires-clause-homes
 pick-requires-clause-homes c =
     let parts = c.args.parts.now in let k = c.args.part in let refs = c.args.refs.now in
     let kh = c.requires.part in
-    let kp : k < length parts = (let e = c.requires.parts in omega (arith, e, kh)) in
+    let kp : k < length parts = (let e = c.requires.may.many in omega (arith, e, kh)) in
     let p = some_of parts (omega (arith, kp)) in
     let h = c.index-homes-part.result in
-    let are = subst (λ z. AreHomes z (list_at (get_or parts k p).items)) (sym c.index-homes-part.is) (c.requires.homes k p h kh) in
+    let are = subst (λ z. AreHomes z (list_at (get_or parts k p).items)) (sym c.index-homes-part.is) (c.requires.may.homes_of k p h kh) in
     let slice = c.as_slice.ensures.value in
     are.within
 
@@ -21,13 +21,13 @@ pub pick-requires-clause-room : goal.pick-requires-clause-room
 pick-requires-clause-room c =
     let parts = c.args.parts.now in let k = c.args.part in let refs = c.args.refs.now in
     let kh = c.requires.part in
-    let kp : k < length parts = (let e = c.requires.parts in omega (arith, e, kh)) in
+    let kp : k < length parts = (let e = c.requires.may.many in omega (arith, e, kh)) in
     let p = some_of parts (omega (arith, kp)) in
     let h = c.index-homes-part.result in
-    let are = subst (λ z. AreHomes z (list_at (get_or parts k p).items)) (sym c.index-homes-part.is) (c.requires.homes k p h kh) in
+    let are = subst (λ z. AreHomes z (list_at (get_or parts k p).items)) (sym c.index-homes-part.is) (c.requires.may.homes_of k p h kh) in
     let slice = c.as_slice.ensures.value in
     λ s l. subst (λ z. get_or z s 0 + length (chosen s h.numbers.items h.numbers.items) ≤ length (source refs h s)) (sym slice)
-    (subst (λ z. z + length (chosen s h.numbers.items h.numbers.items) ≤ length (source refs h s)) (sym (c.in_ok-starts.ensures.starts s l)) (pick_room parts refs k h p kp c.requires.lists c.requires.refs are s l))
+    (subst (λ z. z + length (chosen s h.numbers.items h.numbers.items) ≤ length (source refs h s)) (sym (c.in_ok-starts.ensures.starts s l)) (pick_room parts refs k h p kp c.requires.may.sixteen c.requires.may.refs_of are s l))
 
 pub returns : goal.returns
 returns c = λ hd.

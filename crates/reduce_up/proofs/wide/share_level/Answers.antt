@@ -49,46 +49,19 @@ returns-in_err-refs g c =
     rw (f.1, f.2) (level_refused n t.roots.now p a S v U _ _ c.make_all.ensures.sound adds
     (refused_make T S v row c.as_slice-lists.result.now parts slice listed U _ c.make_all.ensures.sound c.in_err-refs.ensures.fault))
 
-pub pick_all-requires-clause-parts : goal.pick_all-requires-clause-parts
-pick_all-requires-clause-parts g c κs within =
+pub pick_all-requires-clause-may : goal.pick_all-requires-clause-may
+pick_all-requires-clause-may g c κs within =
     let t = c.args.team in let n = t.workers in let p = t.parts.now in let a = t.answers.now in let v = c.args.level in
     let parts = c.in-Ok.read.parts.items in let homes = c.in-Ok.read.homes.items in let lefts = c.in-Ok.read.lefts.items in
-    let T = told n p a in
-    let row = team_row n p v in
-    let D = c.in-Ok.ensures in
-    let slice = c.as_slice-lists.ensures.value in
-    ap (λ z. length z) slice ∙ D.many_parts ∙ sym D.many_homes ∙ ap (λ z. length z) (sym c.as_slice-homes.ensures.value)
-
-pub pick_all-requires-clause-lists : goal.pick_all-requires-clause-lists
-pick_all-requires-clause-lists g c κs within =
-    let t = c.args.team in let n = t.workers in let p = t.parts.now in let a = t.answers.now in let v = c.args.level in
-    let parts = c.in-Ok.read.parts.items in let homes = c.in-Ok.read.homes.items in let lefts = c.in-Ok.read.lefts.items in
-    let T = told n p a in
-    let row = team_row n p v in
-    let D = c.in-Ok.ensures in
-    let slice = c.as_slice-lists.ensures.value in
-    subst (All (λ (part : Vec (Vec Pair Global) Global). length part.items ≡ 16)) (sym slice) (all_sixteen n t.roots.now p a v parts homes lefts D)
-
-pub pick_all-requires-clause-refs : goal.pick_all-requires-clause-refs
-pick_all-requires-clause-refs g c κs within =
-    let t = c.args.team in let n = t.workers in let p = t.parts.now in let a = t.answers.now in let v = c.args.level in
-    let parts = c.in-Ok.read.parts.items in let homes = c.in-Ok.read.homes.items in let lefts = c.in-Ok.read.lefts.items in
-    let T = told n p a in
-    let row = team_row n p v in
     let D = c.in-Ok.ensures in
     let slice = c.as_slice-lists.ensures.value in
     let there = λ (s : ℕ) (l : s < 16). subst (λ z. AllZip (λ (q : Pair) r. IsThere c.make_all.new.self v q.0 q.1 r) (all_at z s) (refs_at c.in_ok-refs.refs.items s)) slice (c.in_ok-refs.ensures.answers s l) in
-    rw (slice, c.as_slice-2.ensures.value) (refs_all c.make_all.new.self v parts c.in_ok-refs.refs.items c.in_ok-refs.ensures.sixteen there)
-
-pub pick_all-requires-clause-homes : goal.pick_all-requires-clause-homes
-pick_all-requires-clause-homes g c κs within =
-    let t = c.args.team in let n = t.workers in let p = t.parts.now in let a = t.answers.now in let v = c.args.level in
-    let parts = c.in-Ok.read.parts.items in let homes = c.in-Ok.read.homes.items in let lefts = c.in-Ok.read.lefts.items in
-    let T = told n p a in
-    let row = team_row n p v in
-    let D = c.in-Ok.ensures in
-    let slice = c.as_slice-lists.ensures.value in
-    rw (slice, c.as_slice-homes.ensures.value) (all_homes n t.roots.now p a v parts homes lefts D)
+    rw (slice, c.as_slice-homes.ensures.value, c.as_slice-2.ensures.value) (record {
+      many = D.many_parts ∙ sym D.many_homes;
+      sixteen = all_sixteen n t.roots.now p a v parts homes lefts D;
+      refs_of = refs_all c.make_all.new.self v parts c.in_ok-refs.refs.items c.in_ok-refs.ensures.sixteen there;
+      homes_of = all_homes n t.roots.now p a v parts homes lefts D;
+    })
 
 pub returns-in_default-pick_all : goal.returns-in_default-pick_all
 returns-in_default-pick_all g c =
