@@ -12,3 +12,5 @@ mod devices;
 mod failing;
 #[cfg(test)]
 mod runs;
+#[cfg(test)]
+mod told;

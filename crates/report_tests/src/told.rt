@@ -1,0 +1,115 @@
+//! What a gate is told of a comparison, in one order and in the best.
+use crate::runs::netlists::C17;
+use check_report::{CheckFault, Choice, Settings, judge};
+use dd_store::Watch;
+use expand_work::Gate;
+use net_bench::device::Through;
+use net_order::order::{Match, Order};
+use std::alloc::Global;
+use std::sync::Wait;
+use std::sync::atomic::{AtomicU64, AtomicUsize, Ordering};
+use std::test::Fail;
+use std::thread::Threads;
+
+/// Adds up what it is told: how often of a rank, their numbers, those of the last ranks, the nodes, and the requests.
+#[derive(Drop)]
+struct Listener {
+    times: AtomicUsize,
+    ranks: AtomicU64,
+    last_ranks: AtomicU64,
+    nodes: AtomicU64,
+    requests: AtomicUsize,
+}
+
+impl Watch for Listener {
+    fn at_shard(&self, _shard: u8, _level: u16) {}
+}
+
+impl Gate for Listener {
+    fn at_level(&self, _worker: u32, _level: u16) {}
+
+    fn most_alone(&self, _workers: u32) -> usize {
+        usize::MAX
+    }
+
+    fn most_requests(&self) -> usize {
+        usize::MAX
+    }
+
+    fn at_rank(&self, rank: u32, ranks: u32, nodes: u64) {
+        self.times.fetch_add(1, Ordering::SeqCst);
+        self.ranks.fetch_add(u64::from(rank), Ordering::SeqCst);
+        self.last_ranks
+            .fetch_add(u64::from(ranks), Ordering::SeqCst);
+        self.nodes.fetch_add(nodes, Ordering::SeqCst);
+    }
+
+    fn at_requests(&self, requests: usize) {
+        self.requests.fetch_add(requests, Ordering::SeqCst);
+    }
+}
+
+/// What a gate was told, added up as by a listener.
+#[derive(Clone, Copy, Drop, Debug, PartialEq, Eq)]
+struct Told {
+    times: usize,
+    ranks: u64,
+    last_ranks: u64,
+    nodes: u64,
+    requests: usize,
+}
+
+/// What a gate is told of the comparison of a netlist with itself.
+fn told_of<R: Threads + Wait + Sync>(
+    rt: &R,
+    alloc: Global,
+    text: &str,
+    order: Choice,
+) -> Result<Told, CheckFault> {
+    let settings = Settings {
+        matching: Match::Name,
+        order,
+        workers: 1,
+        limit: 70_000,
+        sizes: false,
+        json: false,
+    };
+    let gate = Listener {
+        times: AtomicUsize::new(0),
+        ranks: AtomicU64::new(0),
+        last_ranks: AtomicU64::new(0),
+        nodes: AtomicU64::new(0),
+        requests: AtomicUsize::new(0),
+    };
+    let mut first = Through::new(text.as_bytes());
+    let mut second = Through::new(text.as_bytes());
+    let mut nothing: Option<Through<&[u8]>> = None;
+    judge(
+        rt,
+        alloc,
+        &mut first,
+        &mut second,
+        &mut nothing,
+        &settings,
+        &gate,
+    )?;
+    Ok(Told {
+        times: gate.times.load(Ordering::SeqCst),
+        ranks: gate.ranks.load(Ordering::SeqCst),
+        last_ranks: gate.last_ranks.load(Ordering::SeqCst),
+        nodes: gate.nodes.load(Ordering::SeqCst),
+        requests: gate.requests.load(Ordering::SeqCst),
+    })
+}
+
+// C17 has three ranks. The limit is above the first budget, so the best order's one attempt is bounded by that.
+#[test]
+fn told_of_a_bounded_attempt(rt: HostRuntime) -> Result<(), Fail> {
+    let single = told_of(&rt, rt.alloc(), C17, Choice::One(Order::Interleave))?;
+    assert_eq!(rt; (single.times, single.ranks, single.last_ranks), (3, 6, 9));
+    assert!(rt; single.nodes > 15);
+    assert!(rt; single.requests > 0);
+    let best = told_of(&rt, rt.alloc(), C17, Choice::Best)?;
+    assert_eq!(rt; best, single);
+    Ok(())
+}
