@@ -1,4 +1,4 @@
-use Rattle.std.proofs.Common.{◌≡◌, ℕ, ◌+◌, ◌-◌, ◌<◌, length, drop, Contains, subst, arith}
+use Rattle.std.proofs.Common.{◌≡◌, ℕ, ◌+◌, ◌-◌, drop, Contains, subst, arith}
 use Rattle.std.specs.List.{AllZip}
 use mathlib.Core.List.{reverse}
 use Rattle.dd_store.specs.declared.reference.Ref.{Ref}

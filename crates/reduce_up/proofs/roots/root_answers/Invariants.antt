@@ -1,4 +1,4 @@
-use Rattle.std.proofs.Common.{◌≡◌, ◌≤◌, length, drop, Contains}
+use Rattle.std.proofs.Common.{◌≤◌, length, drop, Contains}
 use Rattle.std.specs.List.{AllZip}
 use mathlib.Core.List.{reverse}
 use Rattle.dd_store.specs.declared.reference.Ref.{Ref}

@@ -1,5 +1,4 @@
-use Rattle.std.proofs.Common.{◌∙◌, All, sym, subst}
-use Rattle.req_table.specs.Keys.{IsKey}
+use Rattle.std.proofs.Common.{◌∙◌, sym}
 use Rattle.reduce_up.specs.Team.{gathered, team_row, told}
 use Rattle.reduce_up.proofs.Rooted.{entries_good, requests_again, taken_each}
 use Rattle.reduce_up.proofs.Rooting.{team_closure, roots_left}

@@ -1,5 +1,3 @@
-use Rattle.std.proofs.Common.{◌≡◌, ◌∙◌, sym, subst}
-use Rattle.expand_work.specs.Gathered.{AreParts}
 use Rattle.reduce_up.specs.Waves.{entries_for}
 use Rattle.reduce_up.proofs.Waving.{not_full, wave_unchanged}
 use Rattle.reduce_up.proofs.waves.shared_wave.Goals as goal

@@ -1,4 +1,4 @@
-use Rattle.std.proofs.Common.{ℕ, ◌-◌}
+use Rattle.std.proofs.Common.{◌-◌}
 use Rattle.wave_engine.proofs.workspace.tell_requests.Given as goal
 
 abbrev pub decreases-loop-next : goal.decreases-loop-next
