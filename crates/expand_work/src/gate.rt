@@ -30,7 +30,7 @@ pub trait Gate: Watch + Sync {
     fn at_requests(&self, _requests: usize) {}
 }
 
-/// Up to so many requests of a level the caller's thread was measured, and was as fast as any number of workers.
+/// Up to so many requests a level is the caller's: a choice between what was measured, which docs/PERFORMANCE.md has.
 const WIDE: usize = 1 << 15;
 
 /// A gate that does nothing. A wave is the caller's alone as long as that is known to be faster.
