@@ -123,7 +123,16 @@ pub fn owner(key: Key, workers: u32) -> u32
     requires { 0 < workers }
     ensures { result ≡ owner_of key.op key.f key.g workers }
 {
-    ((number(key.op()) + 3 * code(key.f()) + 5 * code(key.g())) % workers as u64) as u32
+    let sum = number(key.op()) + 3 * code(key.f()) + 5 * code(key.g());
+    // What a division takes is spared where the workers are as many as bits can count.
+    match workers {
+        1 => 0,
+        2 => (sum % 2) as u32,
+        4 => (sum % 4) as u32,
+        8 => (sum % 8) as u32,
+        16 => (sum % 16) as u32,
+        _ => (sum % workers as u64) as u32,
+    }
 }
 
 /// The request for an operation, by And or Xor, with the operands in order: False, True, then nodes by level, shard and index,
