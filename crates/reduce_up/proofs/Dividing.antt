@@ -1,6 +1,7 @@
 -- Pairs divided by the shards of their nodes.
-use Rattle.std.proofs.Common.{◌≡◌, ◌≢◌, ℕ, zero, suc, ◌⊎◌, inl, inr, List, [], ◌∷◌, ◌++◌, length, get_or, set, map, Vec, Global, refl, sym, ◌∙◌, ap, subst, arith, Contains, get_or-set_same, get_or-set_other}
-use Rattle.std.proofs.lemmas.Bool.{cases_eq}
+use Rattle.std.proofs.Common.{◌≡◌, ◌≢◌, ◌<◌, ◌≤◌, ℕ, zero, suc, ◌⊎◌, inl, inr, List, [], ◌∷◌, ◌++◌, length, get_or, set, map, Vec, Global, refl, sym, ◌∙◌, ap, subst, arith, Contains, get_or-set_same, get_or-set_other}
+use Rattle.std.proofs.lemmas.Bool.{cases_eq, cases_lt}
+use Rattle.std.proofs.Math.ListN.{get_or-eq_default}
 use Rattle.std.proofs.lemmas.List.{map-set, length-map}
 use Rattle.std.proofs.lemmas.List.Elements.{Contains-push, Contains-push_cases, Contains-append_left}
 use Rattle.std.proofs.lemmas.Option.{slice_get_within}
@@ -81,3 +82,10 @@ empty_more [] v h e zero = e
 empty_more [] v h e (suc s) = refl
 empty_more (w ∷ ws) v h e zero = h 0
 empty_more (w ∷ ws) v h e (suc s) = empty_more ws v (λ t. h (suc t)) e s
+
+-- lists of which each is empty
+pub all_emptied : (lists : List (Vec Pair Global)) (i n : ℕ) → (length lists ≡ n) × ((k : ℕ) → k < i → list_at lists k ≡ []) → n ≤ i → (s : ℕ) → length (list_at lists s) ≡ 0
+all_emptied lists i n h over s = elim (cases_lt s n) [
+  | inl l ↦ ap (λ (z : List Pair). length z) (h.1 s (omega (arith, l, over)))
+  | inr l ↦ ap (λ (z : List Pair). length z) (get_or-eq_default (map (λ (v : Vec Pair Global). v.items) lists) [] (let a = length-map lists (λ (v : Vec Pair Global). v.items) in let b = h.0 in omega (arith, a, b, l)))
+]

@@ -294,6 +294,16 @@ at_seam xs xs' x d m e is = ap (λ z. get_or z m d) is ∙ ap (λ z. get_or (xs 
 at_left : {X : Type 0} (xs xs' : List X) (x d : X) (m s : ℕ) → length xs ≡ m → s < m → xs' ≡ xs ++ x ∷ [] → get_or xs' s d ≡ get_or xs s d
 at_left xs xs' x d m s e l is = ap (λ z. get_or z s d) is ∙ get_or_append_left xs (x ∷ []) d s (omega (arith, e, l))
 
+-- one more in its place
+pub numbered_more : {X : Type 0} (f : X → ℕ) (xs xs' : List X) (x : X) (n : ℕ) → length xs ≡ n → ((k : ℕ) (d : X) → k < n → f (get_or xs k d) ≡ k) → f x ≡ n → xs' ≡ xs ++ x ∷ []
+    → (length xs' ≡ n + 1) × ((k : ℕ) (d : X) → k < n + 1 → f (get_or xs' k d) ≡ k)
+numbered_more f xs xs' x n long each is xs-is = (
+  (let a = ap (λ z. length z) xs-is in let b = length-append xs (x ∷ []) in omega (arith, a, b, long)),
+  (λ k d l. dite (ℕ_discrete k n)
+      (λ e. ap (λ z. f (get_or xs' z d)) e ∙ ap f (at_seam xs xs' x d n long xs-is) ∙ is ∙ sym e)
+      (λ m. ap f (at_left xs xs' x d n k long (omega (arith, l, m)) xs-is) ∙ each k d (omega (arith, l, m)))),
+)
+
 one_longer : {X : Type 0} (xs xs' : List X) (x : X) (m : ℕ) → length xs ≡ m → xs' ≡ xs ++ x ∷ [] → length xs' ≡ m + 1
 one_longer xs xs' x m e is = ap (λ z. length z) is ∙ length-append xs (x ∷ []) ∙ ap (λ z. z + 1) e
 

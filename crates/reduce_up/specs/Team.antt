@@ -25,6 +25,7 @@ use Rattle.reduce_up.specs.Levels.{AreRecords}
 use Rattle.reduce_up.specs.Placed.{paired, joined}
 use Rattle.reduce_up.specs.declared.division.Divided.{Divided}
 use Rattle.reduce_up.specs.declared.division.Homes.{Homes}
+use Rattle.reduce_up.specs.declared.wide.ReadJob.{ReadJob}
 use Rattle.dd_store.specs.Levels.{list_at}
 use Rattle.reduce_up.specs.Division.{IsDivided}
 use Rattle.reduce_up.specs.Sharing.{IsAnswered, RowCanStand, AddsRow, IsRowRefused}
@@ -125,6 +126,11 @@ pub record IsPartRead (n : ℕ) (roots : List Key) (p : PartsView) (a : AnswersV
   pub sixteen : length d.lists.items ≡ 16
   pub divided : IsDivided (told n p a) (read_of p s v) d.homes (list_at d.lists.items)
   pub rest : AreLeft n (asked_above n roots p s v) left
+
+-- each worker's records are read once: the k-th reads those of worker k
+pub record AreReadJobs (n : ℕ) (jobs : List ReadJob) : Type 0 where
+  pub long : length jobs ≡ n
+  pub each : (k : ℕ) (d : ReadJob) → k < n → (slice_index_or jobs k d).sender ≡ k
 
 -- this is so of the first m workers, where each had memory
 pub record AreRead (n : ℕ) (roots : List Key) (p : PartsView) (a : AnswersView) (v m : ℕ) (results : List (Result (Divided × Vec ℕ Global) AllocError)) : Type 0 where

@@ -36,6 +36,11 @@ impl Answers {
         Ok(Answers { found })
     }
 
+    /// The lists of all levels, as memory.
+    pub(crate) fn into_lists(self) -> Vec<Vec<Vec<Ref>>> {
+        self.found
+    }
+
     /// Puts the diagrams of a level in.
     pub(crate) fn put(&mut self, level: u16, answers: Vec<Vec<Ref>>)
         requires { level < length self.old.found }

@@ -3,7 +3,7 @@ ghost use Rattle.std.specs.Prelude.{◌≡◌, ℕ, [], length, IfOk, OnOk};
 ghost use Rattle.dd_store.specs.Levels.{list_at};
 ghost use Rattle.reduce_up.specs.Division.{IsPut};
 
-use crate::parallel::empty_lists;
+use crate::parallel::{empty_lists, emptied_lists};
 use dd_store::{Ref, SHARDS, shard_of};
 use std::alloc::{AllocError, Global};
 
@@ -26,16 +26,33 @@ pub(crate) struct Divided {
 }
 
 impl Divided {
-    /// Nothing is read. There is room for so many records whose pairs are spread over the shards.
-    pub(crate) fn new(alloc: Global, count: usize) -> Result<Divided, AllocError>
+    /// No lists, and no memory.
+    pub(crate) fn none(alloc: Global) -> Divided {
+        Divided {
+            lists: Vec::new(alloc),
+            homes: Homes {
+                numbers: Vec::new(alloc),
+                equal: Vec::new(alloc),
+            },
+        }
+    }
+
+    /// Nothing is read, in the memory of these lists. There is room for so many records whose pairs are spread over the shards.
+    pub(crate) fn emptied(self, alloc: Global, count: usize) -> Result<Divided, AllocError>
         ensures sixteen { IfOk result (λ d. length d.lists.items ≡ 16) }
         ensures empty { IfOk result (λ d. (s : ℕ) → length (list_at d.lists.items s) ≡ 0) }
         ensures numbers { IfOk result (λ d. d.homes.numbers.items ≡ []) }
         ensures equal { IfOk result (λ d. d.homes.equal.items ≡ []) }
     {
-        let lists = empty_lists(alloc, count / SHARDS + count / 64 + 16)?;
-        let numbers = Vec::with_capacity(alloc, count)?;
-        let equal = Vec::new(alloc);
+        let Divided { lists, homes } = self;
+        let Homes {
+            mut numbers,
+            mut equal,
+        } = homes;
+        let lists = emptied_lists(alloc, lists, count / SHARDS + count / 64 + 16)?;
+        numbers.clear();
+        numbers.reserve_exact(count)?;
+        equal.clear();
         Ok(Divided {
             lists,
             homes: Homes { numbers, equal },

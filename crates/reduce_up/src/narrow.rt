@@ -6,16 +6,19 @@ ghost use Rattle.expand_work.specs.Expanded.{row_of};
 ghost use Rattle.reduce_up.specs.Sharing.{IsAnswered, RowCanStand, AddsRow, IsRowRefused};
 ghost use Rattle.reduce_up.specs.Team.{MayReadPart, MayReduceLevel, AnswersLevel, AreLeft, asked_above, team_row, told};
 
-use crate::team::{Team, resolve};
+use crate::spare::{emptied, next_room};
+use crate::team::{Rest, Team, resolve};
 use dd_store::{Ref, Store, StoreFault};
 
-/// The diagrams of a sender's records of a level, in the order in which they stand; missing nodes are made.
+/// The diagrams of a sender's records of a level, in the order in which they stand, in the memory that is handed in; missing nodes are
+/// made.
 fn make_part(
     store: &mut Store,
     team: Team<'_>,
     sender: u32,
     level: u16,
     left: &mut Vec<usize>,
+    room: Vec<Ref>,
 ) -> Result<Vec<Ref>, StoreFault>
     requires held { IsSound store.old }
     requires level { level < store.old.levels }
@@ -30,7 +33,7 @@ fn make_part(
     ensures fault { IfErr result (λ e. IsRowRefused (told team.entry.workers team.entry.parts.now team.entry.answers.now) store.new level (team_row team.entry.workers team.entry.parts.now level) e) }
 {
     let row = team.parts.children(sender, level);
-    let Ok(mut answers) = Vec::with_capacity(team.alloc, row.len()) else {
+    let Ok(mut answers) = emptied(room, row.len()) else {
         return Err(StoreFault::OutOfMemory);
     };
     let mut next = row.len();
@@ -56,17 +59,21 @@ pub(crate) fn make_level(
     store: &mut Store,
     team: Team<'_>,
     level: u16,
-    lefts: &mut Vec<Vec<usize>>,
+    rest: &mut Rest,
 ) -> Result<Vec<Vec<Ref>>, StoreFault>
-    requires { MayReduceLevel team.workers team.roots.now team.parts.now team.answers.now store.old level lefts.old.items }
-    ensures { AnswersLevel team.entry.workers team.entry.roots.now team.entry.parts.now team.entry.answers.now store.old level result store.new lefts.new.items }
+    requires { MayReduceLevel team.workers team.roots.now team.parts.now team.answers.now store.old level rest.old.lefts.items }
+    ensures { AnswersLevel team.entry.workers team.entry.roots.now team.entry.parts.now team.entry.answers.now store.old level result store.new rest.new.lefts.items }
 {
     let Ok(mut answers) = Vec::with_capacity(team.alloc, team.workers as usize) else {
         return Err(StoreFault::OutOfMemory);
     };
+    let lefts = &mut rest.lefts;
+    let spare = &mut rest.spare;
+    let mut rooms = spare.answers(level);
     for sender in 0..team.workers {
         let left = &mut lefts[sender as usize];
-        let part = make_part(store, team, sender, level, left)?;
+        let room = next_room(&mut rooms);
+        let part = make_part(store, team, sender, level, left, room)?;
         if answers.push(part).is_err() {
             return Err(StoreFault::OutOfMemory);
         }

@@ -58,6 +58,36 @@ pub(crate) fn empty_lists(alloc: Global, room: usize) -> Result<Vec<Vec<(Ref, Re
     Ok(lists)
 }
 
+/// Removes all pairs of each list, and makes room for some.
+fn clear_lists(lists: &mut Vec<Vec<(Ref, Ref)>>, room: usize) -> Result<(), AllocError>
+    ensures same { length lists.new.items ≡ length lists.old.items }
+    ensures empty { OnOk result ((s : ℕ) → length (list_at lists.new.items s) ≡ 0) }
+{
+    for place in 0..lists.len() {
+        let list = &mut lists[place];
+        list.clear();
+        list.reserve_exact(room)?;
+    }
+    Ok(())
+}
+
+/// A list for each shard, without pairs and with room for some, in the memory of other lists where these are as many.
+pub(crate) fn emptied_lists(
+    alloc: Global,
+    used: Vec<Vec<(Ref, Ref)>>,
+    room: usize,
+) -> Result<Vec<Vec<(Ref, Ref)>>, AllocError>
+    ensures sixteen { IfOk result (λ lists. length lists.items ≡ 16) }
+    ensures empty { IfOk result (λ lists. (s : ℕ) → length (list_at lists.items s) ≡ 0) }
+{
+    let mut lists = used;
+    if lists.len() != SHARDS {
+        return empty_lists(alloc, room);
+    }
+    clear_lists(&mut lists, room)?;
+    Ok(lists)
+}
+
 /// Adds a pair of different children to the list of its shard.
 fn list_pair(lists: &mut Vec<Vec<(Ref, Ref)>>, pair: (Ref, Ref)) -> Result<(), AllocError>
     requires { length lists.old.items ≡ 16 }

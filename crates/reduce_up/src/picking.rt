@@ -8,9 +8,10 @@ ghost use mathlib.Core.List.{reverse};
 ghost use Rattle.dd_store.specs.Graph.{Pair};
 ghost use Rattle.dd_store.specs.Levels.{list_at, all_at, refs_at};
 ghost use Rattle.reduce_up.specs.declared.division.Homes.{Homes as HomesValue};
-ghost use Rattle.reduce_up.specs.Division.{chosen, source, IsPicked, IsPickedOf, ArePicked, AreRefsOf, MayPick, begin_of};
+ghost use Rattle.reduce_up.specs.Division.{chosen, source, IsPicked, IsPickedOf, ArePicked, AreRefsOf, MayPick, ArePickJobs, begin_of};
 
 use crate::division::{EQUAL, Homes};
+use crate::spare::{emptied, next_room};
 use dd_store::{Ref, SHARDS};
 use std::alloc::{AllocError, Global};
 use std::thread;
@@ -18,6 +19,13 @@ use std::thread::Threads;
 
 /// Fewer diagrams are picked on the caller's thread: to start the threads that share them takes longer.
 const FEWEST_PICKED: usize = 16_384;
+
+/// Whose diagrams are picked, and the memory for them.
+#[derive(Drop)]
+pub(crate) struct PickJob {
+    pub(crate) part: usize,
+    pub(crate) room: Vec<Ref>,
+}
 
 /// The diagram at a place of a home's.
 fn diagram_at(homes: &Homes, refs: &[Vec<Ref>], home: u8, place: usize) -> Ref
@@ -32,12 +40,13 @@ fn diagram_at(homes: &Homes, refs: &[Vec<Ref>], home: u8, place: usize) -> Ref
     refs[home as usize][place]
 }
 
-/// A diagram for each home: the next of those of this home from a place on. The last one that was read is the first.
+/// A diagram for each home: the next of those of this home from a place on. The last one that was read is the first. They are put in the
+/// memory that is handed in.
 fn pick(
-    alloc: Global,
     homes: &Homes,
     refs: &[Vec<Ref>],
     starts: &[usize],
+    room: Vec<Ref>,
 ) -> Result<Vec<Ref>, AllocError>
     requires sixteen { length refs.now ≡ 16 }
     requires starts { length starts.now ≡ 17 }
@@ -45,9 +54,9 @@ fn pick(
     requires room { (s : ℕ) → s ≤ 16 → slice_index_or starts.now s 0 + length (chosen s homes.now.numbers.items homes.now.numbers.items) ≤ length (source refs.now homes.now s) }
     ensures { IfOk result (λ answers. IsPicked homes.now.numbers.items (λ s. slice_index_or starts.now s 0) (source refs.now homes.now) (reverse answers.items)) }
 {
-    let mut places = Vec::with_capacity(alloc, starts.len())?;
+    let mut places = Vec::with_capacity(*room.allocator(), starts.len())?;
     places.extend_from_slice(starts)?;
-    let mut answers = Vec::with_capacity(alloc, homes.numbers.len())?;
+    let mut answers = emptied(room, homes.numbers.len())?;
     for home in &homes.numbers {
         let place = places[*home as usize];
         let Some(next) = place.checked_add(1) else {
@@ -98,18 +107,18 @@ fn starts_of(
 
 /// The diagrams of a part's records, in the order in which they stand.
 fn pick_part(
-    alloc: Global,
     parts: &[Vec<Vec<(Ref, Ref)>>],
-    part: usize,
     homes: &[Homes],
     refs: &[Vec<Ref>],
+    job: PickJob,
 ) -> Result<Vec<Ref>, AllocError>
-    requires part { part < length homes.now }
+    requires part { job.part < length homes.now }
     requires may { MayPick parts.now homes.now refs.now }
-    ensures { (h : HomesValue) → IfOk result (λ answers. IsPickedOf parts.now refs.now part (slice_index_or homes.now part h) answers.items) }
+    ensures { (h : HomesValue) → IfOk result (λ answers. IsPickedOf parts.now refs.now job.part (slice_index_or homes.now job.part h) answers.items) }
 {
-    let starts = starts_of(alloc, parts, part, refs)?;
-    pick(alloc, &homes[part], refs, starts.as_slice())
+    let PickJob { part, room } = job;
+    let starts = starts_of(*room.allocator(), parts, part, refs)?;
+    pick(&homes[part], refs, starts.as_slice(), room)
 }
 
 /// The answers of all parts, where each had memory.
@@ -131,39 +140,55 @@ fn join_picked(
     Ok(answers)
 }
 
+/// A job for each part.
+fn pick_jobs(parts: usize, rooms: &mut Vec<Vec<Ref>>) -> Result<Vec<PickJob>, AllocError>
+    ensures { IfOk result (λ jobs. ArePickJobs parts jobs.items) }
+{
+    let mut jobs = Vec::new(*rooms.allocator());
+    for part in 0..parts {
+        let room = next_room(rooms);
+        jobs.push(PickJob { part, room })?;
+    }
+    Ok(jobs)
+}
+
 /// The diagrams of all parts' records, a thread for each part.
 fn pick_shared<R: Threads + Sync>(
     rt: &R,
-    alloc: Global,
     parts: &[Vec<Vec<(Ref, Ref)>>],
     homes: &[Homes],
     refs: &[Vec<Ref>],
+    rooms: Vec<Vec<Ref>>,
 ) -> Result<Vec<Vec<Ref>>, AllocError>
     requires may { MayPick parts.now homes.now refs.now }
     ensures { IfOk result (λ answers. ArePicked parts.now homes.now refs.now (length homes.now) answers.items) }
 {
-    let pick = |part: usize| -> Result<Vec<Ref>, AllocError>
-        requires part { part < length homes.now }
+    let mut rooms = rooms;
+    let jobs = pick_jobs(homes.len(), &mut rooms)?;
+    let pick = |job: PickJob| -> Result<Vec<Ref>, AllocError>
+        requires part { job.part < length homes.now }
         requires may { MayPick parts.now homes.now refs.now }
-        ensures { (h : HomesValue) → IfOk result (λ answers. IsPickedOf parts.entry.now refs.entry.now part (slice_index_or homes.entry.now part h) answers.items) }
-    { pick_part(alloc, parts, part, homes, refs) };
-    let picked = thread::map_indices(rt, alloc, homes.len(), &pick)?;
-    join_picked(alloc, parts, homes, refs, picked)
+        ensures { (h : HomesValue) → IfOk result (λ answers. IsPickedOf parts.entry.now refs.entry.now job.part (slice_index_or homes.entry.now job.part h) answers.items) }
+    { pick_part(parts, homes, refs, job) };
+    let picked = thread::map_vec(rt, jobs, &pick)?;
+    join_picked(*rooms.allocator(), parts, homes, refs, picked)
 }
 
 /// The diagrams of all parts' records, one part after the other.
 fn pick_in_turn(
-    alloc: Global,
     parts: &[Vec<Vec<(Ref, Ref)>>],
     homes: &[Homes],
     refs: &[Vec<Ref>],
+    rooms: Vec<Vec<Ref>>,
 ) -> Result<Vec<Vec<Ref>>, AllocError>
     requires may { MayPick parts.now homes.now refs.now }
     ensures { IfOk result (λ answers. ArePicked parts.now homes.now refs.now (length homes.now) answers.items) }
 {
-    let mut answers = Vec::new(alloc);
+    let mut rooms = rooms;
+    let mut answers = Vec::new(*rooms.allocator());
     for part in 0..homes.len() {
-        let some = pick_part(alloc, parts, part, homes, refs)?;
+        let room = next_room(&mut rooms);
+        let some = pick_part(parts, homes, refs, PickJob { part, room })?;
         answers.push(some)?;
     }
     Ok(answers)
@@ -178,19 +203,20 @@ fn records_of(homes: &[Homes]) -> usize {
     total
 }
 
-/// The diagrams of all parts' records, by threads where there are many.
+/// The diagrams of all parts' records, by threads where there are many. They are put in the memory of the lists that are handed in, as
+/// far as there are some.
 pub(crate) fn pick_all<R: Threads + Sync>(
     rt: &R,
-    alloc: Global,
     parts: &[Vec<Vec<(Ref, Ref)>>],
     homes: &[Homes],
     refs: &[Vec<Ref>],
+    rooms: Vec<Vec<Ref>>,
 ) -> Result<Vec<Vec<Ref>>, AllocError>
     requires may { MayPick parts.now homes.now refs.now }
     ensures { IfOk result (λ answers. ArePicked parts.now homes.now refs.now (length homes.now) answers.items) }
 {
     if records_of(homes) < FEWEST_PICKED {
-        return pick_in_turn(alloc, parts, homes, refs);
+        return pick_in_turn(parts, homes, refs, rooms);
     }
-    pick_shared(rt, alloc, parts, homes, refs)
+    pick_shared(rt, parts, homes, refs, rooms)
 }

@@ -12,6 +12,7 @@ ghost use Rattle.reduce_up.specs.Team.{IsReducedTo, MayReduceLevel, AnswersLevel
 use crate::answers::Answers;
 use crate::levels::{FEWEST_SHARED, wave_fault};
 use crate::narrow::make_level;
+use crate::spare::Spare;
 use crate::wide::share_level;
 use dd_store::{Ref, Store, StoreFault, Watch};
 use expand_work::{Parts, WaveFault};
@@ -104,11 +105,18 @@ pub(crate) struct Field<'a> {
     pub(crate) workers: u32,
 }
 
-/// How far a wave is reduced: the diagrams that are known, and by sender how many requests of each worker are still to be read.
+/// What is left of a wave: by sender how many requests of each worker are still to be read; and the memory for that.
+#[derive(Drop)]
+pub(crate) struct Rest {
+    pub(crate) lefts: Vec<Vec<usize>>,
+    pub(crate) spare: Spare,
+}
+
+/// How far a wave is reduced: the diagrams that are known, and what is left.
 #[derive(Drop)]
 pub(crate) struct Progress {
     pub(crate) answers: Answers,
-    pub(crate) lefts: Vec<Vec<usize>>,
+    pub(crate) rest: Rest,
 }
 
 /// How many records of a level there are, or as many as can be counted.
@@ -131,16 +139,16 @@ fn level_answers<R: Threads + Sync, H: Watch>(
     store: &mut Store,
     team: Team<'_>,
     level: u16,
-    lefts: &mut Vec<Vec<usize>>,
+    rest: &mut Rest,
     watch: &H,
 ) -> Result<Vec<Vec<Ref>>, StoreFault>
-    requires { MayReduceLevel team.workers team.roots.now team.parts.now team.answers.now store.old level lefts.old.items }
-    ensures { AnswersLevel team.entry.workers team.entry.roots.now team.entry.parts.now team.entry.answers.now store.old level result store.new lefts.new.items }
+    requires { MayReduceLevel team.workers team.roots.now team.parts.now team.answers.now store.old level rest.old.lefts.items }
+    ensures { AnswersLevel team.entry.workers team.entry.roots.now team.entry.parts.now team.entry.answers.now store.old level result store.new rest.new.lefts.items }
 {
     if level_size(team.parts, team.workers, level) < FEWEST_SHARED {
-        return make_level(store, team, level, lefts);
+        return make_level(store, team, level, rest);
     }
-    share_level(rt, store, team, level, lefts, watch)
+    share_level(rt, store, team, level, rest, watch)
 }
 
 /// Puts the diagrams of a level's requests in, and sees that the store is within its limit where there are some.
@@ -153,11 +161,11 @@ fn reduce_team_level<R: Threads + Sync, H: Watch>(
     watch: &H,
 ) -> Result<(), WaveFault>
     requires level { level < store.old.levels }
-    requires reached { IsReducedTo field.workers field.roots.now field.parts.now store.old.levels (level + 1) progress.old.answers progress.old.lefts.items }
+    requires reached { IsReducedTo field.workers field.roots.now field.parts.now store.old.levels (level + 1) progress.old.answers progress.old.rest.lefts.items }
     requires ready { MayReduceRow store.old (told field.workers field.parts.now progress.old.answers) level (team_row field.workers field.parts.now level) }
     ensures row { ReducesRow store.old (told field.entry.workers field.entry.parts.now progress.old.answers) level
         (team_row field.entry.workers field.entry.parts.now level) result store.new (told field.entry.workers field.entry.parts.now progress.new.answers) }
-    ensures reached { OnOk result (IsReducedTo field.entry.workers field.entry.roots.now field.entry.parts.now store.old.levels level progress.new.answers progress.new.lefts.items) }
+    ensures reached { OnOk result (IsReducedTo field.entry.workers field.entry.roots.now field.entry.parts.now store.old.levels level progress.new.answers progress.new.rest.lefts.items) }
     ensures within { OnOk result (IsRowWithin store.old (team_row field.entry.workers field.entry.parts.now level) store.new) }
 {
     if level_size(field.parts, field.workers, level) == 0 {
@@ -170,8 +178,8 @@ fn reduce_team_level<R: Threads + Sync, H: Watch>(
         answers: &progress.answers,
         workers: field.workers,
     };
-    let lefts = &mut progress.lefts;
-    let answers = match level_answers(rt, store, team, level, lefts, watch) {
+    let rest = &mut progress.rest;
+    let answers = match level_answers(rt, store, team, level, rest, watch) {
         Ok(answers) => answers,
         Err(fault) => return Err(wave_fault(fault)),
     };
@@ -183,17 +191,22 @@ fn reduce_team_level<R: Threads + Sync, H: Watch>(
 }
 
 /// The progress of a wave that is not reduced yet.
-pub(crate) fn begin(store: &Store, field: Field<'_>) -> Result<Progress, AllocError>
+pub(crate) fn begin(
+    store: &Store,
+    field: Field<'_>,
+    spare: Spare,
+) -> Result<Progress, AllocError>
     requires some { 0 < field.workers }
     requires roots { All (IsKey store.now) field.roots.now }
     requires parts { AreParts store.now field.workers field.roots.now field.parts.now }
-    ensures reached { IfOk result (λ g. IsReducedTo field.entry.workers field.entry.roots.now field.entry.parts.now store.now.levels store.now.levels g.answers g.lefts.items) }
+    ensures reached { IfOk result (λ g. IsReducedTo field.entry.workers field.entry.roots.now field.entry.parts.now store.now.levels store.now.levels g.answers g.rest.lefts.items) }
     ensures none { IfOk result (λ g. told field.entry.workers field.entry.parts.now g.answers ≡ []) }
 {
     let levels = store.levels();
     let answers = Answers::new(field.alloc, levels)?;
     let lefts = all_sent(field.alloc, store, field.parts, field.roots, field.workers)?;
-    Ok(Progress { answers, lefts })
+    let rest = Rest { lefts, spare };
+    Ok(Progress { answers, rest })
 }
 
 /// Reduces a wave from the last level up.
@@ -205,13 +218,13 @@ pub(crate) fn reduce_team<R: Threads + Sync, H: Watch>(
     watch: &H,
 ) -> Result<(), WaveFault>
     requires records { AreRecords store.old (gathered store.old.levels (team_row field.workers field.parts.now)) }
-    requires reached { IsReducedTo field.workers field.roots.now field.parts.now store.old.levels store.old.levels progress.old.answers progress.old.lefts.items }
+    requires reached { IsReducedTo field.workers field.roots.now field.parts.now store.old.levels store.old.levels progress.old.answers progress.old.rest.lefts.items }
     requires none { told field.workers field.parts.now progress.old.answers ≡ [] }
     ensures sound { IsSound store.new }
     ensures adds { AddsDescribed store.old store.new (AskedInRows store.old (gathered store.old.levels (team_row field.entry.workers field.entry.parts.now))) }
     ensures answers { OnOk result (AreReduced (gathered store.old.levels (team_row field.entry.workers field.entry.parts.now)) store.new
         (told field.entry.workers field.entry.parts.now progress.new.answers)) }
-    ensures reached { OnOk result (IsReducedTo field.entry.workers field.entry.roots.now field.entry.parts.now store.old.levels 0 progress.new.answers progress.new.lefts.items) }
+    ensures reached { OnOk result (IsReducedTo field.entry.workers field.entry.roots.now field.entry.parts.now store.old.levels 0 progress.new.answers progress.new.rest.lefts.items) }
     ensures within { OnOk result (IsWithinFrom store.old (gathered store.old.levels (team_row field.entry.workers field.entry.parts.now)) 0 store.new) }
     ensures fault { IfErr result (λ e. IsReduceFault store.new (gathered store.old.levels (team_row field.entry.workers field.entry.parts.now)) e) }
 {

@@ -13,12 +13,15 @@ use crate::levels::reduce;
 use crate::results::Results;
 use crate::roots::root_answers;
 use crate::seeking::Sought;
+use crate::spare::Spare;
 use crate::team::{Field, Progress, Team, begin, reduce_team};
 use dd_store::{Ref, Store, Watch};
 use expand_work::{Crew, Free, Gate, Spaces, WaveFault, expand_parts};
 use req_table::requests::{normal, short};
 use req_table::{Key, Memo, Op, Records};
 use std::alloc::{AllocError, Global};
+use std::marker::Model;
+use std::mem;
 use std::sync::Wait;
 use std::thread::Threads;
 use wave_core::Core;
@@ -180,6 +183,7 @@ fn answer_team<R: Threads + Sync, H: Watch>(
     rt: &R,
     store: &mut Store,
     field: Field<'_>,
+    spare: &mut Spare,
     watch: &H,
 ) -> Result<Vec<Ref>, WaveFault>
     requires roots { All (IsKey store.old) field.roots.now }
@@ -189,14 +193,15 @@ fn answer_team<R: Threads + Sync, H: Watch>(
     ensures unbounded { IfErr result (λ e. e ≢ WaveFault.TooManyRequests) }
 {
     let _ = store.levels();
-    let Ok(mut progress) = begin(store, field) else {
+    let used = mem::replace(spare, Spare::new(field.alloc));
+    let Ok(mut progress) = begin(store, field, used) else {
         return Err(WaveFault::OutOfMemory);
     };
     match reduce_team(rt, store, field, &mut progress, watch) {
         Ok(()) => {}
         Err(fault) => return Err(fault),
     }
-    let Progress { answers, mut lefts } = progress;
+    let Progress { answers, mut rest } = progress;
     let team = Team {
         alloc: field.alloc,
         parts: field.parts,
@@ -204,9 +209,34 @@ fn answer_team<R: Threads + Sync, H: Watch>(
         answers: &answers,
         workers: field.workers,
     };
-    match root_answers(store, team, &mut lefts) {
-        Ok(found) => Ok(found),
-        Err(_) => Err(WaveFault::OutOfMemory),
+    let Ok(found) = root_answers(store, team, &mut rest.lefts) else {
+        return Err(WaveFault::OutOfMemory);
+    };
+    *spare = rest.spare;
+    spare.keep_answers(answers.into_lists());
+    Ok(found)
+}
+
+/// The memory of waves by threads, between two of them. Contracts see nothing in it.
+#[derive(Drop)]
+pub struct Rooms {
+    spaces: Spaces,
+    spare: Spare,
+}
+
+impl Model for Rooms {
+    ghost Value = { Unit {0} };
+
+    ghost view = { λ _. tt };
+}
+
+impl Rooms {
+    /// No memory yet.
+    pub fn new(alloc: Global) -> Rooms {
+        Rooms {
+            spaces: Spaces::new(alloc),
+            spare: Spare::new(alloc),
+        }
     }
 }
 
@@ -214,20 +244,20 @@ fn answer_team<R: Threads + Sync, H: Watch>(
 ///
 /// The requests, and all that they ask for, are expanded by workers in threads, and reduced from the last level up (Ochi,
 /// Yasuoka and Yajima 1993). NoWorker is answered where a worker's thread could not be started;
-/// what no other thread could be started for, the caller's thread does. The workers work in the memory of an earlier wave as far as there
-/// is some, and leave theirs for the next; after a refusal it is given back.
+/// what no other thread could be started for, the caller's thread does. All of it is done in the memory of an earlier wave as far as there
+/// is some, and leaves its own for the next; after a refusal it is given back.
 pub fn shared_wave<R: Threads + Wait + Sync, G: Gate>(
     crew: &Crew<'_, R, G>,
     store: &mut Store,
     roots: &[Key],
-    spaces: &mut Spaces,
+    rooms: &mut Rooms,
 ) -> Result<Vec<Ref>, WaveFault>
     requires roots { All (IsKey store.old) roots.now }
     ensures wave { AnswersWave store.old (entries_for roots.now) (entries_for roots.now) result store.new }
     ensures unbounded { IfErr result (λ e. e ≢ WaveFault.TooManyRequests) }
 {
     let _ = store.levels();
-    let parts = match expand_parts(crew, store, roots, spaces) {
+    let parts = match expand_parts(crew, store, roots, &mut rooms.spaces) {
         Ok(parts) => parts,
         Err(fault) => return Err(fault),
     };
@@ -237,7 +267,7 @@ pub fn shared_wave<R: Threads + Wait + Sync, G: Gate>(
         roots,
         workers: crew.workers.count(),
     };
-    let answers = answer_team(crew.rt, store, field, crew.gate)?;
-    *spaces = parts.into_spaces();
+    let answers = answer_team(crew.rt, store, field, &mut rooms.spare, crew.gate)?;
+    rooms.spaces = parts.into_spaces();
     Ok(answers)
 }

@@ -10,8 +10,8 @@ ghost use Rattle.wave_engine.specs.Front.{keys_from, IsCopied, ArePut};
 use crate::lists::Answers;
 use crate::requests::Requests;
 use dd_store::{Ref, Store};
-use expand_work::{Crew, Gate, Spaces, WaveFault};
-use reduce_up::shared_wave;
+use expand_work::{Crew, Gate, WaveFault};
+use reduce_up::{Rooms, shared_wave};
 use req_table::{Key, Op};
 use std::alloc::{AllocError, Global};
 use std::sync::Wait;
@@ -71,7 +71,7 @@ fn put_answers(
 /// the memory of an earlier wave as far as there is some.
 pub(crate) fn hand_over<R: Threads + Wait + Sync, G: Gate>(
     crew: &Crew<'_, R, G>,
-    spaces: &mut Spaces,
+    rooms: &mut Rooms,
     store: &mut Store,
     entries: &[(Op, Ref, Ref)],
     requests: &Requests,
@@ -99,7 +99,7 @@ pub(crate) fn hand_over<R: Threads + Wait + Sync, G: Gate>(
     if asked.is_empty() {
         return Ok(());
     }
-    let found = match shared_wave(crew, store, asked, spaces) {
+    let found = match shared_wave(crew, store, asked, rooms) {
         Ok(found) => found,
         Err(fault) => return Err(fault),
     };

@@ -15,7 +15,8 @@ use crate::lists::{Answers, Row};
 use crate::requests::Requests;
 use crate::up::{reduce, resolve};
 use dd_store::{Ref, Store};
-use expand_work::{Crew, Gate, Spaces, WaveFault, Workers};
+use expand_work::{Crew, Gate, WaveFault, Workers};
+use reduce_up::Rooms;
 use req_table::{Op, Placed};
 use std::alloc::{AllocError, Global};
 use std::sync::Wait;
@@ -132,7 +133,7 @@ pub(crate) struct Workspace<'a, R, G> {
     down: Down,
     answers: Vec<Answers>,
     /// The memory of the workers.
-    spaces: Spaces,
+    rooms: Rooms,
 }
 
 impl<'a, R: Threads + Wait + Sync, G: Gate> Workspace<'a, R, G> {
@@ -153,7 +154,7 @@ impl<'a, R: Threads + Wait + Sync, G: Gate> Workspace<'a, R, G> {
                 roots: Vec::new(alloc),
             },
             answers: Vec::new(alloc),
-            spaces: Spaces::new(alloc),
+            rooms: Rooms::new(alloc),
         }
     }
 
@@ -199,7 +200,7 @@ impl<'a, R: Threads + Wait + Sync, G: Gate> Workspace<'a, R, G> {
         tell_requests(self.crew.gate, &self.down.requests, from);
         hand_over(
             &self.crew,
-            &mut self.spaces,
+            &mut self.rooms,
             store,
             entries,
             &self.down.requests,

@@ -7,7 +7,7 @@ use Rattle.reduce_up.proofs.narrow.make_level.Goals as goal
 pub loop-sender-init : goal.loop-sender-init
 loop-sender-init c =
     let t = c.args.team in
-    making_none t.workers t.roots.now t.parts.now t.answers.now c.args.store.now c.args.level c.in-Ok.answers.items c.args.lefts.now.items c.requires.held c.in-Ok.ensures.items c.requires.read.lefts
+    making_none t.workers t.roots.now t.parts.now t.answers.now c.args.store.now c.args.level c.in-Ok.answers.items c.args.rest.now.lefts.items c.requires.held c.in-Ok.ensures.items c.requires.read.lefts
 
 pub make_part-requires-clause-ready : goal.make_part-requires-clause-ready
 make_part-requires-clause-ready c =

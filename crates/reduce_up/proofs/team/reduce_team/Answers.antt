@@ -31,7 +31,7 @@ reduce_team_level-requires-clause-reached g c κs within =
     record {
       halfway = subst (λ z. IsHalfway n c.args.field.roots.now p z c.loop-level.progress.answers) e r.halfway;
       levels = r.levels ∙ sym c.loop-level.invariant.reduced.adds.keeps.levels;
-      lefts = subst (λ z. AreAllLeft n c.args.field.roots.now p z c.loop-level.progress.lefts.items) e r.lefts;
+      lefts = subst (λ z. AreAllLeft n c.args.field.roots.now p z c.loop-level.progress.rest.lefts.items) e r.lefts;
     }
 
 pub loop-level-preserved : goal.loop-level-preserved
@@ -90,4 +90,4 @@ returns-clause-within g c =
 pub returns-clause-reached : goal.returns-clause-reached
 returns-clause-reached g c =
     let e : c.loop-level.level ≡ 0 = omega arith in
-    subst (λ z. IsReducedTo c.args.field.workers c.args.field.roots.now c.args.field.parts.now c.args.store.now.levels z c.loop-level.progress.answers c.loop-level.progress.lefts.items) e c.loop-level.invariant.reached
+    subst (λ z. IsReducedTo c.args.field.workers c.args.field.roots.now c.args.field.parts.now c.args.store.now.levels z c.loop-level.progress.answers c.loop-level.progress.rest.lefts.items) e c.loop-level.invariant.reached

@@ -16,7 +16,7 @@ returns-then-level_size-eq0-clause-reached g c =
     record {
       halfway = none_halfway n c.args.field.roots.now p c.args.level a r.halfway none;
       levels = r.levels;
-      lefts = none_left n c.args.field.roots.now p c.args.level a r.halfway none c.args.progress.now.lefts.items r.lefts;
+      lefts = none_left n c.args.field.roots.now p c.args.level a r.halfway none c.args.progress.now.rest.lefts.items r.lefts;
     }
 
 pub level_answers-requires-after_bounds : goal.level_answers-requires-after_bounds

@@ -22,7 +22,7 @@ pub root_answers-requires-clause-levels : goal.root_answers-requires-clause-leve
 root_answers-requires-clause-levels g c = c.in-Ok-reduce_team.ensures.reached.levels ∙ sym c.reduce_team.ensures.adds.keeps.levels
 
 pub root_answers-requires-clause-lefts : goal.root_answers-requires-clause-lefts
-root_answers-requires-clause-lefts g c = roots_left c.args.field.workers c.args.field.roots.now c.args.field.parts.now c.reduce_team.new.progress.lefts.items c.in-Ok-reduce_team.ensures.reached.lefts
+root_answers-requires-clause-lefts g c = roots_left c.args.field.workers c.args.field.roots.now c.args.field.parts.now c.reduce_team.new.progress.rest.lefts.items c.in-Ok-reduce_team.ensures.reached.lefts
 
 pub returns-in-Err-clause-wave : goal.returns-in-Err-clause-wave
 returns-in-Err-clause-wave g c =
@@ -38,8 +38,8 @@ returns-in-Err-clause-wave g c =
     wave_given_up S E E c.reduce_team.new.store c.in-Err.fault c.reduce_team.ensures.sound adds
     (wave_refused S c.levels.ensures.sound n c.requires.some E operands rows closure c.reduce_team.new.store c.reduce_team.ensures.sound c.reduce_team.ensures.adds c.in-Err.fault c.in-Err.ensures.fault)
 
-pub returns-in-Ok-root_answers-clause-wave : goal.returns-in-Ok-root_answers-clause-wave
-returns-in-Ok-root_answers-clause-wave g c =
+pub returns-clause-wave : goal.returns-clause-wave
+returns-clause-wave g c =
     let S = c.args.store.now in let f = c.args.field in let n = f.workers in let p = f.parts.now in
     let rows = gathered S.levels (team_row n p) in
     let good = c.requires.roots in
@@ -53,8 +53,8 @@ returns-in-Ok-root_answers-clause-wave g c =
     (wave_answers S c.levels.ensures.sound n c.requires.some E operands rows closure c.reduce_team.new.store c.reduce_team.ensures.sound c.reduce_team.ensures.adds (told n p c.reduce_team.new.progress.answers) c.in-Ok-reduce_team.ensures.answers E operands c.in-Ok-root_answers.found.items (taken_each S (told n p c.reduce_team.new.progress.answers) f.roots.now c.in-Ok-root_answers.found.items good c.in-Ok-root_answers.ensures))
     (wave_within S c.levels.ensures.sound n c.requires.some E operands rows closure c.reduce_team.new.store c.reduce_team.ensures.sound c.reduce_team.ensures.adds c.in-Ok-reduce_team.ensures.within)
 
-pub returns-clause-wave : goal.returns-clause-wave
-returns-clause-wave g c =
+pub returns-in_default-root_answers-clause-wave : goal.returns-in_default-root_answers-clause-wave
+returns-in_default-root_answers-clause-wave g c =
     let S = c.args.store.now in let f = c.args.field in let n = f.workers in let p = f.parts.now in
     let rows = gathered S.levels (team_row n p) in
     let good = c.requires.roots in

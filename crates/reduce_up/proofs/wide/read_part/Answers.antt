@@ -16,14 +16,14 @@ pub loop-next-init : goal.loop-next-init
 loop-next-init c =
     let t = c.args.team in
     let T = told t.workers t.parts.now t.answers.now in
-    let row = row_of t.parts.now.rows c.args.sender c.args.level in
+    let row = row_of t.parts.now.rows c.args.job.sender c.args.level in
     let long : length c.children-row.result.now ≡ length row = ap (λ z. length z) c.children-row.ensures ∙ lean-long (length t.parts.now.rows) row in
     let d = c.in_ok-divided.divided in
     record {
       bound = omega (arith, long);
-      left = subst (λ z. AreLeft t.workers (before t.workers t.roots.now t.parts.now c.args.sender c.args.level z) c.extend_from_slice.new.self.items) (sym long)
-          (subst (λ z. AreLeft t.workers z c.extend_from_slice.new.self.items) (sym (before_whole t.workers t.roots.now t.parts.now c.args.sender c.args.level))
-          (subst (AreLeft t.workers (asked_above t.workers t.roots.now t.parts.now c.args.sender (c.args.level + 1))) (sym (c.in_ok-extend_from_slice.ensures.items ∙ ap (λ z. z ++ c.args.left.now) c.in_ok-rest.ensures.items)) c.requires.left));
+      left = subst (λ z. AreLeft t.workers (before t.workers t.roots.now t.parts.now c.args.job.sender c.args.level z) c.extend_from_slice.new.self.items) (sym long)
+          (subst (λ z. AreLeft t.workers z c.extend_from_slice.new.self.items) (sym (before_whole t.workers t.roots.now t.parts.now c.args.job.sender c.args.level))
+          (subst (AreLeft t.workers (asked_above t.workers t.roots.now t.parts.now c.args.job.sender (c.args.level + 1))) (sym (c.in_ok-extend_from_slice.ensures.items ∙ ap (λ z. z ++ c.args.left.now) c.in_ok-rest.ensures.items)) c.requires.left));
       sixteen = c.in_ok-divided.ensures.sixteen;
       divided = subst (λ z. IsDivided T (reverse (drop z row)) d.homes (list_at d.lists.items)) (sym long)
           (subst (λ z. IsDivided T (reverse z) d.homes (list_at d.lists.items)) (sym (drop-length row))
@@ -33,7 +33,7 @@ loop-next-init c =
 pub resolve-high-requires-clause-child : goal.resolve-high-requires-clause-child
 resolve-high-requires-clause-child c =
     let t = c.args.team in let i : ℕ = c.loop-next.next - 1 in let some = c.loop-next-test.true in let bound = c.loop-next.invariant.bound in
-    let n = t.workers in let p = t.parts.now in let a = t.answers.now in let v = c.args.level in let s = c.args.sender in
+    let n = t.workers in let p = t.parts.now in let a = t.answers.now in let v = c.args.level in let s = c.args.job.sender in
     let own = row_of p.rows s v in
     let entry = c.index-row-next.result in
     let e : c.loop-next.next ≡ i + 1 = omega (arith, some) in
@@ -47,7 +47,7 @@ resolve-high-requires-clause-child c =
 pub resolve-low-requires-clause-child : goal.resolve-low-requires-clause-child
 resolve-low-requires-clause-child c =
     let t = c.args.team in let i : ℕ = c.loop-next.next - 1 in let some = c.loop-next-test.true in let bound = c.loop-next.invariant.bound in
-    let n = t.workers in let p = t.parts.now in let a = t.answers.now in let v = c.args.level in let s = c.args.sender in
+    let n = t.workers in let p = t.parts.now in let a = t.answers.now in let v = c.args.level in let s = c.args.job.sender in
     let own = row_of p.rows s v in
     let entry = c.index-row-next.result in
     let e : c.loop-next.next ≡ i + 1 = omega (arith, some) in
@@ -63,7 +63,7 @@ resolve-low-requires-clause-child c =
 pub resolve-low-requires-clause-long : goal.resolve-low-requires-clause-long
 resolve-low-requires-clause-long c =
     let t = c.args.team in let i : ℕ = c.loop-next.next - 1 in let some = c.loop-next-test.true in let bound = c.loop-next.invariant.bound in
-    let n = t.workers in let p = t.parts.now in let a = t.answers.now in let v = c.args.level in let s = c.args.sender in
+    let n = t.workers in let p = t.parts.now in let a = t.answers.now in let v = c.args.level in let s = c.args.job.sender in
     let own = row_of p.rows s v in
     let entry = c.index-row-next.result in
     let e : c.loop-next.next ≡ i + 1 = omega (arith, some) in
@@ -79,7 +79,7 @@ resolve-low-requires-clause-long c =
 pub loop-next-preserved : goal.loop-next-preserved
 loop-next-preserved c =
     let t = c.args.team in let i : ℕ = c.loop-next.next - 1 in let some = c.loop-next-test.true in let bound = c.loop-next.invariant.bound in
-    let n = t.workers in let p = t.parts.now in let a = t.answers.now in let v = c.args.level in let s = c.args.sender in
+    let n = t.workers in let p = t.parts.now in let a = t.answers.now in let v = c.args.level in let s = c.args.job.sender in
     let own = row_of p.rows s v in
     let entry = c.index-row-next.result in
     let e : c.loop-next.next ≡ i + 1 = omega (arith, some) in
@@ -109,6 +109,6 @@ returns c =
     let z : c.loop-next.next ≡ 0 = omega arith in
     record {
       sixteen = c.loop-next.invariant.sixteen;
-      divided = subst (λ k. IsDivided (told t.workers t.parts.now t.answers.now) (reverse (drop k (row_of t.parts.now.rows c.args.sender c.args.level))) c.loop-next.divided.homes (list_at c.loop-next.divided.lists.items)) z c.loop-next.invariant.divided;
-      rest = subst (λ k. AreLeft t.workers k c.loop-next.rest.items) (ap (before t.workers t.roots.now t.parts.now c.args.sender c.args.level) z ∙ before_none t.workers t.roots.now t.parts.now c.args.sender c.args.level) c.loop-next.invariant.left;
+      divided = subst (λ k. IsDivided (told t.workers t.parts.now t.answers.now) (reverse (drop k (row_of t.parts.now.rows c.args.job.sender c.args.level))) c.loop-next.divided.homes (list_at c.loop-next.divided.lists.items)) z c.loop-next.invariant.divided;
+      rest = subst (λ k. AreLeft t.workers k c.loop-next.rest.items) (ap (before t.workers t.roots.now t.parts.now c.args.job.sender c.args.level) z ∙ before_none t.workers t.roots.now t.parts.now c.args.job.sender c.args.level) c.loop-next.invariant.left;
     }
