@@ -49,15 +49,18 @@ impl Asks {
     fn push(&mut self, spare: &mut Spare, level: u16, key: Key) -> Result<(), AllocError>
         ensures { OnOk result (self.new ≡ self.old ++ (level, key) ∷ []) }
     {
-        let mut hand = match self.hand.take() {
-            Some(hand) => hand,
-            None => spare.take()?,
+        let Some(hand) = &mut self.hand else {
+            let mut hand = spare.take()?;
+            hand.add(level, key);
+            self.hand = Some(hand);
+            return Ok(());
         };
         hand.add(level, key);
-        if hand.len() == Bundle::ROOM {
+        if hand.len() < Bundle::ROOM {
+            return Ok(());
+        }
+        if let Some(hand) = self.hand.take() {
             self.full.push_back(hand)?;
-        } else {
-            self.hand = Some(hand);
         }
         Ok(())
     }
