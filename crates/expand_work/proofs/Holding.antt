@@ -1,6 +1,6 @@
 -- A worker keeps the requests that are its own.
 use Rattle.std.proofs.Common.{◌≡◌, ℕ, ◌+◌, ◌-◌, ◌<◌, List, [], ◌∷◌, ◌++◌, Some, map, take, length, get_or, All, refl, sym, ap, ◌∙◌, subst, arith, append_assoc, append-nil}
-use Rattle.std.proofs.lemmas.List.{map_more, map-append, take_more, length-map}
+use Rattle.std.proofs.lemmas.List.{map_more, map-append, length-map}
 use Rattle.req_table.specs.declared.Key.{Key}
 use Rattle.req_table.specs.declared.Item.{Item}
 use Rattle.req_table.specs.declared.Sizes.{Sizes}
@@ -15,24 +15,24 @@ use Rattle.lane_queue.specs.PortView.{LanesView, PortView, sent_to, has_kept, Is
 use Rattle.lane_queue.proofs.Facts.{fair-more, load-mine, of-mine}
 use Rattle.lane_queue.proofs.Keeping.{sent-own, sent-other}
 use Rattle.expand_work.specs.Work.{MaySend, HasKept, Offered, IsHeard, StaysClosed}
-use Rattle.expand_work.proofs.Saying.{ends-asked, same_port, port_on}
+use Rattle.expand_work.proofs.Saying.{ends-asked, same_port, port_on, still_of}
 use Rattle.expand_work.proofs.Hearing.{closed_more, stays_on, stays_same}
 use Rattle.expand_work.specs.Due.{IsCut}
-use Rattle.expand_work.specs.Noted.{EntersAt, IsNoted}
+use Rattle.expand_work.specs.Noted.{IsNoted, Notes}
 use Rattle.expand_work.proofs.Cutting.{cut_all}
-use Rattle.expand_work.proofs.Taking.{offered-more, offered-long, hear_asks, asks_stay}
+use Rattle.expand_work.proofs.Taking.{hear_asks, asks_stay}
+use Rattle.expand_work.proofs.Noting.{asks_noted}
 
 -- all of these requests were kept
-pub record Holding (p q : PortView) (ts us : List (List Key)) (asks : List (ℕ × Key)) : Type 0 where
+pub record Holding (p q : PortView) (asks : List (ℕ × Key)) : Type 0 where
   pub kept : HasKept p q (map (ask_of p.number) asks)
   pub all : sent_by q.number q.taken ≡ sent_to q q.number
-  pub offered : Offered asks ts us
 
 pub kept-none : (p : PortView) → HasKept p p []
 kept-none p = record { port = same_port p; put = refl; own = sym (append-nil (sent_to p p.number)); others = λ k n. refl; taken = sym (append-nil p.taken) }
 
-pub hold-start : (p : PortView) (ts : List (List Key)) → sent_by p.number p.taken ≡ sent_to p p.number → Holding p p ts ts []
-hold-start p ts e = record { kept = kept-none p; all = e; offered = refl }
+pub hold-start : (p : PortView) → sent_by p.number p.taken ≡ sent_to p p.number → Holding p p []
+hold-start p e = record { kept = kept-none p; all = e }
 
 -- no End was sent
 kept-ends : (p q : PortView) (asks : List (ℕ × Key)) → HasKept p q (map (ask_of p.number) asks) → ends (sent_to q q.number) ≡ ends (sent_to p p.number)
@@ -40,11 +40,11 @@ kept-ends p q asks kept =
     let a = ap (λ k. ends (sent_to q k)) kept.port.0 ∙ ap ends kept.own ∙ ends-append (sent_to p p.number) (map (ask_of p.number) asks) in
     let z = ends-asked p.number asks in omega (arith, a, z)
 
-module _ (l : LanesView) (p : PortView) (ts : List (List Key)) (asks : List (ℕ × Key)) (o : IsPortOf l p) (may : MaySend l p p.number asks) where
+module _ (l : LanesView) (p : PortView) (asks : List (ℕ × Key)) (o : IsPortOf l p) (may : MaySend l p p.number asks) where
   wide : length p.lanes ≡ length l.lanes
   wide = ap (λ q. length q) o.0 ∙ length-map l.lanes (λ q. Some q)
 
-  module _ (q : PortView) (us : List (List Key)) (i : ℕ) (x : ℕ × Key) (lt : i < length asks) (x-is : x ≡ get_or asks i x) (h : Holding p q ts us (take i asks)) where
+  module _ (q : PortView) (i : ℕ) (x : ℕ × Key) (lt : i < length asks) (x-is : x ≡ get_or asks i x) (h : Holding p q (take i asks)) where
     n-is : q.number ≡ p.number
     n-is = h.kept.port.0
 
@@ -67,17 +67,14 @@ module _ (l : LanesView) (p : PortView) (ts : List (List Key)) (asks : List (ℕ
         let c = closed_more (lanes_scope l) (ends (sent_to p p.number) - 1) p.taken (map (ask_of p.number) (take i asks)) a in
         subst (λ (y : ℕ × Sizes × ℕ × List Item). IsClosed (scope_of y.0 y.1) (y.2 - 1) y.3) (λ j. (sym (ap (λ k. length k) h.kept.port.1 ∙ wide) j, sym (h.kept.port.2 ∙ o.1) j, sym e j, sym h.kept.taken j)) c
 
-    pub hold-level : length ts ≡ l.sizes.levels → x.0 < length us
-    hold-level many = let a = offered-long (take i asks) ts us h.offered in let f = follow.1 in omega (arith, a, many, f)
-
-    module _ (r : PortView) (vs : List (List Key)) (place : ℕ) (is : r ≡ has_kept q (ask_of q.number x)) (off : EntersAt us x.0 x.1 place vs) where
+    module _ (r : PortView) (is : r ≡ has_kept q (ask_of q.number x)) where
       r-own : sent_to r q.number ≡ sent_to q q.number ++ ask_of q.number x ∷ []
       r-own = ap (λ (u : PortView). sent_to u q.number) is ∙ sent-own (has_kept q (ask_of q.number x)) ∙ ap (λ xs. xs ++ ask_of q.number x ∷ []) (sym (sent-own q))
 
       more : map (ask_of p.number) (take (i + 1) asks) ≡ map (ask_of p.number) (take i asks) ++ ask_of q.number x ∷ []
       more = map_more (ask_of p.number) asks i x lt ∙ ap (λ y. map (ask_of p.number) (take i asks) ++ y ∷ []) (sym one)
 
-      pub hold-more : Holding p r ts vs (take (i + 1) asks)
+      pub hold-more : Holding p r (take (i + 1) asks)
       hold-more = record {
         kept = record {
           port = port_on p q r h.kept.port (ap (λ (u : PortView). u.number) is, ap (λ (u : PortView). u.lanes) is, ap (λ (u : PortView). u.sizes) is);
@@ -88,11 +85,14 @@ module _ (l : LanesView) (p : PortView) (ts : List (List Key)) (asks : List (ℕ
           taken = ap (λ (u : PortView). u.taken) is ∙ ap (λ xs. xs ++ ask_of q.number x ∷ []) h.kept.taken ∙ append_assoc p.taken (map (ask_of p.number) (take i asks)) (ask_of q.number x ∷ []) ∙ ap (λ xs. p.taken ++ xs) (sym more);
         };
         all = ap (λ (u : PortView). sent_by u.number u.taken) is ∙ sent_by-append q.number q.taken (ask_of q.number x ∷ []) ∙ (λ j. h.all j ++ of-mine q.number (ask_of q.number x) [] refl j) ∙ sym r-own ∙ ap (λ k. sent_to r k) (sym (ap (λ (u : PortView). u.number) is));
-        offered = subst (λ k. Offered k ts vs) (ap (λ y. take i asks ++ y ∷ []) x-is ∙ sym (take_more asks i x lt)) (offered-more (take i asks) x ts us vs off.0 h.offered off.1.0 off.2);
       }
 
-  -- once all were kept
-  module _ (q : PortView) (us : List (List Key)) (clock : Counts) (within : p.number < length l.lanes) (taken : sent_by p.number p.taken ≡ sent_to p p.number) (heard : IsHeard (lanes_scope l) p.taken clock ts) (h : Holding p q ts us asks) where
+  -- the tables have their levels
+  pub hold-levels : (ts : List (List Key)) → length ts ≡ l.sizes.levels → All (λ (a : ℕ × Key). a.0 < length ts) asks
+  hold-levels ts many = all_of (λ (a : ℕ × Key). a.0 < length ts) asks (λ a has. let f = (each (λ a. MayFollow (lanes_scope l) (ends (sent_to p p.number)) (ask_of p.number a)) asks a may.follow has).1 in omega (arith, f, many))
+
+  -- once all were kept and admitted
+  module _ (q : PortView) (ts us : List (List Key)) (clock : Counts) (within : p.number < length l.lanes) (taken : sent_by p.number p.taken ≡ sent_to p p.number) (heard : IsHeard (lanes_scope l) p.taken clock ts) (kept : HasKept p q (map (ask_of p.number) asks)) (off : Offered asks ts us) where
     follow-all : All (MayFollow (lanes_scope l) (ends (sent_by p.number p.taken))) (map (ask_of p.number) asks)
     follow-all = subst (λ xs. All (MayFollow (lanes_scope l) (ends xs)) (map (ask_of p.number) asks)) (sym taken)
         (all_of (MayFollow (lanes_scope l) (ends (sent_to p p.number))) (map (ask_of p.number) asks) (λ y has.
@@ -104,15 +104,15 @@ module _ (l : LanesView) (p : PortView) (ts : List (List Key)) (asks : List (ℕ
         (fair-more (lanes_scope l) (sent_by p.number p.taken) (Bundle p.number asks) (heard.fair p.number within) follow-all)
 
     pub hold-heard : IsHeard (lanes_scope l) q.taken clock us
-    hold-heard = subst (λ xs. IsHeard (lanes_scope l) xs clock us) (sym h.kept.taken)
-        (hear_asks (lanes_scope l) p.taken p.number asks (sent_by p.number (p.taken ++ map (ask_of p.number) asks)) [] clock ts us within fair-now (sym (append-nil (sent_by p.number (p.taken ++ map (ask_of p.number) asks)))) h.offered heard)
+    hold-heard = subst (λ xs. IsHeard (lanes_scope l) xs clock us) (sym kept.taken)
+        (hear_asks (lanes_scope l) p.taken p.number asks (sent_by p.number (p.taken ++ map (ask_of p.number) asks)) [] clock ts us within fair-now (sym (append-nil (sent_by p.number (p.taken ++ map (ask_of p.number) asks)))) off heard)
 
     pub hold-stays : StaysClosed (lanes_scope l) p.taken q.taken ts us
-    hold-stays = subst (λ xs. StaysClosed (lanes_scope l) p.taken xs ts us) (sym h.kept.taken)
+    hold-stays = subst (λ xs. StaysClosed (lanes_scope l) p.taken xs ts us) (sym kept.taken)
         (asks_stay (lanes_scope l) p.taken (map (ask_of p.number) asks) asks ts us (λ a has closed.
         let f = each (MayFollow (lanes_scope l) (ends (sent_by p.number p.taken))) (map (ask_of p.number) asks) (ask_of p.number a) follow-all (Has-map (ask_of p.number) asks a has) in
         let past = counted_of_closed (lanes_scope l) a.0 p.taken heard.fair closed p.number within in
-        let low = f.0 in omega (arith, past, low)) h.offered)
+        let low = f.0 in omega (arith, past, low)) off)
 
 -- ---- bundle after bundle
 -- Some of these requests were kept, and these are left.
@@ -156,17 +156,22 @@ module _ (l : LanesView) (p q : PortView) (clock : Counts) (ts us : List (List K
             (closed_more (lanes_scope l) (ends (sent_to p p.number) - 1) p.taken (map (ask_of p.number) h.gone) (may.leave (omega (arith, z, e))));
       }
 
-  pub keeping-more : (r : PortView) (vs : List (List Key)) (noted' : List (List ℕ)) → HasKept q r (map (ask_of q.number) bundle) → sent_by r.number r.taken ≡ sent_to r r.number → IsHeard (lanes_scope l) r.taken clock vs
-      → StaysClosed (lanes_scope l) q.taken r.taken us vs → IsNoted (length l.lanes) r.taken vs noted' → Keeping l p r clock ts vs noted' asks rest
-  keeping-more r vs noted' kept mine heard stays places = record {
-    gone = h.gone ++ bundle;
-    all = append_assoc h.gone bundle rest ∙ ap (λ xs. h.gone ++ xs) (cut_all left bundle rest cut) ∙ h.all;
-    kept = kept-on p q r h.gone bundle h.kept kept;
-    mine = mine;
-    heard = heard;
-    stays = stays_on (lanes_scope l) p.taken q.taken r.taken ts us vs h.stays stays;
-    places = places;
-  }
+  pub keeping-more : IsPortOf l p → p.number < length l.lanes → (r : PortView) (vs : List (List Key)) (noted' : List (List ℕ)) → HasKept q r (map (ask_of q.number) bundle) → sent_by r.number r.taken ≡ sent_to r r.number
+      → Offered bundle us vs → Notes p.number bundle us vs noted noted' → Keeping l p r clock ts vs noted' asks rest
+  keeping-more o within r vs noted' kept mine off notes =
+      let o' = still_of l p q h.kept.port o in
+      let n-is = h.kept.port.0 in
+      let within' = subst (λ n. n < length l.lanes) (sym n-is) within in
+      record {
+        gone = h.gone ++ bundle;
+        all = append_assoc h.gone bundle rest ∙ ap (λ xs. h.gone ++ xs) (cut_all left bundle rest cut) ∙ h.all;
+        kept = kept-on p q r h.gone bundle h.kept kept;
+        mine = mine;
+        heard = hold-heard l q bundle o' keeping-may r us vs clock within' h.mine h.heard kept off;
+        stays = stays_on (lanes_scope l) p.taken q.taken r.taken ts us vs h.stays (hold-stays l q bundle o' keeping-may r us vs clock within' h.mine h.heard kept off);
+        places = subst (λ xs. IsNoted (length l.lanes) xs vs noted') (sym kept.taken)
+            (asks_noted (length l.lanes) q.number bundle q.taken us vs noted noted' h.places (subst (λ n. Notes n bundle us vs noted noted') (sym n-is) notes));
+      }
 
 pub keeping-all : (l : LanesView) (p q : PortView) (clock : Counts) (ts us : List (List Key)) (noted : List (List ℕ)) (asks left : List (ℕ × Key)) → left ≡ [] → Keeping l p q clock ts us noted asks left → HasKept p q (map (ask_of p.number) asks)
 keeping-all l p q clock ts us noted asks left none h = subst (λ xs. HasKept p q (map (ask_of p.number) xs)) (sym (append-nil h.gone) ∙ ap (λ xs. h.gone ++ xs) (sym none) ∙ h.all) h.kept

@@ -48,37 +48,19 @@ fn admit_all(
     Ok(())
 }
 
-// Keeps these requests: the worker counts as having sent and taken them. Nothing of its own is under way.
-fn keep_all(
-    lanes: &Lanes,
-    port: &mut Port,
-    clock: &Clock,
-    tables: &mut Tables,
-    noted: &mut Noted,
-    asks: &[(u16, Key)],
-) -> Result<(), AllocError>
+// Keeps these requests: the port counts as having sent and taken them. Nothing of its own is under way.
+fn keep_all(lanes: &Lanes, port: &mut Port, asks: &[(u16, Key)])
     requires port { IsPortOf lanes.now port.old }
     requires may { MaySend lanes.now port.old port.old.number asks.now }
     requires taken { sent_by port.old.number port.old.taken ≡ sent_to port.old port.old.number }
-    requires heard { IsHeard (lanes_scope lanes.now) port.old.taken clock.now tables.old }
-    requires noted { IsNoted (length lanes.now.lanes) port.old.taken tables.old noted.old }
-    ensures kept { OnOk result (HasKept port.old port.new (map (ask_of port.old.number) asks.now)) }
-    ensures taken { OnOk result (sent_by port.new.number port.new.taken ≡ sent_to port.new port.new.number) }
-    ensures heard { OnOk result (IsHeard (lanes_scope lanes.now) port.new.taken clock.now tables.new) }
-    ensures stays { OnOk result
-        (StaysClosed (lanes_scope lanes.now) port.old.taken port.new.taken tables.old tables.new) }
-    ensures noted { OnOk result (IsNoted (length lanes.now.lanes) port.new.taken tables.new noted.new) }
+    ensures kept { HasKept port.old port.new (map (ask_of port.old.number) asks.now) }
+    ensures taken { sent_by port.new.number port.new.taken ≡ sent_to port.new port.new.number }
 {
     let _lanes = lanes;
-    let _clock = clock;
-    let own = port.number();
     for ask in asks {
         let (level, key) = *ask;
         port.keep(level, key);
-        let place = tables.admit(level, key)?;
-        noted.push(own, place)?;
     }
-    Ok(())
 }
 
 /// Keeps what is due from the worker itself, bundle by bundle.
@@ -104,14 +86,9 @@ pub fn keep_own(
 {
     let own = port.number();
     while let Some(bundle) = due.take(own) {
-        keep_all(
-            lanes,
-            port,
-            &senders.clock,
-            tables,
-            &mut senders.noted,
-            bundle.asks(),
-        )?;
+        let asks = bundle.asks();
+        keep_all(lanes, port, asks);
+        admit_all(tables, &mut senders.noted, own, asks)?;
         senders.spare.put(bundle);
     }
     Ok(())

@@ -1,9 +1,14 @@
-use Rattle.std.proofs.Common.{[], map, set, subst, ap, sym, ◌∙◌, arith}
+use Rattle.std.proofs.Common.{ℕ, ◌<◌, [], length, map, set, All, subst, ap, sym, ◌∙◌, arith}
 use Rattle.std.proofs.lemmas.List.{set-get_or, set-set}
+use Rattle.req_table.specs.declared.Key.{Key}
 use Rattle.lane_queue.specs.Loads.{ask_of}
-use Rattle.expand_work.specs.Work.{at, MaySend, HasKept}
+use Rattle.expand_work.specs.Noted.{Notes}
+use Rattle.expand_work.specs.Work.{at, MaySend, HasKept, Offered}
 use Rattle.expand_work.proofs.Cutting.{cut_less}
-use Rattle.expand_work.proofs.Holding.{keeping-none, keeping-may, keeping-more}
+use Rattle.expand_work.proofs.Noting.{own_within}
+use Rattle.expand_work.proofs.Saying.{still_of}
+use Rattle.expand_work.proofs.Starting.{width}
+use Rattle.expand_work.proofs.Holding.{hold-levels, keeping-none, keeping-may, keeping-more}
 use Rattle.expand_work.proofs.listen.keep_own.Goals as goal
 
 pub loop-bundle-init : goal.loop-bundle-init
@@ -17,7 +22,7 @@ keep_all-requires-clause-may c =
     let own = c.number-own.result in
     let q = c.loop-bundle.port in
     let may = subst (λ n. MaySend c.args.lanes.now c.args.port.now c.args.port.now.number (at c.args.due.now n)) (sym c.number-own.ensures.number) c.requires.may in
-    subst (MaySend c.args.lanes.now q q.number) (sym c.asks.ensures.value)
+    subst (MaySend c.args.lanes.now q q.number) (sym c.asks-asks.ensures.value)
     (keeping-may c.args.lanes.now c.args.port.now q c.loop-bundle.senders.clock c.args.tables.now c.loop-bundle.tables c.loop-bundle.senders.noted (at c.args.due.now own) (at c.loop-bundle.due own) c.in-Some.bundle (at c.take.new.self own)
     may c.in-Some.ensures.bundle c.loop-bundle.invariant.0)
 
@@ -31,10 +36,32 @@ loop-bundle-smaller c =
 pub loop-bundle-preserved : goal.loop-bundle-preserved
 loop-bundle-preserved c =
     let own = c.number-own.result in
-    let may = subst (λ n. MaySend c.args.lanes.now c.args.port.now c.args.port.now.number (at c.args.due.now n)) (sym c.number-own.ensures.number) c.requires.may in
-    let e = c.in_ok-keep_all.ensures in
-    let kept = subst (λ xs. HasKept c.loop-bundle.port c.keep_all.new.port (map (ask_of c.loop-bundle.port.number) xs)) c.asks.ensures.value e.kept in (
-      keeping-more c.args.lanes.now c.args.port.now c.loop-bundle.port c.loop-bundle.senders.clock c.args.tables.now c.loop-bundle.tables c.loop-bundle.senders.noted (at c.args.due.now own) (at c.loop-bundle.due own) c.in-Some.bundle (at c.take.new.self own)
-          may c.in-Some.ensures.bundle c.loop-bundle.invariant.0 c.keep_all.new.port c.keep_all.new.tables c.keep_all.new.noted kept e.taken e.heard e.stays e.noted,
-      c.take.ensures.rest ∙ ap (λ d. set d own (at c.take.new.self own)) c.loop-bundle.invariant.1 ∙ set-set c.args.due.now own (at c.loop-bundle.due own) (at c.take.new.self own),
+    let l = c.args.lanes.now in
+    let p = c.args.port.now in
+    let left = at c.loop-bundle.due own in
+    let rest = at c.take.new.self own in
+    let is = c.asks-asks.ensures.value in
+    let may = subst (λ n. MaySend l p p.number (at c.args.due.now n)) (sym c.number-own.ensures.number) c.requires.may in
+    let kept = subst (λ xs. HasKept c.loop-bundle.port c.keep_all.new.port (map (ask_of c.loop-bundle.port.number) xs)) is c.keep_all.ensures.kept in
+    let offered = subst (λ xs. Offered xs c.loop-bundle.tables c.admit_all.new.tables) is c.in_ok-admit_all.ensures.offered in
+    let notes = subst (λ n. Notes n c.in-Some.bundle c.loop-bundle.tables c.admit_all.new.tables c.loop-bundle.senders.noted c.admit_all.new.noted) c.number-own.ensures.number
+    (subst (λ xs. Notes own xs c.loop-bundle.tables c.admit_all.new.tables c.loop-bundle.senders.noted c.admit_all.new.noted) is c.in_ok-admit_all.ensures.noted) in (
+      keeping-more l p c.loop-bundle.port c.loop-bundle.senders.clock c.args.tables.now c.loop-bundle.tables c.loop-bundle.senders.noted (at c.args.due.now own) left c.in-Some.bundle rest may c.in-Some.ensures.bundle c.loop-bundle.invariant.0 c.requires.port
+          (subst (λ n. p.number < n) (width l p c.requires.port) c.number-own.ensures.within) c.keep_all.new.port c.admit_all.new.tables c.admit_all.new.noted kept c.keep_all.ensures.taken offered notes,
+      c.take.ensures.rest ∙ ap (λ d. set d own rest) c.loop-bundle.invariant.1 ∙ set-set c.args.due.now own left rest,
     )
+
+pub admit_all-requires-clause-levels : goal.admit_all-requires-clause-levels
+admit_all-requires-clause-levels c =
+    let own = c.number-own.result in
+    let l = c.args.lanes.now in
+    let p = c.args.port.now in
+    let q = c.loop-bundle.port in
+    let h = c.loop-bundle.invariant.0 in
+    let may = subst (λ n. MaySend l p p.number (at c.args.due.now n)) (sym c.number-own.ensures.number) c.requires.may in
+    subst (All (λ (a : ℕ × Key). a.0 < length c.loop-bundle.tables)) (sym c.asks-asks.ensures.value)
+    (hold-levels l q c.in-Some.bundle (still_of l p q h.kept.port c.requires.port)
+    (keeping-may l p q c.loop-bundle.senders.clock c.args.tables.now c.loop-bundle.tables c.loop-bundle.senders.noted (at c.args.due.now own) (at c.loop-bundle.due own) c.in-Some.bundle (at c.take.new.self own) may c.in-Some.ensures.bundle h) c.loop-bundle.tables h.heard.many)
+
+pub admit_all-requires-clause-from : goal.admit_all-requires-clause-from
+admit_all-requires-clause-from c = own_within c.args.lanes.now c.args.port.now c.requires.port c.number-own.result c.number-own.ensures.number c.number-own.ensures.within c.loop-bundle.senders.noted c.loop-bundle.invariant.0.places.long
