@@ -1,5 +1,5 @@
 -- A worker sends bundles, lane after lane.
-use Rattle.std.proofs.Common.{◌≡◌, ◌≢◌, ℕ, ◌+◌, ◌*◌, ◌-◌, ◌<◌, ◌≤◌, true, false, cond, ltb, List, [], ◌∷◌, ◌++◌, map, replicate, length, set, All, refl, sym, ap, ◌∙◌, subst, arith, append_assoc, append-nil, eq-eqb, ne_eqb, get_or-set_same, get_or-set_other}
+use Rattle.std.proofs.Common.{◌≡◌, ◌≢◌, ℕ, ◌+◌, ◌-◌, ◌<◌, ◌≤◌, true, false, cond, ltb, List, [], ◌∷◌, ◌++◌, map, replicate, length, set, All, refl, sym, ap, ◌∙◌, subst, arith, append_assoc, append-nil, eq-eqb, ne_eqb, get_or-set_same, get_or-set_other}
 use Rattle.std.proofs.lemmas.List.{map-append, length-map, length-set, length-replicate, get_or-replicate, get_or_past, ext_get_or}
 use borrow.Author.Tests.{ltb-true}
 use mathlib.Core.Logic.{dite}
@@ -206,7 +206,7 @@ none_due s n due left new long sb h is =
     let many : length new ≡ n = ap (λ (d : List (List (ℕ × Key))). length d) is ∙ length-set left s [] ∙ wide in
     ext_get_or [] new (replicate n []) (many ∙ sym (length-replicate n []))
     (λ k kb. ap (λ d. at d k) is
-        ∙ (dite (ℕ_discrete k s)
-        (λ e. subst (λ m. at (set left s []) m ≡ []) (sym e) (get_or-set_same left s [] [] (omega (arith, wide, sb))))
-        (λ m. get_or-set_other left s k [] [] m ∙ h.others k m))
-        ∙ sym (get_or-replicate n k [] [] (omega (arith, kb, many))))
+    ∙ (dite (ℕ_discrete k s)
+    (λ e. subst (λ m. at (set left s []) m ≡ []) (sym e) (get_or-set_same left s [] [] (omega (arith, wide, sb))))
+    (λ m. get_or-set_other left s k [] [] m ∙ h.others k m))
+    ∙ sym (get_or-replicate n k [] [] (omega (arith, kb, many))))
