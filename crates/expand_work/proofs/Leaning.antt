@@ -7,14 +7,15 @@ use Rattle.dd_store.specs.Nodes.{Nodes}
 use Rattle.req_table.specs.declared.Key.{Key}
 use Rattle.req_table.specs.declared.Record.{Record}
 use Rattle.req_table.specs.declared.placed.Placed.{Placed}
-use Rattle.req_table.specs.Keys.{record_of, wave_of}
+use Rattle.req_table.specs.Keys.{record_of, wave_of, IsChildIn}
 use Rattle.req_table.specs.Settled.{IsSplit, key_of, asked, asked_by, level_of_rows}
-use Rattle.expand_work.specs.Work.{at, owned_by}
+use Rattle.expand_work.specs.Due.{asked_of, due_by}
+use Rattle.expand_work.specs.Work.{at, owned_by, with_levels}
 use Rattle.expand_work.specs.Lean.{lean, lean_row, records_of, recorded, AreLean}
 use Rattle.expand_work.specs.Expanded.{row_of}
 use Rattle.expand_work.specs.declared.space.Space.{Space}
 use Rattle.expand_work.specs.Spaces.{records_in, rows_in}
-use Rattle.expand_work.proofs.Owing.{asks_more}
+use Rattle.expand_work.proofs.Owing.{asks_more, due_levels, levels-append}
 
 pub keys_of_records : (S : Nodes) (keys : List Key) → map key_of (records_of S keys) ≡ keys
 keys_of_records S [] = refl
@@ -29,17 +30,23 @@ pub recorded-at : (S : Nodes) (tables : List (List Key)) (u : ℕ) → at (recor
 recorded-at S tables u = listn.get_or-map (records_of S) tables u []
 
 -- one more key of a row
-pub row_more : (S : Nodes) (n : ℕ) (ps qs : List (Placed × Placed)) (x : Key) (r : Record) (low high : Placed) (keys : List Key) (i : ℕ) (xs ys zs : List (List Key)) → i < length keys
-    → (ps ≡ lean_row n (records_of S (take i keys))) × (length xs ≡ n) × ((k : ℕ) → k < n → at xs k ≡ filter (owned_by n k) (asked_by (records_of S (take i keys))))
-    → x ≡ get_or keys i x → r ≡ record_of S x → qs ≡ ps ++ (low, high) ∷ [] → low ≡ lean n r.low → high ≡ lean n r.high
-    → ((k : ℕ) → k < n → at ys k ≡ at xs k ++ filter (owned_by n k) (asked r.low)) → length zs ≡ n → ((k : ℕ) → k < n → at zs k ≡ at ys k ++ filter (owned_by n k) (asked r.high))
-    → (qs ≡ lean_row n (records_of S (take (i + 1) keys))) × (length zs ≡ n) × ((k : ℕ) → k < n → at zs k ≡ filter (owned_by n k) (asked_by (records_of S (take (i + 1) keys))))
-row_more S n ps qs x r low high keys i xs ys zs l h x-is r-is g low-is high-is lows long highs =
+pub row_more : (S : Nodes) (n : ℕ) (ps qs : List (Placed × Placed)) (x : Key) (r : Record) (low high : Placed) (keys : List Key) (i : ℕ) (xs ys zs : List (List (ℕ × Key))) → i < length keys
+    → (ps ≡ lean_row n (records_of S (take i keys))) × (length xs ≡ n) × ((k : ℕ) → k < n → at xs k ≡ with_levels S (filter (owned_by n k) (asked_by (records_of S (take i keys)))))
+    → x ≡ get_or keys i x → r ≡ record_of S x → IsChildIn S r.low × IsChildIn S r.high → qs ≡ ps ++ (low, high) ∷ [] → low ≡ lean n r.low → high ≡ lean n r.high
+    → ((k : ℕ) → k < n → at ys k ≡ at xs k ++ filter (asked_of n k) (due_by r.low)) → length zs ≡ n → ((k : ℕ) → k < n → at zs k ≡ at ys k ++ filter (asked_of n k) (due_by r.high))
+    → (qs ≡ lean_row n (records_of S (take (i + 1) keys))) × (length zs ≡ n) × ((k : ℕ) → k < n → at zs k ≡ with_levels S (filter (owned_by n k) (asked_by (records_of S (take (i + 1) keys)))))
+row_more S n ps qs x r low high keys i xs ys zs l h x-is r-is stands g low-is high-is lows long highs =
     let rs : List Record = records_of S (take i keys) in
     let more : rs ++ r ∷ [] ≡ records_of S (take (i + 1) keys) = ap (λ q. rs ++ q ∷ []) (r-is ∙ ap (record_of S) x-is) ∙ sym (map_more (record_of S) keys i x l) in (
       g ∙ (λ j. h.0 j ++ (low-is j, high-is j) ∷ []) ∙ sym (map_push (λ (q : Record). (lean n q.low, lean n q.high)) rs r) ∙ ap (lean_row n) more,
       long,
-      (λ k kb. highs k kb ∙ ap (λ m. m ++ filter (owned_by n k) (asked r.high)) (lows k kb) ∙ asks_more (owned_by n k) rs r (at xs k) (h.2 k kb) ∙ ap (λ m. filter (owned_by n k) (asked_by m)) more),
+      (λ k kb.
+          let before = filter (owned_by n k) (asked_by rs) in
+          let lower = filter (owned_by n k) (asked r.low) in
+          let upper = filter (owned_by n k) (asked r.high) in
+          highs k kb ∙ ap (λ m. m ++ filter (asked_of n k) (due_by r.high)) (lows k kb) ∙ (λ j. (h.2 k kb j ++ due_levels S n k r.low stands.0 j) ++ due_levels S n k r.high stands.1 j)
+          ∙ ap (λ m. m ++ with_levels S upper) (levels-append S before lower) ∙ levels-append S (before ++ lower) upper
+          ∙ ap (with_levels S) (asks_more (owned_by n k) rs r before refl ∙ ap (λ m. filter (owned_by n k) (asked_by m)) more)),
     )
 
 -- one more worker's records of a level

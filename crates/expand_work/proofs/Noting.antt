@@ -1,19 +1,17 @@
 -- The places that a worker notes of what it takes and keeps.
-use Rattle.std.proofs.Common.{◌≡◌, ◌≢◌, ℕ, ◌+◌, ◌<◌, true, false, cond, eqb, inl, inr, List, [], ◌∷◌, ◌++◌, length, map, take, get_or, set, slice_get, Some, refl, sym, ap, ◌∙◌, subst, arith, append_assoc, append-nil, get_or-set_same, get_or-set_other}
+use Rattle.std.proofs.Common.{◌≡◌, ◌≢◌, ℕ, ◌+◌, ◌<◌, true, false, cond, eqb, inl, inr, List, [], ◌∷◌, ◌++◌, length, map, get_or, set, slice_get, Some, refl, sym, ap, ◌∙◌, subst, arith, append_assoc, append-nil, get_or-set_same, get_or-set_other}
 use Rattle.std.specs.List.{AllZip}
-use Rattle.std.proofs.lemmas.List.{length-set, length-map, map_more, get_or-replicate, length-replicate}
+use Rattle.std.proofs.lemmas.List.{length-set, length-map, get_or-replicate, length-replicate}
 use Rattle.std.proofs.lemmas.Option.{slice_get_within, slice_get-get_or, get_or_from_slice_get}
 use Rattle.std.specs.Prelude.{replicate}
 use mathlib.Core.Logic.{dite}
 use native.Mathlib.Decide.{ℕ_discrete}
 use Rattle.slot_table.specs.Lists.{IsIn}
-use Rattle.dd_store.specs.Nodes.{Nodes}
 use Rattle.dd_store.proofs.Places.{slice_get-push, slice_get-append}
 use Rattle.req_table.specs.declared.Key.{Key}
 use Rattle.req_table.specs.declared.Item.{Item}
 use Rattle.req_table.specs.declared.Item.TheVariants.{Ask, End}
 use Rattle.req_table.specs.Wave.{Scope}
-use Rattle.req_table.specs.Keys.{level_of}
 use Rattle.req_table.specs.Lanes.{sent_by, asks, IsFairFrom}
 use Rattle.req_table.specs.Settled.{Admits}
 use Rattle.req_table.proofs.Fair.{sent_by-append}
@@ -21,7 +19,7 @@ use Rattle.lane_queue.specs.declared.load.Load.TheVariants.{Bundle}
 use Rattle.lane_queue.specs.Loads.{ask_of}
 use Rattle.lane_queue.proofs.Facts.{load-mine, load-other}
 use Rattle.lane_queue.specs.PortView.{LanesView, PortView, IsPortOf}
-use Rattle.expand_work.specs.Work.{at, with_levels}
+use Rattle.expand_work.specs.Work.{at}
 use Rattle.expand_work.specs.Noted.{Enters, EntersAt, StandsAt, leveled, IsNoted, Notes}
 use Rattle.expand_work.proofs.Zips.{zip_push, zip_append, zip_weaker}
 
@@ -67,11 +65,6 @@ module _ (from : ℕ) (requests : List (ℕ × Key)) (a : ℕ × Key) (first ts 
     own = ap (λ l. at l from) is ∙ get_or-set_same mid from (at mid from ++ p ∷ []) [] (let z = n.long in omega (arith, z, fb)) ∙ ap (λ l. l ++ p ∷ []) n.own ∙ append_assoc (at old from) n.places (p ∷ []);
     others = λ s m. ap (λ l. at l s) is ∙ get_or-set_other mid from s (at mid from ++ p ∷ []) [] m ∙ n.others s m;
   }
-
--- a key of a list, told with its level
-pub levels-more : (S : Nodes) (keys : List Key) (i v : ℕ) (x : Key) → i < length keys → x ≡ get_or keys i x → v ≡ level_of S x → with_levels S (take i keys) ++ (v, x) ∷ [] ≡ with_levels S (take (i + 1) keys)
-levels-more S keys i v x lt x-is v-is =
-    ap (λ y. with_levels S (take i keys) ++ (y, x) ∷ []) v-is ∙ ap (λ y. with_levels S (take i keys) ++ (level_of S y, y) ∷ []) x-is ∙ sym (map_more (λ (y : Key). (level_of S y, y)) keys i x lt)
 
 -- ---- what was taken
 leveled-append : (xs ys : List Item) → leveled (xs ++ ys) ≡ leveled xs ++ leveled ys

@@ -1,21 +1,40 @@
 -- What becomes due goes to its owner.
 use Rattle.std.proofs.Common.{◌≡◌, ℕ, ◌+◌, ◌%◌, ◌<◌, Bool, true, false, cond, eqb, List, [], ◌∷◌, ◌++◌, length, get_or, set, filter, take, refl, sym, ap, ◌∙◌, subst, arith, append-nil, append_assoc, eqb-true, eq-eqb, get_or-set_same, get_or-set_other}
-use Rattle.std.proofs.lemmas.List.{take_more, length-take}
+use Rattle.std.proofs.lemmas.List.{map-append, take_more, length-take}
 use Rattle.std.proofs.lemmas.List.Elements.{filter-append}
+use Rattle.dd_store.specs.Nodes.{Nodes}
 use Rattle.req_table.specs.declared.Key.{Key}
+use Rattle.req_table.specs.declared.Child.{Child}
+use Rattle.req_table.specs.declared.Child.TheVariants.{Done, Ask}
 use Rattle.req_table.specs.declared.Record.{Record}
-use Rattle.req_table.specs.Keys.{owner}
+use Rattle.req_table.specs.Keys.{level_of, owner, IsChildIn}
 use Rattle.req_table.specs.Settled.{asked, asked_by, dealt_from}
-use Rattle.expand_work.specs.Work.{at, owned_by}
+use Rattle.expand_work.specs.Due.{asked_of, due_by}
+use Rattle.expand_work.specs.Work.{at, owned_by, with_levels, keys_in}
 use Rattle.expand_work.proofs.Counting.{asked_by-append}
 
--- the owner's list has one more key
-pub at_owner : (n : ℕ) (xs : List (List Key)) (x : Key) (k : ℕ) → owner n x < length xs → at (set xs (owner n x) (at xs (owner n x) ++ x ∷ [])) k ≡ at xs k ++ filter (owned_by n k) (x ∷ [])
-at_owner n xs x k l =
-    elim (eqb (owner n x) k) as (λ b. eqb (owner n x) k ≡ b → at (set xs (owner n x) (at xs (owner n x) ++ x ∷ [])) k ≡ at xs k ++ cond b (x ∷ []) []) [
-      | true ↦ λ q. subst (λ m. at (set xs (owner n x) (at xs (owner n x) ++ x ∷ [])) m ≡ at xs m ++ x ∷ []) (eqb-true (owner n x) k q) (get_or-set_same xs (owner n x) (at xs (owner n x) ++ x ∷ []) [] l)
-      | false ↦ λ q. get_or-set_other xs (owner n x) k (at xs (owner n x) ++ x ∷ []) [] (λ i. let z = sym q ∙ eq-eqb (owner n x) k (sym i) in cc) ∙ sym (append-nil (at xs k))
+-- the owner's list has one more request
+pub at_owner : (n : ℕ) (xs : List (List (ℕ × Key))) (l : ℕ) (x : Key) (k : ℕ) → owner n x < length xs → at (set xs (owner n x) (at xs (owner n x) ++ (l, x) ∷ [])) k ≡ at xs k ++ filter (asked_of n k) ((l, x) ∷ [])
+at_owner n xs l x k lt =
+    elim (eqb (owner n x) k) as (λ b. eqb (owner n x) k ≡ b → at (set xs (owner n x) (at xs (owner n x) ++ (l, x) ∷ [])) k ≡ at xs k ++ cond b ((l, x) ∷ []) []) [
+      | true ↦ λ q. subst (λ m. at (set xs (owner n x) (at xs (owner n x) ++ (l, x) ∷ [])) m ≡ at xs m ++ (l, x) ∷ []) (eqb-true (owner n x) k q) (get_or-set_same xs (owner n x) (at xs (owner n x) ++ (l, x) ∷ []) [] lt)
+      | false ↦ λ q. get_or-set_other xs (owner n x) k (at xs (owner n x) ++ (l, x) ∷ []) [] (λ i. let z = sym q ∙ eq-eqb (owner n x) k (sym i) in cc) ∙ sym (append-nil (at xs k))
     ] refl
+
+-- ---- told with the levels
+pub one_due : (S : Nodes) (n k l : ℕ) (x : Key) → l ≡ level_of S x → filter (asked_of n k) ((l, x) ∷ []) ≡ with_levels S (filter (owned_by n k) (x ∷ []))
+one_due S n k l x e = elim (eqb (owner n x) k) as (λ b. cond b ((l, x) ∷ []) [] ≡ with_levels S (cond b (x ∷ []) [])) [ true ↦ ap (λ v. (v, x) ∷ []) e | false ↦ refl ]
+
+pub due_levels : (S : Nodes) (n k : ℕ) (c : Child) → IsChildIn S c → filter (asked_of n k) (due_by c) ≡ with_levels S (filter (owned_by n k) (asked c))
+due_levels S n k (Done r) h = refl
+due_levels S n k (Ask l x m) h = one_due S n k l x h.1
+
+pub levels-append : (S : Nodes) (xs ys : List Key) → with_levels S xs ++ with_levels S ys ≡ with_levels S (xs ++ ys)
+levels-append S xs ys = sym (map-append (λ (y : Key). (level_of S y, y)) xs ys)
+
+pub keys_levels : (S : Nodes) (keys : List Key) → keys_in (with_levels S keys) ≡ keys
+keys_levels S [] = refl
+keys_levels S (x ∷ xs) = ap (λ l. x ∷ l) (keys_levels S xs)
 
 -- one more record
 pub asks_more : (p : Key → Bool) (rs : List Record) (r : Record) (xs : List Key) → xs ≡ filter p (asked_by rs)
@@ -48,21 +67,28 @@ deal_more p n s roots i x xs ys l x-is e g =
     ∙ ap (λ m. filter p (dealt_from n s 0 (take i roots) ++ cond (eqb (m % n) s) (get_or roots i x ∷ []) [])) (sym z)
     ∙ ap (filter p) (sym (ap (dealt_from n s 0) (take_more roots i x l) ∙ dealt-append n s 0 (take i roots) (get_or roots i x)))
 
-module _ (n s : ℕ) (roots : List Key) (i : ℕ) (x : Key) (xs ys zs : List (List Key)) (l : i < length roots) (x-is : x ≡ get_or roots i x)
-    (h : (length xs ≡ n) × ((k : ℕ) → k < n → at xs k ≡ filter (owned_by n k) (dealt_from n s 0 (take i roots)))) where
-  pub deal_here : i % n ≡ s → length ys ≡ n → ((k : ℕ) → k < n → at ys k ≡ at xs k ++ filter (owned_by n k) (x ∷ [])) → zs ≡ ys
-      → (length zs ≡ n) × ((k : ℕ) → k < n → at zs k ≡ filter (owned_by n k) (dealt_from n s 0 (take (i + 1) roots)))
-  deal_here q long g e = (
+module _ (S : Nodes) (n s : ℕ) (roots : List Key) (i : ℕ) (x : Key) (xs ys zs : List (List (ℕ × Key))) (l : i < length roots) (x-is : x ≡ get_or roots i x)
+    (h : (length xs ≡ n) × ((k : ℕ) → k < n → at xs k ≡ with_levels S (filter (owned_by n k) (dealt_from n s 0 (take i roots))))) where
+  pub deal_here : (v : ℕ) → v ≡ level_of S x → i % n ≡ s → length ys ≡ n → ((k : ℕ) → k < n → at ys k ≡ at xs k ++ filter (asked_of n k) ((v, x) ∷ [])) → zs ≡ ys
+      → (length zs ≡ n) × ((k : ℕ) → k < n → at zs k ≡ with_levels S (filter (owned_by n k) (dealt_from n s 0 (take (i + 1) roots))))
+  deal_here v v-is q long g e = (
     ap (λ m. length m) e ∙ long,
-    (λ k kb. deal_more (owned_by n k) n s roots i x (at xs k) (at zs k) l x-is (h.1 k kb) (ap (λ m. at m k) e ∙ g k kb ∙ ap (λ b. at xs k ++ filter (owned_by n k) (cond b (x ∷ []) [])) (sym (eq-eqb (i % n) s q)))),
+    (λ k kb.
+        let before = filter (owned_by n k) (dealt_from n s 0 (take i roots)) in
+        let here = filter (owned_by n k) (x ∷ []) in
+        ap (λ m. at m k) e ∙ g k kb ∙ (λ j. h.1 k kb j ++ one_due S n k v x v-is j) ∙ levels-append S before here
+        ∙ ap (with_levels S) (deal_more (owned_by n k) n s roots i x before (before ++ here) l x-is refl (ap (λ b. before ++ filter (owned_by n k) (cond b (x ∷ []) [])) (sym (eq-eqb (i % n) s q))))),
   )
 
-  pub deal_past : (i % n ≡ s → ⊥) → zs ≡ xs → (length zs ≡ n) × ((k : ℕ) → k < n → at zs k ≡ filter (owned_by n k) (dealt_from n s 0 (take (i + 1) roots)))
+  pub deal_past : (i % n ≡ s → ⊥) → zs ≡ xs → (length zs ≡ n) × ((k : ℕ) → k < n → at zs k ≡ with_levels S (filter (owned_by n k) (dealt_from n s 0 (take (i + 1) roots))))
   deal_past q e = (
     ap (λ m. length m) e ∙ h.0,
-    (λ k kb. deal_more (owned_by n k) n s roots i x (at xs k) (at zs k) l x-is (h.1 k kb)
-        (elim (eqb (i % n) s) as (λ b. eqb (i % n) s ≡ b → at zs k ≡ at xs k ++ filter (owned_by n k) (cond b (x ∷ []) [])) [
+    (λ k kb.
+        let before = filter (owned_by n k) (dealt_from n s 0 (take i roots)) in
+        ap (λ m. at m k) e ∙ h.1 k kb
+        ∙ ap (with_levels S) (deal_more (owned_by n k) n s roots i x before before l x-is refl
+        (elim (eqb (i % n) s) as (λ b. eqb (i % n) s ≡ b → before ≡ before ++ filter (owned_by n k) (cond b (x ∷ []) [])) [
           | true ↦ λ t. absurd (q (eqb-true (i % n) s t))
-          | false ↦ λ t. ap (λ m. at m k) e ∙ sym (append-nil (at xs k))
-        ] refl)),
+          | false ↦ λ t. sym (append-nil before)
+        ] refl))),
   )

@@ -1,6 +1,6 @@
 -- One level of a worker, from what its calls say.
 use Rattle.std.proofs.Common.{◌≡◌, ◌≢◌, ℕ, suc, ◌+◌, ◌-◌, ◌<◌, ◌≤◌, true, false, cond, eqb, List, [], ◌∷◌, ◌++◌, map, filter, length, get_or, All, refl, sym, ap, ◌∙◌, subst, arith, eqb-true, eq-eqb, ne_eqb, append-nil, set, get_or-set_same, get_or-set_other}
-use Rattle.std.proofs.lemmas.List.{length-set}
+use Rattle.std.proofs.lemmas.List.{length-map, length-set}
 use Rattle.req_table.specs.declared.Key.{Key}
 use Rattle.req_table.specs.declared.Item.{Item}
 use Rattle.req_table.specs.declared.Item.TheVariants.{End}
@@ -12,17 +12,20 @@ use Rattle.dd_store.specs.Nodes.{Nodes}
 use Rattle.req_table.specs.Keys.{IsKey, level_of}
 use Rattle.req_table.specs.Sizes.{sizes_of, scope_of, IsKeyOf}
 use Rattle.req_table.proofs.Sized.{key_of_sizes}
-use Rattle.req_table.proofs.Lists.{each, all_of}
+use Rattle.req_table.proofs.Lists.{Has, each, all_of, map_has}
+use Rattle.lane_queue.specs.Loads.{ask_of}
 use Rattle.lane_queue.specs.Lists.{Begins}
 use Rattle.lane_queue.specs.PortView.{LanesView, PortView, sent_to, put_to, IsPortOf, lanes_scope}
 use Rattle.expand_work.specs.declared.worker.Worker.{Worker}
-use Rattle.expand_work.specs.Parts.{loads_of, IsAt, IsLevelDone}
-use Rattle.expand_work.specs.Work.{at, item_of, owned_by, lanes_wave, MaySend, SentToAll, HasKept, put_items, put_loads, IsHeard, StaysClosed}
+use Rattle.expand_work.specs.Due.{IsLeft}
+use Rattle.expand_work.specs.Parts.{bundles, loads_of, IsAt, IsLevelDone}
+use Rattle.expand_work.specs.Work.{at, item_of, owned_by, lanes_wave, with_levels, keys_in, MaySend, SentToAll, HasKept, put_items, put_loads, IsHeard, StaysClosed}
 use Rattle.expand_work.specs.Working.{IsWorking}
 use Rattle.expand_work.specs.Noted.{IsNoted}
 use Rattle.expand_work.proofs.Levels.{key_held, advances, loads-more, all-own}
 use Rattle.expand_work.proofs.Waves.{lanes_laws}
-use Rattle.expand_work.proofs.Saying.{ends-items, still_of, may_still}
+use Rattle.expand_work.proofs.Saying.{ends-asked, still_of, may_still}
+use Rattle.expand_work.proofs.Owing.{keys_levels}
 use Rattle.expand_work.proofs.Parting.{ends_of_closed}
 use Rattle.expand_work.proofs.Hearing.{stays_on}
 use Rattle.expand_work.proofs.Leaning.{keys_of_records, split_records, recorded-at}
@@ -32,17 +35,26 @@ use mathlib.Core.Logic.{dite}
 use native.Mathlib.Decide.{ℕ_discrete}
 use Rattle.std.specs.Prelude.{slice_index_or}
 
+-- requests that stand with their levels are the items that ask for their keys
+levels-items : (S : Nodes) (n : ℕ) (keys : List Key) → map (ask_of n) (with_levels S keys) ≡ map (item_of S n) keys
+levels-items S n [] = refl
+levels-items S n (x ∷ xs) = ap (λ l. item_of S n x ∷ l) (levels-items S n xs)
+
 -- what is due may be asked for
-pub due_may : (l : LanesView) (s : Nodes) (roots : List Key) (v : ℕ) (w : Worker) → IsWorking l s roots v w → (k : ℕ) → k < length l.lanes → MaySend l s w.port k (at w.due k)
+pub due_may : (l : LanesView) (s : Nodes) (roots : List Key) (v : ℕ) (w : Worker) → IsWorking l s roots v w → (k : ℕ) → k < length l.lanes → MaySend l w.port k (at w.due k)
 due_may l s roots v w h k kb =
     let some : 0 < length l.lanes = (let z = h.within in omega (arith, z)) in
     let laws = lanes_laws s h.sound (length l.lanes) some in
     let e = h.level.ended k kb in
+    let keys = keys_in (at w.due k) in
     record {
-      follow = all_of (λ x. MayFollow (lanes_scope l) (ends (sent_to w.port k)) (item_of s w.port.number x)) (at w.due k) (λ x i.
-          let d = each (λ y. IsKeyOf (sizes_of s) y × (v ≤ level_of s y)) (at w.due k) x (h.level.due_held k kb) i in
-          subst (λ z. MayFollow (scope_of (length l.lanes) z) (ends (sent_to w.port k)) (item_of s w.port.number x)) (sym h.sizes)
-          (let low = d.1 in omega (arith, low, e), laws.bounded x d.0, refl, d.0));
+      follow = all_of (λ a. MayFollow (lanes_scope l) (ends (sent_to w.port k)) (ask_of w.port.number a)) (at w.due k) (λ a i.
+          let t = map_has (λ (x : Key). (level_of s x, x)) keys a (subst (λ xs. Has xs a) (h.told k kb) i) in
+          let x = t.0 in
+          let d = each (λ y. IsKeyOf (sizes_of s) y × (v ≤ level_of s y)) keys x (h.level.due_held k kb) t.1 in
+          subst (λ b. MayFollow (lanes_scope l) (ends (sent_to w.port k)) (ask_of w.port.number b)) t.2
+          (subst (λ z. MayFollow (scope_of (length l.lanes) z) (ends (sent_to w.port k)) (item_of s w.port.number x)) (sym h.sizes)
+          (let low = d.1 in omega (arith, low, e), laws.bounded x d.0, refl, d.0)));
       leave = λ z. h.level.closed (ends (sent_to w.port k) - 1) (omega (arith, z, e));
     }
 
@@ -53,14 +65,17 @@ keys_held l s v taken clock tables sizes vb h =
     all_of (IsKey s) (at tables v) (λ x m. key_of_sizes s x (key_held (scope_of (length l.lanes) (sizes_of s)) v taken (at tables v) i.fair i.senders (i.tabled v vb) x m).0)
 
 -- ---- what is due was put on the lanes of others, and then the worker's own was kept
-module _ (l : LanesView) (s : Nodes) (roots : List Key) (v : ℕ) (w : Worker) (h : IsWorking l s roots v w) (p : PortView)
-    (s1 : SentToAll w.port p (length l.lanes) (put_items s w.port.number (at w.due)) (put_loads w.port.number (at w.due))) (n : ℕ) (n-is : n ≡ p.number) where
+module _ (l : LanesView) (s : Nodes) (roots : List Key) (v : ℕ) (w : Worker) (h : IsWorking l s roots v w) (p : PortView) (left : List (List (ℕ × Key)))
+    (s1 : SentToAll w.port p (length l.lanes) (put_items w.port.number (at w.due)) (put_loads w.port.number (at w.due))) (still : IsLeft w.port.number w.due left) where
   own-is : p.number ≡ w.port.number
   own-is = s1.port.0
 
+  own_due : at left p.number ≡ at w.due w.port.number
+  own_due = ap (at left) own-is ∙ still.own
+
   -- nothing was put on its own lane
   own_same : sent_to p w.port.number ≡ sent_to w.port w.port.number
-  own_same = s1.sent w.port.number h.within ∙ ap (λ b. sent_to w.port w.port.number ++ cond b [] (map (item_of s w.port.number) (at w.due w.port.number))) (eq-eqb w.port.number w.port.number refl) ∙ append-nil (sent_to w.port w.port.number)
+  own_same = s1.sent w.port.number h.within ∙ ap (λ b. sent_to w.port w.port.number ++ cond b [] (map (ask_of w.port.number) (at w.due w.port.number))) (eq-eqb w.port.number w.port.number refl) ∙ append-nil (sent_to w.port w.port.number)
 
   pub port_due : IsPortOf l p
   port_due = still_of l w.port p s1.port h.port
@@ -68,8 +83,8 @@ module _ (l : LanesView) (s : Nodes) (roots : List Key) (v : ℕ) (w : Worker) (
   pub heard_due : IsHeard (lanes_scope l) p.taken w.clock w.tables
   heard_due = subst (λ xs. IsHeard (lanes_scope l) xs w.clock w.tables) (sym s1.taken) h.heard
 
-  pub own_may : MaySend l s p p.number (at w.due n)
-  own_may = subst (λ (y : ℕ × ℕ). MaySend l s p y.0 (at w.due y.1)) (λ j. (sym own-is j, sym (n-is ∙ own-is) j)) (may_still l s w.port p w.port.number (at w.due w.port.number) own-is s1.taken own_same (due_may l s roots v w h w.port.number h.within))
+  pub own_may : MaySend l p p.number (at left p.number)
+  own_may = subst (λ (y : ℕ × List (ℕ × Key)). MaySend l p y.0 y.1) (λ j. (sym own-is j, sym own_due j)) (may_still l w.port p w.port.number (at w.due w.port.number) own-is s1.taken own_same (due_may l s roots v w h w.port.number h.within))
 
   -- all of its own was taken: the level before is closed, and behind its End nothing was sent
   pub own_taken : Begins (sent_by p.number p.taken) (sent_to p p.number) → sent_by p.number p.taken ≡ sent_to p p.number
@@ -80,37 +95,37 @@ module _ (l : LanesView) (s : Nodes) (roots : List Key) (v : ℕ) (w : Worker) (
       let is : sent_to w.port m ≡ sent_by m w.port.taken ++ b.0 = sym own_same ∙ ap (λ k. sent_to p k) (sym own-is) ∙ b.1 ∙ (λ j. sent_by (own-is j) (s1.taken j) ++ b.0) in
       (λ j. sent_by (own-is j) (s1.taken j)) ∙ all-own v (sent_by m w.port.taken) (sent_to w.port m) b.0 is (h.level.ended m h.within) (h.level.none_in m h.within) le ∙ sym own_same ∙ ap (λ k. sent_to p k) (sym own-is)
 
-  module _ (q : PortView) (kept : HasKept p q (map (item_of s p.number) (at w.due n))) where
+  module _ (q : PortView) (kept : HasKept p q (map (ask_of p.number) (at left p.number))) where
     pub number_kept : q.number ≡ w.port.number
     number_kept = kept.port.0 ∙ own-is
 
     pub port_kept : IsPortOf l q
     port_kept = still_of l p q kept.port port_due
 
-    pub sent_all : (k : ℕ) → k < length l.lanes → sent_to q k ≡ sent_to w.port k ++ map (item_of s w.port.number) (at w.due k)
+    pub sent_all : (k : ℕ) → k < length l.lanes → sent_to q k ≡ sent_to w.port k ++ map (ask_of w.port.number) (at w.due k)
     sent_all k kb = dite (ℕ_discrete k w.port.number)
-        (λ e. subst (λ m. sent_to q m ≡ sent_to w.port m ++ map (item_of s w.port.number) (at w.due m)) (sym e)
-        (ap (λ m. sent_to q m) (sym own-is) ∙ kept.own ∙ (λ j. sent_to p (own-is j) ++ map (item_of s (own-is j)) (at w.due ((n-is ∙ own-is) j)))
-        ∙ ap (λ xs. xs ++ map (item_of s w.port.number) (at w.due w.port.number)) own_same))
-        (λ m. kept.others k (λ e. m (e ∙ own-is)) ∙ s1.sent k kb ∙ ap (λ b. sent_to w.port k ++ cond b [] (map (item_of s w.port.number) (at w.due k))) (ne_eqb w.port.number k (λ e. m (sym e))))
+        (λ e. subst (λ m. sent_to q m ≡ sent_to w.port m ++ map (ask_of w.port.number) (at w.due m)) (sym e)
+        (ap (λ m. sent_to q m) (sym own-is) ∙ kept.own ∙ (λ j. sent_to p (own-is j) ++ map (ask_of (own-is j)) (own_due j))
+        ∙ ap (λ xs. xs ++ map (ask_of w.port.number) (at w.due w.port.number)) own_same))
+        (λ m. kept.others k (λ e. m (e ∙ own-is)) ∙ s1.sent k kb ∙ ap (λ b. sent_to w.port k ++ cond b [] (map (ask_of w.port.number) (at w.due k))) (ne_eqb w.port.number k (λ e. m (sym e))))
 
     pub put_all : (k : ℕ) → k < length l.lanes → put_to q k ≡ put_to w.port k + put_loads w.port.number (at w.due) k
     put_all k kb = ap (λ xs. slice_index_or xs k 0) kept.put ∙ s1.put k kb
 
     pub ended_before : (k : ℕ) → k < length l.lanes → ends (sent_to q k) ≡ v
     ended_before k kb =
-        ap ends (sent_all k kb) ∙ ends-append (sent_to w.port k) (map (item_of s w.port.number) (at w.due k))
-        ∙ (let a = h.level.ended k kb in let z = ends-items s w.port.number (at w.due k) in omega (arith, a, z))
+        ap ends (sent_all k kb) ∙ ends-append (sent_to w.port k) (map (ask_of w.port.number) (at w.due k))
+        ∙ (let a = h.level.ended k kb in let z = ends-asked w.port.number (at w.due k) in omega (arith, a, z))
 
     -- ---- the level's Ends were sent, and it was closed
-    module _ (p2 p3 : PortView) (clock : Counts) (heldt tables : List (List Key)) (row : List (Placed × Placed)) (due next : List (List Key)) (taken rows : List (List (Placed × Placed)))
+    module _ (p2 p3 : PortView) (clock : Counts) (heldt tables : List (List Key)) (row : List (Placed × Placed)) (due : List (List (ℕ × Key))) (taken rows : List (List (Placed × Placed)))
         (vb : v < s.levels) (stay1 : StaysClosed (lanes_scope l) p.taken q.taken w.tables heldt)
         (s2 : SentToAll q p2 (length l.lanes) (λ k. End q.number v ∷ []) (λ k. 1))
         (s3 : p3 ≡ record p2 { popped = p3.popped; taken = p3.taken })
         (heard : IsHeard (lanes_scope l) p3.taken clock tables) (stay2 : StaysClosed (lanes_scope l) p2.taken p3.taken heldt tables)
         (closed : IsClosed (lanes_scope l) v p3.taken)
-        (row-is : row ≡ lean_row (length l.lanes) (records_of s (at tables v))) (many : length due ≡ length l.lanes) (many-next : length next ≡ length l.lanes)
-        (owed : (k : ℕ) → k < length l.lanes → at due k ≡ filter (owned_by (length l.lanes) k) (asked_by (records_of s (at tables v)))) (taken-is : taken ≡ set w.rows v []) (rows-is : rows ≡ set taken v row) (noted : List (List ℕ)) (noting : IsNoted (length l.lanes) p3.taken tables noted) where
+        (row-is : row ≡ lean_row (length l.lanes) (records_of s (at tables v))) (many : length due ≡ length l.lanes)
+        (owed : (k : ℕ) → k < length l.lanes → at due k ≡ with_levels s (filter (owned_by (length l.lanes) k) (asked_by (records_of s (at tables v))))) (taken-is : taken ≡ set w.rows v []) (rows-is : rows ≡ set taken v row) (noted : List (List ℕ)) (noting : IsNoted (length l.lanes) p3.taken tables noted) where
       pub number_same : p3.number ≡ w.port.number
       number_same = ap (λ (q : PortView). q.number) s3 ∙ s2.port.0 ∙ number_kept
 
@@ -132,10 +147,25 @@ module _ (l : LanesView) (s : Nodes) (roots : List Key) (v : ℕ) (w : Worker) (
       was_closed : (u : ℕ) → u < v → IsClosed (lanes_scope l) u w.port.taken
       was_closed u ub = subst (λ z. IsClosed (scope_of (length l.lanes) z) u w.port.taken) (sym h.sizes) (h.level.closed u ub)
 
-      sends : (k : ℕ) → k < length l.lanes → sent_to p3 k ≡ (sent_to w.port k ++ map (item_of s w.port.number) (at w.due k)) ++ End w.port.number v ∷ []
-      sends k kb = ap (λ (q : PortView). sent_to q k) s3 ∙ s2.sent k kb ∙ (λ j. sent_all k kb j ++ End (number_kept j) v ∷ [])
+      -- the keys that were due, and those that are
+      abbrev was : ℕ → List Key
+      was k = keys_in (at w.due k)
 
-      done : IsLevelDone (lanes_wave s (length l.lanes)) w.port.number v (sent_to w.port) w.port.taken (at w.due) (at w.tables) (at (recorded s w.tables)) (sent_to p3) p3.taken (at due) (at tables) (at (recorded s tables))
+      abbrev now : ℕ → List Key
+      now k = keys_in (at due k)
+
+      sends : (k : ℕ) → k < length l.lanes → sent_to p3 k ≡ (sent_to w.port k ++ map (item_of s w.port.number) (was k)) ++ End w.port.number v ∷ []
+      sends k kb =
+          ap (λ (q : PortView). sent_to q k) s3 ∙ s2.sent k kb ∙ (λ j. sent_all k kb j ++ End (number_kept j) v ∷ [])
+          ∙ ap (λ xs. (sent_to w.port k ++ xs) ++ End w.port.number v ∷ []) (ap (map (ask_of w.port.number)) (h.told k kb) ∙ levels-items s w.port.number (was k))
+
+      owes : (k : ℕ) → k < length l.lanes → now k ≡ filter (owned_by (length l.lanes) k) (asked_by (records_of s (at tables v)))
+      owes k kb = ap keys_in (owed k kb) ∙ keys_levels s (filter (owned_by (length l.lanes) k) (asked_by (records_of s (at tables v))))
+
+      told_next : (k : ℕ) → k < length l.lanes → at due k ≡ with_levels s (now k)
+      told_next k kb = owed k kb ∙ ap (with_levels s) (sym (owes k kb))
+
+      done : IsLevelDone (lanes_wave s (length l.lanes)) w.port.number v (sent_to w.port) w.port.taken was (at w.tables) (at (recorded s w.tables)) (sent_to p3) p3.taken now (at tables) (at (recorded s tables))
       done = record {
         sends = sends;
         fair = heard'.fair;
@@ -149,7 +179,7 @@ module _ (l : LanesView) (s : Nodes) (roots : List Key) (v : ℕ) (w : Worker) (
         rows_stay = λ u ub. recorded-at s tables u ∙ ap (records_of s) (stays.same u (was_closed u ub)) ∙ sym (recorded-at s w.tables u);
         rowed = ap (map key_of) (recorded-at s tables v) ∙ keys_of_records s (at tables v);
         split = subst (All (IsSplit (lanes_wave s (length l.lanes)))) (sym (recorded-at s tables v)) (split_records s (length l.lanes) (at tables v));
-        dues = λ k kb. owed k kb ∙ ap (λ rs. filter (owned_by (length l.lanes) k) (asked_by rs)) (sym (recorded-at s tables v));
+        dues = λ k kb. owes k kb ∙ ap (λ rs. filter (owned_by (length l.lanes) k) (asked_by rs)) (sym (recorded-at s tables v));
       }
 
       lean_next : (u : ℕ) → u < v + 1 → at rows u ≡ lean_row (length l.lanes) (records_of s (at tables u))
@@ -160,14 +190,15 @@ module _ (l : LanesView) (s : Nodes) (roots : List Key) (v : ℕ) (w : Worker) (
       puts : (k : ℕ) → k < length l.lanes → put_to p3 k ≡ loads_of (v + 1) p3.number k (sent_to p3 k)
       puts k kb =
           let up : suc v ≡ v + 1 = omega arith in
-          ap (λ (q : PortView). put_to q k) s3 ∙ s2.put k kb ∙ ap (λ c. c + 1) (put_all k kb ∙ ap (λ c. c + put_loads w.port.number (at w.due) k) (h.put k kb))
-          ∙ sym (loads-more (lanes_wave s (length l.lanes)) w.port.number k v (sent_to w.port k) (at w.due k) (h.level.ended k kb) (h.level.none_in k kb))
+          let many : put_loads w.port.number (at w.due) k ≡ cond (eqb w.port.number k) 0 (bundles (length (was k))) = ap (λ m. cond (eqb w.port.number k) 0 (bundles m)) (sym (length-map (at w.due k) (λ (a : ℕ × Key). a.1))) in
+          ap (λ (q : PortView). put_to q k) s3 ∙ s2.put k kb ∙ ap (λ c. c + 1) (put_all k kb ∙ (λ j. h.put k kb j + many j))
+          ∙ sym (loads-more (lanes_wave s (length l.lanes)) w.port.number k v (sent_to w.port k) (was k) (h.level.ended k kb) (h.level.none_in k kb))
           ∙ (λ j. loads_of (up j) (sym number_same j) k (sym (sends k kb) j))
 
-      pub level_next : IsWorking l s roots (v + 1) (record { port = p3; clock = clock; tables = tables; noted = noted; rows = rows; due = due; next = next })
-      level_next =
+      pub level_next : (spare : Unit {0}) → IsWorking l s roots (v + 1) (record { port = p3; clock = clock; tables = tables; noted = noted; rows = rows; due = due; spare = spare })
+      level_next spare =
           let some : 0 < length l.lanes = (let z = h.within in omega (arith, z)) in
-          let next = advances (lanes_wave s (length l.lanes)) (lanes_laws s h.sound (length l.lanes) some) roots w.port.number v (sent_to w.port) w.port.taken (at w.due) (at w.tables) (at (recorded s w.tables)) (sent_to p3) p3.taken (at due) (at tables) (at (recorded s tables)) vb h.level done in
+          let next = advances (lanes_wave s (length l.lanes)) (lanes_laws s h.sound (length l.lanes) some) roots w.port.number v (sent_to w.port) w.port.taken was (at w.tables) (at (recorded s w.tables)) (sent_to p3) p3.taken now (at tables) (at (recorded s tables)) vb h.level done in
           let up : suc v ≡ v + 1 = omega arith in
           record {
             port = (ap (λ (q : PortView). q.lanes) s3 ∙ s2.port.1 ∙ port_kept.0, ap (λ (q : PortView). q.sizes) s3 ∙ s2.port.2 ∙ port_kept.1);
@@ -179,8 +210,8 @@ module _ (l : LanesView) (s : Nodes) (roots : List Key) (v : ℕ) (w : Worker) (
             many_rows = ap (λ m. length m) rows-is ∙ length-set taken v row ∙ many_taken ∙ h.many_rows;
             lean = lean_next;
             many_due = many;
-            many_next = many-next;
-            level = subst (λ n. IsAt (lanes_wave s (length l.lanes)) roots n (v + 1) (sent_to p3) p3.taken (at due) (at tables) (at (recorded s tables))) (sym number_same)
-                (subst (λ n. IsAt (lanes_wave s (length l.lanes)) roots w.port.number n (sent_to p3) p3.taken (at due) (at tables) (at (recorded s tables))) up next);
+            told = told_next;
+            level = subst (λ n. IsAt (lanes_wave s (length l.lanes)) roots n (v + 1) (sent_to p3) p3.taken now (at tables) (at (recorded s tables))) (sym number_same)
+                (subst (λ n. IsAt (lanes_wave s (length l.lanes)) roots w.port.number n (sent_to p3) p3.taken now (at tables) (at (recorded s tables))) up next);
             put = puts;
           }

@@ -1,26 +1,25 @@
 -- A worker sends bundles, lane after lane.
-use Rattle.std.proofs.Common.{◌≡◌, ◌≢◌, ℕ, zero, suc, ◌+◌, ◌*◌, ◌-◌, ◌<◌, ◌≤◌, cond, List, [], ◌∷◌, ◌++◌, map, take, length, get_or, All, refl, sym, ap, ◌∙◌, subst, arith, append_assoc, append-nil, eq-eqb, ne_eqb}
-use Rattle.std.proofs.lemmas.List.{map_more, map-append, length-map, length-append, length-take}
-use Rattle.std.proofs.lemmas.List.Elements.{All-append}
+use Rattle.std.proofs.Common.{◌≡◌, ◌≢◌, ℕ, ◌+◌, ◌-◌, ◌<◌, ◌≤◌, true, false, cond, ltb, List, [], ◌∷◌, ◌++◌, map, replicate, length, set, All, refl, sym, ap, ◌∙◌, subst, arith, append_assoc, append-nil, eq-eqb, ne_eqb, get_or-set_same, get_or-set_other}
+use Rattle.std.proofs.lemmas.List.{map-append, length-map, length-set, length-replicate, get_or-replicate, get_or_past, ext_get_or}
+use borrow.Author.Tests.{ltb-true}
 use mathlib.Core.Logic.{dite}
 use native.Mathlib.Decide.{ℕ_discrete}
-use Rattle.dd_store.specs.Nodes.{Nodes}
 use Rattle.req_table.specs.declared.Key.{Key}
 use Rattle.req_table.specs.declared.Item.{Item}
-use Rattle.req_table.specs.declared.Item.TheVariants.{Ask}
-use Rattle.req_table.specs.Keys.{level_of}
 use Rattle.req_table.specs.Lanes.{ends, MayFollow, IsClosed}
 use Rattle.req_table.proofs.Fair.{ends-append}
-use Rattle.req_table.proofs.Lists.{all_of, map_has}
+use Rattle.req_table.proofs.Lists.{Has, each, all_of, map_has, Has-append_left, Has-append_right}
 use Rattle.lane_queue.specs.declared.load.Load.{Load}
 use Rattle.lane_queue.specs.Loads.{ask_of, items_in}
 use Rattle.lane_queue.specs.PortView.{LanesView, PortView, sent_to, put_to, has_put, IsPortOf, MayLeave, lanes_scope}
+use Rattle.expand_work.specs.Due.{IsCut, IsLeft}
 use Rattle.expand_work.specs.Parts.{bundles}
-use Rattle.expand_work.specs.Work.{item_of, MaySend, IsSamePort, SentTo, SentToAll, put_items, put_loads}
+use Rattle.expand_work.specs.Work.{at, MaySend, IsSamePort, SentTo, SentToAll, put_items, put_loads}
+use Rattle.expand_work.proofs.Cutting.{cut_all, cut_less}
 
-pub ends-items : (S : Nodes) (s : ℕ) (xs : List Key) → ends (map (item_of S s) xs) ≡ 0
-ends-items S s [] = refl
-ends-items S s (x ∷ xs) = ends-items S s xs
+pub ends-asked : (n : ℕ) (asks : List (ℕ × Key)) → ends (map (ask_of n) asks) ≡ 0
+ends-asked n [] = refl
+ends-asked n (a ∷ more) = ends-asked n more
 
 -- ---- ports that are the same
 pub same_port : (p : PortView) → IsSamePort p p
@@ -68,106 +67,56 @@ sent_load p q to x is sent others put others_put = record {
 pub carries : (n : ℕ) (asks : List (ℕ × Key)) → 0 < length asks → 0 < length (map (ask_of n) asks)
 carries n asks lt = let e = length-map asks (ask_of n) in omega (arith, lt, e)
 
--- ---- bundles are filled
--- Of these keys, all but what is in hand were sent.
-pub record Filling (l : LanesView) (S : Nodes) (p q : PortView) (to : ℕ) (keys : List Key) (hand : List (ℕ × Key)) : Type 0 where
-  pub items : List Item
+-- ---- bundle after bundle
+-- Some of these requests were sent, in so many loads, and these are left.
+pub record Sending (p q : PortView) (to : ℕ) (asks left : List (ℕ × Key)) : Type 0 where
+  pub gone : List (ℕ × Key)
   pub loads : ℕ
-  pub sent : SentTo p q to items loads
-  pub all : items ++ map (ask_of p.number) hand ≡ map (item_of S p.number) keys
-  pub count : loads * 64 + length hand ≡ length keys
-  pub may : All (MayFollow (lanes_scope l) (ends (sent_to p to))) (map (ask_of p.number) hand)
+  pub sent : SentTo p q to (map (ask_of p.number) gone) loads
+  pub all : gone ++ left ≡ asks
+  pub count : loads + bundles (length left) ≡ bundles (length asks)
 
-pub fill-start : (l : LanesView) (S : Nodes) (p : PortView) (to : ℕ) (hand : List (ℕ × Key)) → hand ≡ [] → Filling l S p p to [] hand
-fill-start l S p to hand none = subst (Filling l S p p to []) (sym none) (record {
-  items = [];
-  loads = 0;
-  sent = sent_none p to;
-  all = refl;
-  count = omega arith;
-  may = λ k d lt. absurd (omega (arith, lt));
-})
+pub sending-none : (p : PortView) (to : ℕ) (asks : List (ℕ × Key)) → Sending p p to asks asks
+sending-none p to asks = record { gone = []; loads = 0; sent = sent_none p to; all = refl; count = omega arith }
 
-one-of : {X : Type 0} (P : X → Type 0) (x : X) → P x → All P (x ∷ [])
-one-of P x h zero d lt = h
-one-of P x h (suc k) d lt = absurd (omega (arith, lt))
-
-module _ (l : LanesView) (S : Nodes) (p q : PortView) (to : ℕ) (hand : List (ℕ × Key)) where
-  ends-hand : (n : ℕ) (asks : List (ℕ × Key)) → ends (map (ask_of n) asks) ≡ 0
-  ends-hand n [] = refl
-  ends-hand n (a ∷ more) = ends-hand n more
-
+module _ (l : LanesView) (p q : PortView) (to : ℕ) (asks left bundle rest : List (ℕ × Key)) (may : MaySend l p to asks) (d : Sending p q to asks left) (cut : IsCut left bundle rest) where
   -- no End was sent
-  fill-ends : (keys : List Key) → Filling l S p q to keys hand → ends (sent_to q to) ≡ ends (sent_to p to)
-  fill-ends keys f =
-      let a = ap ends f.sent.sent ∙ ends-append (sent_to p to) f.items in
-      let b = sym (ends-append f.items (map (ask_of p.number) hand)) ∙ ap ends f.all ∙ ends-items S p.number keys in
-      omega (arith, a, b)
+  ends-then : ends (sent_to q to) ≡ ends (sent_to p to)
+  ends-then =
+      let a = ap ends d.sent.sent ∙ ends-append (sent_to p to) (map (ask_of p.number) d.gone) in
+      let z = ends-asked p.number d.gone in omega (arith, a, z)
 
-  -- one more key
-  pub fill-more : (keys : List Key) (i : ℕ) (x : Key) (v : ℕ) (hand' : List (ℕ × Key)) → i < length keys → x ≡ get_or keys i x → v ≡ level_of S x → hand' ≡ hand ++ (v, x) ∷ [] → MaySend l S p to keys
-      → Filling l S p q to (take i keys) hand → Filling l S p q to (take (i + 1) keys) hand'
-  fill-more keys i x v hand' lt x-is v-is is may f =
-      let n = p.number in
-      let one : ask_of n (v, x) ≡ item_of S n (get_or keys i x) = ap (λ k. Ask n k x) v-is ∙ ap (item_of S n) x-is in
-      let m : map (ask_of n) hand' ≡ map (ask_of n) hand ++ ask_of n (v, x) ∷ [] = ap (map (ask_of n)) is ∙ map-append (ask_of n) hand ((v, x) ∷ []) in
-      record {
-        items = f.items;
-        loads = f.loads;
-        sent = f.sent;
-        all = ap (λ k. f.items ++ k) m ∙ sym (append_assoc f.items (map (ask_of n) hand) (ask_of n (v, x) ∷ [])) ∙ ap (λ k. k ++ ask_of n (v, x) ∷ []) f.all
-            ∙ ap (λ y. map (item_of S n) (take i keys) ++ y ∷ []) one ∙ sym (map_more (item_of S n) keys i x lt);
-        count = let a = f.count in let b = ap (λ k. length k) is ∙ length-append hand ((v, x) ∷ []) in let c = length-take i keys in let d = length-take (i + 1) keys in omega (arith, a, b, c, d, lt);
-        may = subst (All (MayFollow (lanes_scope l) (ends (sent_to p to)))) (sym m)
-            (All-append (MayFollow (lanes_scope l) (ends (sent_to p to))) (map (ask_of n) hand) (ask_of n (v, x) ∷ []) f.may
-            (one-of (MayFollow (lanes_scope l) (ends (sent_to p to))) (ask_of n (v, x)) (subst (MayFollow (lanes_scope l) (ends (sent_to p to))) (sym one) (may.follow i x lt))));
-      }
+  among : (a : ℕ × Key) → Has bundle a → Has asks a
+  among a h = subst (λ xs. Has xs a) (ap (λ xs. d.gone ++ xs) (cut_all left bundle rest cut) ∙ d.all) (Has-append_right d.gone (bundle ++ rest) a (Has-append_left bundle rest a h))
 
-  -- what is in hand may be sent
-  pub hand-may : (keys : List Key) → Filling l S p q to keys hand → All (MayFollow (lanes_scope l) (ends (sent_to q to))) (map (ask_of q.number) hand)
-  hand-may keys f = subst (λ (y : ℕ × ℕ). All (MayFollow (lanes_scope l) y.0) (map (ask_of y.1) hand)) (λ j. (sym (fill-ends keys f) j, sym f.sent.port.0 j)) f.may
+  pub bundle-may : All (MayFollow (lanes_scope l) (ends (sent_to q to))) (map (ask_of q.number) bundle)
+  bundle-may = all_of (MayFollow (lanes_scope l) (ends (sent_to q to))) (map (ask_of q.number) bundle) (λ y h.
+      let t = map_has (ask_of q.number) bundle y h in
+      subst (MayFollow (lanes_scope l) (ends (sent_to q to))) t.2 (subst (λ (u : ℕ × ℕ). MayFollow (lanes_scope l) u.0 (ask_of u.1 t.0)) (λ j. (sym ends-then j, sym d.sent.port.0 j))
+      (each (λ a. MayFollow (lanes_scope l) (ends (sent_to p to)) (ask_of p.number a)) asks t.0 may.follow (among t.0 t.1))))
 
-  pub hand-leave : (keys all : List Key) → Filling l S p q to keys hand → MaySend l S p to all → All (MayLeave (lanes_scope l) q.taken (ends (sent_to q to))) (map (ask_of q.number) hand)
-  hand-leave keys all f may = all_of (MayLeave (lanes_scope l) q.taken (ends (sent_to q to))) (map (ask_of q.number) hand) (λ y h.
-      let t = map_has (ask_of q.number) hand y h in
+  pub bundle-leave : All (MayLeave (lanes_scope l) q.taken (ends (sent_to q to))) (map (ask_of q.number) bundle)
+  bundle-leave = all_of (MayLeave (lanes_scope l) q.taken (ends (sent_to q to))) (map (ask_of q.number) bundle) (λ y h.
+      let t = map_has (ask_of q.number) bundle y h in
       subst (MayLeave (lanes_scope l) q.taken (ends (sent_to q to))) t.2 (λ z.
-      let e = fill-ends keys f in
-      subst (λ (u : ℕ × List Item). IsClosed (lanes_scope l) (u.0 - 1) u.1) (λ j. (sym e j, sym f.sent.taken j)) (may.leave (omega (arith, z, e)))))
+      let e = ends-then in
+      subst (λ (u : ℕ × List Item). IsClosed (lanes_scope l) (u.0 - 1) u.1) (λ j. (sym e j, sym d.sent.taken j)) (may.leave (omega (arith, z, e)))))
 
-  module _ (r : PortView) (keys : List Key) (f : Filling l S p q to keys hand) (s : SentTo q r to (map (ask_of q.number) hand) 1) where
-    gone : SentTo p r to (map (item_of S p.number) keys) (f.loads + 1)
-    gone = subst (λ xs. SentTo p r to xs (f.loads + 1)) (ap (λ n. f.items ++ map (ask_of n) hand) f.sent.port.0 ∙ f.all) (sent_on p q r to f.items (map (ask_of q.number) hand) f.loads 1 f.sent s)
+  pub sending-more : (r : PortView) → SentTo q r to (map (ask_of q.number) bundle) 1 → Sending p r to asks rest
+  sending-more r s = record {
+    gone = d.gone ++ bundle;
+    loads = d.loads + 1;
+    sent = subst (λ xs. SentTo p r to xs (d.loads + 1)) ((λ j. map (ask_of p.number) d.gone ++ map (ask_of (d.sent.port.0 j)) bundle) ∙ sym (map-append (ask_of p.number) d.gone bundle))
+        (sent_on p q r to (map (ask_of p.number) d.gone) (map (ask_of q.number) bundle) d.loads 1 d.sent s);
+    all = append_assoc d.gone bundle rest ∙ ap (λ xs. d.gone ++ xs) (cut_all left bundle rest cut) ∙ d.all;
+    count = let n = cut_less left bundle rest cut in let c = d.count in let some = cut.some in omega (arith, n, c, some);
+  }
 
-    -- a full bundle was sent
-    pub fill-sent : length hand ≡ 64 → (hand' : List (ℕ × Key)) → hand' ≡ [] → Filling l S p r to keys hand'
-    fill-sent full hand' none = subst (Filling l S p r to keys) (sym none) (record {
-      items = map (item_of S p.number) keys;
-      loads = f.loads + 1;
-      sent = gone;
-      all = append-nil (map (item_of S p.number) keys);
-      count = let a = f.count in omega (arith, a, full);
-      may = λ k d lt. absurd (omega (arith, lt));
-    })
-
-    -- the rest was sent
-    pub fill-last : 0 < length hand → length hand ≤ 64 → SentTo p r to (map (item_of S p.number) keys) (bundles (length keys))
-    fill-last some few = subst (SentTo p r to (map (item_of S p.number) keys)) (let a = f.count in omega (arith, a, some, few)) gone
-
-  -- nothing is in hand
-  pub fill-none : (keys : List Key) → Filling l S p q to keys hand → length hand ≡ 0 → SentTo p q to (map (item_of S p.number) keys) (bundles (length keys))
-  fill-none keys f none =
-      let e : hand ≡ [] = empty hand none in
-      subst (λ (u : List Item × ℕ). SentTo p q to u.0 u.1) (λ j. ((sym (append-nil f.items) ∙ ap (λ h. f.items ++ map (ask_of p.number) h) (sym e) ∙ f.all) j, count_is j)) f.sent
-    where
-      empty : (xs : List (ℕ × Key)) → length xs ≡ 0 → xs ≡ []
-      empty [] h = refl
-      empty (x ∷ xs) h = absurd (omega (arith, h))
-
-      count_is : f.loads ≡ bundles (length keys)
-      count_is = let a = f.count in omega (arith, a, none)
-
-pub no-bundles : (l : LanesView) (S : Nodes) (p : PortView) (to : ℕ) (keys : List Key) → keys ≡ [] → SentTo p p to (map (item_of S p.number) keys) (bundles (length keys))
-no-bundles l S p to keys none = subst (λ k. SentTo p p to (map (item_of S p.number) k) (bundles (length k))) (sym none) (sent_none p to)
+pub sending-all : (p q : PortView) (to : ℕ) (asks left : List (ℕ × Key)) → left ≡ [] → Sending p q to asks left → SentTo p q to (map (ask_of p.number) asks) (bundles (length asks))
+sending-all p q to asks left none d =
+    let gone-is : d.gone ≡ asks = sym (append-nil d.gone) ∙ ap (λ xs. d.gone ++ xs) (sym none) ∙ d.all in
+    let loads-is : d.loads ≡ bundles (length asks) = (let c = d.count in let z = ap (λ (xs : List (ℕ × Key)). length xs) none in omega (arith, c, z)) in
+    subst (λ (u : List (ℕ × Key) × ℕ). SentTo p q to (map (ask_of p.number) u.0) u.1) (λ j. (gone-is j, loads-is j)) d.sent
 
 -- ---- lane after lane
 pub all-none : (p : PortView) (items : ℕ → List Item) (loads : ℕ → ℕ) → SentToAll p p 0 items loads
@@ -195,18 +144,69 @@ all-more p q r to items loads a b = record {
 }
 
 -- what is due on a lane: nothing on its own, where it keeps
-module _ (S : Nodes) (s : ℕ) (due : ℕ → List Key) (q r : PortView) (to : ℕ) where
-  pub due-own : s ≡ to → SentTo q q to (put_items S s due to) (put_loads s due to)
-  due-own e = subst (λ (u : List Item × ℕ). SentTo q q to u.0 u.1) (λ j. (sym (ap (λ b. cond b [] (map (item_of S s) (due to))) (eq-eqb s to e)) j, sym (ap (λ b. cond b 0 (bundles (length (due to)))) (eq-eqb s to e)) j)) (sent_none q to)
+module _ (s : ℕ) (due : ℕ → List (ℕ × Key)) (q r : PortView) (to : ℕ) where
+  pub due-own : s ≡ to → SentTo q q to (put_items s due to) (put_loads s due to)
+  due-own e = subst (λ (u : List Item × ℕ). SentTo q q to u.0 u.1) (λ j. (sym (ap (λ b. cond b [] (map (ask_of s) (due to))) (eq-eqb s to e)) j, sym (ap (λ b. cond b 0 (bundles (length (due to)))) (eq-eqb s to e)) j)) (sent_none q to)
 
-  pub due-other : s ≢ to → SentTo q r to (map (item_of S s) (due to)) (bundles (length (due to))) → SentTo q r to (put_items S s due to) (put_loads s due to)
-  due-other n h = subst (λ (u : List Item × ℕ). SentTo q r to u.0 u.1) (λ j. (sym (ap (λ b. cond b [] (map (item_of S s) (due to))) (ne_eqb s to n)) j, sym (ap (λ b. cond b 0 (bundles (length (due to)))) (ne_eqb s to n)) j)) h
+  pub due-other : s ≢ to → SentTo q r to (map (ask_of s) (due to)) (bundles (length (due to))) → SentTo q r to (put_items s due to) (put_loads s due to)
+  due-other n h = subst (λ (u : List Item × ℕ). SentTo q r to u.0 u.1) (λ j. (sym (ap (λ b. cond b [] (map (ask_of s) (due to))) (ne_eqb s to n)) j, sym (ap (λ b. cond b 0 (bundles (length (due to)))) (ne_eqb s to n)) j)) h
 
 -- what may be sent on a lane may be still, where others were sent to
-pub may_still : (l : LanesView) (S : Nodes) (p q : PortView) (to : ℕ) (keys : List Key) → q.number ≡ p.number → q.taken ≡ p.taken → sent_to q to ≡ sent_to p to → MaySend l S p to keys → MaySend l S q to keys
-may_still l S p q to keys number taken s h = record {
-  follow = subst (λ n. All (λ x. MayFollow (lanes_scope l) (ends (sent_to q to)) (item_of S n x)) keys) (sym number)
-      (subst (λ xs. All (λ x. MayFollow (lanes_scope l) (ends xs) (item_of S p.number x)) keys) (sym s) h.follow);
+pub may_still : (l : LanesView) (p q : PortView) (to : ℕ) (asks : List (ℕ × Key)) → q.number ≡ p.number → q.taken ≡ p.taken → sent_to q to ≡ sent_to p to → MaySend l p to asks → MaySend l q to asks
+may_still l p q to asks number taken s h = record {
+  follow = subst (λ n. All (λ a. MayFollow (lanes_scope l) (ends (sent_to q to)) (ask_of n a)) asks) (sym number)
+      (subst (λ xs. All (λ a. MayFollow (lanes_scope l) (ends xs) (ask_of p.number a)) asks) (sym s) h.follow);
   leave = λ z. subst (λ xs. IsClosed (lanes_scope l) (ends (sent_to q to) - 1) xs) (sym taken)
       (subst (λ xs. IsClosed (lanes_scope l) (ends xs - 1) p.taken) (sym s) (h.leave (subst (λ xs. 0 < ends xs) s z)));
 }
+
+-- ---- what is left
+-- Of the workers below n, nothing is due any more but from the worker itself.
+pub record IsLeftBelow (s n : ℕ) (due left : List (List (ℕ × Key))) : Type 0 where
+  pub long : length left ≡ length due
+  pub own : at left s ≡ at due s
+  pub gone : (k : ℕ) → k < n → k ≢ s → at left k ≡ []
+  pub rest : (k : ℕ) → n ≤ k → at left k ≡ at due k
+
+pub left-start : (s : ℕ) (due : List (List (ℕ × Key))) → IsLeftBelow s 0 due due
+left-start s due = record { long = refl; own = refl; gone = λ k lt n. absurd (omega (arith, lt)); rest = λ k le. refl }
+
+pub left-own : (s to : ℕ) (due left : List (List (ℕ × Key))) → s ≡ to → IsLeftBelow s to due left → IsLeftBelow s (to + 1) due left
+left-own s to due left is h = record {
+  long = h.long;
+  own = h.own;
+  gone = λ k lt n. h.gone k (omega (arith, lt, n, is)) n;
+  rest = λ k le. h.rest k (omega (arith, le));
+}
+
+pub left-more : (s to : ℕ) (due left new : List (List (ℕ × Key))) → s ≢ to → to < length due → new ≡ set left to [] → IsLeftBelow s to due left → IsLeftBelow s (to + 1) due new
+left-more s to due left new other tb is h = record {
+  long = ap (λ (d : List (List (ℕ × Key))). length d) is ∙ length-set left to [] ∙ h.long;
+  own = ap (λ d. at d s) is ∙ get_or-set_other left to s [] [] other ∙ h.own;
+  gone = λ k lt n. ap (λ d. at d k) is ∙ (dite (ℕ_discrete k to)
+      (λ e. subst (λ m. at (set left to []) m ≡ []) (sym e) (get_or-set_same left to [] [] (let z = h.long in omega (arith, z, tb))))
+      (λ m. get_or-set_other left to k [] [] m ∙ h.gone k (omega (arith, lt, m)) n));
+  rest = λ k le. ap (λ d. at d k) is ∙ get_or-set_other left to k [] [] (λ e. omega (arith, le, e)) ∙ h.rest k (omega (arith, le));
+}
+
+pub left-all : (s n : ℕ) (due left : List (List (ℕ × Key))) → length due ≡ n → IsLeftBelow s n due left → IsLeft s due left
+left-all s n due left long h = record {
+  long = h.long;
+  own = h.own;
+  others = λ k m. elim (ltb k n) as (λ b. ltb k n ≡ b → at left k ≡ []) [
+    | true ↦ λ t. h.gone k (ltb-true k n t) m
+    | false ↦ λ t. h.rest k (grind (arith, t)) ∙ get_or_past due k [] (grind (arith, t, long))
+  ] refl;
+}
+
+-- and then the worker's own are gone
+pub none_due : (s n : ℕ) (due left new : List (List (ℕ × Key))) → length due ≡ n → s < n → IsLeft s due left → new ≡ set left s [] → new ≡ replicate n []
+none_due s n due left new long sb h is =
+    let wide : length left ≡ n = h.long ∙ long in
+    let many : length new ≡ n = ap (λ (d : List (List (ℕ × Key))). length d) is ∙ length-set left s [] ∙ wide in
+    ext_get_or [] new (replicate n []) (many ∙ sym (length-replicate n []))
+    (λ k kb. ap (λ d. at d k) is
+    ∙ (dite (ℕ_discrete k s)
+    (λ e. subst (λ m. at (set left s []) m ≡ []) (sym e) (get_or-set_same left s [] [] (omega (arith, wide, sb))))
+    (λ m. get_or-set_other left s k [] [] m ∙ h.others k m))
+    ∙ sym (get_or-replicate n k [] [] (omega (arith, kb, many))))

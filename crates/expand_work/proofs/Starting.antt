@@ -22,13 +22,14 @@ use Rattle.lane_queue.specs.PortView.{LanesView, PortView, sent_to, IsPortOf}
 use Rattle.expand_work.specs.declared.worker.Worker.{Worker}
 use Rattle.expand_work.specs.declared.part.Part.{Part}
 use Rattle.expand_work.specs.Parts.{asks_behind, loads_of, IsAt, IsPart}
-use Rattle.expand_work.specs.Work.{at, owned_by, lanes_wave, IsHeard}
+use Rattle.expand_work.specs.Work.{at, owned_by, lanes_wave, with_levels, keys_in, IsHeard}
 use Rattle.expand_work.specs.Working.{IsWorking}
 use Rattle.expand_work.specs.Worked.{IsFresh, IsWorked}
 use Rattle.expand_work.specs.Lean.{lean_row, records_of, recorded}
 use Rattle.req_table.specs.declared.placed.Placed.{Placed}
 use Rattle.expand_work.proofs.Waves.{lanes_laws, part_in_wave}
 use Rattle.expand_work.proofs.Levels.{ends_whole, loads-none}
+use Rattle.expand_work.proofs.Owing.{keys_levels}
 use Rattle.expand_work.proofs.Noting.{none_noted, fair_places}
 use Rattle.expand_work.proofs.Leaning.{recorded-at}
 use Rattle.expand_work.proofs.Rounds.{keys_held}
@@ -67,12 +68,12 @@ starts_heard c taken clock tables nothing clock-is tables-is = record {
   tabled = λ u ub. subst (λ xs. IsDistinctOf (asks_at u xs) (at tables u)) (sym nothing) (sym (ap (λ ts. get_or ts u []) tables-is ∙ get_or-replicate c.levels u [] [] ub));
 }
 
-pub starts_working : (l : LanesView) (S : Nodes) (roots : List Key) (p : PortView) (clock : Counts) (tables : List (List Key)) (noted : List (List ℕ)) (rows : List (List (Placed × Placed))) (due next : List (List Key))
+pub starts_working : (l : LanesView) (S : Nodes) (roots : List Key) (p : PortView) (clock : Counts) (tables : List (List Key)) (noted : List (List ℕ)) (rows : List (List (Placed × Placed))) (due : List (List (ℕ × Key))) (spare : Unit {0})
     → IsPortOf l p → p.number < length l.lanes → IsFresh p → l.sizes ≡ sizes_of S → IsSound S → All (IsKey S) roots
-    → clock ≡ record { levels = S.levels; ended = replicate (length l.lanes) 0 } → tables ≡ replicate S.levels [] → noted ≡ replicate (length l.lanes) [] → rows ≡ replicate S.levels [] → length due ≡ length l.lanes → length next ≡ length l.lanes
-    → ((k : ℕ) → k < length l.lanes → at due k ≡ filter (owned_by (length l.lanes) k) (dealt_from (length l.lanes) p.number 0 roots))
-    → IsWorking l S roots 0 (record { port = p; clock = clock; tables = tables; noted = noted; rows = rows; due = due; next = next })
-starts_working l S roots p clock tables noted rows due next o b fresh sizes sound held clock-is tables-is noted-is rows-is many many-next e = record {
+    → clock ≡ record { levels = S.levels; ended = replicate (length l.lanes) 0 } → tables ≡ replicate S.levels [] → noted ≡ replicate (length l.lanes) [] → rows ≡ replicate S.levels [] → length due ≡ length l.lanes
+    → ((k : ℕ) → k < length l.lanes → at due k ≡ with_levels S (filter (owned_by (length l.lanes) k) (dealt_from (length l.lanes) p.number 0 roots)))
+    → IsWorking l S roots 0 (record { port = p; clock = clock; tables = tables; noted = noted; rows = rows; due = due; spare = spare })
+starts_working l S roots p clock tables noted rows due spare o b fresh sizes sound held clock-is tables-is noted-is rows-is many e = record {
   port = o;
   within = b;
   sizes = sizes;
@@ -82,14 +83,15 @@ starts_working l S roots p clock tables noted rows due next o b fresh sizes soun
   many_rows = ap (λ m. length m) rows-is ∙ length-replicate S.levels [];
   lean = λ u ub. absurd (omega (arith, ub));
   many_due = many;
-  many_next = many-next;
-  level = starts_at (lanes_wave S (length l.lanes)) roots p.number (sent_to p) p.taken (at due) (at tables) (at (recorded S tables))
+  told = λ k kb. e k kb ∙ ap (with_levels S) (sym (ap keys_in (e k kb) ∙ keys_levels S (filter (owned_by (length l.lanes) k) (dealt_from (length l.lanes) p.number 0 roots))));
+  level = starts_at (lanes_wave S (length l.lanes)) roots p.number (sent_to p) p.taken (λ k. keys_in (at due k)) (at tables) (at (recorded S tables))
       (all_of (IsKeyOf (sizes_of S)) roots (λ x h. sizes_of_key S x (each (IsKey S) roots x held h))) fresh.0 fresh.1
-      (λ u ub. ap (λ ts. get_or ts u []) tables-is ∙ get_or-replicate S.levels u [] [] ub) e;
+      (λ u ub. ap (λ ts. get_or ts u []) tables-is ∙ get_or-replicate S.levels u [] [] ub)
+      (λ k kb. ap keys_in (e k kb) ∙ keys_levels S (filter (owned_by (length l.lanes) k) (dealt_from (length l.lanes) p.number 0 roots)));
   put = λ k kb. fresh.2 k ∙ sym (loads-none p.number k (sent_to p k));
 }
 
-pub ends_worked : (l : LanesView) (S : Nodes) (roots : List Key) (n : ℕ) (w : Worker) (p : Part) → IsWorking l S roots S.levels w → length w.port.put ≡ length l.lanes → w.port.number ≡ n → p ≡ record { port = w.port; space = record { tables = w.tables; rows = w.rows; noted = w.noted; due = w.due; next = w.next } } → IsWorked l S roots n p
+pub ends_worked : (l : LanesView) (S : Nodes) (roots : List Key) (n : ℕ) (w : Worker) (p : Part) → IsWorking l S roots S.levels w → length w.port.put ≡ length l.lanes → w.port.number ≡ n → p ≡ record { port = w.port; space = record { tables = w.tables; rows = w.rows; noted = w.noted; spare = w.spare } } → IsWorked l S roots n p
 ends_worked l S roots n w p h lists num is =
     let some : 0 < length l.lanes = (let z = h.within in omega (arith, z)) in
     let many : length w.tables ≡ S.levels = h.heard.many ∙ ap (λ (c : Sizes). c.levels) h.sizes in
@@ -102,7 +104,7 @@ ends_worked l S roots n w p h lists num is =
       lean = leans S (length l.lanes) w.tables w.rows (h.many_rows ∙ sym many) (λ u ub. h.lean u (omega (arith, ub, many)));
       part = subst (λ m. IsPart (wave_of S (length l.lanes)) roots m (sent_to w.port) w.port.taken (row_at (recorded S w.tables))) num
           (part_in_wave S (length l.lanes) roots w.port.number (sent_to w.port) w.port.taken (row_at (recorded S w.tables))
-          (ends_whole (lanes_wave S (length l.lanes)) (lanes_laws S h.sound (length l.lanes) some) roots w.port.number (sent_to w.port) w.port.taken (at w.due) (at w.tables) (at (recorded S w.tables)) h.level));
+          (ends_whole (lanes_wave S (length l.lanes)) (lanes_laws S h.sound (length l.lanes) some) roots w.port.number (sent_to w.port) w.port.taken (λ k. keys_in (at w.due k)) (at w.tables) (at (recorded S w.tables)) h.level));
       noted = record {
         long = h.noted.long;
         each = λ t tb. fair_places (scope_of (length l.lanes) (sizes_of S)) 0 (sent_by t w.port.taken) (at w.tables) (at w.tables) (at w.noted t) (subst (λ (c : Sizes). IsFair (scope_of (length l.lanes) c) (sent_by t w.port.taken)) h.sizes (h.heard.fair t tb)) (λ u ub. refl) (h.noted.each t tb);

@@ -10,3 +10,4 @@ pub mod Gathered
 pub mod Lean
 pub mod Spaces
 pub mod Bounds
+pub mod Due

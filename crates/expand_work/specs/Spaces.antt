@@ -11,8 +11,6 @@ pub record IsEmptySpace (levels workers : ℕ) (s : Space) : Type 0 where
   pub tables : s.tables ≡ replicate levels []
   pub rows : s.rows ≡ replicate levels []
   pub noted : s.noted ≡ replicate workers []
-  pub due : s.due ≡ replicate workers []
-  pub next : s.next ≡ replicate workers []
 
 -- the records of the keys that a worker's tables have
 abbrev pub records_in : Nodes → Space → List (List Record)

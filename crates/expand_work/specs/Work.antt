@@ -11,6 +11,7 @@ use Rattle.req_table.specs.Lanes.{sent_by, ends, asks_at, IsFair, HasSenders, Ma
 use Rattle.req_table.specs.Settled.{Admits, IsDistinctOf}
 use Rattle.expand_work.specs.Parts.{bundles}
 use Rattle.level_close.specs.Counts.{Counts}
+use Rattle.lane_queue.specs.Loads.{ask_of}
 use Rattle.lane_queue.specs.PortView.{LanesView, PortView, sent_to, put_to, lanes_scope}
 
 -- The wave over a store as its lanes tell it: a key is known by the store's sizes.
@@ -55,11 +56,15 @@ pub record SentToAll (p q : PortView) (n : ℕ) (items : ℕ → List Item) (loa
 abbrev pub with_levels : Nodes → List Key → List (ℕ × Key)
 with_levels S keys = map (λ x. (level_of S x, x)) keys
 
--- What worker s puts on the lane of k where these keys are due there, and in how many loads: it keeps its own.
-abbrev pub put_items : Nodes → ℕ → (ℕ → List Key) → ℕ → List Item
-put_items S s due k = cond (s == k) [] (map (item_of S s) (due k))
+-- The keys that requests ask for.
+abbrev pub keys_in : List (ℕ × Key) → List Key
+keys_in asks = map (λ a. a.1) asks
 
-abbrev pub put_loads : ℕ → (ℕ → List Key) → ℕ → ℕ
+-- What worker s puts on the lane of k where these requests are due there, and in how many loads: it keeps its own.
+abbrev pub put_items : ℕ → (ℕ → List (ℕ × Key)) → ℕ → List Item
+put_items s due k = cond (s == k) [] (map (ask_of s) (due k))
+
+abbrev pub put_loads : ℕ → (ℕ → List (ℕ × Key)) → ℕ → ℕ
 put_loads s due k = cond (s == k) 0 (bundles (length (due k)))
 
 -- The port has kept these items: it counts as having sent them to itself and taken them.
@@ -76,9 +81,9 @@ Offered [] ts us = us ≡ ts
 Offered (a ∷ more) ts us =
     (keys : List Key) × Admits (at ts a.0) (a.1 ∷ []) keys × Offered more (slice_set ts a.0 keys) us
 
--- The port may ask for these keys on that lane.
-pub record MaySend (l : LanesView) (S : Nodes) (p : PortView) (to : ℕ) (keys : List Key) : Type 0 where
-  pub follow : All (λ x. MayFollow (lanes_scope l) (ends (sent_to p to)) (item_of S p.number x)) keys
+-- The port may send these requests on that lane.
+pub record MaySend (l : LanesView) (p : PortView) (to : ℕ) (asks : List (ℕ × Key)) : Type 0 where
+  pub follow : All (λ a. MayFollow (lanes_scope l) (ends (sent_to p to)) (ask_of p.number a)) asks
   pub leave : 0 < ends (sent_to p to) → IsClosed (lanes_scope l) (ends (sent_to p to) - 1) p.taken
 
 -- What a worker knows of what it took: it is fair from each sender, counted by the clock, and admitted to the tables.

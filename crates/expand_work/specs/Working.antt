@@ -6,7 +6,7 @@ use Rattle.req_table.specs.Sizes.{sizes_of}
 use Rattle.lane_queue.specs.PortView.{LanesView, sent_to, put_to, IsPortOf, lanes_scope}
 use Rattle.expand_work.specs.declared.worker.Worker.{Worker}
 use Rattle.expand_work.specs.Parts.{IsAt, loads_of}
-use Rattle.expand_work.specs.Work.{at, lanes_wave, IsHeard}
+use Rattle.expand_work.specs.Work.{at, lanes_wave, keys_in, with_levels, IsHeard}
 use Rattle.expand_work.specs.Noted.{IsNoted}
 use Rattle.expand_work.specs.Lean.{lean_row, records_of, recorded}
 
@@ -21,6 +21,6 @@ pub record IsWorking (l : LanesView) (S : Nodes) (roots : List Key) (v : ℕ) (w
   pub many_rows : length w.rows ≡ S.levels
   pub lean : (u : ℕ) → u < v → at w.rows u ≡ lean_row (length l.lanes) (records_of S (at w.tables u))
   pub many_due : length w.due ≡ length l.lanes
-  pub many_next : length w.next ≡ length l.lanes
-  pub level : IsAt (lanes_wave S (length l.lanes)) roots w.port.number v (sent_to w.port) w.port.taken (at w.due) (at w.tables) (at (recorded S w.tables))
+  pub told : (k : ℕ) → k < length l.lanes → at w.due k ≡ with_levels S (keys_in (at w.due k))
+  pub level : IsAt (lanes_wave S (length l.lanes)) roots w.port.number v (sent_to w.port) w.port.taken (λ k. keys_in (at w.due k)) (at w.tables) (at (recorded S w.tables))
   pub put : (k : ℕ) → k < length l.lanes → put_to w.port k ≡ loads_of v w.port.number k (sent_to w.port k)

@@ -2,6 +2,7 @@
 #![tactic(auto)]
 
 mod crew;
+mod due;
 mod expand;
 mod expanded;
 mod fault;
@@ -14,6 +15,7 @@ mod parts;
 mod say;
 mod site;
 mod space;
+mod spare;
 mod table;
 mod team;
 mod worker;
@@ -26,4 +28,5 @@ pub use lists::{Noted, Rows, Tables};
 pub use part::Part;
 pub use parts::{Parts, expand_parts};
 pub use space::{Space, Spaces};
+pub use spare::Spare;
 pub use worker::work;

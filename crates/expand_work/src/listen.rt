@@ -1,29 +1,31 @@
 //! What a worker takes, and what it keeps.
-ghost use Rattle.std.specs.Prelude.{◌≡◌, ◌<◌, false, length, map, All, IfOk, OnOk};
+ghost use Rattle.std.specs.Prelude.{◌≡◌, ◌<◌, [], false, length, map, slice_set, All, IfOk, OnOk};
 ghost use Rattle.req_table.specs.Lanes.{IsClosed};
 ghost use Rattle.lane_queue.specs.PortView.{sent_to, IsPortOf, lanes_scope};
 ghost use Rattle.req_table.specs.Lanes.{sent_by};
-ghost use Rattle.expand_work.specs.Work.{item_of, with_levels, MaySend, HasKept, Offered, IsHeard, StaysClosed};
+ghost use Rattle.lane_queue.specs.Loads.{ask_of};
+ghost use Rattle.expand_work.specs.Work.{at, MaySend, HasKept, Offered, IsHeard, StaysClosed};
 ghost use Rattle.expand_work.specs.Noted.{IsNoted, Notes};
 
-use crate::WorkFault;
+use crate::due::Due;
 use crate::lists::{Noted, Tables};
 use crate::site::Site;
+use crate::{Spare, WorkFault};
 use crossbeam_utils::Backoff;
-use dd_store::Store;
 use lane_queue::{Lanes, Load, Port};
 use level_close::Clock;
 use req_table::Key;
-use req_table::requests::level_of;
 use std::alloc::AllocError;
 use std::sync::Wait;
 use std::sync::atomic::Ordering;
 
-/// What a worker knows by sender: how many levels it has ended, and where the requests were put that were taken of it.
+/// What a worker knows by sender: how many levels it has ended, and where the requests were put that were taken of it. The bundles
+/// that brought them are spare.
 #[derive(Drop)]
 pub struct Senders {
     pub clock: Clock,
     pub noted: Noted,
+    pub spare: Spare,
 }
 
 // Admits the requests of a sender's bundle to their levels' tables, and notes their places.
@@ -46,33 +48,48 @@ fn admit_all(
     Ok(())
 }
 
-/// Keeps the keys that the worker owns itself: it counts as having sent and taken them. Nothing of its own is under way.
-pub fn keep_own(
-    site: Site<'_>,
-    port: &mut Port,
-    clock: &Clock,
-    tables: &mut Tables,
-    noted: &mut Noted,
-    keys: &[Key],
-) -> Result<(), AllocError>
-    requires port { IsPortOf site.lanes.now port.old }
-    requires may { MaySend site.lanes.now site.store.now port.old port.old.number keys.now }
+// Keeps these requests: the port counts as having sent and taken them. Nothing of its own is under way.
+fn keep_all(lanes: &Lanes, port: &mut Port, asks: &[(u16, Key)])
+    requires port { IsPortOf lanes.now port.old }
+    requires may { MaySend lanes.now port.old port.old.number asks.now }
     requires taken { sent_by port.old.number port.old.taken ≡ sent_to port.old port.old.number }
-    requires heard { IsHeard (lanes_scope site.lanes.now) port.old.taken clock.now tables.old }
-    requires noted { IsNoted (length site.lanes.now.lanes) port.old.taken tables.old noted.old }
-    ensures kept { OnOk result (HasKept port.old port.new (map (item_of site.entry.store.now port.old.number) keys.now)) }
-    ensures heard { OnOk result (IsHeard (lanes_scope site.entry.lanes.now) port.new.taken clock.now tables.new) }
-    ensures stays { OnOk result
-        (StaysClosed (lanes_scope site.entry.lanes.now) port.old.taken port.new.taken tables.old tables.new) }
-    ensures noted { OnOk result (IsNoted (length site.entry.lanes.now.lanes) port.new.taken tables.new noted.new) }
+    ensures kept { HasKept port.old port.new (map (ask_of port.old.number) asks.now) }
+    ensures taken { sent_by port.new.number port.new.taken ≡ sent_to port.new port.new.number }
 {
-    let _clock = clock;
+    let _lanes = lanes;
+    for ask in asks {
+        let (level, key) = *ask;
+        port.keep(level, key);
+    }
+}
+
+/// Keeps what is due from the worker itself, bundle by bundle.
+pub fn keep_own(
+    lanes: &Lanes,
+    port: &mut Port,
+    senders: &mut Senders,
+    tables: &mut Tables,
+    due: &mut Due,
+) -> Result<(), AllocError>
+    requires port { IsPortOf lanes.now port.old }
+    requires long { length due.old ≡ length lanes.now.lanes }
+    requires may { MaySend lanes.now port.old port.old.number (at due.old port.old.number) }
+    requires taken { sent_by port.old.number port.old.taken ≡ sent_to port.old port.old.number }
+    requires heard { IsHeard (lanes_scope lanes.now) port.old.taken senders.old.clock tables.old }
+    requires noted { IsNoted (length lanes.now.lanes) port.old.taken tables.old senders.old.noted }
+    ensures kept { OnOk result (HasKept port.old port.new (map (ask_of port.old.number) (at due.old port.old.number))) }
+    ensures heard { OnOk result (IsHeard (lanes_scope lanes.now) port.new.taken senders.new.clock tables.new) }
+    ensures stays { OnOk result
+        (StaysClosed (lanes_scope lanes.now) port.old.taken port.new.taken tables.old tables.new) }
+    ensures noted { OnOk result (IsNoted (length lanes.now.lanes) port.new.taken tables.new senders.new.noted) }
+    ensures gone { OnOk result (due.new ≡ slice_set due.old port.old.number []) }
+{
     let own = port.number();
-    for key in keys {
-        let level = level_of(site.store, *key);
-        port.keep(level, *key);
-        let place = tables.admit(level, *key)?;
-        noted.push(own, place)?;
+    while let Some(bundle) = due.take(own) {
+        let asks = bundle.asks();
+        keep_all(lanes, port, asks);
+        admit_all(tables, &mut senders.noted, own, asks)?;
+        senders.spare.put(bundle);
     }
     Ok(())
 }
@@ -104,6 +121,7 @@ fn take_one<R: Wait>(
         Load::End { from, level } => senders.clock.note(from, level),
         Load::Bundle { from, asks } => {
             admit_all(tables, &mut senders.noted, from, asks.asks())?;
+            senders.spare.put(asks);
         }
     }
     Ok(true)

@@ -1,4 +1,4 @@
-//! Lists of keys and of places by worker, tables and rows by level.
+//! Lists of places by worker, tables and rows by level.
 ghost use Rattle.std.specs.Prelude.{◌≡◌, ◌<◌, [], ◌∷◌, ◌++◌, length, map, replicate, slice_set, IfOk, OnOk};
 ghost use Rattle.expand_work.specs.Noted.{EntersAt};
 ghost use Rattle.expand_work.specs.Work.{at};
@@ -24,70 +24,6 @@ fn clear_tables(tables: &mut Vec<Table>)
 {
     for place in 0..tables.len() {
         tables[place].clear();
-    }
-}
-
-/// One list of keys for each worker.
-#[derive(Drop)]
-pub struct KeyLists {
-    lists: Vec<Vec<Key>>,
-}
-
-impl Model for KeyLists {
-    ghost use Rattle.std.specs.Prelude.{List, map};
-    ghost use Rattle.req_table.specs.declared.Key.{Key};
-
-    ghost Value = { List (List Key) };
-
-    ghost view = { λ l. map (λ v. v.items) l.lists.items };
-}
-
-impl KeyLists {
-    /// So many empty lists.
-    pub fn new(alloc: Global, count: u32) -> Result<KeyLists, AllocError>
-        ensures { IfOk result (λ l. l ≡ replicate count []) }
-    {
-        let mut lists = Vec::new(alloc);
-        for made in 0..count {
-            lists.push(Vec::new(alloc))?;
-        }
-        Ok(KeyLists { lists })
-    }
-
-    /// So many empty lists, in the memory of these where there are as many.
-    pub fn emptied(self, alloc: Global, count: u32) -> Result<KeyLists, AllocError>
-        ensures { IfOk result (λ l. l ≡ replicate count []) }
-    {
-        let mut lists = self.lists;
-        if lists.len() != count as usize {
-            return KeyLists::new(alloc, count);
-        }
-        clear_all(&mut lists);
-        Ok(KeyLists { lists })
-    }
-
-    /// Removes all keys, and keeps the memory.
-    pub fn clear(&mut self)
-        ensures { self.new ≡ replicate (length self.old) [] }
-    {
-        clear_all(&mut self.lists);
-    }
-
-    /// Puts the key at the end of the worker's list.
-    pub fn push(&mut self, to: u32, key: Key) -> Result<(), AllocError>
-        requires { to < length self.old }
-        ensures { OnOk result (self.new ≡ slice_set self.old to (at self.old to ++ key ∷ [])) }
-    {
-        self.lists[to as usize].push(key)?;
-        Ok(())
-    }
-
-    /// The worker's list.
-    pub fn list(&self, to: u32) -> &[Key]
-        requires { to < length self.now }
-        ensures { result.now ≡ at self.now to }
-    {
-        &self.lists[to as usize]
     }
 }
 
@@ -203,10 +139,8 @@ impl Tables {
     }
 }
 
-// What a request takes in its row, and in a bundle.
+// What a request takes in its row.
 const _: () = prove!(size_of::<(Placed, Placed)>() == 16);
-
-const _: () = prove!(size_of::<(u16, Key)>() == 24);
 
 /// One row for each level: the children of each request, low and high, where the number beside a level is the owner.
 #[derive(Drop)]

@@ -1,22 +1,19 @@
 //! What a worker sends.
-ghost use Rattle.std.specs.Prelude.{◌≡◌, ◌≢◌, ℕ, ◌<◌, [], ◌∷◌, length, map, All, OnOk};
+ghost use Rattle.std.specs.Prelude.{◌≡◌, ℕ, ◌<◌, [], ◌∷◌, length, map, slice_set, All, OnOk};
 ghost use Rattle.req_table.specs.declared.Item.TheVariants.{End};
-ghost use Rattle.req_table.specs.Lanes.{ends, MayFollow, IsClosed};
+ghost use Rattle.req_table.specs.Lanes.{ends, MayFollow};
 ghost use Rattle.lane_queue.specs.Loads.{ask_of};
 ghost use Rattle.lane_queue.specs.PortView.{sent_to, IsPortOf, MayLeave, lanes_scope};
 ghost use Rattle.expand_work.specs.Parts.{bundles};
-ghost use Rattle.expand_work.specs.Work.{at, item_of, MaySend, SentTo, SentToAll, put_items, put_loads};
+ghost use Rattle.expand_work.specs.Due.{IsLeft};
+ghost use Rattle.expand_work.specs.Work.{at, MaySend, SentTo, SentToAll, put_items, put_loads};
 
-use crate::lists::KeyLists;
-use crate::site::Site;
+use crate::due::Due;
 use lane_queue::{Bundle, Lanes, Load, Port};
-use req_table::Key;
-use req_table::requests::level_of;
 use std::alloc::AllocError;
-use std::mem;
 use std::sync::Wait;
 
-// Sends what is in hand for the worker `to`.
+// Sends a bundle to the worker `to`.
 fn send_bundle<R: Wait>(
     rt: &R,
     lanes: &Lanes,
@@ -38,61 +35,46 @@ fn send_bundle<R: Wait>(
     Ok(())
 }
 
-// Asks another worker for the keys: a bundle is in hand, which goes when it is full, and at the end.
+// Sends what is due from the worker `to`, bundle by bundle.
 fn send_asks<R: Wait>(
     rt: &R,
-    site: Site<'_>,
+    lanes: &Lanes,
     port: &mut Port,
     to: u32,
-    keys: &[Key],
+    due: &mut Due,
 ) -> Result<(), AllocError>
-    requires port { IsPortOf site.lanes.now port.old }
-    requires to { to < length site.lanes.now.lanes }
-    requires may { MaySend site.lanes.now site.store.now port.old to keys.now }
-    ensures { OnOk result (SentTo port.old port.new to (map (item_of site.entry.store.now port.old.number) keys.now)
-        (bundles (length keys.now))) }
+    requires port { IsPortOf lanes.now port.old }
+    requires to { to < length lanes.now.lanes }
+    requires long { length due.old ≡ length lanes.now.lanes }
+    requires may { MaySend lanes.now port.old to (at due.old to) }
+    ensures sent { OnOk result (SentTo port.old port.new to (map (ask_of port.old.number) (at due.old to))
+        (bundles (length (at due.old to)))) }
+    ensures gone { OnOk result (due.new ≡ slice_set due.old to []) }
 {
-    let Site {
-        alloc,
-        lanes,
-        store,
-        ..
-    } = site;
-    if keys.is_empty() {
-        return Ok(());
-    }
-    let mut hand = Bundle::new(alloc)?;
-    for key in keys {
-        hand.add(level_of(store, *key), *key);
-        if hand.len() == Bundle::ROOM {
-            let full = mem::replace(&mut hand, Bundle::new(alloc)?);
-            send_bundle(rt, lanes, port, to, full)?;
-        }
-    }
-    if hand.len() > 0 {
-        send_bundle(rt, lanes, port, to, hand)?;
+    while let Some(asks) = due.take(to) {
+        send_bundle(rt, lanes, port, to, asks)?;
     }
     Ok(())
 }
 
-/// Asks every other worker for what is due from it.
+/// Asks every other worker for what is due from it. What is due from this one is left.
 pub fn send_due<R: Wait>(
     rt: &R,
-    site: Site<'_>,
+    lanes: &Lanes,
     port: &mut Port,
-    due: &KeyLists,
+    due: &mut Due,
 ) -> Result<(), AllocError>
-    requires port { IsPortOf site.lanes.now port.old }
-    requires long { length due.now ≡ length site.lanes.now.lanes }
-    requires may { (k : ℕ) → k < length site.lanes.now.lanes
-        → MaySend site.lanes.now site.store.now port.old k (at due.now k) }
-    ensures { OnOk result (SentToAll port.old port.new (length site.entry.lanes.now.lanes)
-        (put_items site.entry.store.now port.old.number (at due.now)) (put_loads port.old.number (at due.now))) }
+    requires port { IsPortOf lanes.now port.old }
+    requires long { length due.old ≡ length lanes.now.lanes }
+    requires may { (k : ℕ) → k < length lanes.now.lanes → MaySend lanes.now port.old k (at due.old k) }
+    ensures sent { OnOk result (SentToAll port.old port.new (length lanes.now.lanes)
+        (put_items port.old.number (at due.old)) (put_loads port.old.number (at due.old))) }
+    ensures left { OnOk result (IsLeft port.old.number due.old due.new) }
 {
     let own = port.number();
-    for to in 0..site.lanes.count() {
+    for to in 0..lanes.count() {
         if to != own {
-            send_asks(rt, site, port, to, due.list(to))?;
+            send_asks(rt, lanes, port, to, due)?;
         }
     }
     Ok(())

@@ -2,19 +2,19 @@
 ghost use Rattle.expand_work.specs.Spaces.{IsEmptySpace};
 ghost use Rattle.std.specs.Prelude.{IfOk};
 
-use crate::lists::{KeyLists, Noted, Rows, Tables};
+use crate::Spare;
+use crate::lists::{Noted, Rows, Tables};
 use std::alloc::{AllocError, Global};
 use std::marker::Model;
 
-/// What a worker fills: the requests that it is asked for, by level, the children of each, by sender the places of what it took, and
-/// by owner the requests that it has to ask for, those of a level and those of the next.
+/// What a worker fills: the requests that it is asked for, by level, the children of each, and by sender the places of what it took; and
+/// the bundles that it has read.
 #[derive(Drop)]
 pub struct Space {
     pub tables: Tables,
     pub rows: Rows,
     pub noted: Noted,
-    pub due: KeyLists,
-    pub next: KeyLists,
+    pub spare: Spare,
 }
 
 impl Space {
@@ -25,8 +25,7 @@ impl Space {
             tables: Tables::new(alloc, levels)?,
             rows: Rows::new(alloc, levels)?,
             noted: Noted::new(alloc, workers)?,
-            due: KeyLists::new(alloc, workers)?,
-            next: KeyLists::new(alloc, workers)?,
+            spare: Spare::new(alloc),
         })
     }
 
@@ -37,12 +36,11 @@ impl Space {
             tables: self.tables.emptied(alloc, levels)?,
             rows: self.rows.emptied(alloc, levels)?,
             noted: self.noted.emptied(alloc, workers)?,
-            due: self.due.emptied(alloc, workers)?,
-            next: self.next.emptied(alloc, workers)?,
+            spare: self.spare,
         })
     }
 
-    /// A space for so many levels and workers with nothing in it, in the memory of another where there is one.
+    /// A space for so many levels and workers with nothing in it, in the memory of another, with its bundles, where there is one.
     pub fn open(
         alloc: Global,
         used: Option<Space>,

@@ -6,12 +6,13 @@ ghost use Rattle.lane_queue.specs.PortView.{IsPortOf};
 ghost use Rattle.expand_work.specs.Working.{IsWorking};
 ghost use Rattle.expand_work.specs.Worked.{IsFresh, IsWorked};
 
+use crate::due::Due;
 use crate::expand::{deal_roots, expand_row};
 use crate::listen::{Senders, keep_own, take_until_closed};
-use crate::lists::{KeyLists, Noted, Rows, Tables};
+use crate::lists::{Noted, Rows, Tables};
 use crate::say::{send_due, send_ends};
 use crate::site::Site;
-use crate::{Gate, Part, Space, WorkFault};
+use crate::{Gate, Part, Space, Spare, WorkFault};
 use dd_store::Store;
 use lane_queue::{Lanes, Port};
 use level_close::Clock;
@@ -21,8 +22,8 @@ use std::sync::Wait;
 use std::sync::atomic::{AtomicBool, Ordering};
 
 /// What a worker has between two levels: its port, how many levels each sender has ended, the keys that it was asked
-/// for, by level, and where it put them, by sender, the children of each, by level, the keys that it has to ask for next, by owner, and
-/// the memory for those that come after them.
+/// for, by level, and where it put them, by sender, the children of each, by level, what it has to ask for next, by owner, and the
+/// bundles that it has read.
 #[derive(Drop)]
 pub struct Worker {
     pub port: Port,
@@ -30,8 +31,8 @@ pub struct Worker {
     pub tables: Tables,
     pub noted: Noted,
     pub rows: Rows,
-    pub due: KeyLists,
-    pub next: KeyLists,
+    pub due: Due,
+    pub spare: Spare,
 }
 
 // Sends what is due, keeps what it owns itself, and ends the level; takes until the level is closed, tells the gate, and
@@ -52,43 +53,43 @@ fn do_level<R: Wait, G: Gate>(
         mut port,
         clock,
         mut tables,
-        mut noted,
+        noted,
         mut rows,
-        due,
-        mut next,
+        mut due,
+        spare,
     } = worker;
-    send_due(rt, site, &mut port, &due)?;
+    let mut senders = Senders {
+        clock,
+        noted,
+        spare,
+    };
+    send_due(rt, site.lanes, &mut port, &mut due)?;
     let own = port.number();
-    keep_own(
-        site,
-        &mut port,
-        &clock,
-        &mut tables,
-        &mut noted,
-        due.list(own),
-    )?;
+    keep_own(site.lanes, &mut port, &mut senders, &mut tables, &mut due)?;
     send_ends(rt, site.lanes, &mut port, level)?;
-    let mut senders = Senders { clock, noted };
     take_until_closed(rt, site, &mut port, &mut senders, &mut tables, level)?;
     gate.at_level(own, level);
     let workers = site.lanes.count();
     let row = rows.take(site.alloc, level);
-    next.clear();
     let keys = tables.keys(level);
     gate.at_requests(keys.len());
-    let Ok((row, next)) = expand_row(site.store, keys, workers, row, next) else {
+    let Senders {
+        clock,
+        noted,
+        mut spare,
+    } = senders;
+    let Ok((row, due)) = expand_row(site.store, keys, workers, row, due, &mut spare) else {
         return Err(WorkFault::OutOfMemory);
     };
     rows.put(level, row);
-    let Senders { clock, noted } = senders;
     Ok(Worker {
         port,
         clock,
         tables,
         noted,
         rows,
-        due: next,
-        next: due,
+        due,
+        spare,
     })
 }
 
@@ -116,10 +117,10 @@ fn begin(site: Site<'_>, port: Port, used: Option<Space>) -> Result<Worker, Allo
         tables,
         rows,
         noted,
-        due,
-        next,
+        mut spare,
     } = Space::open(alloc, used, levels, workers)?;
-    let due = deal_roots(roots, number, workers, due)?;
+    let due = Due::new(alloc, workers)?;
+    let due = deal_roots(store, roots, number, workers, due, &mut spare)?;
     Ok(Worker {
         port,
         clock,
@@ -127,7 +128,7 @@ fn begin(site: Site<'_>, port: Port, used: Option<Space>) -> Result<Worker, Allo
         noted,
         rows,
         due,
-        next,
+        spare,
     })
 }
 
@@ -158,8 +159,7 @@ fn run_levels<R: Wait, G: Gate>(
         tables,
         noted,
         rows,
-        due,
-        next,
+        spare,
         ..
     } = worker;
     Ok(Part {
@@ -168,8 +168,7 @@ fn run_levels<R: Wait, G: Gate>(
             tables,
             rows,
             noted,
-            due,
-            next,
+            spare,
         },
     })
 }

@@ -46,6 +46,13 @@ impl Bundle {
         self.asks.push_reserved((level, key));
     }
 
+    /// Removes all requests, and keeps the room.
+    pub fn clear(&mut self)
+        ensures { self.new ≡ [] }
+    {
+        self.asks.clear();
+    }
+
     /// How many requests there are.
     pub fn len(&self) -> usize
         ensures count { result ≡ length self.now }

@@ -1,11 +1,11 @@
 use Rattle.std.proofs.Common.{◌≡◌, ℕ, ◌<◌, take, filter, length}
 use Rattle.req_table.specs.Settled.{asked_by}
 use Rattle.expand_work.specs.Lean.{lean_row, records_of}
-use Rattle.expand_work.specs.Work.{at, owned_by}
+use Rattle.expand_work.specs.Work.{at, owned_by, with_levels}
 use Rattle.expand_work.proofs.expand.expand_row.Given as goal
 
 abbrev pub invariant-loop-key : goal.invariant-loop-key
 invariant-loop-key l =
     (l.row.items ≡ lean_row l.workers (records_of l.store (take l.key-index l.keys)))
     × (length l.due ≡ l.workers)
-    × ((k : ℕ) → k < l.workers → at l.due k ≡ filter (owned_by l.workers k) (asked_by (records_of l.store (take l.key-index l.keys))))
+    × ((k : ℕ) → k < l.workers → at l.due k ≡ with_levels l.store (filter (owned_by l.workers k) (asked_by (records_of l.store (take l.key-index l.keys)))))

@@ -1,10 +1,11 @@
-use Rattle.std.proofs.Common.{take}
-use Rattle.expand_work.specs.Work.{with_levels}
-use Rattle.expand_work.specs.Noted.{Notes}
-use Rattle.expand_work.proofs.Holding.{Holding}
+use Rattle.std.proofs.Common.{◌≡◌, length, set}
+use Rattle.expand_work.specs.Work.{at}
+use Rattle.expand_work.proofs.Holding.{Keeping}
 use Rattle.expand_work.proofs.listen.keep_own.Given as goal
 
-abbrev pub invariant-loop-key : goal.invariant-loop-key
-invariant-loop-key l =
-    Holding l.site.store.now l.initial.port l.port l.initial.tables l.tables (take l.key-index l.keys)
-    × Notes l.own (with_levels l.site.store.now (take l.key-index l.keys)) l.initial.tables l.tables l.initial.noted l.noted
+abbrev pub invariant-loop-bundle : goal.invariant-loop-bundle
+invariant-loop-bundle l =
+    Keeping l.lanes l.initial.port l.port l.senders.clock l.initial.tables l.tables l.senders.noted (at l.initial.due l.own) (at l.due l.own) × (l.due ≡ set l.initial.due l.own (at l.due l.own))
+
+abbrev pub decreases-loop-bundle : goal.decreases-loop-bundle
+decreases-loop-bundle l = length (at l.due l.own)

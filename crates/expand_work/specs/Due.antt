@@ -1,0 +1,42 @@
+-- What is due from a worker, and how it is cut into bundles.
+use Rattle.std.specs.Prelude.{◌≡◌, ◌≢◌, ℕ, ◌<◌, Bool, List, [], ◌∷◌, take, drop, length, All, Option, None, Some}
+use Rattle.req_table.specs.declared.Key.{Key}
+use Rattle.req_table.specs.declared.Child.{Child}
+use Rattle.req_table.specs.declared.Child.TheVariants.{Done, Ask}
+use Rattle.lane_queue.specs.declared.load.TheConstants.Bundle.{ROOM}
+use Rattle.expand_work.specs.Work.{at, owned_by}
+
+-- the requests of the bundle in hand, of which there may be none
+abbrev pub in_hand : Option (List (ℕ × Key)) → List (ℕ × Key)
+in_hand None = []
+in_hand (Some b) = b
+
+-- each of the bundles is full
+abbrev pub AreFull : List (List (ℕ × Key)) → Type 0
+AreFull bundles = All (λ b. length b ≡ ROOM) bundles
+
+-- the bundle in hand has a request, and room for one more
+abbrev pub IsBegun : Option (List (ℕ × Key)) → Type 0
+IsBegun None = Unit {0}
+IsBegun (Some b) = (0 < length b) × (length b < ROOM)
+
+-- The bundle has the first of these requests, as many as it has room for, and these are left.
+pub record IsCut (asks bundle left : List (ℕ × Key)) : Type 0 where
+  pub some : 0 < length asks
+  pub first : bundle ≡ take ROOM asks
+  pub rest : left ≡ drop ROOM asks
+
+-- of so many workers, k owns what is asked for
+abbrev pub asked_of : ℕ → ℕ → ℕ × Key → Bool
+asked_of workers k a = owned_by workers k a.1
+
+-- what becomes due by a child
+abbrev pub due_by : Child → List (ℕ × Key)
+due_by (Done r) = []
+due_by (Ask l x m) = (l, x) ∷ []
+
+-- What is due from worker s is left, and nothing from another.
+pub record IsLeft (s : ℕ) (due left : List (List (ℕ × Key))) : Type 0 where
+  pub long : length left ≡ length due
+  pub own : at left s ≡ at due s
+  pub others : (k : ℕ) → k ≢ s → at left k ≡ []
