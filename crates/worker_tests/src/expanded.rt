@@ -8,6 +8,7 @@ use crate::requests::{REACHED, five_roots, keys_of, request, store_of, store_of_
 use dd_store::{Ref, Store, Watch};
 use expand_work::{Crew, Free, Gate, Parts, Spaces, Workers, expand_all, expand_parts};
 use lane_queue::Port;
+use reduce_up::{Rooms, shared_wave};
 use req_table::requests::owner;
 use req_table::{Child, Key, Memo, Op, Record};
 use std::alloc::Global;
@@ -215,6 +216,35 @@ fn waves_in_one_memory(rt: HostRuntime) -> Result<(), Fail> {
         assert_eq!(rt; count_at(&parts, workers, 0), 1);
         assert_eq!(rt; count_at(&parts, workers, 2), 0);
         spaces = parts.into_spaces();
+    }
+    Ok(())
+}
+
+// Waves by threads give the diagrams of their requests, whatever memory an earlier wave has left for the workers and for reduction.
+#[test]
+fn shared_waves_in_one_memory(rt: HostRuntime) -> Result<(), Fail> {
+    let mut rooms = Rooms::new(rt.alloc());
+    for (op, levels, workers) in WAVES {
+        assert!(rt; 3 <= levels && levels <= 4);
+        assert!(rt; 0 < workers && workers <= 16);
+        let mut store = store_of(&rt, rt.alloc(), levels);
+        let last = variable(&rt, &store, 2);
+        let root = request(&rt, &store, op, 0, 2);
+        let crew = Crew {
+            rt: &rt,
+            alloc: rt.alloc(),
+            workers: Workers::new(workers),
+            gate: &Free,
+        };
+        let found = shared_wave(&crew, &mut store, &[root], &mut rooms)?;
+        assert_eq!(rt; found.len(), 1);
+        assert!(rt; 0 < store.levels());
+        // A disjunction is asked for as the conjunction of the complements.
+        let made = match op {
+            Op::Or => store.find(0, last.negate(), Ref::FALSE),
+            _ => store.find(0, Ref::FALSE, last),
+        };
+        assert!(rt; made == Some(found[0]));
     }
     Ok(())
 }
