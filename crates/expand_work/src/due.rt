@@ -1,4 +1,4 @@
-//! The requests that are due from each worker, as they are sent: in bundles.
+//! The requests that are due from each worker, in the bundles that they are sent in.
 ghost use Rattle.std.specs.Prelude.{◌≡◌, ◌<◌, [], ◌∷◌, ◌++◌, length, replicate, slice_set, IfOk, OnOk, MatchOption};
 ghost use Rattle.expand_work.specs.Due.{IsCut};
 ghost use Rattle.expand_work.specs.Work.{at};
@@ -13,7 +13,7 @@ use std::marker::Model;
 // What a request takes in a bundle.
 const _: () = prove!(size_of::<(u16, Key)>() == 24);
 
-/// Requests in order, each with its level: bundles that are full, and the one in hand, which is not.
+// Requests in order, each with its level: bundles that are full, and the one in hand, which is not.
 #[derive(Drop)]
 struct Asks {
     full: VecDeque<Bundle>,
@@ -35,7 +35,7 @@ impl Model for Asks {
 }
 
 impl Asks {
-    /// No requests. They take no memory yet.
+    // No requests. They take no memory yet.
     fn new(alloc: Global) -> Asks
         ensures { result ≡ [] }
     {
@@ -45,7 +45,7 @@ impl Asks {
         }
     }
 
-    /// Puts a request at the end, into the bundle in hand.
+    // Puts a request at the end, into the bundle in hand.
     fn push(&mut self, spare: &mut Spare, level: u16, key: Key) -> Result<(), AllocError>
         ensures { OnOk result (self.new ≡ self.old ++ (level, key) ∷ []) }
     {
@@ -65,7 +65,7 @@ impl Asks {
         Ok(())
     }
 
-    /// Takes the first bundle.
+    // Takes the first bundle.
     fn take(&mut self) -> Option<Bundle>
         ensures { MatchOption result ((self.old ≡ []) × (self.new ≡ [])) (λ b. IsCut self.old b self.new) }
     {
