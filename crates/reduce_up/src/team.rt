@@ -191,11 +191,7 @@ fn reduce_team_level<R: Threads + Sync, H: Watch>(
 }
 
 /// The progress of a wave that is not reduced yet.
-pub(crate) fn begin(
-    store: &Store,
-    field: Field<'_>,
-    spare: Spare,
-) -> Result<Progress, AllocError>
+pub(crate) fn begin(store: &Store, field: Field<'_>, spare: Spare) -> Result<Progress, AllocError>
     requires some { 0 < field.workers }
     requires roots { All (IsKey store.now) field.roots.now }
     requires parts { AreParts store.now field.workers field.roots.now field.parts.now }

@@ -35,12 +35,7 @@ struct LevelRead {
 }
 
 /// Reads a sender's records of a level, from the last to the first.
-fn read_part(
-    team: Team<'_>,
-    job: ReadJob,
-    level: u16,
-    left: &[usize],
-) -> Result<Read, AllocError>
+fn read_part(team: Team<'_>, job: ReadJob, level: u16, left: &[usize]) -> Result<Read, AllocError>
     requires { MayReadPart team.workers team.roots.now team.parts.now team.answers.now level job.sender left.now }
     ensures { IfOk result (λ r. IsPartRead team.entry.workers team.entry.roots.now team.entry.parts.now team.entry.answers.now level job.sender r.0 r.1.items) }
 {
