@@ -1,7 +1,7 @@
 #!/usr/bin/env python3
 """Measures bddcheck by several numbers of workers against BuDDy, a depth-first BDD package.
 
-usage: bench/peers.py PROGRAM [FOLDER ..] [--before PROGRAM] [--workers N,N ..] [--limit SECONDS] [--repeats K] [--only WORD] [--no-generated]
+usage: bench/peers.py PROGRAM [FOLDER ..] [--before PROGRAM] [--workers N,N ..] [--limit SECONDS] [--repeats K] [--rest SECONDS] [--only WORD] [--no-generated]
 
 A FOLDER has folders NAME/ with a.bench, b.bench and order, the names of all variables in the order that both programs
 take; the names of inputs and outputs agree. Pairs of its own are generated beside them: parity by a chain and by a tree,
@@ -9,7 +9,7 @@ sums of products with all first factors before all second ones, chains of 20,000
 --only takes the pairs whose name has WORD in it; --before measures an older program beside the first one.
 
 Each pair is run K times (5), and within each time by each number of workers (1,2,4) and by BuDDy, one after the other,
-so that a change of the machine's load meets all of them. Of each the least time on the clock, the least
+so that a change of the machine's load meets all of them; --rest waits before each run. Of each the least time on the clock, the least
 processor time and the least peak memory count. A run is stopped at SECONDS (60) of processor time, and what was stopped
 or refused once is not run again. Both programs must call the same outputs equal. It prints a table in Markdown for each
 of the three measures, with ratios to BuDDy, their geometric means and the worst of them.
@@ -22,6 +22,7 @@ import pathlib
 import subprocess
 import sys
 import tempfile
+import time
 from dataclasses import dataclass
 
 import circuits
@@ -107,6 +108,7 @@ def measured(pair, launcher, driver, settings):
         for i, words in enumerate(columns):
             if i in stopped:
                 continue
+            time.sleep(settings.rest)
             figures, output = launcher.run(words)
             if figures is None:
                 stopped.add(i)
@@ -213,6 +215,7 @@ def read_words():
     parser.add_argument("--workers", type=lambda words: list(map(int, words.split(","))), default=[1, 2, 4])
     parser.add_argument("--limit", type=int, default=60)
     parser.add_argument("--repeats", type=int, default=5)
+    parser.add_argument("--rest", type=float, default=0.0)
     parser.add_argument("--only", default="")
     parser.add_argument("--no-generated", dest="generated", action="store_false")
     settings = parser.parse_args()
