@@ -8,7 +8,7 @@ wave: the disjunction of two sums of N/2 products over variables of their own, a
 which comes to 1.5 * 2^N requests. --before measures an older program beside the first one.
 
 Each pair is run K times (5), and within each time by each number of workers (1,2,4), one after the other and SECONDS (1)
-apart, since a host that lends processors takes them back after some seconds of full load. It prints a table in Markdown:
+apart, since a host may take processors away after some seconds of full load. It prints a table in Markdown:
 one worker's time on the clock, the least and the median, and for each other column both as ratios to these, the same for
 processor time, the peak memory, and how much of the processors the host took meanwhile.
 """
