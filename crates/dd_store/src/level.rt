@@ -16,7 +16,7 @@ use std::thread::Threads;
 use std::{mem, thread};
 
 /// What watches the threads of a call come to their shards.
-pub trait Watch: Sync {
+pub trait Watch {
     /// Called once for each shard of a level, by the thread that has it, before pairs are added to it.
     fn at_shard(&self, shard: u8, level: u16);
 }
@@ -99,7 +99,7 @@ impl Slot {
     }
 
     /// Adds a node for each pair of the parts' lists for a shard that has none, and notes the references of all, part by part.
-    fn make_lists(
+    pub(crate) fn make_lists(
         &mut self,
         parts: &[Vec<Vec<(Ref, Ref)>>],
         limit: u64,
@@ -123,7 +123,7 @@ impl Slot {
 }
 
 /// Adds list i to slot i, for the sixteen slots of a level. Four threads share the slots, four in a row for each.
-pub(crate) fn add_lists<R: Threads + Sync, H: Watch>(
+pub(crate) fn add_lists<R: Threads + Sync, H: Watch + Sync>(
     rt: &R,
     slots: &mut [Slot],
     level: u16,
@@ -148,7 +148,7 @@ pub(crate) fn add_lists<R: Threads + Sync, H: Watch>(
 
 /// Adds list i of each part to slot i, for the sixteen slots of a level, and notes the references of its pairs. Four threads share the
 /// slots, four in a row for each.
-pub(crate) fn make_parts<R: Threads + Sync, H: Watch>(
+pub(crate) fn make_parts<R: Threads + Sync, H: Watch + Sync>(
     rt: &R,
     slots: &mut [Slot],
     level: u16,

@@ -10,13 +10,17 @@ use std::fmt;
 use thiserror::Error;
 
 mod level;
+mod makers;
 mod reference;
 mod size;
 mod store;
+mod tasks;
 
 pub use level::Watch;
+pub use makers::Pool;
 pub use reference::{NodeId, Ref, Reference, SHARDS, code, shard_of};
 pub use store::Store;
+pub use tasks::ShardTask;
 
 /// Why a store has not made a node.
 #[derive(Clone, Copy, Debug, PartialEq, Eq, Error)]

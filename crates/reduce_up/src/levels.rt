@@ -71,7 +71,7 @@ fn reduce_row(
 }
 
 /// Notes the diagrams of a row, by several threads where it has many records.
-fn note_row<R: Threads + Sync, H: Watch>(
+fn note_row<R: Threads + Sync, H: Watch + Sync>(
     rt: &R,
     store: &mut Store,
     results: &mut Results,
@@ -93,7 +93,7 @@ fn note_row<R: Threads + Sync, H: Watch>(
 }
 
 /// Notes the diagrams of a row, and sees that the store is within its limit where the row has records.
-fn reduce_level<R: Threads + Sync, H: Watch>(
+fn reduce_level<R: Threads + Sync, H: Watch + Sync>(
     rt: &R,
     store: &mut Store,
     results: &mut Results,
@@ -120,7 +120,7 @@ fn reduce_level<R: Threads + Sync, H: Watch>(
 ///
 /// A level with many records is shared by several threads, and the watch is told of its shards; what no thread could be started for, the
 /// caller's thread does. The answer Full may also come at the first refused node, before all of a level are tried. NoWorker never comes.
-pub fn reduce<R: Threads + Sync, H: Watch>(
+pub fn reduce<R: Threads + Sync, H: Watch + Sync>(
     rt: &R,
     alloc: Global,
     store: &mut Store,

@@ -114,7 +114,7 @@ fn divide(alloc: Global, pairs: &[(Ref, Ref)]) -> Result<Vec<Vec<(Ref, Ref)>>, A
 }
 
 /// Adds to a level a node for each pair of different children that has none.
-fn add_pairs<R: Threads + Sync, H: Watch>(
+fn add_pairs<R: Threads + Sync, H: Watch + Sync>(
     rt: &R,
     alloc: Global,
     store: &mut Store,
@@ -216,7 +216,7 @@ fn gather<R: Threads + Sync>(
 ///
 /// What no thread could be started for, the caller's thread does. After a refusal some of the nodes may stand, and some diagrams may
 /// be noted.
-pub(crate) fn share_row<R: Threads + Sync, H: Watch>(
+pub(crate) fn share_row<R: Threads + Sync, H: Watch + Sync>(
     rt: &R,
     store: &mut Store,
     results: &mut Results,

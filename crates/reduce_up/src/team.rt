@@ -14,10 +14,11 @@ use crate::levels::{FEWEST_SHARED, wave_fault};
 use crate::narrow::make_level;
 use crate::spare::Spare;
 use crate::wide::share_level;
-use dd_store::{Ref, Store, StoreFault, Watch};
+use dd_store::{Pool, Ref, Store, StoreFault, Watch};
 use expand_work::{Parts, WaveFault};
 use req_table::{Key, Placed, PlacedChild};
 use std::alloc::{AllocError, Global};
+use std::sync::Wait;
 use std::thread::Threads;
 
 /// What is read of a wave: what its workers ended with, the roots that they had, and the diagrams that are known; and where memory is from.
@@ -134,13 +135,12 @@ pub(crate) fn level_size(parts: &Parts, workers: u32, level: u16) -> usize
 }
 
 /// The diagrams of a level's records, worker by worker, by threads where there are many; missing nodes are made.
-fn level_answers<R: Threads + Sync, H: Watch>(
-    rt: &R,
+fn level_answers<R: Threads + Wait + Sync, H: Watch + Sync>(
+    pool: &mut Pool<'_, R, H>,
     store: &mut Store,
     team: Team<'_>,
     level: u16,
     rest: &mut Rest,
-    watch: &H,
 ) -> Result<Vec<Vec<Ref>>, StoreFault>
     requires { MayReduceLevel team.workers team.roots.now team.parts.now team.answers.now store.old level rest.old.lefts.items }
     ensures { AnswersLevel team.entry.workers team.entry.roots.now team.entry.parts.now team.entry.answers.now store.old level result store.new rest.new.lefts.items }
@@ -148,17 +148,16 @@ fn level_answers<R: Threads + Sync, H: Watch>(
     if level_size(team.parts, team.workers, level) < FEWEST_SHARED {
         return make_level(store, team, level, rest);
     }
-    share_level(rt, store, team, level, rest, watch)
+    share_level(pool, store, team, level, rest)
 }
 
 /// Puts the diagrams of a level's requests in, and sees that the store is within its limit where there are some.
-fn reduce_team_level<R: Threads + Sync, H: Watch>(
-    rt: &R,
+fn reduce_team_level<R: Threads + Wait + Sync, H: Watch + Sync>(
+    pool: &mut Pool<'_, R, H>,
     store: &mut Store,
     field: Field<'_>,
     progress: &mut Progress,
     level: u16,
-    watch: &H,
 ) -> Result<(), WaveFault>
     requires level { level < store.old.levels }
     requires reached { IsReducedTo field.workers field.roots.now field.parts.now store.old.levels (level + 1) progress.old.answers progress.old.rest.lefts.items }
@@ -179,7 +178,7 @@ fn reduce_team_level<R: Threads + Sync, H: Watch>(
         workers: field.workers,
     };
     let rest = &mut progress.rest;
-    let answers = match level_answers(rt, store, team, level, rest, watch) {
+    let answers = match level_answers(pool, store, team, level, rest) {
         Ok(answers) => answers,
         Err(fault) => return Err(wave_fault(fault)),
     };
@@ -206,12 +205,11 @@ pub(crate) fn begin(store: &Store, field: Field<'_>, spare: Spare) -> Result<Pro
 }
 
 /// Reduces a wave from the last level up.
-pub(crate) fn reduce_team<R: Threads + Sync, H: Watch>(
-    rt: &R,
+pub(crate) fn reduce_team<R: Threads + Wait + Sync, H: Watch + Sync>(
+    pool: &mut Pool<'_, R, H>,
     store: &mut Store,
     field: Field<'_>,
     progress: &mut Progress,
-    watch: &H,
 ) -> Result<(), WaveFault>
     requires records { AreRecords store.old (gathered store.old.levels (team_row field.workers field.parts.now)) }
     requires reached { IsReducedTo field.workers field.roots.now field.parts.now store.old.levels store.old.levels progress.old.answers progress.old.rest.lefts.items }
@@ -227,7 +225,7 @@ pub(crate) fn reduce_team<R: Threads + Sync, H: Watch>(
     let mut level = store.levels();
     while level > 0 {
         level -= 1;
-        match reduce_team_level(rt, store, field, progress, level, watch) {
+        match reduce_team_level(pool, store, field, progress, level) {
             Ok(()) => {}
             Err(fault) => return Err(fault),
         }

@@ -15,15 +15,16 @@ use crate::roots::root_answers;
 use crate::seeking::Sought;
 use crate::spare::Spare;
 use crate::team::{Field, Progress, Team, begin, reduce_team};
-use dd_store::{Ref, Store, Watch};
-use expand_work::{Crew, Free, Gate, Spaces, WaveFault, expand_parts};
+use dd_store::{Pool, Ref, Store, Watch};
+use expand_work::{Crew, Free, Gate, Parts, Spaces, WaveFault, expand_parts};
 use req_table::requests::{normal, short};
 use req_table::{Key, Memo, Op, Records};
 use std::alloc::{AllocError, Global};
 use std::marker::Model;
-use std::mem;
 use std::sync::Wait;
 use std::thread::Threads;
+use std::{mem, thread};
+use task_pool::start_all;
 use wave_core::Core;
 
 /// The requests of the entries that have no short answer.
@@ -92,7 +93,7 @@ pub(crate) fn closure_of(
 }
 
 /// The diagram of each operation, by reduction of the records of all requests that they ask for.
-fn answer_closure<R: Threads + Sync, H: Watch>(
+fn answer_closure<R: Threads + Sync, H: Watch + Sync>(
     rt: &R,
     alloc: Global,
     store: &mut Store,
@@ -179,12 +180,11 @@ pub fn wave_one<R: Threads + Sync>(
 }
 
 /// The diagram of each root, by reduction of what the workers recorded, each for itself.
-fn answer_team<R: Threads + Sync, H: Watch>(
-    rt: &R,
+fn answer_team<R: Threads + Wait + Sync, H: Watch + Sync>(
+    pool: &mut Pool<'_, R, H>,
     store: &mut Store,
     field: Field<'_>,
     spare: &mut Spare,
-    watch: &H,
 ) -> Result<Vec<Ref>, WaveFault>
     requires roots { All (IsKey store.old) field.roots.now }
     requires some { 0 < field.workers }
@@ -197,7 +197,7 @@ fn answer_team<R: Threads + Sync, H: Watch>(
     let Ok(mut progress) = begin(store, field, used) else {
         return Err(WaveFault::OutOfMemory);
     };
-    match reduce_team(rt, store, field, &mut progress, watch) {
+    match reduce_team(pool, store, field, &mut progress) {
         Ok(()) => {}
         Err(fault) => return Err(fault),
     }
@@ -215,6 +215,63 @@ fn answer_team<R: Threads + Sync, H: Watch>(
     *spare = rest.spare;
     spare.keep_answers(answers.into_lists());
     Ok(found)
+}
+
+/// So many threads at least share the shards of a level, however few workers there are. The caller's is one of them.
+const FEWEST_MAKERS: u32 = 4;
+
+/// The diagram of each root, by the caller's thread and threads that live as long as the reduction.
+fn answer_by_team<R: Threads + Wait + Sync, G: Gate>(
+    crew: &Crew<'_, R, G>,
+    store: &mut Store,
+    parts: &Parts,
+    roots: &[Key],
+    spare: &mut Spare,
+) -> Result<Vec<Ref>, WaveFault>
+    requires roots { All (IsKey store.old) roots.now }
+    requires parts { AreParts store.old crew.now.workers.count roots.now parts.now }
+    ensures wave { AnswersWave store.old (entries_for roots.now) (entries_for roots.now) result store.new }
+    ensures unbounded { IfErr result (λ e. e ≢ WaveFault.TooManyRequests) }
+{
+    let _ = store.levels();
+    let alloc = crew.alloc;
+    let workers = crew.workers.count();
+    let (rt, gate) = (crew.rt, crew.gate);
+    let Ok(blank) = Store::new(alloc, 0, 0) else {
+        return Err(WaveFault::OutOfMemory);
+    };
+    let own = mem::replace(store, blank);
+    let used = mem::replace(spare, Spare::new(alloc));
+    let (own, used, answers) = thread::scope(
+        thread::scope_env(),
+        rt,
+        |scope| -> (Store, Spare, Result<Vec<Ref>, WaveFault>)
+            requires some { 0 < workers }
+            requires roots { All (IsKey own) roots.now }
+            requires parts { AreParts own workers roots.now parts.now }
+            ensures wave { AnswersWave own (entries_for roots.entry.now) (entries_for roots.entry.now) result.2 result.0 }
+            ensures unbounded { IfErr result.2 (λ e. e ≢ WaveFault.TooManyRequests) }
+        {
+            let field = Field {
+                alloc,
+                parts,
+                roots,
+                workers,
+            };
+            let lines = start_all(scope, rt, gate, alloc, workers.max(FEWEST_MAKERS) - 1);
+            let mut pool = Pool {
+                rt,
+                watch: gate,
+                lines,
+            };
+            let (mut store, mut spare) = (own, used);
+            let answers = answer_team(&mut pool, &mut store, field, &mut spare);
+            (store, spare, answers)
+        },
+    );
+    *store = own;
+    *spare = used;
+    answers
 }
 
 /// The memory of waves by threads, between two of them. Contracts see nothing in it.
@@ -261,13 +318,7 @@ pub fn shared_wave<R: Threads + Wait + Sync, G: Gate>(
         Ok(parts) => parts,
         Err(fault) => return Err(fault),
     };
-    let field = Field {
-        alloc: crew.alloc,
-        parts: &parts,
-        roots,
-        workers: crew.workers.count(),
-    };
-    let answers = answer_team(crew.rt, store, field, &mut rooms.spare, crew.gate)?;
+    let answers = answer_by_team(crew, store, &parts, roots, &mut rooms.spare)?;
     rooms.spaces = parts.into_spaces();
     Ok(answers)
 }

@@ -8,8 +8,9 @@ use crate::division::{Divided, Homes};
 use crate::picking::pick_all;
 use crate::spare::Spare;
 use crate::team::{Rest, Team, level_size, resolve};
-use dd_store::{Ref, Store, StoreFault, Watch};
+use dd_store::{Pool, Ref, Store, StoreFault, Watch};
 use std::alloc::{AllocError, Global};
+use std::sync::{Arc, Wait};
 use std::thread;
 use std::thread::Threads;
 
@@ -163,38 +164,42 @@ fn read_level<R: Threads + Sync>(
     join_reads(team, level, reads)
 }
 
-/// Keeps the memory of what was read, for another level.
-fn keep_read(spare: &mut Spare, parts: Vec<Vec<Vec<(Ref, Ref)>>>, homes: Vec<Homes>) {
+/// Keeps the memory of what was read, for another level, where no thread has it any more.
+fn keep_read(spare: &mut Spare, parts: Arc<Vec<Vec<Vec<(Ref, Ref)>>>>, homes: Vec<Homes>) {
+    let Ok(parts) = Arc::try_unwrap(parts) else {
+        return;
+    };
     for (lists, homes) in parts.into_iter().zip(homes) {
         spare.keep_divided(Divided { lists, homes });
     }
 }
 
 /// The diagrams of a level's records, worker by worker; missing nodes are made.
-pub(crate) fn share_level<R: Threads + Sync, H: Watch>(
-    rt: &R,
+pub(crate) fn share_level<R: Threads + Wait + Sync, H: Watch + Sync>(
+    pool: &mut Pool<'_, R, H>,
     store: &mut Store,
     team: Team<'_>,
     level: u16,
     rest: &mut Rest,
-    watch: &H,
 ) -> Result<Vec<Vec<Ref>>, StoreFault>
     requires { MayReduceLevel team.workers team.roots.now team.parts.now team.answers.now store.old level rest.old.lefts.items }
     ensures { AnswersLevel team.entry.workers team.entry.roots.now team.entry.parts.now team.entry.answers.now store.old level result store.new rest.new.lefts.items }
 {
     let lefts = &mut rest.lefts;
     let spare = &mut rest.spare;
-    let Ok(read) = read_level(rt, team, level, lefts.as_slice(), spare) else {
+    let Ok(read) = read_level(pool.rt, team, level, lefts.as_slice(), spare) else {
         return Err(StoreFault::OutOfMemory);
     };
-    let lists = read.parts.as_slice();
-    let refs = store.make_all(rt, level, lists, watch)?;
+    let Ok(parts) = Arc::new(team.alloc, read.parts) else {
+        return Err(StoreFault::OutOfMemory);
+    };
+    let refs = store.make_by(pool, level, &parts)?;
     let homes = read.homes.as_slice();
     let rooms = spare.answers(level);
-    let Ok(answers) = pick_all(rt, lists, homes, refs.as_slice(), rooms) else {
+    let Ok(answers) = pick_all(pool.rt, parts.as_slice(), homes, refs.as_slice(), rooms) else {
         return Err(StoreFault::OutOfMemory);
     };
     *lefts = read.lefts;
-    keep_read(spare, read.parts, read.homes);
+    keep_read(spare, parts, read.homes);
     Ok(answers)
 }

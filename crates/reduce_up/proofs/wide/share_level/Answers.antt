@@ -1,5 +1,6 @@
-use Rattle.std.proofs.Common.{◌≡◌, ℕ, ◌<◌, ◌∙◌, length, All, sym, subst}
+use Rattle.std.proofs.Common.{◌≡◌, ℕ, ◌<◌, ◌∙◌, length, All, ap, sym, subst}
 use Rattle.std.specs.List.{AllZip}
+use Rattle.std.specs.Arc.{arc_value}
 use Rattle.std.specs.declared.vec.Vec.{Vec}
 use Rattle.std.specs.declared.alloc.Global.{Global}
 use Rattle.dd_store.specs.Graph.{Pair}
@@ -12,24 +13,24 @@ use Rattle.std.proofs.lemmas.Result.{err_from_is_err_and}
 use Rattle.reduce_up.proofs.Making.{level_refused}
 use Rattle.reduce_up.proofs.wide.share_level.Goals as goal
 
-pub make_all-requires-clause-lists : goal.make_all-requires-clause-lists
-make_all-requires-clause-lists g c κs within =
+pub make_by-requires-clause-lists : goal.make_by-requires-clause-lists
+make_by-requires-clause-lists g c =
     let t = c.args.team in let n = t.workers in let p = t.parts.now in let a = t.answers.now in let v = c.args.level in
     let parts = c.in-Ok.read.parts.items in let homes = c.in-Ok.read.homes.items in let lefts = c.in-Ok.read.lefts.items in
     let T = told n p a in
     let row = team_row n p v in
     let D = c.in-Ok.ensures in
-    let slice = c.as_slice-lists.ensures.value in
+    let slice = ap (λ (z : Vec (Vec (Vec Pair Global) Global) Global). z.items) c.in-Ok-new.ensures.ok in
     subst (All (λ (part : Vec (Vec Pair Global) Global). length part.items ≡ 16)) (sym slice) (all_sixteen n t.roots.now p a v parts homes lefts D)
 
-pub make_all-requires-clause-ready : goal.make_all-requires-clause-ready
-make_all-requires-clause-ready g c κs within =
+pub make_by-requires-clause-ready : goal.make_by-requires-clause-ready
+make_by-requires-clause-ready g c =
     let t = c.args.team in let n = t.workers in let p = t.parts.now in let a = t.answers.now in let v = c.args.level in
     let parts = c.in-Ok.read.parts.items in let homes = c.in-Ok.read.homes.items in let lefts = c.in-Ok.read.lefts.items in
     let T = told n p a in
     let row = team_row n p v in
     let D = c.in-Ok.ensures in
-    let slice = c.as_slice-lists.ensures.value in
+    let slice = ap (λ (z : Vec (Vec (Vec Pair Global) Global) Global). z.items) c.in-Ok-new.ensures.ok in
     let listed = listed_row n t.roots.now p a v parts homes lefts D in
     subst (λ z. AreReady c.args.store.now v (all_at z)) (sym slice) (ready_all T c.args.store.now v row (all_at parts) listed c.requires.level c.requires.ready)
 
@@ -40,26 +41,27 @@ returns-in_err-refs g c =
     let T = told n p a in
     let row = team_row n p v in
     let D = c.in-Ok.ensures in
-    let slice = c.as_slice-lists.ensures.value in
+    let slice = ap (λ (z : Vec (Vec (Vec Pair Global) Global) Global). z.items) c.in-Ok-new.ensures.ok in
     let listed = listed_row n t.roots.now p a v parts homes lefts D in
-    let S = c.args.store.now in let U = c.make_all.new.self in
-    let grows = subst (λ z. GrowsLevel S U v (plain_lists (all_at z))) slice c.make_all.ensures.grows in
+    let S = c.args.store.now in let U = c.make_by.new.self in
+    let grows = subst (λ z. GrowsLevel S U v (plain_lists (all_at z))) slice c.make_by.ensures.grows in
     let adds = adds_all T S v row (all_at parts) listed U grows in
     let f = err_from_is_err_and c.from_residual.result c.from_residual.ensures.1 in
-    rw (f.1, f.2) (level_refused n t.roots.now p a S v U _ _ c.make_all.ensures.sound adds
-    (refused_make T S v row c.as_slice-lists.result.now parts slice listed U _ c.make_all.ensures.sound c.in_err-refs.ensures.fault))
+    rw (f.1, f.2) (level_refused n t.roots.now p a S v U _ _ c.make_by.ensures.sound adds
+    (refused_make T S v row (arc_value c.in-Ok-new.parts).items parts slice listed U _ c.make_by.ensures.sound c.in_err-refs.ensures.fault))
 
 pub pick_all-requires-clause-may : goal.pick_all-requires-clause-may
 pick_all-requires-clause-may g c κs within =
     let t = c.args.team in let n = t.workers in let p = t.parts.now in let a = t.answers.now in let v = c.args.level in
     let parts = c.in-Ok.read.parts.items in let homes = c.in-Ok.read.homes.items in let lefts = c.in-Ok.read.lefts.items in
     let D = c.in-Ok.ensures in
-    let slice = c.as_slice-lists.ensures.value in
-    let there = λ (s : ℕ) (l : s < 16). subst (λ z. AllZip (λ (q : Pair) r. IsThere c.make_all.new.self v q.0 q.1 r) (all_at z s) (refs_at c.in_ok-refs.refs.items s)) slice (c.in_ok-refs.ensures.answers s l) in
-    rw (slice, c.as_slice-homes.ensures.value, c.as_slice-2.ensures.value) (record {
+    let slice = ap (λ (z : Vec (Vec (Vec Pair Global) Global) Global). z.items) c.in-Ok-new.ensures.ok in
+    let there = λ (s : ℕ) (l : s < 16). subst (λ z. AllZip (λ (q : Pair) r. IsThere c.make_by.new.self v q.0 q.1 r) (all_at z s) (refs_at c.in_ok-refs.refs.items s)) slice (c.in_ok-refs.ensures.answers s l) in
+    let read = c.as_slice-2.ensures.value ∙ ap (λ (z : Vec (Vec (Vec Pair Global) Global) Global). z.items) (c.deref.ensures ∙ c.in-Ok-new.ensures.ok) in
+    rw (read, c.as_slice-homes.ensures.value, c.as_slice-3.ensures.value) (record {
       many = D.many_parts ∙ sym D.many_homes;
       sixteen = all_sixteen n t.roots.now p a v parts homes lefts D;
-      refs_of = refs_all c.make_all.new.self v parts c.in_ok-refs.refs.items c.in_ok-refs.ensures.sixteen there;
+      refs_of = refs_all c.make_by.new.self v parts c.in_ok-refs.refs.items c.in_ok-refs.ensures.sixteen there;
       homes_of = all_homes n t.roots.now p a v parts homes lefts D;
     })
 
@@ -70,12 +72,12 @@ returns-in_default-pick_all g c =
     let T = told n p a in
     let row = team_row n p v in
     let D = c.in-Ok.ensures in
-    let slice = c.as_slice-lists.ensures.value in
+    let slice = ap (λ (z : Vec (Vec (Vec Pair Global) Global) Global). z.items) c.in-Ok-new.ensures.ok in
     let listed = listed_row n t.roots.now p a v parts homes lefts D in
-    let S = c.args.store.now in let U = c.make_all.new.self in
-    let grows = subst (λ z. GrowsLevel S U v (plain_lists (all_at z))) slice c.make_all.ensures.grows in
+    let S = c.args.store.now in let U = c.make_by.new.self in
+    let grows = subst (λ z. GrowsLevel S U v (plain_lists (all_at z))) slice c.make_by.ensures.grows in
     let adds = adds_all T S v row (all_at parts) listed U grows in
-    level_refused n t.roots.now p a S v U _ _ c.make_all.ensures.sound adds tt
+    level_refused n t.roots.now p a S v U _ _ c.make_by.ensures.sound adds tt
 
 pub returns : goal.returns
 returns g c =
@@ -84,15 +86,16 @@ returns g c =
     let T = told n p a in
     let row = team_row n p v in
     let D = c.in-Ok.ensures in
-    let slice = c.as_slice-lists.ensures.value in
+    let slice = ap (λ (z : Vec (Vec (Vec Pair Global) Global) Global). z.items) c.in-Ok-new.ensures.ok in
     let listed = listed_row n t.roots.now p a v parts homes lefts D in
-    let S = c.args.store.now in let U = c.make_all.new.self in
-    let grows = subst (λ z. GrowsLevel S U v (plain_lists (all_at z))) slice c.make_all.ensures.grows in
+    let S = c.args.store.now in let U = c.make_by.new.self in
+    let grows = subst (λ z. GrowsLevel S U v (plain_lists (all_at z))) slice c.make_by.ensures.grows in
     let adds = adds_all T S v row (all_at parts) listed U grows in
     let there = λ (s : ℕ) (l : s < 16). subst (λ z. AllZip (λ (q : Pair) r. IsThere U v q.0 q.1 r) (all_at z s) (refs_at c.in_ok-refs.refs.items s)) slice (c.in_ok-refs.ensures.answers s l) in
-    let picked = picked_as c.as_slice-lists.result.now c.as_slice-homes.result.now c.as_slice-2.result.now parts homes c.in_ok-refs.refs.items n slice c.as_slice-homes.ensures.value c.as_slice-2.ensures.value D.many_homes c.in-Ok-pick_all.answers.items c.in-Ok-pick_all.ensures in
+    let read = c.as_slice-2.ensures.value ∙ ap (λ (z : Vec (Vec (Vec Pair Global) Global) Global). z.items) (c.deref.ensures ∙ c.in-Ok-new.ensures.ok) in
+    let picked = picked_as c.as_slice-2.result.now c.as_slice-homes.result.now c.as_slice-3.result.now parts homes c.in_ok-refs.refs.items n read c.as_slice-homes.ensures.value c.as_slice-3.ensures.value D.many_homes c.in-Ok-pick_all.answers.items c.in-Ok-pick_all.ensures in
     record {
-      sound = c.make_all.ensures.sound;
+      sound = c.make_by.ensures.sound;
       adds = adds;
       made = all_made n t.roots.now p a v parts homes lefts D U c.in_ok-refs.refs.items there c.in-Ok-pick_all.answers.items picked;
       lefts = all_left n t.roots.now p a v parts homes lefts D;
