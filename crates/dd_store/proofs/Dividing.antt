@@ -1,14 +1,13 @@
 -- The tasks of a level.
 use Rattle.std.proofs.Common.{◌≡◌, ℕ, zero, suc, ◌+◌, ◌-◌, ◌^◌, ◌<◌, ◌≤◌, List, [], ◌∷◌, ◌++◌, length, get_or, take, drop, refl, sym, ◌∙◌, ap, subst, append_assoc, arith, inl, inr}
 use Rattle.std.specs.Prelude.{All}
-use Rattle.std.specs.List.{AllZip, flat_map}
-use Rattle.std.specs.Arc.{arc_value}
+use Rattle.std.specs.List.{AllZip}
 use Rattle.std.specs.declared.vec.Vec.{Vec}
 use Rattle.std.specs.declared.alloc.Global.{Global}
 use Rattle.std.proofs.lemmas.Bool.{cases_lt}
-use Rattle.std.proofs.lemmas.List.Elements.{length_all_zip, AllZip-get_or, AllZip-push}
+use Rattle.std.proofs.lemmas.List.Elements.{length_all_zip, AllZip-get_or}
 use Rattle.std.proofs.lemmas.List.Folds.{length-flat_map-take}
-use Rattle.std.proofs.lemmas.List.{take_at, drop_at, drop-drop, take_more_set}
+use Rattle.std.proofs.lemmas.List.{take_at, drop_at, drop-drop}
 use Rattle.std.proofs.Math.Seq.{take-add}
 use borrow.Rule.Slice.PartMut.{put_mid}
 use Rattle.std.proofs.lemmas.List.{take_more, length-append, get_or_append_left, get_or-append_right}
@@ -18,7 +17,7 @@ use Rattle.dd_store.specs.declared.level.Slot.{Slot}
 use Rattle.dd_store.specs.declared.tasks.ShardTask.{ShardTask}
 use Rattle.dd_store.specs.Graph.{Pair}
 use Rattle.dd_store.specs.Levels.{all_at, IsNoted}
-use Rattle.dd_store.specs.Tasks.{MayMakeShards, AreAlike, AreShardsMade, IsTaskOf, AreFrom, slots_of, parts_of}
+use Rattle.dd_store.specs.Tasks.{MayMakeShards, AreAlike, AreShardsMade, IsTaskOf, AreFrom, slots_of}
 use Rattle.dd_store.proofs.Noting.{zip_weaker}
 
 pub slots_of-push : (ts : List ShardTask) (t : ShardTask) → slots_of (ts ++ t ∷ []) ≡ slots_of ts ++ t.slots.items

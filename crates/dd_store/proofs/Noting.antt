@@ -1,8 +1,6 @@
 -- References that are noted for pairs, list by list.
-use Rattle.std.proofs.Common.{◌≡◌, ℕ, zero, suc, ◌+◌, ◌<◌, List, [], ◌∷◌, ◌++◌, length, take, get_or, slice_get, Some, Ok, Err, refl, sym, ◌∙◌, ap, subst, arith, append_assoc, ◌⊎◌, inl, inr}
+use Rattle.std.proofs.Common.{◌≡◌, ℕ, zero, suc, ◌+◌, ◌<◌, List, [], ◌∷◌, ◌++◌, length, take, get_or, slice_get, Some, Ok, refl, sym, ◌∙◌, ap, subst, arith, append_assoc, ◌⊎◌, inl, inr}
 use Rattle.std.specs.List.{AllZip}
-use Rattle.std.specs.Prelude.{Result, MatchResult}
-use Rattle.std.specs.Result.{result_err}
 use Rattle.std.specs.declared.vec.Vec.{Vec}
 use Rattle.std.specs.declared.alloc.Global.{Global}
 use Rattle.std.proofs.lemmas.List.{take_more, append-nil}
@@ -16,7 +14,7 @@ use Rattle.dd_store.specs.declared.reference.Reference.TheVariants.{Node}
 use Rattle.dd_store.specs.Graph.{Pair}
 use Rattle.dd_store.specs.Marks.{is_marked, plain_pair}
 use Rattle.dd_store.specs.Growing.{Grows, IsIn, IsStopped}
-use Rattle.dd_store.specs.Levels.{list_at, all_at, plain_list, Names, IsHalted, AreNoted}
+use Rattle.dd_store.specs.Levels.{list_at, all_at, plain_list, Names, IsHalted}
 use Rattle.dd_store.proofs.Places.{slice_get-push, slice_get-append}
 
 module _ {A B : Type 0} (R : A → B → Type 0) where
@@ -117,9 +115,3 @@ IsHalted-wider limit list more new OutOfMemory in_more h = h
 pub halted : (limit : ℕ) (list new : List Pair) (f : StoreFault) → IsStopped limit list new (Some f) → IsHalted limit list new f
 halted limit list new Full h = h
 halted limit list new OutOfMemory h = tt
-
--- the fault of an answer, in a slot
-pub noted_fault : (limit v s : ℕ) (list new : List Pair) (found : List Ref) (r : Result (Unit {0}) StoreFault)
-    → MatchResult r (λ _. AllZip (Names v s new) list found) (λ f. IsHalted limit (plain_list list) new f) → AreNoted limit v s list new found (result_err r)
-noted_fault limit v s list new found (Ok u) h = h
-noted_fault limit v s list new found (Err f) h = h

@@ -1,5 +1,5 @@
 -- The derived `==` of nodes and of references tells them apart.
-use Rattle.std.proofs.Common.{◌≡◌, ap, sym, true, refl, arith, true≢false}
+use Rattle.std.proofs.Common.{◌≡◌, sym, true, refl, arith, true≢false}
 use Rattle.std.proofs.lemmas.Bool.Decides.{nat_tests}
 use Rattle.dd_store.specs.declared.reference.NodeId.{NodeId}
 use Rattle.dd_store.specs.declared.reference.Ref.{Ref}

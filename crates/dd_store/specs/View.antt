@@ -6,7 +6,6 @@ use Rattle.dd_store.specs.declared.reference.Reference.TheVariants.{False, True,
 use Rattle.dd_store.specs.declared.StoreFault.{StoreFault}
 use Rattle.dd_store.specs.declared.StoreFault.TheVariants.{Full, OutOfMemory}
 use Rattle.dd_store.specs.Graph.{Pair, IsRef, top as level_of}
-use Rattle.dd_store.specs.Marks.{mark_both}
 use Rattle.dd_store.specs.Nodes.{Nodes, node as node_at, children, count_of, den}
 use Rattle.dd_store.specs.Parts.{Part}
 use Rattle.dd_store.specs.Parts.Part.{leaf, node}

@@ -1,10 +1,11 @@
-//! The shards of one level, and lists of pairs of children that four threads add to them.
-ghost use Rattle.std.specs.Prelude.{List, ◌≡◌, ◌⊎◌, ◌<◌, ◌≤◌, ◌-◌, ◌^◌, ◌++◌, [], ℕ, length, map, slice_index_or, vec_capacity, Some, All, OnOk, MatchResult};
+//! The shards of one level, and lists of pairs of children that are added to them: by four threads that are started for it, or by the
+//! thread that has a shard in its task, which notes the references too.
+ghost use Rattle.std.specs.Prelude.{List, ◌≡◌, ◌⊎◌, ◌<◌, ◌≤◌, ◌-◌, ◌^◌, ◌++◌, [], ℕ, length, map, slice_index_or, vec_capacity, Some, All, MatchResult};
 ghost use Rattle.std.specs.List.{sum_by, AllZip};
 ghost use Rattle.dd_store.specs.declared.reference.Ref.{Ref as RefValue};
 ghost use Rattle.dd_store.specs.Graph.{Pair};
 ghost use Rattle.dd_store.specs.Growing.{Grows, IsStopped};
-ghost use Rattle.dd_store.specs.Levels.{IsAdded, IsNoted, IsHalted, Names, list_at, all_at, plain_list, pairs_of, AreWithin, IsFault, HadMemory};
+ghost use Rattle.dd_store.specs.Levels.{IsAdded, IsHalted, Names, list_at, all_at, plain_list, pairs_of, AreWithin, IsFault, HadMemory};
 ghost use Rattle.dd_store.specs.declared.level.Slot.{Slot as SlotValue};
 ghost use Rattle.slot_table.specs.Placing.{IsPlaced};
 
@@ -144,31 +145,6 @@ pub(crate) fn add_lists<R: Threads + Sync, H: Watch + Sync>(
         slot.add_list(lists[shard].as_slice(), limit);
     };
     thread::for_each_mut(rt, slots, 4, &add);
-}
-
-/// Adds list i of each part to slot i, for the sixteen slots of a level, and notes the references of its pairs. Four threads share the
-/// slots, four in a row for each.
-pub(crate) fn make_parts<R: Threads + Sync, H: Watch + Sync>(
-    rt: &R,
-    slots: &mut [Slot],
-    level: u16,
-    parts: &[Vec<Vec<(Ref, Ref)>>],
-    limit: u64,
-    watch: &H,
-)
-    requires slots { length slots.old ≡ 16 }
-    requires lists { All (λ part. length part.items ≡ 16) parts.now }
-    requires limit { limit < 2 ^ 32 }
-    ensures { (s : ℕ) (d : SlotValue) → s < 16 → IsNoted limit level s (all_at parts.now s) (slice_index_or slots.old s d) (slice_index_or slots.new s d) }
-{
-    let make = |shard: usize, slot: &mut Slot|
-        requires { (shard < 16) × All (λ part. length part.items ≡ 16) parts.now × (limit < 2 ^ 32) }
-        ensures { IsNoted limit level shard (all_at parts.entry.now shard) slot.entry.now slot.exit.now }
-    {
-        watch.at_shard(shard as u8, level);
-        slot.fault = slot.make_lists(parts, limit, level, shard as u8).err();
-    };
-    thread::for_each_mut(rt, slots, 4, &make);
 }
 
 /// Takes the references out of the slots.

@@ -7,7 +7,7 @@ use crate::level::Watch;
 use crate::reference::SHARDS;
 use crate::tasks::ShardTask;
 use std::sync::Wait;
-use task_pool::{Line, Task, run_all};
+use task_pool::{Carrier, Line, Task, run_all};
 
 impl<H: Watch> Task<H> for ShardTask {
     ghost use Rattle.dd_store.specs.Tasks.{MayMakeShards, AreShardsMade};
@@ -21,18 +21,19 @@ impl<H: Watch> Task<H> for ShardTask {
     }
 }
 
-/// A caller's thread with its runtime, what watches it and the threads come to the shards, and the lines to these threads.
+/// A caller's thread with its runtime, what watches it and the threads come to the shards, and the lines to these threads, which run
+/// whatever carries shards.
 #[derive(Drop)]
-pub struct Pool<'a, R, H: Watch> {
+pub struct Pool<'a, R, H: Watch, T: Carrier<H, ShardTask>> {
     /// What the caller waits by.
     pub rt: &'a R,
     /// What watches.
     pub watch: &'a H,
     /// The lines to the threads.
-    pub lines: Vec<Line<H, ShardTask>>,
+    pub lines: Vec<Line<H, T>>,
 }
 
-impl<'a, R: Wait, H: Watch> Pool<'a, R, H> {
+impl<'a, R: Wait, H: Watch, T: Carrier<H, ShardTask>> Pool<'a, R, H, T> {
     /// Into how many tasks a level is divided: one for each thread and one for the caller, and no more than there are shards.
     pub(crate) fn tasks(&self) -> usize
         ensures { 0 < result }

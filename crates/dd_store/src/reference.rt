@@ -1,5 +1,5 @@
 //! References to nodes, and the two numbers that decide where a node lies.
-ghost use Rattle.std.specs.Prelude.{◌≡◌, ◌↔◌, IsTrue, Some, Bool, List, false, not};
+ghost use Rattle.std.specs.Prelude.{◌≡◌, Some, Bool, List, false, not};
 ghost use Rattle.dd_store.specs.Codes.{code_of, shard_of_pair};
 ghost use Rattle.dd_store.specs.Marks.{is_marked, mark_by, mark_both, negate_of};
 ghost use Rattle.dd_store.specs.Nodes.{Nodes, den};

@@ -1,5 +1,5 @@
 //! Pseudo-random calls of `make`, told by an ordered map beside the store.
-ghost use Rattle.std.specs.Prelude.{◌<◌, ◌^◌, All, length};
+ghost use Rattle.std.specs.Prelude.{◌<◌, ◌^◌, All};
 ghost use Rattle.dd_store.specs.Graph.{top};
 ghost use Rattle.dd_store.specs.View.{Has};
 

@@ -1,5 +1,5 @@
 //! The number of nodes of a diagram.
-ghost use Rattle.std.specs.Prelude.{◌≡◌, IfOk};
+ghost use Rattle.std.specs.Prelude.{IfOk};
 ghost use Rattle.dd_store.specs.Graph.{IsRef};
 ghost use Rattle.dd_store.specs.Nodes.{node, den};
 ghost use Rattle.dd_store.specs.Size.{HasSize};

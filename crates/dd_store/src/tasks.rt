@@ -12,6 +12,7 @@ use crate::reference::{Ref, SHARDS};
 use slot_table::SlotTable;
 use std::alloc::{AllocError, Global};
 use std::sync::{Arc, Wait};
+use task_pool::Carrier;
 
 /// Shards of a level that one thread makes nodes in, and the pairs that these are made of.
 #[derive(Drop)]
@@ -140,9 +141,9 @@ impl Prepared {
 }
 
 /// Makes the nodes of the tasks' parts in the slots of a level.
-pub(crate) fn make_slots<R: Wait, H: Watch>(
+pub(crate) fn make_slots<R: Wait, H: Watch, T: Carrier<H, ShardTask>>(
     slots: &mut [Slot],
-    pool: &mut Pool<'_, R, H>,
+    pool: &mut Pool<'_, R, H, T>,
     prepared: Prepared,
 )
     requires ready { All MayMakeShards prepared.tasks.items }

@@ -11,9 +11,12 @@ ghost use Rattle.dd_store.specs.View.{Has};
 use super::*;
 use std::alloc::{AllocError, Global};
 use std::process::Abort;
-use std::sync::atomic::{AtomicBool, Ordering};
+use std::sync::atomic::{AtomicBool, AtomicU64, Ordering};
+use std::sync::{Arc, Wait};
 use std::test::Fail;
+use std::thread;
 use std::thread::Threads;
+use task_pool::start_all;
 
 fn ok(rt: &impl Abort, answer: Result<Ref, StoreFault>) -> Ref
     ensures { answer ≡ Ok result }
@@ -277,11 +280,40 @@ fn four_parts(
     Ok(parts)
 }
 
-/// What is made of four parts with two pairs of one shard and their complements: of True and the variable of level 1, and of the
-/// terminals.
-fn make_four<R: Threads + Sync + Abort>(
-    rt: &R,
+/// Whether these are the references of the four parts: all in the list of one shard, in the order of their pairs.
+fn are_four(refs: &[Vec<Ref>], old: Ref, new: Ref) -> bool {
+    let wanted = [old, old.negate(), new.negate(), new, old, old.negate()];
+    let mut right = refs.len() == SHARDS;
+    for (shard, list) in refs.iter().enumerate() {
+        let here = if shard == 3 {
+            list.as_slice() == wanted.as_slice()
+        } else {
+            list.is_empty()
+        };
+        right = right && here;
+    }
+    right
+}
+
+/// Counts how often threads come to shards of level 0.
+#[derive(Drop)]
+struct Visits {
+    count: AtomicU64,
+}
+
+impl Watch for Visits {
+    fn at_shard(&self, shard: u8, level: u16) {
+        if level == 0 && shard < 16 {
+            self.count.fetch_add(1, Ordering::SeqCst);
+        }
+    }
+}
+
+/// What a pool makes, by tasks that carry themselves, of four parts with two pairs of one shard and their complements: of True and the
+/// variable of level 1, and of the terminals.
+fn make_four<R: Wait, H: Watch>(
     alloc: Global,
+    pool: &mut Pool<'_, R, H, ShardTask>,
     store: &mut Store,
     b: Ref,
 ) -> Result<Result<Vec<Vec<Ref>>, StoreFault>, AllocError>
@@ -289,53 +321,97 @@ fn make_four<R: Threads + Sync + Abort>(
     requires here { IsRef (node store.old) b }
     requires top { top store.old.levels b ≡ 1 }
     requires shard { shard_of_pair Reference.True b ≡ 3 }
+    ensures levels { store.new.levels ≡ 2 }
+    ensures here { IsRef (node store.new) b }
     ensures sixteen { IfOk result (λ made. IfOk made (λ refs. length refs.items ≡ 16)) }
 {
     let first = (Ref::TRUE, b);
     let second = (Ref::TRUE, Ref::FALSE);
     let parts = four_parts(alloc, 3, first, second)?;
-    let watch = Meeting {
-        level: 0,
-        first: AtomicBool::new(false),
-        last: AtomicBool::new(false),
-        missed: AtomicBool::new(false),
-    };
-    let made = store.make_all(rt, 0, parts.as_slice(), &watch);
-    assert!(rt; !watch.missed.load(Ordering::SeqCst));
+    let parts = Arc::new(alloc, parts)?;
+    let made = store.make_by(pool, 0, &parts);
     Ok(made)
 }
 
-#[test]
-fn made_part_by_part(rt: HostRuntime) -> Result<(), Fail> {
-    let mut store = Store::new(rt.alloc(), 2, 3)?;
-    let b = ok(&rt, store.variable(1));
-    let old = ok(&rt, store.make(0, Ref::TRUE, b));
+/// Has a pool make the four parts twice: the nodes that are missing are made once, and found where they are asked for again.
+fn made_on<R: Wait + Abort, H: Watch>(
+    rt: &R,
+    alloc: Global,
+    pool: &mut Pool<'_, R, H, ShardTask>,
+) -> Result<(), AllocError> {
+    let mut store = Store::new(alloc, 2, 3)?;
+    let b = ok(rt, store.variable(1));
+    let old = ok(rt, store.make(0, Ref::TRUE, b));
     assert!(rt; store.top(b) == 1);
     assert!(rt; shard_of(Ref::TRUE, b) == 3);
-    let refs = make_four(&rt, rt.alloc(), &mut store, b)?.expect(&rt, "refused");
+    let refs = make_four(alloc, pool, &mut store, b)?.expect(rt, "refused");
     assert_eq!(rt; store.count(), 3);
-    let new = store.find(0, Ref::FALSE, Ref::TRUE).expect(&rt, "no node");
-    for shard in 0..16 {
-        if shard == 3 {
-            let wanted = [old, old.negate(), new.negate(), new, old, old.negate()];
-            assert!(rt; refs[shard].as_slice() == wanted.as_slice());
-        } else {
-            assert!(rt; refs[shard].is_empty());
-        }
+    let new = store.find(0, Ref::FALSE, Ref::TRUE).expect(rt, "no node");
+    assert!(rt; are_four(refs.as_slice(), old, new));
+    let again = make_four(alloc, pool, &mut store, b)?.expect(rt, "refused");
+    assert_eq!(rt; store.count(), 3);
+    assert!(rt; are_four(again.as_slice(), old, new));
+    Ok(())
+}
+
+/// Has a pool make the four parts in a store whose limit is one node for a shard: that of the first pair stands after the refusal.
+fn full_on<R: Wait + Abort, H: Watch>(
+    rt: &R,
+    alloc: Global,
+    pool: &mut Pool<'_, R, H, ShardTask>,
+) -> Result<(), AllocError> {
+    let mut store = Store::new(alloc, 2, 1)?;
+    let b = ok(rt, store.variable(1));
+    assert!(rt; store.top(b) == 1);
+    assert!(rt; shard_of(Ref::TRUE, b) == 3);
+    let made = make_four(alloc, pool, &mut store, b)?;
+    assert!(rt; made.err() == Some(StoreFault::Full));
+    assert_eq!(rt; store.count(), 2);
+    assert!(rt; store.find(0, Ref::TRUE, b).is_some());
+    assert_eq!(rt; store.find(0, Ref::FALSE, Ref::TRUE), None);
+    Ok(())
+}
+
+/// Both on a pool of so many threads.
+fn made_by_threads<R: Threads + Wait + Sync + Abort, H: Watch + Sync>(
+    rt: &R,
+    alloc: Global,
+    watch: &H,
+    threads: u32,
+) -> Result<(), AllocError> {
+    thread::scope(thread::scope_env(), rt, |scope| -> Result<(), AllocError> {
+        let lines = start_all(scope, rt, watch, alloc, threads);
+        assert_eq!(rt; lines.len(), threads as usize);
+        let mut pool = Pool { rt, watch, lines };
+        made_on(rt, alloc, &mut pool)?;
+        full_on(rt, alloc, &mut pool)
+    })
+}
+
+#[test]
+fn made_by_a_pool(rt: HostRuntime) -> Result<(), Fail> {
+    for threads in [0, 1, 3, 15, 20] {
+        let watch = Visits {
+            count: AtomicU64::new(0),
+        };
+        made_by_threads(&rt, rt.alloc(), &watch, threads)?;
+        assert_eq!(rt; watch.count.load(Ordering::SeqCst), 48);
     }
     Ok(())
 }
 
 #[test]
-fn made_up_to_the_limit(rt: HostRuntime) -> Result<(), Fail> {
-    let mut store = Store::new(rt.alloc(), 2, 1)?;
-    let b = ok(&rt, store.variable(1));
-    assert!(rt; store.top(b) == 1);
-    assert!(rt; shard_of(Ref::TRUE, b) == 3);
-    let made = make_four(&rt, rt.alloc(), &mut store, b)?;
-    assert!(rt; made.err() == Some(StoreFault::Full));
-    assert_eq!(rt; store.count(), 2);
-    assert!(rt; store.find(0, Ref::TRUE, b).is_some());
-    assert_eq!(rt; store.find(0, Ref::FALSE, Ref::TRUE), None);
+fn two_at_tasks(rt: HostRuntime) -> Result<(), Fail> {
+    for threads in [1, 3] {
+        let watch = Meeting {
+            level: 0,
+            first: AtomicBool::new(false),
+            last: AtomicBool::new(false),
+            missed: AtomicBool::new(false),
+        };
+        made_by_threads(&rt, rt.alloc(), &watch, threads)?;
+        assert!(rt; watch.first.load(Ordering::SeqCst) && watch.last.load(Ordering::SeqCst));
+        assert!(rt; !watch.missed.load(Ordering::SeqCst));
+    }
     Ok(())
 }

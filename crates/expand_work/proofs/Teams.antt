@@ -1,17 +1,21 @@
 -- The threads of a wave, by the ports that they work for.
-use Rattle.std.proofs.Common.{◌≡◌, ℕ, ◌+◌, ◌<◌, ◌≤◌, Bool, true, false, if◌then◌else◌, IfOk, Err, List, length, slice_index_or, [], ◌∷◌, ◌++◌, refl, sym, ap, ◌∙◌, subst, arith, length-append, append-nil}
+use Rattle.std.proofs.Common.{◌≡◌, ◌≢◌, All, ℕ, ◌+◌, ◌<◌, ◌≤◌, Bool, true, false, if◌then◌else◌, IfOk, Err, List, length, slice_index_or, [], ◌∷◌, ◌++◌, refl, sym, ap, ◌∙◌, subst, arith, length-append, append-nil}
 use Rattle.std.specs.declared.thread.PromisedHandle.{PromisedHandle}
 use Rattle.std.specs.declared.result.Result.{Result}
 use Rattle.std.specs.List.{AllZip}
 use Rattle.dd_store.specs.Nodes.{Nodes}
 use Rattle.req_table.specs.declared.Key.{Key}
-use Rattle.lane_queue.specs.PortView.{LanesView, PortView}
+use Rattle.std.proofs.lemmas.List.{get_or_append_left}
+use Rattle.std.proofs.Math.Seq.{get_or-append_seam}
+use mathlib.Core.Logic.{dite}
+use native.Mathlib.Decide.{ℕ_discrete}
+use Rattle.lane_queue.specs.PortView.{LanesView, PortView, IsPortOf}
 use Rattle.expand_work.specs.declared.part.Part.{Part}
 use Rattle.expand_work.specs.declared.fault.WorkFault.{WorkFault}
 use Rattle.expand_work.specs.declared.fault.WaveFault.{WaveFault}
 use Rattle.expand_work.specs.declared.fault.WaveFault.TheVariants.{NoWorker}
 use Rattle.expand_work.specs.declared.team.PartOf.{PartOf}
-use Rattle.expand_work.specs.Worked.{IsWorked}
+use Rattle.expand_work.specs.Worked.{IsFresh, IsWorked}
 use Rattle.expand_work.specs.Team.{AreNew, AreStarted, AreWorked, IsPromised, WorksFor}
 use Rattle.expand_work.proofs.Zips.{zip_at, zip_long}
 
@@ -45,21 +49,55 @@ module _ (l : LanesView) (s : Nodes) (roots : List Key) (children : List (Promis
       let none : t.rest ≡ [] = no_more t.rest (let n = many in omega (arith, n, e)) in
       subst (AllZip (WorksFor l s roots) children) (sym (append-nil t.first) ∙ ap (λ xs. t.first ++ xs) (sym none) ∙ t.all) t.works
 
--- where each port has its thread, and each thread its part, the parts are all workers' by number
-pub all_worked : (l : LanesView) (s : Nodes) (roots : List Key) (ports : List PortView) (children : List (PromisedHandle (Result Part WorkFault) PartOf)) (parts : List Part)
-    → AreNew l ports → AllZip (WorksFor l s roots) children ports → AllZip IsPromised children parts → AreWorked l s roots parts
-all_worked l s roots ports children parts new works kept =
-    let n = zip_long (WorksFor l s roots) children ports works in
-    let m = zip_long IsPromised children parts kept in
-    let k = new.long in
-    record {
-      long = sym m ∙ n ∙ k;
-      each = λ i d b. (
-          let within : i < length children = omega (arith, b, n, k) in
-          let h = first_of children (omega (arith, within)) in
-          let q = first_of ports (omega (arith, b, k)) in
-          part_of l s roots i (slice_index_or children i h) (slice_index_or ports i q) (slice_index_or parts i d) (new.numbered i q b) (zip_at (WorksFor l s roots) children ports i h q works within) (zip_at IsPromised children parts i h d kept within));
-    }
+-- the ports before the last
+module _ (l : LanesView) (ports rest : List PortView) (own : PortView) (new : AreNew l ports) (is : ports ≡ rest ++ own ∷ []) where
+  pub one_less : length rest + 1 ≡ length l.lanes
+  one_less = let n = ap (λ xs. length xs) is in let m = length-append rest (own ∷ []) in let k = new.long in omega (arith, n, m, k)
+
+  before : (i : ℕ) (d : PortView) → i < length rest → slice_index_or ports i d ≡ slice_index_or rest i d
+  before i d b = ap (λ (z : List PortView). slice_index_or z i d) is ∙ get_or_append_left rest (own ∷ []) d i b
+
+  last : (d : PortView) → slice_index_or ports (length rest) d ≡ own
+  last d = ap (λ (z : List PortView). slice_index_or z (length rest) d) is ∙ get_or-append_seam rest own [] d
+
+  pub ports_before : All (IsPortOf l) rest
+  ports_before i d b = subst (IsPortOf l) (before i d b) (new.made i d (let n = one_less in omega (arith, b, n)))
+
+  pub fresh_before : All IsFresh rest
+  fresh_before i d b = subst IsFresh (before i d b) (new.fresh i d (let n = one_less in omega (arith, b, n)))
+
+  pub last_port : IsPortOf l own
+  last_port = subst (IsPortOf l) (last own) (new.made (length rest) own (let n = one_less in omega (arith, n)))
+
+  pub last_fresh : IsFresh own
+  last_fresh = subst IsFresh (last own) (new.fresh (length rest) own (let n = one_less in omega (arith, n)))
+
+  -- where each of them has its thread, and each thread its part, these parts and the last one's are all workers' by number
+  pub all_worked : (s : Nodes) (roots : List Key) (children : List (PromisedHandle (Result Part WorkFault) PartOf)) (parts all : List Part) (part : Part)
+      → AllZip (WorksFor l s roots) children rest → AllZip IsPromised children parts → IsWorked l s roots own.number part → all ≡ parts ++ part ∷ [] → AreWorked l s roots all
+  all_worked s roots children parts all part works kept own-part all-is =
+      let n = zip_long (WorksFor l s roots) children rest works in
+      let m = zip_long IsPromised children parts kept in
+      let k = one_less in
+      let long : length all ≡ length parts + 1 = ap (λ xs. length xs) all-is ∙ length-append parts (part ∷ []) in
+      record {
+        long = omega (arith, long, n, m, k);
+        each = λ i d b. dite (ℕ_discrete i (length parts))
+            (λ (e : i ≡ length parts).
+            let at : slice_index_or all i d ≡ part = ap (λ (z : List Part). slice_index_or z i d) all-is ∙ ap (λ z. slice_index_or (parts ++ part ∷ []) z d) e ∙ get_or-append_seam parts part [] d in
+            let here : i ≡ length rest = omega (arith, e, n, m) in
+            let number : own.number ≡ i = ap (λ (q : PortView). q.number) (sym (last own)) ∙ new.numbered (length rest) own (omega (arith, k)) ∙ sym here in
+            subst (IsWorked l s roots i) (sym at) (subst (λ z. IsWorked l s roots z part) number own-part))
+            (λ (e : i ≢ length parts).
+            let lt : i < length parts = grind (arith, b, e, n, m, k) in
+            let within : i < length children = omega (arith, lt, m) in
+            let in-rest : i < length rest = omega (arith, lt, n, m) in
+            let h = first_of children (omega (arith, within)) in
+            let q = first_of rest (omega (arith, in-rest)) in
+            let at : slice_index_or all i d ≡ slice_index_or parts i d = ap (λ (z : List Part). slice_index_or z i d) all-is ∙ get_or_append_left parts (part ∷ []) d i lt in
+            let number = ap (λ (z : PortView). z.number) (sym (before i q in-rest)) ∙ new.numbered i q (omega (arith, in-rest, k)) in
+            subst (IsWorked l s roots i) (sym at) (part_of l s roots i (slice_index_or children i h) (slice_index_or rest i q) (slice_index_or parts i d) number (zip_at (WorksFor l s roots) children rest i h q works within) (zip_at IsPromised children parts i h d kept within)));
+      }
 
 -- where a thread was not started there are no parts, and else what the threads answered
 pub judged : {T : Type 0} (P : T → Type 0) (started : Bool) (joined result : Result T WaveFault) → result ≡ (if started then joined else Err NoWorker) → (started ≡ true → IfOk joined P) → IfOk result P

@@ -1,5 +1,7 @@
 -- What the ports of a wave are before the workers, and what the parts are after them.
-use Rattle.std.specs.Prelude.{◌≡◌, ℕ, ◌<◌, List, ◌++◌, length, slice_index_or}
+use Rattle.std.specs.Prelude.{◌≡◌, ℕ, ◌<◌, List, [], ◌∷◌, ◌++◌, length, slice_index_or, Ok}
+use Rattle.std.specs.declared.vec.Vec.{Vec}
+use Rattle.std.specs.declared.alloc.Global.{Global}
 use Rattle.std.specs.List.{AllZip}
 use Rattle.dd_store.specs.Nodes.{Nodes}
 use Rattle.req_table.specs.declared.Key.{Key}
@@ -8,6 +10,7 @@ use Rattle.std.specs.declared.thread.PromisedHandle.{PromisedHandle}
 use Rattle.std.specs.declared.result.Result.{Result}
 use Rattle.expand_work.specs.declared.part.Part.{Part}
 use Rattle.expand_work.specs.declared.fault.WorkFault.{WorkFault}
+use Rattle.expand_work.specs.declared.fault.WaveFault.{WaveFault}
 use Rattle.expand_work.specs.declared.team.PartOf.{PartOf}
 use Rattle.expand_work.specs.Worked.{IsFresh, IsWorked}
 
@@ -40,3 +43,11 @@ pub record AreStarted (l : LanesView) (s : Nodes) (roots : List Key) (children :
   pub rest : List PortView
   pub all : first ++ rest ≡ ports
   pub works : AllZip (WorksFor l s roots) children first
+
+-- The parts of the others and, behind them, the last one, where all have one.
+pub record AreJoined (others : Result (Vec Part Global) WaveFault) (last : Result Part WorkFault) (parts : List Part) : Type 0 where
+  pub before : Vec Part Global
+  pub part : Part
+  pub others_are : others ≡ Ok before
+  pub last_is : last ≡ Ok part
+  pub all : parts ≡ before.items ++ part ∷ []

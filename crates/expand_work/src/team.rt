@@ -1,4 +1,4 @@
-//! The workers of a wave, each in a thread of its own.
+//! The workers of a wave: the last on the caller's thread, each other in a thread of its own.
 ghost use Rattle.std.specs.Prelude.{◌≡◌, ◌≢◌, ◌≤◌, [], length, All, IfOk, IfErr, Err, if◌then◌else◌, vec_capacity};
 ghost use Rattle.std.specs.List.{AllZip};
 ghost use Rattle.std.specs.Thread.{IsSync};
@@ -6,7 +6,7 @@ ghost use Rattle.req_table.specs.Keys.{IsKey};
 ghost use Rattle.req_table.specs.Sizes.{sizes_of};
 ghost use Rattle.lane_queue.specs.PortView.{IsPortOf};
 ghost use Rattle.expand_work.specs.Worked.{IsFresh, IsWorked};
-ghost use Rattle.expand_work.specs.Team.{AreNew, AreStarted, AreWorked, IsPromised, WorksFor};
+ghost use Rattle.expand_work.specs.Team.{AreNew, AreStarted, AreWorked, AreJoined, IsPromised, WorksFor};
 
 use crate::site::Site;
 use crate::worker::work_in;
@@ -76,6 +76,25 @@ fn judge(started: bool, joined: Result<Vec<Part>, WaveFault>) -> Result<Vec<Part
     }
 }
 
+// The parts of the other workers, and behind them the last one's.
+fn with_last(
+    others: Result<Vec<Part>, WaveFault>,
+    last: Result<Part, WorkFault>,
+) -> Result<Vec<Part>, WaveFault>
+    requires fault { IfErr others (λ f. f ≡ WaveFault.OutOfMemory) }
+    ensures parts { IfOk result (λ v. AreJoined others last v.items) }
+    ensures fault { IfErr result (λ f. f ≡ WaveFault.OutOfMemory) }
+{
+    let mut parts = others?;
+    let Ok(part) = last else {
+        return Err(WaveFault::OutOfMemory);
+    };
+    match parts.push(part) {
+        Ok(()) => Ok(parts),
+        Err(_) => Err(WaveFault::OutOfMemory),
+    }
+}
+
 // Starts the thread of the worker that the port belongs to.
 fn start<'s, E, R: Wait + Sync, G: Gate>(
     scope: &Scope<'s, E>,
@@ -136,7 +155,8 @@ fn start_all<'s, E, R: Wait + Sync, G: Gate>(
     used: Spaces,
     gate: &'s G,
 ) -> Result<Vec<Child<'s>>, AllocError>
-    requires ports { AreNew site.lanes.now ports.items }
+    requires ports { All (IsPortOf site.lanes.now) ports.items }
+    requires fresh { All IsFresh ports.items }
     requires sizes { site.lanes.now.sizes ≡ sizes_of site.store.now }
     requires roots { All (IsKey site.store.now) site.roots.now }
     ensures { IfOk result (λ v.
@@ -164,7 +184,8 @@ pub struct Wave<'a> {
     pub roots: &'a [Key],
 }
 
-/// The parts of all workers by number, each from a thread of its own, once all threads were joined.
+/// The parts of all workers by number, once all threads were joined. The caller's thread does the last worker's part, and each other
+/// worker has a thread of its own: so there are no more threads than workers, and none is started for one worker.
 pub fn run_workers<R: Threads + Wait + Sync, G: Gate>(
     rt: &R,
     wave: Wave<'_>,
@@ -205,11 +226,19 @@ pub fn run_workers<R: Threads + Wait + Sync, G: Gate>(
                 roots,
                 stop,
             };
+            let parts = Vec::with_capacity(alloc, ports.len())?;
+            let mut ports = ports;
+            let Some(own) = ports.pop() else {
+                return Ok(parts);
+            };
+            let mut used = used;
+            let space = used.take();
             let count = ports.len();
-            let parts = Vec::with_capacity(alloc, count)?;
             let children = start_all(scope, rt, site, ports, used, gate)?;
             let started = children.len() == count;
-            let joined = join_all(rt, children, parts);
+            let last = work_in(rt, site, own, space, gate);
+            let others = join_all(rt, children, parts);
+            let joined = with_last(others, last);
             judge(started, joined)
         },
     )

@@ -35,7 +35,12 @@ use Rattle.expand_work.proofs.Zips.{zip_long, zip_append, zip_weaker}
 use Rattle.reduce_up.specs.declared.division.Homes.{Homes}
 use Rattle.reduce_up.specs.Sharing.{IsPairOf, IsAnswered, CanStand, RowCanStand, AddsRow, IsRowRefused}
 use Rattle.reduce_up.specs.Division.{chosen, span, source, begin_of, IsDivided, IsPicked, IsPickedOf, ArePicked, AreHomes, AreRefsOf}
-use Rattle.reduce_up.specs.Team.{AnswersView, in_turn, team_row, told, read_of, asked_above, AreLeft, AreAllLeft, IsPartRead, AreRead, AreDividedBy, AreMadeOf}
+use Rattle.reduce_up.specs.Team.{AnswersView, in_turn, team_row, told, read_of, asked_above, AreLeft, AreAllLeft, IsPartRead, AreDividedBy, AreMadeOf}
+use Rattle.reduce_up.specs.declared.reads.ReadTask.{ReadTask}
+use Rattle.reduce_up.specs.declared.picking.PickTask.{PickTask}
+use Rattle.reduce_up.specs.declared.picking.Sources.{Sources}
+use Rattle.std.specs.Arc.{arc_value}
+use Rattle.reduce_up.specs.Steps.{AreRead, AllArePicked}
 use Rattle.reduce_up.proofs.Naming.{grown_of_pair}
 use Rattle.reduce_up.proofs.Reading.{in_team}
 use Rattle.reduce_up.proofs.Shared.{zip_right, zip_through}
@@ -295,13 +300,13 @@ at_left : {X : Type 0} (xs xs' : List X) (x d : X) (m s : ℕ) → length xs ≡
 at_left xs xs' x d m s e l is = ap (λ z. get_or z s d) is ∙ get_or_append_left xs (x ∷ []) d s (omega (arith, e, l))
 
 -- one more in its place
-pub numbered_more : {X : Type 0} (f : X → ℕ) (xs xs' : List X) (x : X) (n : ℕ) → length xs ≡ n → ((k : ℕ) (d : X) → k < n → f (get_or xs k d) ≡ k) → f x ≡ n → xs' ≡ xs ++ x ∷ []
-    → (length xs' ≡ n + 1) × ((k : ℕ) (d : X) → k < n + 1 → f (get_or xs' k d) ≡ k)
-numbered_more f xs xs' x n long each is xs-is = (
+pub each_more : {X : Type 0} (P : ℕ → X → Type 0) (xs xs' : List X) (x : X) (n : ℕ) → length xs ≡ n → ((k : ℕ) (d : X) → k < n → P k (get_or xs k d)) → P n x → xs' ≡ xs ++ x ∷ []
+    → (length xs' ≡ n + 1) × ((k : ℕ) (d : X) → k < n + 1 → P k (get_or xs' k d))
+each_more P xs xs' x n long each is xs-is = (
   (let a = ap (λ z. length z) xs-is in let b = length-append xs (x ∷ []) in omega (arith, a, b, long)),
   (λ k d l. dite (ℕ_discrete k n)
-      (λ e. ap (λ z. f (get_or xs' z d)) e ∙ ap f (at_seam xs xs' x d n long xs-is) ∙ is ∙ sym e)
-      (λ m. ap f (at_left xs xs' x d n k long (omega (arith, l, m)) xs-is) ∙ each k d (omega (arith, l, m)))),
+      (λ e. subst (λ z. P z (get_or xs' z d)) (sym e) (subst (P n) (sym (at_seam xs xs' x d n long xs-is)) is))
+      (λ m. subst (P k) (sym (at_left xs xs' x d n k long (omega (arith, l, m)) xs-is)) (each k d (omega (arith, l, m))))),
 )
 
 one_longer : {X : Type 0} (xs xs' : List X) (x : X) (m : ℕ) → length xs ≡ m → xs' ≡ xs ++ x ∷ [] → length xs' ≡ m + 1
@@ -328,13 +333,13 @@ reads_more n roots p a v m parts homes lefts o d left r parts' homes' lefts' x y
 }
 
 -- what one worker read
-pub read_one : (n : ℕ) (roots : List Key) (p : PartsView) (a : AnswersView) (v : ℕ) (reads done rest : List (Result (Divided × Vec ℕ Global) AllocError)) (r : Result (Divided × Vec ℕ Global) AllocError) (d : Divided) (left : Vec ℕ Global)
-    → AreRead n roots p a v n reads → (done ++ r ∷ []) ++ rest ≡ reads → r ≡ Ok (d, left) → IsPartRead n roots p a v (length done) d left.items
-read_one n roots p a v reads done rest r d left h whole is =
-    let at : reads ≡ done ++ r ∷ rest = sym whole ∙ append_assoc done (r ∷ []) rest in
-    let long = ap (λ z. length z) at ∙ length-append done (r ∷ rest) in
+pub read_one : (n : ℕ) (roots : List Key) (p : PartsView) (a : AnswersView) (v : ℕ) (tasks done rest : List ReadTask) (t : ReadTask) (d : Divided) (left : Vec ℕ Global)
+    → AreRead n roots p a v n tasks → (done ++ t ∷ []) ++ rest ≡ tasks → t.read ≡ Ok (d, left) → IsPartRead n roots p a v (length done) d left.items
+read_one n roots p a v tasks done rest t d left h whole is =
+    let at : tasks ≡ done ++ t ∷ rest = sym whole ∙ append_assoc done (t ∷ []) rest in
+    let long = ap (λ z. length z) at ∙ length-append done (t ∷ rest) in
     let all = h.long in
-    subst (λ z. IfOk z (λ q. IsPartRead n roots p a v (length done) q.0 q.1.items)) (ap (λ z. get_or z (length done) r) at ∙ get_or-append_seam done r rest r ∙ is) (h.each (length done) r (omega (arith, long, all)))
+    subst (λ (z : Result (Divided × Vec ℕ Global) AllocError). IfOk z (λ q. IsPartRead n roots p a v (length done) q.0 q.1.items)) (ap (λ (z : List ReadTask). (get_or z (length done) t).read) at ∙ ap (λ (z : ReadTask). z.read) (get_or-append_seam done t rest t) ∙ is) (h.each (length done) t (omega (arith, long, all)))
 
 -- ---- the answers of all parts
 pub picked_none : (parts : List (Vec (Vec Pair Global) Global)) (homes : List Homes) (refs : List (Vec Ref Global)) (answers : List (Vec Ref Global)) → answers ≡ [] → ArePicked parts homes refs 0 answers
@@ -349,12 +354,13 @@ picked_more parts homes refs m answers answers' x o own is = record {
 }
 
 -- one of the parts' answers
-pub picked_one : (parts : List (Vec (Vec Pair Global) Global)) (homes : List Homes) (refs : List (Vec Ref Global)) (picked done rest : List (Result (Vec Ref Global) AllocError)) (r : Result (Vec Ref Global) AllocError) (x : Vec Ref Global)
-    → ((k : ℕ) (d : Result (Vec Ref Global) AllocError) → k < length picked → (h : Homes) → IfOk (get_or picked k d) (λ answers. IsPickedOf parts refs k (get_or homes k h) answers.items)) → (done ++ r ∷ []) ++ rest ≡ picked → r ≡ Ok x → (h : Homes) → IsPickedOf parts refs (length done) (get_or homes (length done) h) x.items
-picked_one parts homes refs picked done rest r x f whole is h =
-    let at : picked ≡ done ++ r ∷ rest = sym whole ∙ append_assoc done (r ∷ []) rest in
-    let long = ap (λ z. length z) at ∙ length-append done (r ∷ rest) in
-    subst (λ z. IfOk z (λ (q : Vec Ref Global). IsPickedOf parts refs (length done) (get_or homes (length done) h) q.items)) (ap (λ z. get_or z (length done) r) at ∙ get_or-append_seam done r rest r ∙ is) (f (length done) r (omega (arith, long)) h)
+pub picked_one : (s : Sources) (tasks done rest : List PickTask) (t : PickTask) (x : Vec Ref Global) → AllArePicked s tasks → (done ++ t ∷ []) ++ rest ≡ tasks → t.picked ≡ Ok x
+    → (h : Homes) → IsPickedOf (arc_value s.parts).items s.refs.items (length done) (get_or s.homes.items (length done) h) x.items
+picked_one s tasks done rest t x f whole is h =
+    let at : tasks ≡ done ++ t ∷ rest = sym whole ∙ append_assoc done (t ∷ []) rest in
+    let long = ap (λ z. length z) at ∙ length-append done (t ∷ rest) in
+    subst (λ (z : Result (Vec Ref Global) AllocError). IfOk z (λ (q : Vec Ref Global). IsPickedOf (arc_value s.parts).items s.refs.items (length done) (get_or s.homes.items (length done) h) q.items))
+    (ap (λ (z : List PickTask). (get_or z (length done) t).picked) at ∙ ap (λ (z : PickTask). z.picked) (get_or-append_seam done t rest t) ∙ is) (f (length done) t (omega (arith, long)) h)
 
 -- the same of lists that were read elsewhere
 pub picked_as : (parts' : List (Vec (Vec Pair Global) Global)) (homes' : List Homes) (refs' : List (Vec Ref Global)) (parts : List (Vec (Vec Pair Global) Global)) (homes : List Homes) (refs : List (Vec Ref Global)) (n : ℕ) → parts' ≡ parts → homes' ≡ homes → refs' ≡ refs → length homes ≡ n → (answers : List (Vec Ref Global))

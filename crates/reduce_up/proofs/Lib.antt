@@ -22,3 +22,4 @@ pub mod Parted
 pub mod Making
 pub mod Picked
 pub mod Joined
+pub mod Stepping

@@ -13,7 +13,6 @@ use Rattle.req_table.specs.declared.Key.{Key}
 use Rattle.req_table.specs.declared.Record.{Record}
 use Rattle.reduce_up.specs.declared.division.Divided.{Divided}
 use Rattle.reduce_up.specs.declared.division.Homes.{Homes}
-use Rattle.reduce_up.specs.declared.picking.PickJob.{PickJob}
 use Rattle.reduce_up.specs.Sharing.{IsPairOf, IsListed}
 
 -- the items whose number is s
@@ -68,11 +67,6 @@ IsPickedOf parts refs k homes answers = IsPicked homes.numbers.items (begin_of p
 pub record ArePicked (parts : List (Vec (Vec Pair Global) Global)) (homes : List Homes) (refs : List (Vec Ref Global)) (m : ℕ) (answers : List (Vec Ref Global)) : Type 0 where
   pub long : length answers ≡ m
   pub each : (k : ℕ) (d : Vec Ref Global) (h : Homes) → k < m → IsPickedOf parts refs k (slice_index_or homes k h) (slice_index_or answers k d).items
-
--- each part is picked once: the k-th picks that of part k
-pub record ArePickJobs (n : ℕ) (jobs : List PickJob) : Type 0 where
-  pub long : length jobs ≡ n
-  pub each : (k : ℕ) (d : PickJob) → k < n → (slice_index_or jobs k d).part ≡ k
 
 -- a reference for each pair, by shard
 pub record AreRefsOf (parts : List (Vec (Vec Pair Global) Global)) (refs : List (Vec Ref Global)) : Type 0 where

@@ -6,3 +6,4 @@ pub mod Sharing
 pub mod Division
 pub mod Known
 pub mod Placed
+pub mod Steps

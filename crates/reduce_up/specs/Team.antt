@@ -5,7 +5,6 @@ use mathlib.Core.List.{reverse}
 use Rattle.std.specs.List.{AllZip}
 use Rattle.std.specs.declared.vec.Vec.{Vec}
 use Rattle.std.specs.declared.alloc.Global.{Global}
-use Rattle.std.specs.declared.alloc.AllocError.{AllocError}
 use Rattle.dd_store.specs.Graph.{Pair}
 use Rattle.dd_store.specs.declared.reference.Ref.{Ref}
 use Rattle.dd_store.specs.declared.StoreFault.{StoreFault}
@@ -25,7 +24,6 @@ use Rattle.reduce_up.specs.Levels.{AreRecords}
 use Rattle.reduce_up.specs.Placed.{paired, joined}
 use Rattle.reduce_up.specs.declared.division.Divided.{Divided}
 use Rattle.reduce_up.specs.declared.division.Homes.{Homes}
-use Rattle.reduce_up.specs.declared.wide.ReadJob.{ReadJob}
 use Rattle.dd_store.specs.Levels.{list_at}
 use Rattle.reduce_up.specs.Division.{IsDivided}
 use Rattle.reduce_up.specs.Sharing.{IsAnswered, RowCanStand, AddsRow, IsRowRefused}
@@ -126,16 +124,6 @@ pub record IsPartRead (n : ℕ) (roots : List Key) (p : PartsView) (a : AnswersV
   pub sixteen : length d.lists.items ≡ 16
   pub divided : IsDivided (told n p a) (read_of p s v) d.homes (list_at d.lists.items)
   pub rest : AreLeft n (asked_above n roots p s v) left
-
--- each worker's records are read once: the k-th reads those of worker k
-pub record AreReadJobs (n : ℕ) (jobs : List ReadJob) : Type 0 where
-  pub long : length jobs ≡ n
-  pub each : (k : ℕ) (d : ReadJob) → k < n → (slice_index_or jobs k d).sender ≡ k
-
--- this is so of the first m workers, where each had memory
-pub record AreRead (n : ℕ) (roots : List Key) (p : PartsView) (a : AnswersView) (v m : ℕ) (results : List (Result (Divided × Vec ℕ Global) AllocError)) : Type 0 where
-  pub long : length results ≡ m
-  pub each : (s : ℕ) (d : Result (Divided × Vec ℕ Global) AllocError) → s < m → IfOk (slice_index_or results s d) (λ r. IsPartRead n roots p a v s r.0 r.1.items)
 
 -- the pairs of the records of level v of the first m workers, divided, and what is left of what they asked for
 pub record AreDividedBy (n : ℕ) (roots : List Key) (p : PartsView) (a : AnswersView) (v m : ℕ) (parts : List (Vec (Vec Pair Global) Global)) (homes : List Homes) (lefts : List (Vec ℕ Global)) : Type 0 where

@@ -3,11 +3,13 @@
 
 mod answers;
 mod division;
+mod jobs;
 pub mod law;
 mod levels;
 mod narrow;
 mod parallel;
 mod picking;
+mod reads;
 mod results;
 mod roots;
 mod seeking;

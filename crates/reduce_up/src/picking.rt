@@ -1,30 +1,38 @@
 //! The diagrams of a worker's records of a level, picked from those of all workers' pairs.
-ghost use Rattle.std.specs.Prelude.{Result as ResultValue, ◌≡◌, ◌+◌, ◌<◌, ◌≤◌, ℕ, length, take, slice_get, slice_index_or, Some, All, IfOk};
+ghost use Rattle.std.specs.Prelude.{◌≡◌, ◌+◌, ◌<◌, ◌≤◌, ℕ, length, take, slice_get, slice_index_or, Some, All, IfOk};
 ghost use Rattle.std.specs.declared.vec.Vec.{Vec as VecValue};
 ghost use Rattle.std.specs.declared.alloc.Global.{Global as GlobalValue};
-ghost use Rattle.std.specs.declared.alloc.AllocError.{AllocError as AllocErrorValue};
-ghost use Rattle.dd_store.specs.declared.reference.Ref.{Ref as RefValue};
+ghost use Rattle.std.specs.Arc.{arc_value};
 ghost use mathlib.Core.List.{reverse};
 ghost use Rattle.dd_store.specs.Graph.{Pair};
 ghost use Rattle.dd_store.specs.Levels.{list_at, all_at, refs_at};
 ghost use Rattle.reduce_up.specs.declared.division.Homes.{Homes as HomesValue};
-ghost use Rattle.reduce_up.specs.Division.{chosen, source, IsPicked, IsPickedOf, ArePicked, AreRefsOf, MayPick, ArePickJobs, begin_of};
+ghost use Rattle.reduce_up.specs.Division.{chosen, source, IsPicked, IsPickedOf, ArePicked, AreRefsOf, MayPick, begin_of};
+ghost use Rattle.reduce_up.specs.Steps.{MayPickTask, IsPickTask, ArePickTasks, AllArePicked};
 
 use crate::division::{EQUAL, Homes};
+use crate::jobs::JobPool;
 use crate::spare::{emptied, next_room};
-use dd_store::{Ref, SHARDS};
+use dd_store::{Ref, SHARDS, Watch};
 use std::alloc::{AllocError, Global};
-use std::thread;
-use std::thread::Threads;
-
-/// Fewer diagrams are picked on the caller's thread: to start the threads that share them takes longer.
-const FEWEST_PICKED: usize = 16_384;
+use std::mem;
+use std::sync::{Arc, Wait};
+use task_pool::run_all;
 
 /// Whose diagrams are picked, and the memory for them.
 #[derive(Drop)]
 pub(crate) struct PickJob {
     pub(crate) part: usize,
     pub(crate) room: Vec<Ref>,
+}
+
+/// What a level's diagrams are picked from: the pairs of its records by part and shard, the homes of each part's records, and by shard the
+/// references of the pairs.
+#[derive(Drop)]
+pub(crate) struct Sources {
+    pub(crate) parts: Arc<Vec<Vec<Vec<(Ref, Ref)>>>>,
+    pub(crate) homes: Vec<Homes>,
+    pub(crate) refs: Vec<Vec<Ref>>,
 }
 
 /// The diagram at a place of a home's.
@@ -121,102 +129,83 @@ fn pick_part(
     pick(&homes[part], refs, starts.as_slice(), room)
 }
 
+/// A part of a level, whose diagrams a thread picks. Nothing is picked before it is run.
+#[derive(Drop)]
+pub(crate) struct PickTask {
+    pub(crate) sources: Arc<Sources>,
+    pub(crate) job: PickJob,
+    pub(crate) picked: Result<Vec<Ref>, AllocError>,
+}
+
+impl PickTask {
+    /// Picks the diagrams.
+    pub(crate) fn pick(mut self) -> PickTask
+        requires { MayPickTask self }
+        ensures { IsPickTask self result }
+    {
+        let alloc = *self.job.room.allocator();
+        let none = PickJob {
+            part: self.job.part,
+            room: Vec::new(alloc),
+        };
+        let job = mem::replace(&mut self.job, none);
+        let Sources { parts, homes, refs } = &*self.sources;
+        self.picked = pick_part(parts.as_slice(), homes.as_slice(), refs.as_slice(), job);
+        self
+    }
+}
+
+/// A task for each part.
+fn pick_tasks(
+    sources: &Arc<Sources>,
+    rooms: &mut Vec<Vec<Ref>>,
+) -> Result<Vec<PickTask>, AllocError>
+    ensures { IfOk result (λ tasks. ArePickTasks (arc_value sources.now) (length (arc_value sources.now).homes.items) tasks.items) }
+{
+    let parts = sources.homes.len();
+    let mut tasks = Vec::with_capacity(*rooms.allocator(), parts)?;
+    for part in 0..parts {
+        let room = next_room(rooms);
+        tasks.push(PickTask {
+            sources: Arc::try_clone(sources)?,
+            job: PickJob { part, room },
+            picked: Err(AllocError),
+        })?;
+    }
+    Ok(tasks)
+}
+
 /// The answers of all parts, where each had memory.
 fn join_picked(
     alloc: Global,
-    parts: &[Vec<Vec<(Ref, Ref)>>],
-    homes: &[Homes],
-    refs: &[Vec<Ref>],
-    picked: Vec<Result<Vec<Ref>, AllocError>>,
+    sources: &Sources,
+    tasks: Vec<PickTask>,
 ) -> Result<Vec<Vec<Ref>>, AllocError>
-    requires { (k : ℕ) (d : ResultValue (VecValue RefValue GlobalValue) AllocErrorValue) (h : HomesValue) → k < length picked.items → IfOk (slice_index_or picked.items k d) (λ answers. IsPickedOf parts.now refs.now k (slice_index_or homes.now k h) answers.items) }
-    ensures { IfOk result (λ answers. ArePicked parts.now homes.now refs.now (length picked.items) answers.items) }
+    requires { AllArePicked sources.now tasks.items }
+    ensures { IfOk result (λ answers. ArePicked (arc_value sources.now.parts).items sources.now.homes.items sources.now.refs.items (length tasks.items) answers.items) }
 {
-    let _ = (parts.len(), homes.len(), refs.len());
-    let mut answers = Vec::new(alloc);
-    for some in picked {
-        answers.push(some?)?;
+    let _ = sources;
+    let mut answers = Vec::with_capacity(alloc, tasks.len())?;
+    for task in tasks {
+        answers.push(task.picked?)?;
     }
     Ok(answers)
 }
 
-/// A job for each part.
-fn pick_jobs(parts: usize, rooms: &mut Vec<Vec<Ref>>) -> Result<Vec<PickJob>, AllocError>
-    ensures { IfOk result (λ jobs. ArePickJobs parts jobs.items) }
-{
-    let mut jobs = Vec::new(*rooms.allocator());
-    for part in 0..parts {
-        let room = next_room(rooms);
-        jobs.push(PickJob { part, room })?;
-    }
-    Ok(jobs)
-}
-
-/// The diagrams of all parts' records, a thread for each part.
-fn pick_shared<R: Threads + Sync>(
-    rt: &R,
-    parts: &[Vec<Vec<(Ref, Ref)>>],
-    homes: &[Homes],
-    refs: &[Vec<Ref>],
+/// The diagrams of all parts' records, each part's by a thread of the pool or by the caller's. They are put in the memory of the lists that
+/// are handed in, as far as there are some.
+pub(crate) fn pick_all<'a, R: Wait, H: Watch>(
+    pool: &mut JobPool<'_, 'a, R, H>,
+    alloc: Global,
+    sources: &Arc<Sources>,
     rooms: Vec<Vec<Ref>>,
 ) -> Result<Vec<Vec<Ref>>, AllocError>
-    requires may { MayPick parts.now homes.now refs.now }
-    ensures { IfOk result (λ answers. ArePicked parts.now homes.now refs.now (length homes.now) answers.items) }
+    requires may { MayPick (arc_value (arc_value sources.now).parts).items (arc_value sources.now).homes.items (arc_value sources.now).refs.items }
+    ensures { IfOk result (λ answers. ArePicked (arc_value (arc_value sources.now).parts).items (arc_value sources.now).homes.items (arc_value sources.now).refs.items (length (arc_value sources.now).homes.items) answers.items) }
 {
     let mut rooms = rooms;
-    let jobs = pick_jobs(homes.len(), &mut rooms)?;
-    let pick = |job: PickJob| -> Result<Vec<Ref>, AllocError>
-        requires part { job.part < length homes.now }
-        requires may { MayPick parts.now homes.now refs.now }
-        ensures { (h : HomesValue) → IfOk result (λ answers. IsPickedOf parts.entry.now refs.entry.now job.part (slice_index_or homes.entry.now job.part h) answers.items) }
-    { pick_part(parts, homes, refs, job) };
-    let picked = thread::map_vec(rt, jobs, &pick)?;
-    join_picked(*rooms.allocator(), parts, homes, refs, picked)
-}
-
-/// The diagrams of all parts' records, one part after the other.
-fn pick_in_turn(
-    parts: &[Vec<Vec<(Ref, Ref)>>],
-    homes: &[Homes],
-    refs: &[Vec<Ref>],
-    rooms: Vec<Vec<Ref>>,
-) -> Result<Vec<Vec<Ref>>, AllocError>
-    requires may { MayPick parts.now homes.now refs.now }
-    ensures { IfOk result (λ answers. ArePicked parts.now homes.now refs.now (length homes.now) answers.items) }
-{
-    let mut rooms = rooms;
-    let mut answers = Vec::new(*rooms.allocator());
-    for part in 0..homes.len() {
-        let room = next_room(&mut rooms);
-        let some = pick_part(parts, homes, refs, PickJob { part, room })?;
-        answers.push(some)?;
-    }
-    Ok(answers)
-}
-
-/// How many records there are, or as many as can be counted.
-fn records_of(homes: &[Homes]) -> usize {
-    let mut total: usize = 0;
-    for part in homes {
-        total = total.saturating_add(part.numbers.len());
-    }
-    total
-}
-
-/// The diagrams of all parts' records, by threads where there are many. They are put in the memory of the lists that are handed in, as
-/// far as there are some.
-pub(crate) fn pick_all<R: Threads + Sync>(
-    rt: &R,
-    parts: &[Vec<Vec<(Ref, Ref)>>],
-    homes: &[Homes],
-    refs: &[Vec<Ref>],
-    rooms: Vec<Vec<Ref>>,
-) -> Result<Vec<Vec<Ref>>, AllocError>
-    requires may { MayPick parts.now homes.now refs.now }
-    ensures { IfOk result (λ answers. ArePicked parts.now homes.now refs.now (length homes.now) answers.items) }
-{
-    if records_of(homes) < FEWEST_PICKED {
-        return pick_in_turn(parts, homes, refs, rooms);
-    }
-    pick_shared(rt, parts, homes, refs, rooms)
+    let tasks = pick_tasks(sources, &mut rooms)?;
+    let room = Vec::with_capacity(alloc, tasks.len())?;
+    let picked = run_all(pool.rt, pool.watch, &mut pool.lines, tasks, room);
+    join_picked(alloc, sources, picked)
 }

@@ -1,6 +1,10 @@
 //! Reduction of what the workers in threads recorded, each for itself. A child is found by its number among what its worker asked
 //! of the owner: the rows are read from the last level up and backwards, so that this number is how many are still to be read.
-ghost use Rattle.std.specs.Prelude.{◌≡◌, ◌+◌, ◌<◌, ◌≤◌, ℕ, [], length, slice_index_or, IfOk, IfErr, OnOk, All};
+ghost use Rattle.std.specs.Prelude.{◌≡◌, ◌+◌, ◌<◌, ◌≤◌, ℕ, [], length, map, slice_index_or, slice_set, IfOk, IfErr, OnErr, OnOk, All};
+ghost use Rattle.std.specs.Arc.{arc_value};
+ghost use Rattle.std.specs.declared.vec.Vec.{Vec as VecValue};
+ghost use Rattle.std.specs.declared.alloc.Global.{Global as GlobalValue};
+ghost use Rattle.dd_store.specs.declared.reference.Ref.{Ref as RefValue};
 ghost use Rattle.dd_store.specs.Nodes.{IsSound};
 ghost use Rattle.req_table.specs.declared.Child.{Child as ChildValue};
 ghost use Rattle.req_table.specs.Keys.{IsKey};
@@ -10,16 +14,16 @@ ghost use Rattle.expand_work.specs.Gathered.{AreParts};
 ghost use Rattle.reduce_up.specs.Team.{IsReducedTo, MayReduceLevel, AnswersLevel, IsNext, AreFewer, AreLeft, AreAllLeft, asked_above, gathered, team_row, told};
 
 use crate::answers::Answers;
+use crate::jobs::JobPool;
 use crate::levels::{FEWEST_SHARED, wave_fault};
 use crate::narrow::make_level;
 use crate::spare::Spare;
 use crate::wide::share_level;
-use dd_store::{Pool, Ref, Store, StoreFault, Watch};
+use dd_store::{Ref, Store, StoreFault, Watch};
 use expand_work::{Parts, WaveFault};
 use req_table::{Key, Placed, PlacedChild};
 use std::alloc::{AllocError, Global};
-use std::sync::Wait;
-use std::thread::Threads;
+use std::sync::{Arc, Wait};
 
 /// What is read of a wave: what its workers ended with, the roots that they had, and the diagrams that are known; and where memory is from.
 #[derive(Clone, Copy)]
@@ -106,6 +110,26 @@ pub(crate) struct Field<'a> {
     pub(crate) workers: u32,
 }
 
+impl<'a> Field<'a> {
+    /// What is read of the wave, with the diagrams that are known.
+    pub(crate) fn team<'b>(&self, answers: &'b Answers) -> Team<'b>
+    where
+        'a: 'b,
+        ensures workers { result.workers ≡ self.now.workers }
+        ensures roots { result.roots.now ≡ self.now.roots.now }
+        ensures parts { result.parts.now ≡ self.now.parts.now }
+        ensures answers { result.answers.now ≡ answers.now }
+    {
+        Team {
+            alloc: self.alloc,
+            parts: self.parts,
+            roots: self.roots,
+            answers,
+            workers: self.workers,
+        }
+    }
+}
+
 /// What is left of a wave: by sender how many requests of each worker are still to be read; and the memory for that.
 #[derive(Drop)]
 pub(crate) struct Rest {
@@ -116,7 +140,7 @@ pub(crate) struct Rest {
 /// How far a wave is reduced: the diagrams that are known, and what is left.
 #[derive(Drop)]
 pub(crate) struct Progress {
-    pub(crate) answers: Answers,
+    pub(crate) answers: Arc<Answers>,
     pub(crate) rest: Rest,
 }
 
@@ -135,54 +159,66 @@ pub(crate) fn level_size(parts: &Parts, workers: u32, level: u16) -> usize
 }
 
 /// The diagrams of a level's records, worker by worker, by threads where there are many; missing nodes are made.
-fn level_answers<R: Threads + Wait + Sync, H: Watch + Sync>(
-    pool: &mut Pool<'_, R, H>,
+fn level_answers<'a, R: Wait, H: Watch>(
+    pool: &mut JobPool<'_, 'a, R, H>,
     store: &mut Store,
-    team: Team<'_>,
+    field: Field<'a>,
+    answers: &Arc<Answers>,
     level: u16,
     rest: &mut Rest,
 ) -> Result<Vec<Vec<Ref>>, StoreFault>
-    requires { MayReduceLevel team.workers team.roots.now team.parts.now team.answers.now store.old level rest.old.lefts.items }
-    ensures { AnswersLevel team.entry.workers team.entry.roots.now team.entry.parts.now team.entry.answers.now store.old level result store.new rest.new.lefts.items }
+    requires { MayReduceLevel field.workers field.roots.now field.parts.now (arc_value answers.now) store.old level rest.old.lefts.items }
+    ensures { AnswersLevel field.entry.workers field.entry.roots.now field.entry.parts.now (arc_value answers.now) store.old level result store.new rest.new.lefts.items }
 {
-    if level_size(team.parts, team.workers, level) < FEWEST_SHARED {
-        return make_level(store, team, level, rest);
+    if level_size(field.parts, field.workers, level) < FEWEST_SHARED {
+        return make_level(store, field.team(answers), level, rest);
     }
-    share_level(pool, store, team, level, rest)
+    share_level(pool, store, field, answers, level, rest)
+}
+
+/// Puts the diagrams of a level in, where no thread has those of the levels below any more.
+fn put_level(known: &mut Arc<Answers>, level: u16, answers: Vec<Vec<Ref>>) -> Result<(), AllocError>
+    requires { level < length (arc_value known.old).found }
+    ensures put { OnOk result (arc_value known.new ≡ record { found = slice_set (arc_value known.old).found level (map (λ (v : VecValue RefValue GlobalValue). v.items) answers.items) }) }
+    ensures refused { OnErr result (arc_value known.new ≡ arc_value known.old) }
+{
+    let Some(own) = Arc::get_mut(known) else {
+        return Err(AllocError);
+    };
+    own.put(level, answers);
+    Ok(())
 }
 
 /// Puts the diagrams of a level's requests in, and sees that the store is within its limit where there are some.
-fn reduce_team_level<R: Threads + Wait + Sync, H: Watch + Sync>(
-    pool: &mut Pool<'_, R, H>,
+fn reduce_team_level<'a, R: Wait, H: Watch>(
+    pool: &mut JobPool<'_, 'a, R, H>,
     store: &mut Store,
-    field: Field<'_>,
+    field: Field<'a>,
     progress: &mut Progress,
     level: u16,
 ) -> Result<(), WaveFault>
     requires level { level < store.old.levels }
-    requires reached { IsReducedTo field.workers field.roots.now field.parts.now store.old.levels (level + 1) progress.old.answers progress.old.rest.lefts.items }
-    requires ready { MayReduceRow store.old (told field.workers field.parts.now progress.old.answers) level (team_row field.workers field.parts.now level) }
-    ensures row { ReducesRow store.old (told field.entry.workers field.entry.parts.now progress.old.answers) level
-        (team_row field.entry.workers field.entry.parts.now level) result store.new (told field.entry.workers field.entry.parts.now progress.new.answers) }
-    ensures reached { OnOk result (IsReducedTo field.entry.workers field.entry.roots.now field.entry.parts.now store.old.levels level progress.new.answers progress.new.rest.lefts.items) }
+    requires reached { IsReducedTo field.workers field.roots.now field.parts.now store.old.levels (level + 1) (arc_value progress.old.answers) progress.old.rest.lefts.items }
+    requires ready { MayReduceRow store.old (told field.workers field.parts.now (arc_value progress.old.answers)) level (team_row field.workers field.parts.now level) }
+    ensures row { ReducesRow store.old (told field.entry.workers field.entry.parts.now (arc_value progress.old.answers)) level
+        (team_row field.entry.workers field.entry.parts.now level) result store.new (told field.entry.workers field.entry.parts.now (arc_value progress.new.answers)) }
+    ensures reached { OnOk result (IsReducedTo field.entry.workers field.entry.roots.now field.entry.parts.now store.old.levels level (arc_value progress.new.answers) progress.new.rest.lefts.items) }
     ensures within { OnOk result (IsRowWithin store.old (team_row field.entry.workers field.entry.parts.now level) store.new) }
 {
     if level_size(field.parts, field.workers, level) == 0 {
         return Ok(());
     }
-    let team = Team {
-        alloc: field.alloc,
-        parts: field.parts,
-        roots: field.roots,
-        answers: &progress.answers,
-        workers: field.workers,
-    };
-    let rest = &mut progress.rest;
-    let answers = match level_answers(pool, store, team, level, rest) {
+    let Progress {
+        answers: known,
+        rest,
+    } = progress;
+    let answers = match level_answers(pool, store, field, known, level, rest) {
         Ok(answers) => answers,
         Err(fault) => return Err(wave_fault(fault)),
     };
-    progress.answers.put(level, answers);
+    let Ok(()) = put_level(known, level, answers) else {
+        return Err(WaveFault::OutOfMemory);
+    };
     if store.count() > store.limit() {
         return Err(WaveFault::Full);
     }
@@ -194,31 +230,32 @@ pub(crate) fn begin(store: &Store, field: Field<'_>, spare: Spare) -> Result<Pro
     requires some { 0 < field.workers }
     requires roots { All (IsKey store.now) field.roots.now }
     requires parts { AreParts store.now field.workers field.roots.now field.parts.now }
-    ensures reached { IfOk result (λ g. IsReducedTo field.entry.workers field.entry.roots.now field.entry.parts.now store.now.levels store.now.levels g.answers g.rest.lefts.items) }
-    ensures none { IfOk result (λ g. told field.entry.workers field.entry.parts.now g.answers ≡ []) }
+    ensures reached { IfOk result (λ g. IsReducedTo field.entry.workers field.entry.roots.now field.entry.parts.now store.now.levels store.now.levels (arc_value g.answers) g.rest.lefts.items) }
+    ensures none { IfOk result (λ g. told field.entry.workers field.entry.parts.now (arc_value g.answers) ≡ []) }
 {
     let levels = store.levels();
-    let answers = Answers::new(field.alloc, levels)?;
+    let none = Answers::new(field.alloc, levels)?;
+    let answers = Arc::new(field.alloc, none)?;
     let lefts = all_sent(field.alloc, store, field.parts, field.roots, field.workers)?;
     let rest = Rest { lefts, spare };
     Ok(Progress { answers, rest })
 }
 
 /// Reduces a wave from the last level up.
-pub(crate) fn reduce_team<R: Threads + Wait + Sync, H: Watch + Sync>(
-    pool: &mut Pool<'_, R, H>,
+pub(crate) fn reduce_team<'a, R: Wait, H: Watch>(
+    pool: &mut JobPool<'_, 'a, R, H>,
     store: &mut Store,
-    field: Field<'_>,
+    field: Field<'a>,
     progress: &mut Progress,
 ) -> Result<(), WaveFault>
     requires records { AreRecords store.old (gathered store.old.levels (team_row field.workers field.parts.now)) }
-    requires reached { IsReducedTo field.workers field.roots.now field.parts.now store.old.levels store.old.levels progress.old.answers progress.old.rest.lefts.items }
-    requires none { told field.workers field.parts.now progress.old.answers ≡ [] }
+    requires reached { IsReducedTo field.workers field.roots.now field.parts.now store.old.levels store.old.levels (arc_value progress.old.answers) progress.old.rest.lefts.items }
+    requires none { told field.workers field.parts.now (arc_value progress.old.answers) ≡ [] }
     ensures sound { IsSound store.new }
     ensures adds { AddsDescribed store.old store.new (AskedInRows store.old (gathered store.old.levels (team_row field.entry.workers field.entry.parts.now))) }
     ensures answers { OnOk result (AreReduced (gathered store.old.levels (team_row field.entry.workers field.entry.parts.now)) store.new
-        (told field.entry.workers field.entry.parts.now progress.new.answers)) }
-    ensures reached { OnOk result (IsReducedTo field.entry.workers field.entry.roots.now field.entry.parts.now store.old.levels 0 progress.new.answers progress.new.rest.lefts.items) }
+        (told field.entry.workers field.entry.parts.now (arc_value progress.new.answers))) }
+    ensures reached { OnOk result (IsReducedTo field.entry.workers field.entry.roots.now field.entry.parts.now store.old.levels 0 (arc_value progress.new.answers) progress.new.rest.lefts.items) }
     ensures within { OnOk result (IsWithinFrom store.old (gathered store.old.levels (team_row field.entry.workers field.entry.parts.now)) 0 store.new) }
     ensures fault { IfErr result (λ e. IsReduceFault store.new (gathered store.old.levels (team_row field.entry.workers field.entry.parts.now)) e) }
 {

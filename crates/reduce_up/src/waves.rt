@@ -9,19 +9,20 @@ ghost use Rattle.reduce_up.specs.Known.{unknown, IsKeptWave};
 ghost use Rattle.reduce_up.specs.Reducing.{HasAnswer};
 ghost use Rattle.reduce_up.specs.Waves.{IsEntry, AnswersWave, IsClosureOf, entries_for, requests_of, IsTakenFrom};
 
+use crate::jobs::JobPool;
 use crate::levels::reduce;
 use crate::results::Results;
 use crate::roots::root_answers;
 use crate::seeking::Sought;
 use crate::spare::Spare;
-use crate::team::{Field, Progress, Team, begin, reduce_team};
+use crate::team::{Field, Progress, begin, reduce_team};
 use dd_store::{Pool, Ref, Store, Watch};
 use expand_work::{Crew, Free, Gate, Parts, Spaces, WaveFault, expand_parts};
 use req_table::requests::{normal, short};
 use req_table::{Key, Memo, Op, Records};
 use std::alloc::{AllocError, Global};
 use std::marker::Model;
-use std::sync::Wait;
+use std::sync::{Arc, Wait};
 use std::thread::Threads;
 use std::{mem, thread};
 use task_pool::start_all;
@@ -180,10 +181,10 @@ pub fn wave_one<R: Threads + Sync>(
 }
 
 /// The diagram of each root, by reduction of what the workers recorded, each for itself.
-fn answer_team<R: Threads + Wait + Sync, H: Watch + Sync>(
-    pool: &mut Pool<'_, R, H>,
+fn answer_team<'a, R: Wait, H: Watch>(
+    pool: &mut JobPool<'_, 'a, R, H>,
     store: &mut Store,
-    field: Field<'_>,
+    field: Field<'a>,
     spare: &mut Spare,
 ) -> Result<Vec<Ref>, WaveFault>
     requires roots { All (IsKey store.old) field.roots.now }
@@ -202,18 +203,14 @@ fn answer_team<R: Threads + Wait + Sync, H: Watch + Sync>(
         Err(fault) => return Err(fault),
     }
     let Progress { answers, mut rest } = progress;
-    let team = Team {
-        alloc: field.alloc,
-        parts: field.parts,
-        roots: field.roots,
-        answers: &answers,
-        workers: field.workers,
-    };
+    let team = field.team(&answers);
     let Ok(found) = root_answers(store, team, &mut rest.lefts) else {
         return Err(WaveFault::OutOfMemory);
     };
     *spare = rest.spare;
-    spare.keep_answers(answers.into_lists());
+    if let Some(answers) = Arc::into_inner(answers) {
+        spare.keep_answers(answers.into_lists());
+    }
     Ok(found)
 }
 

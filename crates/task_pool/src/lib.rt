@@ -18,5 +18,5 @@ pub use lane::{Line, Seat, open};
 pub use mail::{Mail, View};
 pub use pool::run_all;
 pub use start::start_all;
-pub use task::Task;
+pub use task::{Carrier, Task};
 pub use threads::serve;

@@ -6,7 +6,7 @@ ghost use Rattle.task_pool.specs.Rule.{caller, WasAsked};
 
 use crate::lane::{Lane, Line};
 use crate::mail::{Ask, Collect, End, Mail};
-use crate::task::Task;
+use crate::task::{Carrier, Task};
 use crate::threads::finished;
 use crossbeam_utils::Backoff;
 use std::sync::Wait;
@@ -99,19 +99,19 @@ fn run_here<S, T: Task<S>>(site: &S, tasks: Vec<T>, room: Vec<T>) -> Vec<T>
     done
 }
 
-/// Runs all tasks, one on each line's thread and the others on the caller's thread, and answers them in order. `room` is where they are
-/// put, so that none is lost for want of memory.
-pub fn run_all<R: Wait, S, T: Task<S>>(
+/// Runs all tasks, one on each line's thread, in what carries it there, and the others on the caller's thread, and answers them in order.
+/// `room` is where they are put, so that none is lost for want of memory.
+pub fn run_all<R: Wait, S, A: Task<S>, T: Carrier<S, A>>(
     rt: &R,
     site: &S,
     lines: &mut Vec<Line<S, T>>,
-    tasks: Vec<T>,
-    room: Vec<T>,
-) -> Vec<T>
-    requires ready { All T.ready tasks.items }
+    tasks: Vec<A>,
+    room: Vec<A>,
+) -> Vec<A>
+    requires ready { All A.ready tasks.items }
     requires empty { room.items ≡ [] }
     requires room { length tasks.items ≤ vec_capacity room }
-    ensures done { AllZip T.done tasks.items result.items }
+    ensures done { AllZip A.done tasks.items result.items }
     ensures capacity { vec_capacity result ≡ vec_capacity room }
 {
     if tasks.len() < 2 {
@@ -126,10 +126,10 @@ pub fn run_all<R: Wait, S, T: Task<S>>(
     };
     let Line { hold, mut pass } = line;
     let lane = &*hold.lane;
-    let asked = ask(lane, &mut pass, task);
+    let asked = ask(lane, &mut pass, T::pack(task));
     let mut done = run_all(rt, site, lines, tasks, room);
     let last = complete(rt, site, lane, &mut pass, asked);
-    done.push_reserved(last);
+    done.push_reserved(last.unpack());
     let _ = lines.push(Line { hold, pass });
     done
 }

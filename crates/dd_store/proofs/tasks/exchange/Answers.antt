@@ -1,11 +1,10 @@
-use Rattle.std.proofs.Common.{rules, ◌≡◌, ◌+◌, ◌-◌, ◌<◌, ◌≤◌, ℕ, List, [], ◌++◌, ◌∷◌, length, get_or, set, take, drop, refl, sym, ◌∙◌, ap, subst, arith}
-use Rattle.std.specs.List.{AllZip}
+use Rattle.std.proofs.Common.{rules, ◌≡◌, ◌+◌, ◌-◌, ◌≤◌, ℕ, List, [], ◌++◌, ◌∷◌, length, get_or, set, take, drop, refl, sym, ◌∙◌, ap, subst, arith}
 use Rattle.std.specs.Vec.{with_items}
 use Rattle.std.proofs.lemmas.List.{take_more, take_more_set, get_or-set_other, length-append, with_items_is}
 use Rattle.std.proofs.lemmas.List.Elements.{AllZip-push}
 use Rattle.dd_store.specs.declared.level.Slot.{Slot}
 use Rattle.dd_store.specs.declared.tasks.ShardTask.{ShardTask}
-use Rattle.dd_store.specs.Tasks.{AreAlike, AreFrom, slots_of}
+use Rattle.dd_store.specs.Tasks.{AreAlike, slots_of}
 use Rattle.dd_store.proofs.Dividing.{at_task, replaced_more, taken_more, slots_of-more, slots_of-push}
 use borrow.Rule.Slice.PartMut.{put_mid}
 use Rattle.dd_store.proofs.tasks.exchange.Goals.{After-len}

@@ -1,11 +1,10 @@
-use Rattle.std.proofs.Common.{rules, ◌≡◌, ◌+◌, ◌<◌, ℕ, List, length, get_or, refl, sym, ◌∙◌, ap, subst, arith}
+use Rattle.std.proofs.Common.{rules, ◌≡◌, get_or, sym, ◌∙◌, subst}
 use Rattle.std.specs.Prelude.{All}
 use Rattle.std.specs.List.{AllZip}
 use Rattle.std.specs.Vec.{with_items}
 use Rattle.std.proofs.lemmas.List.{with_items_is}
-use Rattle.dd_store.specs.declared.tasks.ShardTask.{ShardTask}
 use Rattle.dd_store.specs.Levels.{IsNoted, all_at}
-use Rattle.dd_store.specs.Tasks.{MayMakeShards, AreAlike, AreShardsMade, AreFrom, slots_of}
+use Rattle.dd_store.specs.Tasks.{MayMakeShards, AreAlike, AreShardsMade, slots_of}
 use Rattle.dd_store.proofs.Dividing.{AreFrom-alike, length-alike, all_may-alike, all_of-alike, made_from_first, alike_made}
 use Rattle.dd_store.proofs.tasks.make_slots.Given.{Over}
 use Rattle.dd_store.proofs.tasks.make_slots.Goals.{After-exchange, After-make-made, After-as_mut_slice-2}

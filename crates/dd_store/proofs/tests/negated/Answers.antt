@@ -1,4 +1,4 @@
-use Rattle.std.proofs.Common.{◌≡◌, ◌∙◌, true, ap, sym, subst}
+use Rattle.std.proofs.Common.{◌∙◌, ap, sym, subst}
 use Rattle.dd_store.specs.declared.reference.Ref.{Ref}
 use Rattle.dd_store.specs.Graph.{top}
 use Rattle.dd_store.specs.View.{Has}

@@ -11,11 +11,14 @@ use Rattle.reduce_up.specs.Team.{team_row, told}
 use Rattle.reduce_up.proofs.Joined.{listed_row, all_sixteen, all_homes, all_left, all_made, ready_all, adds_all, refs_all, refused_make, picked_as}
 use Rattle.std.proofs.lemmas.Result.{err_from_is_err_and}
 use Rattle.reduce_up.proofs.Making.{level_refused}
+use Rattle.reduce_up.specs.declared.picking.Sources.{Sources}
+use Rattle.reduce_up.specs.Division.{MayPick}
+use Rattle.reduce_up.specs.Steps.{MayPickFrom}
 use Rattle.reduce_up.proofs.wide.share_level.Goals as goal
 
 pub make_by-requires-clause-lists : goal.make_by-requires-clause-lists
 make_by-requires-clause-lists g c =
-    let t = c.args.team in let n = t.workers in let p = t.parts.now in let a = t.answers.now in let v = c.args.level in
+    let t = c.args.field in let n = t.workers in let p = t.parts.now in let a = arc_value c.args.answers.now in let v = c.args.level in
     let parts = c.in-Ok.read.parts.items in let homes = c.in-Ok.read.homes.items in let lefts = c.in-Ok.read.lefts.items in
     let T = told n p a in
     let row = team_row n p v in
@@ -25,7 +28,7 @@ make_by-requires-clause-lists g c =
 
 pub make_by-requires-clause-ready : goal.make_by-requires-clause-ready
 make_by-requires-clause-ready g c =
-    let t = c.args.team in let n = t.workers in let p = t.parts.now in let a = t.answers.now in let v = c.args.level in
+    let t = c.args.field in let n = t.workers in let p = t.parts.now in let a = arc_value c.args.answers.now in let v = c.args.level in
     let parts = c.in-Ok.read.parts.items in let homes = c.in-Ok.read.homes.items in let lefts = c.in-Ok.read.lefts.items in
     let T = told n p a in
     let row = team_row n p v in
@@ -36,7 +39,7 @@ make_by-requires-clause-ready g c =
 
 pub returns-in_err-refs : goal.returns-in_err-refs
 returns-in_err-refs g c =
-    let t = c.args.team in let n = t.workers in let p = t.parts.now in let a = t.answers.now in let v = c.args.level in
+    let t = c.args.field in let n = t.workers in let p = t.parts.now in let a = arc_value c.args.answers.now in let v = c.args.level in
     let parts = c.in-Ok.read.parts.items in let homes = c.in-Ok.read.homes.items in let lefts = c.in-Ok.read.lefts.items in
     let T = told n p a in
     let row = team_row n p v in
@@ -50,24 +53,39 @@ returns-in_err-refs g c =
     rw (f.1, f.2) (level_refused n t.roots.now p a S v U _ _ c.make_by.ensures.sound adds
     (refused_make T S v row (arc_value c.in-Ok-new.parts).items parts slice listed U _ c.make_by.ensures.sound c.in_err-refs.ensures.fault))
 
-pub pick_all-requires-clause-may : goal.pick_all-requires-clause-may
-pick_all-requires-clause-may g c κs within =
-    let t = c.args.team in let n = t.workers in let p = t.parts.now in let a = t.answers.now in let v = c.args.level in
+pub pick_all-requires : goal.pick_all-requires
+pick_all-requires g c =
+    let t = c.args.field in let n = t.workers in let p = t.parts.now in let a = arc_value c.args.answers.now in let v = c.args.level in
     let parts = c.in-Ok.read.parts.items in let homes = c.in-Ok.read.homes.items in let lefts = c.in-Ok.read.lefts.items in
     let D = c.in-Ok.ensures in
     let slice = ap (λ (z : Vec (Vec (Vec Pair Global) Global) Global). z.items) c.in-Ok-new.ensures.ok in
     let there = λ (s : ℕ) (l : s < 16). subst (λ z. AllZip (λ (q : Pair) r. IsThere c.make_by.new.self v q.0 q.1 r) (all_at z s) (refs_at c.in_ok-refs.refs.items s)) slice (c.in_ok-refs.ensures.answers s l) in
-    let read = c.as_slice-2.ensures.value ∙ ap (λ (z : Vec (Vec (Vec Pair Global) Global) Global). z.items) (c.deref.ensures ∙ c.in-Ok-new.ensures.ok) in
-    rw (read, c.as_slice-homes.ensures.value, c.as_slice-3.ensures.value) (record {
-      many = D.many_parts ∙ sym D.many_homes;
-      sixteen = all_sixteen n t.roots.now p a v parts homes lefts D;
-      refs_of = refs_all c.make_by.new.self v parts c.in_ok-refs.refs.items c.in_ok-refs.ensures.sixteen there;
-      homes_of = all_homes n t.roots.now p a v parts homes lefts D;
-    })
+    record {
+      may = subst MayPickFrom (sym c.in-Ok-new-2.ensures.ok) (subst (λ z. MayPick z homes c.in_ok-refs.refs.items) (sym slice) (record {
+        many = D.many_parts ∙ sym D.many_homes;
+        sixteen = all_sixteen n t.roots.now p a v parts homes lefts D;
+        refs_of = refs_all c.make_by.new.self v parts c.in_ok-refs.refs.items c.in_ok-refs.ensures.sixteen there;
+        homes_of = all_homes n t.roots.now p a v parts homes lefts D;
+      }));
+    }
+
+pub returns-in_default-new-2 : goal.returns-in_default-new-2
+returns-in_default-new-2 g c =
+    let t = c.args.field in let n = t.workers in let p = t.parts.now in let a = arc_value c.args.answers.now in let v = c.args.level in
+    let parts = c.in-Ok.read.parts.items in let homes = c.in-Ok.read.homes.items in let lefts = c.in-Ok.read.lefts.items in
+    let T = told n p a in
+    let row = team_row n p v in
+    let D = c.in-Ok.ensures in
+    let slice = ap (λ (z : Vec (Vec (Vec Pair Global) Global) Global). z.items) c.in-Ok-new.ensures.ok in
+    let listed = listed_row n t.roots.now p a v parts homes lefts D in
+    let S = c.args.store.now in let U = c.make_by.new.self in
+    let grows = subst (λ z. GrowsLevel S U v (plain_lists (all_at z))) slice c.make_by.ensures.grows in
+    let adds = adds_all T S v row (all_at parts) listed U grows in
+    level_refused n t.roots.now p a S v U _ _ c.make_by.ensures.sound adds tt
 
 pub returns-in_default-pick_all : goal.returns-in_default-pick_all
 returns-in_default-pick_all g c =
-    let t = c.args.team in let n = t.workers in let p = t.parts.now in let a = t.answers.now in let v = c.args.level in
+    let t = c.args.field in let n = t.workers in let p = t.parts.now in let a = arc_value c.args.answers.now in let v = c.args.level in
     let parts = c.in-Ok.read.parts.items in let homes = c.in-Ok.read.homes.items in let lefts = c.in-Ok.read.lefts.items in
     let T = told n p a in
     let row = team_row n p v in
@@ -81,7 +99,7 @@ returns-in_default-pick_all g c =
 
 pub returns : goal.returns
 returns g c =
-    let t = c.args.team in let n = t.workers in let p = t.parts.now in let a = t.answers.now in let v = c.args.level in
+    let t = c.args.field in let n = t.workers in let p = t.parts.now in let a = arc_value c.args.answers.now in let v = c.args.level in
     let parts = c.in-Ok.read.parts.items in let homes = c.in-Ok.read.homes.items in let lefts = c.in-Ok.read.lefts.items in
     let T = told n p a in
     let row = team_row n p v in
@@ -92,8 +110,9 @@ returns g c =
     let grows = subst (λ z. GrowsLevel S U v (plain_lists (all_at z))) slice c.make_by.ensures.grows in
     let adds = adds_all T S v row (all_at parts) listed U grows in
     let there = λ (s : ℕ) (l : s < 16). subst (λ z. AllZip (λ (q : Pair) r. IsThere U v q.0 q.1 r) (all_at z s) (refs_at c.in_ok-refs.refs.items s)) slice (c.in_ok-refs.ensures.answers s l) in
-    let read = c.as_slice-2.ensures.value ∙ ap (λ (z : Vec (Vec (Vec Pair Global) Global) Global). z.items) (c.deref.ensures ∙ c.in-Ok-new.ensures.ok) in
-    let picked = picked_as c.as_slice-2.result.now c.as_slice-homes.result.now c.as_slice-3.result.now parts homes c.in_ok-refs.refs.items n read c.as_slice-homes.ensures.value c.as_slice-3.ensures.value D.many_homes c.in-Ok-pick_all.answers.items c.in-Ok-pick_all.ensures in
+    let from = c.in-Ok-new-2.ensures.ok in
+    let picked = picked_as (arc_value (arc_value c.in-Ok-new-2.sources).parts).items (arc_value c.in-Ok-new-2.sources).homes.items (arc_value c.in-Ok-new-2.sources).refs.items parts homes c.in_ok-refs.refs.items n
+    (ap (λ (z : Sources). (arc_value z.parts).items) from ∙ slice) (ap (λ (z : Sources). z.homes.items) from) (ap (λ (z : Sources). z.refs.items) from) D.many_homes c.in-Ok-pick_all.answers.items c.in-Ok-pick_all.ensures in
     record {
       sound = c.make_by.ensures.sound;
       adds = adds;

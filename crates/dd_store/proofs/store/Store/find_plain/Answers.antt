@@ -1,6 +1,5 @@
-use Rattle.std.proofs.Common.{◌<◌, false, ap, refl, sym, subst}
+use Rattle.std.proofs.Common.{◌<◌, false, ap, refl}
 use Rattle.dd_store.specs.declared.reference.NodeId.{NodeId}
-use Rattle.dd_store.specs.declared.reference.Ref.{Ref}
 use Rattle.dd_store.specs.declared.reference.Reference.TheVariants.{Node}
 use Rattle.dd_store.specs.Nodes.{Nodes, IsNodeOf}
 use Rattle.dd_store.specs.Levels.{pairs_of}
