@@ -31,7 +31,7 @@ pub trait Gate: Watch + Sync {
 }
 
 /// Up to so many requests a level is the caller's: a choice between what was measured, which docs/PERFORMANCE.md has.
-const WIDE: usize = 1 << 11;
+const WIDE: usize = 1 << 12;
 
 /// A gate that does nothing. A wave is the caller's alone as long as that is known to be faster.
 #[derive(Clone, Copy, Drop, Debug, PartialEq, Eq)]
