@@ -11,9 +11,9 @@ pub trait Gate: Watch + Sync {
 
     fn at_level(&self, worker: u32, level: u16);
 
-    /// The most requests that a level may have before a wave that began on the caller's thread calls in so many workers. 0, where a gate
-    /// does not say, leaves the whole wave to them.
-    fn most_alone(&self, _workers: u32) -> usize {
+    /// The most requests that a level may have before a wave that began on the caller's thread calls in so many workers, where the larger
+    /// of the two waves before it had so many requests. 0, where a gate does not say, leaves the whole wave to the workers.
+    fn most_alone(&self, _workers: u32, _before: usize) -> usize {
         0
     }
 
@@ -30,8 +30,15 @@ pub trait Gate: Watch + Sync {
     fn at_requests(&self, _requests: usize) {}
 }
 
-/// Up to so many requests a level is the caller's: a choice between what was measured, which docs/PERFORMANCE.md has.
-const WIDE: usize = 1 << 12;
+/// A wave behind one of more requests than these is expected to be large as well. This and the two numbers below are a choice between
+/// what was measured, which docs/PERFORMANCE.md has.
+const LARGE: usize = 1 << 14;
+
+/// Up to so many requests a level of a wave is the caller's where the wave is expected to be large.
+const WIDE_IN_LARGE: usize = 1 << 10;
+
+/// Up to so many requests a level of any other wave is the caller's.
+const WIDE: usize = 1 << 13;
 
 /// A gate that does nothing. A wave is the caller's alone as long as that is known to be faster.
 #[derive(Clone, Copy, Drop, Debug, PartialEq, Eq)]
@@ -44,8 +51,14 @@ impl Watch for Free {
 impl Gate for Free {
     fn at_level(&self, _worker: u32, _level: u16) {}
 
-    fn most_alone(&self, workers: u32) -> usize {
-        if workers <= 1 { usize::MAX } else { WIDE }
+    fn most_alone(&self, workers: u32, before: usize) -> usize {
+        if workers <= 1 {
+            usize::MAX
+        } else if before > LARGE {
+            WIDE_IN_LARGE
+        } else {
+            WIDE
+        }
     }
 
     fn most_requests(&self) -> usize {

@@ -207,4 +207,13 @@ impl Rows {
     {
         &self.rows[level as usize]
     }
+
+    /// How many requests all rows have, or as many as can be counted.
+    pub fn count(&self) -> usize {
+        let mut total: usize = 0;
+        for row in &self.rows {
+            total = total.saturating_add(row.len());
+        }
+        total
+    }
 }

@@ -57,6 +57,15 @@ impl Parts {
         self.spaces[worker as usize].noted.list(sender)
     }
 
+    /// How many requests there are, or as many as can be counted. It tells large waves from small ones, and no clause speaks of it.
+    pub fn count(&self) -> usize {
+        let mut total: usize = 0;
+        for space in &self.spaces {
+            total = total.saturating_add(space.rows.count());
+        }
+        total
+    }
+
     /// The memory of the workers, for the next wave.
     pub fn into_spaces(self) -> Spaces {
         Spaces::of(self.spaces)

@@ -271,11 +271,12 @@ fn answer_by_team<R: Threads + Wait + Sync, G: Gate>(
     answers
 }
 
-/// The memory of waves by threads, between two of them. Contracts see nothing in it.
+/// The memory of waves by threads, between two of them, and how large the last one was. Contracts see nothing in it.
 #[derive(Drop)]
 pub struct Rooms {
     spaces: Spaces,
     spare: Spare,
+    requests: usize,
 }
 
 impl Model for Rooms {
@@ -290,7 +291,13 @@ impl Rooms {
         Rooms {
             spaces: Spaces::new(alloc),
             spare: Spare::new(alloc),
+            requests: 0,
         }
+    }
+
+    /// How many requests the last wave had, or as many as can be counted: 0 where there was none.
+    pub fn requests(&self) -> usize {
+        self.requests
     }
 }
 
@@ -315,6 +322,7 @@ pub fn shared_wave<R: Threads + Wait + Sync, G: Gate>(
         Ok(parts) => parts,
         Err(fault) => return Err(fault),
     };
+    rooms.requests = parts.count();
     let answers = answer_by_team(crew, store, &parts, roots, &mut rooms.spare)?;
     rooms.spaces = parts.into_spaces();
     Ok(answers)

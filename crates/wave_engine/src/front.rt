@@ -68,7 +68,7 @@ fn put_answers(
 }
 
 /// Has the requests from a level on answered by the workers, in one wave, and puts the answers in their places. The workers work in
-/// the memory of an earlier wave as far as there is some.
+/// the memory of an earlier wave as far as there is some. It answers how many requests they expanded, as far as they can be counted.
 pub(crate) fn hand_over<R: Threads + Wait + Sync, G: Gate>(
     crew: &Crew<'_, R, G>,
     rooms: &mut Rooms,
@@ -77,7 +77,7 @@ pub(crate) fn hand_over<R: Threads + Wait + Sync, G: Gate>(
     requests: &Requests,
     answers: &mut Vec<Answers>,
     from: u16,
-) -> Result<(), WaveFault>
+) -> Result<usize, WaveFault>
     requires operands { All (IsEntry store.old) entries.now }
     requires admitted { AreAdmitted store.old entries.now requests.now }
     requires bound { from ≤ store.old.levels }
@@ -97,14 +97,14 @@ pub(crate) fn hand_over<R: Threads + Wait + Sync, G: Gate>(
     };
     let asked = front.as_slice();
     if asked.is_empty() {
-        return Ok(());
+        return Ok(0);
     }
     let found = match shared_wave(crew, store, asked, rooms) {
         Ok(found) => found,
         Err(fault) => return Err(fault),
     };
     match put_answers(answers, requests, from, found.as_slice()) {
-        Ok(()) => Ok(()),
+        Ok(()) => Ok(rooms.requests()),
         Err(_) => Err(WaveFault::OutOfMemory),
     }
 }

@@ -13,6 +13,7 @@ use crate::down::{expand, place_roots};
 use crate::front::hand_over;
 use crate::lists::{Answers, Row};
 use crate::requests::Requests;
+use crate::sizes::Sizes;
 use crate::up::{reduce, resolve};
 use dd_store::{Ref, Store};
 use expand_work::{Crew, Gate, WaveFault, Workers};
@@ -98,16 +99,20 @@ fn go_down(
     )
 }
 
-/// Tells the gate how many requests the caller's thread has expanded: those of the levels in front of one.
-fn tell_requests<G: Gate>(gate: &G, requests: &Requests, from: u16) {
+/// Tells the gate how many requests the caller's thread has expanded, those of the levels in front of one, and answers it.
+fn tell_requests<G: Gate>(gate: &G, requests: &Requests, from: u16) -> usize {
+    let mut told: usize = 0;
     let mut level = 0;
     while let Some(next) = requests.next_level(level) {
         if next >= from {
-            return;
+            return told;
         }
-        gate.at_requests(requests.count(next));
+        let count = requests.count(next);
+        gate.at_requests(count);
+        told = told.saturating_add(count);
         level = next + 1;
     }
+    told
 }
 
 /// The answers of the roots.
@@ -126,7 +131,8 @@ fn root_answers(
     Ok(refs)
 }
 
-/// Does waves one after the other. It keeps the memory that they take, and nothing else: no wave knows of an earlier one.
+/// Does waves one after the other. It keeps the memory that they take, and how large the last two were, by which it is decided when
+/// workers are called in; no answer depends on an earlier wave.
 #[derive(Drop)]
 pub(crate) struct Workspace<'a, R, G> {
     pub(crate) crew: Crew<'a, R, G>,
@@ -134,6 +140,8 @@ pub(crate) struct Workspace<'a, R, G> {
     answers: Vec<Answers>,
     /// The memory of the workers.
     rooms: Rooms,
+    /// How large the waves before were, of those that came to be reduced.
+    sizes: Sizes,
 }
 
 impl<'a, R: Threads + Wait + Sync, G: Gate> Workspace<'a, R, G> {
@@ -155,6 +163,7 @@ impl<'a, R: Threads + Wait + Sync, G: Gate> Workspace<'a, R, G> {
             },
             answers: Vec::new(alloc),
             rooms: Rooms::new(alloc),
+            sizes: Sizes::new(),
         }
     }
 
@@ -183,7 +192,7 @@ impl<'a, R: Threads + Wait + Sync, G: Gate> Workspace<'a, R, G> {
     {
         let _ = store.levels();
         let alloc = self.crew.alloc;
-        let most = self.crew.most_alone();
+        let most = self.crew.most_alone(self.sizes.larger());
         let bound = self.crew.gate.most_requests();
         let from = match go_down(
             alloc,
@@ -197,8 +206,8 @@ impl<'a, R: Threads + Wait + Sync, G: Gate> Workspace<'a, R, G> {
             Ok(from) => from,
             Err(fault) => return Err(fault),
         };
-        tell_requests(self.crew.gate, &self.down.requests, from);
-        hand_over(
+        let alone = tell_requests(self.crew.gate, &self.down.requests, from);
+        let shared = hand_over(
             &self.crew,
             &mut self.rooms,
             store,
@@ -207,6 +216,7 @@ impl<'a, R: Threads + Wait + Sync, G: Gate> Workspace<'a, R, G> {
             &mut self.answers,
             from,
         )?;
+        self.sizes = self.sizes.then(alone.saturating_add(shared));
         reduce(store, entries, &self.down, &mut self.answers, from)?;
         match root_answers(alloc, self.down.roots.as_slice(), self.answers.as_slice()) {
             Ok(answers) => Ok(answers),

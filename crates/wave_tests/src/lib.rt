@@ -4,6 +4,8 @@
 #[cfg(test)]
 mod bounds;
 #[cfg(test)]
+mod earlier;
+#[cfg(test)]
 mod marks;
 #[cfg(test)]
 mod memos;

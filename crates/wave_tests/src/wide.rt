@@ -16,7 +16,7 @@ use wave_engine::wave;
 const FACTOR: usize = 2;
 
 /// The products of the first variable with each other one.
-fn products<R: Abort>(rt: &R, alloc: Global, variables: u16) -> Vec<Step> {
+pub(crate) fn products<R: Abort>(rt: &R, alloc: Global, variables: u16) -> Vec<Step> {
     let mut steps = Vec::new(alloc);
     for other in 1..variables as usize {
         steps
@@ -26,20 +26,24 @@ fn products<R: Abort>(rt: &R, alloc: Global, variables: u16) -> Vec<Step> {
     steps
 }
 
-/// The sum of each two products: each asks for a node of the first level, and for the sum of two variables below it.
-fn sums<R: Abort>(rt: &R, alloc: Global, variables: u16) -> Vec<Step> {
-    let first = FACTOR + variables as usize;
+/// An operation on each two of so many references that are known from a place on.
+pub(crate) fn pairs<R: Abort>(rt: &R, alloc: Global, op: Op, first: usize, count: u16) -> Vec<Step>
+    requires { first ≤ 10_000 }
+{
     let mut steps = Vec::new(alloc);
-    for second in 1..variables as usize {
-        for other in second..variables as usize {
-            if other > second {
-                steps
-                    .push((Op::Or, first + second - 1, first + other - 1))
-                    .expect(rt, "memory");
-            }
+    for one in 0..count as usize {
+        for other in one + 1..count as usize {
+            steps
+                .push((op, first + one, first + other))
+                .expect(rt, "memory");
         }
     }
     steps
+}
+
+/// The sum of each two products of 66 variables: each asks for a node of the first level, and for the sum of two variables below it.
+pub(crate) fn sums<R: Abort>(rt: &R, alloc: Global) -> Vec<Step> {
+    pairs(rt, alloc, Op::Or, FACTOR + 66, 65)
 }
 
 /// The diagrams of the sums, found by their children.
@@ -69,7 +73,7 @@ fn wide_level(rt: HostRuntime) -> Result<(), Fail> {
             let mut store = Store::new(alloc, 66, limit)?;
             let mut known = start(&rt, alloc, &mut store);
             let factors = products(&rt, alloc, 66);
-            let steps = sums(&rt, alloc, 66);
+            let steps = sums(&rt, alloc);
             assert_eq!(rt; steps.len(), 2_080);
             let made = run(
                 &rt,
@@ -143,7 +147,7 @@ fn told_shards<R: Threads + Wait + Abort + Sync>(
     let mut store = Store::new(alloc, 66, 10_000)?;
     let mut known = start(rt, alloc, &mut store);
     let factors = products(rt, alloc, 66);
-    let steps = sums(rt, alloc, 66);
+    let steps = sums(rt, alloc);
     let made = run(
         rt,
         alloc,
@@ -227,7 +231,7 @@ fn four_at_shards(rt: HostRuntime) -> Result<(), Fail> {
     let mut store = Store::new(alloc, 66, 10_000)?;
     let mut known = start(&rt, alloc, &mut store);
     let factors = products(&rt, alloc, 66);
-    let steps = sums(&rt, alloc, 66);
+    let steps = sums(&rt, alloc);
     let made = run(
         &rt,
         alloc,

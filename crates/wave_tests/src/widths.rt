@@ -35,7 +35,7 @@ impl Gate for Width {
         self.told.fetch_add(1, Ordering::SeqCst);
     }
 
-    fn most_alone(&self, _workers: u32) -> usize {
+    fn most_alone(&self, _workers: u32, _before: usize) -> usize {
         self.most.load(Ordering::SeqCst) as usize
     }
 
@@ -83,8 +83,8 @@ fn random_steps<R: Abort>(rt: &R, alloc: Global, random: &mut Random, known: usi
 }
 
 /// The answers of a wave of the engine.
-fn answers_of<R: Threads + Wait + Sync>(
-    engine: &mut Engine<'_, R, Width>,
+fn answers_of<R: Threads + Wait + Sync, G: Gate>(
+    engine: &mut Engine<'_, R, G>,
     store: &mut Store,
     entries: &[(Op, Ref, Ref)],
 ) -> Result<Vec<Ref>, WaveFault>
@@ -98,9 +98,9 @@ fn answers_of<R: Threads + Wait + Sync>(
 }
 
 /// Runs a wave of steps by the engine, and adds its answers to the known references.
-fn run_engine<R: Abort + Threads + Wait + Sync>(
+pub(crate) fn run_engine<R: Abort + Threads + Wait + Sync, G: Gate>(
     rt: &R,
-    engine: &mut Engine<'_, R, Width>,
+    engine: &mut Engine<'_, R, G>,
     store: &mut Store,
     known: &mut Vec<Ref>,
     steps: &[Step],

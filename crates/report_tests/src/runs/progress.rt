@@ -88,7 +88,10 @@ fn lines_a_second(rt: HostRuntime) -> Result<(), Fail> {
     }
     let progress = Progress::new(&rt, rt.alloc(), true);
     for workers in [1, 2, 16] {
-        assert_eq!(rt; progress.most_alone(workers), Free.most_alone(workers));
+        for before in [0, 1_000, 1_000_000_000] {
+            let most = progress.most_alone(workers, before);
+            assert_eq!(rt; most, Free.most_alone(workers, before));
+        }
     }
     Ok(())
 }

@@ -26,10 +26,10 @@ returns-in-Err-clause-wave g c =
     wave_unchanged c.args.store.now c.args.entries.now c.args.entries.now c.in-Err.fault c.levels.ensures.sound
     (not_full c.args.store.now c.args.entries.now c.args.store.now c.in-Err.fault c.in-Err.ensures.refused)
 
-pub returns-in_err-hand_over-clause-wave : goal.returns-in_err-hand_over-clause-wave
-returns-in_err-hand_over-clause-wave g c =
+pub returns-in_err-shared-clause-wave : goal.returns-in_err-shared-clause-wave
+returns-in_err-shared-clause-wave g c =
     let p = err_from_is_err_and c.from_residual.result c.from_residual.ensures.1 in
-    rw (p.1, p.2) (wave_given_up c.args.store.now c.args.entries.now c.args.entries.now c.hand_over.new.store c.in_err-hand_over.field-0.0 c.hand_over.ensures.sound c.hand_over.ensures.adds c.in_err-hand_over.ensures.fault)
+    rw (p.1, p.2) (wave_given_up c.args.store.now c.args.entries.now c.args.entries.now c.hand_over.new.store c.in_err-shared.field-0.0 c.hand_over.ensures.sound c.hand_over.ensures.adds c.in_err-shared.ensures.fault)
 
 pub returns-in_err-reduce-clause-wave : goal.returns-in_err-reduce-clause-wave
 returns-in_err-reduce-clause-wave g c =
@@ -64,7 +64,7 @@ returns-in-Ok-root_answers-clause-wave g c =
     let adds : AddsDescribed c.args.store.now c.reduce.new.store (IsWanted c.args.store.now c.args.entries.now) = adds_both c.args.store.now c.levels.ensures.sound c.args.entries.now c.requires.operands c.hand_over.new.store c.hand_over.ensures.adds.keeps c.hand_over.ensures.sound c.reduce.new.store c.hand_over.ensures.adds c.reduce.ensures.adds in
     let answers : AnswersEach c.args.store.now c.args.entries.now c.reduce.new.store c.in-Ok-root_answers.answers.items =
     roots_answered c.args.store.now c.levels.ensures.sound c.args.entries.now c.requires.operands T c.reduce.new.answers.items c.reduce.new.store D.expanded.admitted adds.keeps (λ v q k r h g. R.answered v q k r (omega arith) h g) c.args.entries.now c.requires.operands ps D.expanded.rooted c.in-Ok-root_answers.answers.items come in
-    let first : IsWithinBelow c.args.store.now T c.in-Ok.from c.hand_over.new.store = c.in_ok-hand_over.ensures.within in
+    let first : IsWithinBelow c.args.store.now T c.in-Ok.from c.hand_over.new.store = c.in_ok-shared.ensures.within in
     wave_done c.args.store.now c.args.entries.now c.args.entries.now c.reduce.new.store c.in-Ok-root_answers.answers c.reduce.ensures.sound adds answers
     (within_both c.args.store.now c.levels.ensures.sound c.args.entries.now c.requires.operands T ps D.expanded.rooted c.in-Ok.from c.hand_over.new.store c.reduce.new.store first R.within)
 
