@@ -30,7 +30,7 @@ pub trait Gate: Watch + Sync {
     fn at_requests(&self, _requests: usize) {}
 }
 
-/// A wave behind one of more requests than these is expected to be large as well. This and the two numbers below are a choice between
+/// A wave behind one of more requests than these is expected to be large as well. This and the numbers below are a choice between
 /// what was measured, which docs/PERFORMANCE.md has.
 const LARGE: usize = 1 << 14;
 
@@ -39,6 +39,9 @@ const WIDE_IN_LARGE: usize = 1 << 10;
 
 /// Up to so many requests a level of any other wave is the caller's.
 const WIDE: usize = 1 << 13;
+
+/// So many times these numbers hold for fewer than four workers, which gain less by a wave.
+const FOR_FEW: usize = 4;
 
 /// A gate that does nothing. A wave is the caller's alone as long as that is known to be faster.
 #[derive(Clone, Copy, Drop, Debug, PartialEq, Eq)]
@@ -52,12 +55,13 @@ impl Gate for Free {
     fn at_level(&self, _worker: u32, _level: u16) {}
 
     fn most_alone(&self, workers: u32, before: usize) -> usize {
+        let times = if workers < 4 { FOR_FEW } else { 1 };
         if workers <= 1 {
             usize::MAX
-        } else if before > LARGE {
-            WIDE_IN_LARGE
+        } else if before > LARGE * times {
+            WIDE_IN_LARGE * times
         } else {
-            WIDE
+            WIDE * times
         }
     }
 
