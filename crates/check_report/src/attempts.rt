@@ -47,8 +47,8 @@ impl<'a, G: Gate> Gate for Bounded<'a, G> {
         self.gate.at_level(worker, level);
     }
 
-    fn most_alone(&self, workers: u32, before: usize) -> usize {
-        self.gate.most_alone(workers, before)
+    fn most_alone(&self, workers: u32, expected: usize) -> usize {
+        self.gate.most_alone(workers, expected)
     }
 
     fn most_requests(&self) -> usize {

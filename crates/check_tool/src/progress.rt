@@ -79,8 +79,8 @@ impl<H: Eprint + Clock + Meter + Sync> Watch for Progress<'_, H> {
 impl<H: Eprint + Clock + Meter + Sync> Gate for Progress<'_, H> {
     fn at_level(&self, _worker: u32, _level: u16) {}
 
-    fn most_alone(&self, workers: u32, before: usize) -> usize {
-        Free.most_alone(workers, before)
+    fn most_alone(&self, workers: u32, expected: usize) -> usize {
+        Free.most_alone(workers, expected)
     }
 
     fn most_requests(&self) -> usize {

@@ -46,14 +46,14 @@ pub struct Crew<'a, R, G> {
 }
 
 impl<'a, R, G: Gate> Crew<'a, R, G> {
-    /// The most requests that a level may have before the workers are called in, where the larger of the two waves before had so many.
-    /// One worker is called in for a whole wave or never, and none for a wave whose requests are bounded.
-    pub fn most_alone(&self, before: usize) -> usize
+    /// The most requests that a level may have before the workers are called in, where so many are expected of the whole wave. One worker
+    /// is called in for a whole wave or never, and none for a wave whose requests are bounded.
+    pub fn most_alone(&self, expected: usize) -> usize
         ensures bounded { most_of (G.bound self.now.gate.now) < 2 ^ 64 - 1 → result ≡ 2 ^ 64 - 1 }
         ensures one { self.now.workers.count ≡ 1 → (result ≡ 0) ⊎ (result ≡ 2 ^ 64 - 1) }
     {
         let workers = self.workers.count();
-        let most = self.gate.most_alone(workers, before);
+        let most = self.gate.most_alone(workers, expected);
         if self.gate.most_requests() < usize::MAX || (workers == 1 && most > 0) {
             usize::MAX
         } else {

@@ -11,9 +11,9 @@ pub trait Gate: Watch + Sync {
 
     fn at_level(&self, worker: u32, level: u16);
 
-    /// The most requests that a level may have before a wave that began on the caller's thread calls in so many workers, where the larger
-    /// of the two waves before it had so many requests. 0, where a gate does not say, leaves the whole wave to the workers.
-    fn most_alone(&self, _workers: u32, _before: usize) -> usize {
+    /// The most requests that a level may have before a wave that began on the caller's thread calls in so many workers, where so many
+    /// requests are expected of the whole wave. 0, where a gate does not say, leaves the whole wave to the workers.
+    fn most_alone(&self, _workers: u32, _expected: usize) -> usize {
         0
     }
 
@@ -30,15 +30,14 @@ pub trait Gate: Watch + Sync {
     fn at_requests(&self, _requests: usize) {}
 }
 
-/// A wave behind one of more requests than these is expected to be large as well. This and the numbers below are a choice between
-/// what was measured, which docs/PERFORMANCE.md has.
+/// A wave of more requests is large. This and the numbers below are a choice between what was measured, which docs/PERFORMANCE.md has.
 const LARGE: usize = 1 << 14;
 
-/// Up to so many requests a level of a wave is the caller's where the wave is expected to be large.
+/// Up to so many requests a level is the caller's where the wave is expected to be large.
 const WIDE_IN_LARGE: usize = 1 << 10;
 
 /// Up to so many requests a level of any other wave is the caller's.
-const WIDE: usize = 1 << 13;
+const WIDE: usize = 1 << 14;
 
 /// So many times these numbers hold for fewer than four workers, which gain less by a wave.
 const FOR_FEW: usize = 4;
@@ -54,11 +53,11 @@ impl Watch for Free {
 impl Gate for Free {
     fn at_level(&self, _worker: u32, _level: u16) {}
 
-    fn most_alone(&self, workers: u32, before: usize) -> usize {
+    fn most_alone(&self, workers: u32, expected: usize) -> usize {
         let times = if workers < 4 { FOR_FEW } else { 1 };
         if workers <= 1 {
             usize::MAX
-        } else if before > LARGE * times {
+        } else if expected > LARGE * times {
             WIDE_IN_LARGE * times
         } else {
             WIDE * times

@@ -15,7 +15,7 @@ ghost use Rattle.reduce_up.specs.Team.{IsReducedTo, MayReduceLevel, AnswersLevel
 
 use crate::answers::Answers;
 use crate::jobs::JobPool;
-use crate::levels::{FEWEST_SHARED, wave_fault};
+use crate::levels::wave_fault;
 use crate::narrow::make_level;
 use crate::spare::Spare;
 use crate::wide::share_level;
@@ -158,6 +158,9 @@ pub(crate) fn level_size(parts: &Parts, workers: u32, level: u16) -> usize
     total
 }
 
+/// A level with fewer records is reduced on the caller's thread: to hand it to the threads of the pool and back takes as long.
+const FEWEST_HANDED: usize = 1024;
+
 /// The diagrams of a level's records, worker by worker, by threads where there are many; missing nodes are made.
 fn level_answers<'a, R: Wait, H: Watch>(
     pool: &mut JobPool<'_, 'a, R, H>,
@@ -170,7 +173,7 @@ fn level_answers<'a, R: Wait, H: Watch>(
     requires { MayReduceLevel field.workers field.roots.now field.parts.now (arc_value answers.now) store.old level rest.old.lefts.items }
     ensures { AnswersLevel field.entry.workers field.entry.roots.now field.entry.parts.now (arc_value answers.now) store.old level result store.new rest.new.lefts.items }
 {
-    if level_size(field.parts, field.workers, level) < FEWEST_SHARED {
+    if level_size(field.parts, field.workers, level) < FEWEST_HANDED {
         return make_level(store, field.team(answers), level, rest);
     }
     share_level(pool, store, field, answers, level, rest)

@@ -28,7 +28,7 @@ impl Watch for Listener {
 impl Gate for Listener {
     fn at_level(&self, _worker: u32, _level: u16) {}
 
-    fn most_alone(&self, _workers: u32, _before: usize) -> usize {
+    fn most_alone(&self, _workers: u32, _expected: usize) -> usize {
         usize::MAX
     }
 

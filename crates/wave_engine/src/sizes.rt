@@ -1,28 +1,40 @@
 //! How large the waves before were, by which it is decided when workers are called in.
-ghost use Rattle.std.specs.Prelude.{◌≡◌, ◌≤◌, ◌⊎◌};
+ghost use Rattle.std.specs.Prelude.{◌≡◌, ◌≤◌, ◌<◌, ◌⊎◌, ◌^◌};
 
-/// How many requests the last wave had, and the one before it.
+/// How many requests the last wave had, the one before it, and all together, as far as they can be counted.
 #[derive(Clone, Copy, Drop)]
 pub(crate) struct Sizes {
     last: usize,
     older: usize,
+    all: usize,
 }
+
+/// Of an engine that has done fewer requests nothing is expected: it has worked for less than a tenth of a second.
+const YOUNG: usize = 1 << 18;
 
 impl Sizes {
     /// No wave was before.
     pub(crate) fn new() -> Sizes
-        ensures { result ≡ record { last = 0; older = 0 } }
+        ensures { result ≡ record { last = 0; older = 0; all = 0 } }
     {
-        Sizes { last: 0, older: 0 }
+        Sizes {
+            last: 0,
+            older: 0,
+            all: 0,
+        }
     }
 
-    /// The larger of both.
-    pub(crate) fn larger(self) -> usize
-        ensures last { self.last ≤ result }
-        ensures older { self.older ≤ result }
-        ensures one { (result ≡ self.last) ⊎ (result ≡ self.older) }
+    /// How many requests are expected of the next wave: the waves of a build are much like those before them, so as many as the larger
+    /// of the last two had.
+    pub(crate) fn expected(self) -> usize
+        ensures young { self.all < 2 ^ 18 → result ≡ 0 }
+        ensures last { 2 ^ 18 ≤ self.all → self.last ≤ result }
+        ensures older { 2 ^ 18 ≤ self.all → self.older ≤ result }
+        ensures one { 2 ^ 18 ≤ self.all → (result ≡ self.last) ⊎ (result ≡ self.older) }
     {
-        if self.last < self.older {
+        if self.all < YOUNG {
+            0
+        } else if self.last < self.older {
             self.older
         } else {
             self.last
@@ -31,11 +43,14 @@ impl Sizes {
 
     /// These sizes after one wave more.
     pub(crate) fn then(self, requests: usize) -> Sizes
-        ensures { result ≡ record { last = requests; older = self.last } }
+        ensures last { result.last ≡ requests }
+        ensures older { result.older ≡ self.last }
+        ensures grows { self.all ≤ result.all }
     {
         Sizes {
             last: requests,
             older: self.last,
+            all: self.all.saturating_add(requests),
         }
     }
 }

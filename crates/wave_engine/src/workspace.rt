@@ -192,7 +192,7 @@ impl<'a, R: Threads + Wait + Sync, G: Gate> Workspace<'a, R, G> {
     {
         let _ = store.levels();
         let alloc = self.crew.alloc;
-        let most = self.crew.most_alone(self.sizes.larger());
+        let most = self.crew.most_alone(self.sizes.expected());
         let bound = self.crew.gate.most_requests();
         let from = match go_down(
             alloc,

@@ -1,12 +1,18 @@
 //! Waves of one engine, whose workers are called in by how large the waves before were.
+ghost use Rattle.std.specs.Prelude.{◌<◌, ◌≤◌};
+
 use crate::waves::start;
 use crate::wide::{pairs, products, sums};
 use crate::widths::run_engine;
 use dd_store::{Store, Watch};
 use expand_work::{Free, Gate};
 use req_table::Op;
+use std::alloc::Global;
+use std::process::Abort;
+use std::sync::Wait;
 use std::sync::atomic::{AtomicBool, Ordering};
 use std::test::Fail;
+use std::thread::Threads;
 use wave_engine::{Engine, Workers};
 
 /// Calls in workers as `Free` does, and hears whether any were.
@@ -24,8 +30,8 @@ impl Gate for Heard {
         self.called.store(true, Ordering::SeqCst);
     }
 
-    fn most_alone(&self, workers: u32, before: usize) -> usize {
-        Free.most_alone(workers, before)
+    fn most_alone(&self, workers: u32, expected: usize) -> usize {
+        Free.most_alone(workers, expected)
     }
 
     fn most_requests(&self) -> usize {
@@ -37,46 +43,68 @@ impl Gate for Heard {
 const SUMS: usize = 133;
 
 /// Waves that ask, at one level, for the difference of each two of so many sums, the first so many places behind the first sum; and
-/// whether four workers are called in. 45 sums have 990 differences, 46 have 1,035, 90 have 4,005, 128 have 8,128 and 129 have 8,256.
-/// Those of 128 come to over 16,384 requests, those of 90 to fewer.
-const WAVES: [(usize, u16, bool); 11] = [
+/// whether four workers are called in. 45 sums have 990 differences, 46 have 1,035, 128 have 8,128, 190 have 17,955 and 450 have 101,025.
+/// Each comes to two requests at least. So those of 128 come to over 16,384, and those of 450 with all before to over 262,144.
+const WAVES: [(u16, u16, bool); 12] = [
     (0, 46, false),
-    (100, 90, false),
+    (50, 128, false),
     (200, 46, false),
-    (300, 129, true),
-    (500, 46, true),
-    (600, 45, false),
-    (700, 46, false),
-    (800, 128, false),
-    (1000, 46, true),
-    (1100, 46, true),
-    (1200, 46, false),
+    (300, 190, true),
+    (500, 46, false),
+    (600, 450, true),
+    (1300, 46, true),
+    (1400, 45, false),
+    (1500, 46, false),
+    (1600, 128, false),
+    (1800, 46, true),
+    (1900, 45, false),
 ];
 
-// Four workers are called in at a level of more than 8,192 requests, and where one of the two waves before had more than 16,384 requests
-// at one of more than 1,024. One worker never is.
+/// Does the waves by an engine that has so many workers, and compares whether any are called in.
+fn call_in<R: Threads + Wait + Abort + Sync>(
+    rt: &R,
+    alloc: Global,
+    workers: u32,
+    waves: &[(u16, u16, bool)],
+) -> Result<(), Fail>
+    requires workers { (0 < workers) × (workers ≤ 16) }
+{
+    let gate = Heard {
+        called: AtomicBool::new(false),
+    };
+    let mut engine = Engine::new(rt, alloc, Workers::new(workers), &gate)?;
+    let mut store = Store::new(alloc, 66, 1_000_000)?;
+    let mut known = start(rt, alloc, &mut store);
+    for steps in [products(rt, alloc, 66), sums(rt, alloc)] {
+        let made = run_engine(rt, &mut engine, &mut store, &mut known, steps.as_slice());
+        assert!(rt; made.is_ok());
+    }
+    for (behind, count, called) in waves {
+        gate.called.store(false, Ordering::SeqCst);
+        let steps = pairs(rt, alloc, Op::Xor, SUMS + *behind as usize, *count);
+        let made = run_engine(rt, &mut engine, &mut store, &mut known, steps.as_slice());
+        assert!(rt; made.is_ok());
+        assert_eq!(rt;
+            gate.called.load(Ordering::SeqCst),
+            *called,
+            "{behind} {count}"
+        );
+    }
+    Ok(())
+}
+
+// Four workers are called in at a level of more than 16,384 requests, and at one of more than 1,024 where the engine has done 262,144
+// requests and one of its last two waves had more than 16,384. Two are not called in by 17,955, and one never is.
 #[test]
 fn workers_after_large_waves(rt: HostRuntime) -> Result<(), Fail> {
-    let alloc = rt.alloc();
-    for workers in [1, 4] {
-        let gate = Heard {
-            called: AtomicBool::new(false),
-        };
-        let mut engine = Engine::new(&rt, alloc, Workers::new(workers), &gate)?;
-        let mut store = Store::new(alloc, 66, 1_000_000)?;
-        let mut known = start(&rt, alloc, &mut store);
-        for steps in [products(&rt, alloc, 66), sums(&rt, alloc)] {
-            let made = run_engine(&rt, &mut engine, &mut store, &mut known, steps.as_slice());
-            assert!(rt; made.is_ok());
-        }
-        for (behind, count, called) in WAVES {
-            gate.called.store(false, Ordering::SeqCst);
-            let steps = pairs(&rt, alloc, Op::Xor, SUMS + behind, count);
-            let made = run_engine(&rt, &mut engine, &mut store, &mut known, steps.as_slice());
-            assert!(rt; made.is_ok());
-            let heard = gate.called.load(Ordering::SeqCst);
-            assert_eq!(rt; heard, called && workers == 4, "{behind} {count}");
-        }
+    call_in(&rt, rt.alloc(), 4, &WAVES)?;
+    for workers in [1, 2] {
+        call_in(
+            &rt,
+            rt.alloc(),
+            workers,
+            &[(300, 190, false), (500, 46, false)],
+        )?;
     }
     Ok(())
 }

@@ -73,7 +73,7 @@ impl Gate for Narrow {
         self.told.fetch_add(1, Ordering::SeqCst);
     }
 
-    fn most_alone(&self, _workers: u32, _before: usize) -> usize {
+    fn most_alone(&self, _workers: u32, _expected: usize) -> usize {
         self.most
     }
 

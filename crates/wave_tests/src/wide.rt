@@ -28,7 +28,7 @@ pub(crate) fn products<R: Abort>(rt: &R, alloc: Global, variables: u16) -> Vec<S
 
 /// An operation on each two of so many references that are known from a place on.
 pub(crate) fn pairs<R: Abort>(rt: &R, alloc: Global, op: Op, first: usize, count: u16) -> Vec<Step>
-    requires { first ≤ 10_000 }
+    requires { first ≤ 100_000 }
 {
     let mut steps = Vec::new(alloc);
     for one in 0..count as usize {
@@ -181,12 +181,12 @@ fn told_shards<R: Threads + Wait + Abort + Sync>(
     ))
 }
 
-// A level of 2,047 records is left to the caller's thread; of one with 2,048 each shard is told once.
+// A level of 1,023 records is left to the caller's thread; of one with 1,024 each shard is told once.
 #[test]
 fn shards_of_a_wide_level(rt: HostRuntime) -> Result<(), Fail> {
-    let few = told_shards(&rt, rt.alloc(), 2_047)?;
+    let few = told_shards(&rt, rt.alloc(), 1_023)?;
     assert_eq!(rt; few, (0, false));
-    let many = told_shards(&rt, rt.alloc(), 2_048)?;
+    let many = told_shards(&rt, rt.alloc(), 1_024)?;
     assert_eq!(rt; many, (0x1111_1111_1111_1111, false));
     Ok(())
 }

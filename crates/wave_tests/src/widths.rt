@@ -35,7 +35,7 @@ impl Gate for Width {
         self.told.fetch_add(1, Ordering::SeqCst);
     }
 
-    fn most_alone(&self, _workers: u32, _before: usize) -> usize {
+    fn most_alone(&self, _workers: u32, _expected: usize) -> usize {
         self.most.load(Ordering::SeqCst) as usize
     }
 

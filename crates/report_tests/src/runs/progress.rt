@@ -88,9 +88,9 @@ fn lines_a_second(rt: HostRuntime) -> Result<(), Fail> {
     }
     let progress = Progress::new(&rt, rt.alloc(), true);
     for workers in [1, 2, 16] {
-        for before in [0, 1_000, 1_000_000_000] {
-            let most = progress.most_alone(workers, before);
-            assert_eq!(rt; most, Free.most_alone(workers, before));
+        for expected in [0, 1_000, 1_000_000_000] {
+            let most = progress.most_alone(workers, expected);
+            assert_eq!(rt; most, Free.most_alone(workers, expected));
         }
     }
     Ok(())
