@@ -75,10 +75,12 @@ fn call_in<R: Threads + Wait + Abort + Sync>(
     let mut engine = Engine::new(rt, alloc, Workers::new(workers), &gate)?;
     let mut store = Store::new(alloc, 66, 1_000_000)?;
     let mut known = start(rt, alloc, &mut store);
-    for steps in [products(rt, alloc, 66), sums(rt, alloc)] {
-        let made = run_engine(rt, &mut engine, &mut store, &mut known, steps.as_slice());
-        assert!(rt; made.is_ok());
-    }
+    let factors = products(rt, alloc, 66);
+    let made = run_engine(rt, &mut engine, &mut store, &mut known, factors.as_slice());
+    assert!(rt; made.is_ok());
+    let terms = sums(rt, alloc);
+    let made = run_engine(rt, &mut engine, &mut store, &mut known, terms.as_slice());
+    assert!(rt; made.is_ok());
     for (behind, count, called) in waves {
         gate.called.store(false, Ordering::SeqCst);
         let steps = pairs(rt, alloc, Op::Xor, SUMS + *behind as usize, *count);

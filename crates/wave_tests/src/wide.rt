@@ -1,4 +1,6 @@
 //! A level with so many records that several threads share it.
+ghost use Rattle.std.specs.Prelude.{◌≤◌};
+
 use crate::waves::{Step, Way, entries_of, node, run, start};
 use dd_store::{Ref, Store, Watch};
 use expand_work::{Gate, WaveFault};

@@ -1,0 +1,10 @@
+use Rattle.std.proofs.Common.{All}
+use Rattle.dd_store.specs.View.{Has}
+use Rattle.req_table.specs.Memos.{IsRight}
+use Rattle.wave_tests.proofs.earlier.call_in.Given as goal
+
+abbrev pub invariant-loop-behind : goal.invariant-loop-behind
+invariant-loop-behind g l = record {
+  known : All (Has l.store) l.known.items;
+  right : IsRight l.store l.engine.held;
+}
