@@ -14,7 +14,7 @@ use std::thread::Threads;
 
 /// A level with fewer records is reduced on the caller's thread: a map over it would start no thread, and to start those that share it
 /// takes longer than the level.
-pub(crate) const FEWEST_SHARED: usize = 2048;
+const FEWEST_SHARED: usize = 2048;
 
 /// The diagram of a record's request, which adds at most its node.
 fn reduce_record(
