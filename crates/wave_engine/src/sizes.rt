@@ -1,5 +1,5 @@
 //! How large the waves before were, by which it is decided when workers are called in.
-ghost use Rattle.std.specs.Prelude.{◌≡◌, ◌≤◌, ◌<◌, ◌⊎◌, ◌^◌};
+ghost use Rattle.std.specs.Prelude.{◌≡◌, ◌≤◌, ◌<◌, ◌+◌, ◌⊎◌, ◌^◌};
 
 /// How many requests the last wave had, the one before it, and all together, as far as they can be counted.
 #[derive(Clone, Copy, Drop)]
@@ -45,6 +45,7 @@ impl Sizes {
     pub(crate) fn then(self, requests: usize) -> Sizes
         ensures last { result.last ≡ requests }
         ensures older { result.older ≡ self.last }
+        ensures all { self.all + requests < 2 ^ 64 → result.all ≡ self.all + requests }
         ensures grows { self.all ≤ result.all }
     {
         Sizes {
