@@ -9,7 +9,8 @@ pub(crate) struct Sizes {
     all: usize,
 }
 
-/// Of an engine that has done fewer requests nothing is expected: it has worked for less than a tenth of a second.
+/// Of an engine that has done fewer requests nothing is expected: a run that ends so early gains nothing by workers, as
+/// docs/PERFORMANCE.md has it.
 const YOUNG: usize = 1 << 18;
 
 impl Sizes {

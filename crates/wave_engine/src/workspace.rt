@@ -131,8 +131,8 @@ fn root_answers(
     Ok(refs)
 }
 
-/// Does waves one after the other. It keeps the memory that they take, and how large the last two were, by which it is decided when
-/// workers are called in; no answer depends on an earlier wave.
+/// Does waves one after the other. It keeps the memory that they take, and how large they were, by which it is decided when workers
+/// are called in; no answer depends on an earlier wave.
 #[derive(Drop)]
 pub(crate) struct Workspace<'a, R, G> {
     pub(crate) crew: Crew<'a, R, G>,
