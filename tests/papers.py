@@ -1,13 +1,14 @@
 #!/usr/bin/env python3
-"""That the program's own help, its manual page, its completions and the README name the same options, and that docs/DEFINITIONS.md
-has the definitions that public contracts cite.
+"""That the program's own help, its manual page, its completions and the README name the same options, that docs/DEFINITIONS.md has
+the definitions that public contracts cite, and that the README names the kit that is here.
 
 usage: tests/papers.py PROGRAM
 """
 import re
+import shutil
 import sys
 
-from kit import TOP, Tally, run
+from kit import TOP, Tally, run, say
 
 
 def options_in(text):
@@ -30,11 +31,18 @@ def main():
     }
     for name, options in papers.items():
         tally.check(f"{name} has the options of --help", options == wanted, options ^ wanted)
-    told = options_in((TOP / "README.md").read_text())
+    readme = (TOP / "README.md").read_text()
+    told = options_in(readme)
     missing = wanted - told - {"--help"}
     tally.check("the README has the options of --help", not missing, missing)
     compared = run([sys.executable, str(TOP / "tools" / "definitions.py")])
     tally.check("docs/DEFINITIONS.md has what public contracts cite", compared.status == 0, compared)
+    if shutil.which("rt"):
+        kit = run(["rt", "version"])
+        lines = [f"Proved with `{line}`." for line in kit.out.decode().splitlines()]
+        tally.check("the README names the kit that `rt version` prints", len(lines) == 1 and lines[0] in readme.splitlines(), kit)
+    else:
+        say("papers: there is no `rt`, so the kit that the README names was not compared")
     tally.end()
     sys.exit(tally.failed > 0)
 
