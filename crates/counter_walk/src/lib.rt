@@ -7,6 +7,10 @@ ghost use Rattle.dd_store.specs.Nodes.{Nodes, IsSound, den};
 ghost use Rattle.dd_store.specs.View.{Has};
 ghost use Rattle.counter_walk.specs.Walk.{top, step};
 
+mod least;
+
+pub use least::least_true;
+
 use dd_store::{Ref, Store};
 use std::alloc::{AllocError, Global};
 

@@ -1,0 +1,106 @@
+use Rattle.std.proofs.Common.{◌≡◌, ◌<◌, ◌+◌, ◌∙◌, Bool, List, [], ◌∷◌, ◌++◌, length, sym, ap, subst, arith, true, false, get_or}
+use Rattle.std.proofs.Math.ListN.{set}
+use Rattle.std.proofs.lemmas.List.{length_push, get_or_read, set_at, with_items_is}
+use Rattle.dd_store.specs.Nodes.{Nodes, den}
+use Rattle.counter_walk.specs.Arranged.{IsLeastTrue}
+use Rattle.counter_walk.specs.Lines.{Stands, AreAble}
+use Rattle.counter_walk.proofs.Arranging.{agree_of_nowhere, differ_of_true, none_of_false}
+use Rattle.counter_walk.proofs.Fixing.{IsFixed, fixed_start, fixed_all}
+use Rattle.counter_walk.proofs.Standing.{turn_free, turn_zero, turn_one, Stands-within, read_back}
+use Rattle.counter_walk.proofs.least.least_true.Goals as goal
+use Rattle.counter_walk.proofs.least.least_true.Goals.{then-index+then-not-index, then-index+else-not-index, else-index}
+
+pub returns-then-same-clause-none : goal.returns-then-same-clause-none
+returns-then-same-clause-none c =
+    (λ e. none_of_false c.args.store.now c.args.store.now.levels c.args.function (c.same.ensures.references.0 c.if-same.true), λ e i. false)
+
+pub returns-then-same-clause-difference : goal.returns-then-same-clause-difference
+returns-then-same-clause-difference c = λ f g is.
+    agree_of_nowhere c.args.store.now.levels f g (den c.args.store.now c.args.function) is
+    (none_of_false c.args.store.now c.args.store.now.levels c.args.function (c.same.ensures.references.0 c.if-same.true))
+
+pub loop-variable-init : goal.loop-variable-init
+loop-variable-init c =
+    let start : IsFixed c.args.store.now c.args.order.now c.args.function [] =
+    fixed_start c.args.store.now c.levels-variables.ensures.sound c.args.order.now c.requires.order c.args.function c.requires.known
+    (λ e. let t : c.same.result ≡ true = c.same.ensures.references.1 e in let f : c.same.result ≡ false = c.if-same.false in cc) in
+    record {
+      many = ap length c.new-bits.ensures.items;
+      each = let len : c.in_ok-able.able.len ≡ length c.in_ok-able.able.items = c.in_ok-able.able.ok.0 in let e = c.in_ok-able.ensures.len in omega arith;
+      fixed = rw c.new-bits.ensures.items start;
+    }
+
+pub index-requires-then-index : goal.index-requires-then-index
+index-requires-then-index c =
+    let within = Stands-within c.args.store.now c.args.order.now c.place_of.new.table.lines.items c.in_ok-root.root c.args.function c.in_ok-root.ensures.place in
+    let same : length c.as_slice-lines.result.now ≡ length c.place_of.new.table.lines.items = ap length c.as_slice-lines.ensures.value in
+    let len : c.loop-variable.able.len ≡ length c.loop-variable.able.items = c.loop-variable.able.ok.0 in
+    let each : length c.loop-variable.able.items ≡ length c.as_slice-lines.result.now = c.loop-variable.invariant.each in
+    omega arith
+
+stands : (c : goal.Joined-index) → Stands c.args.store.now c.args.order.now c.as_slice-lines.result.now c.in_ok-root.root c.args.function
+stands c = subst (λ ls. Stands c.args.store.now c.args.order.now ls c.in_ok-root.root c.args.function) (sym c.as_slice-lines.ensures.value) c.in_ok-root.ensures.place
+
+here : (c : goal.Joined-index) → length c.loop-variable.bits.items < c.args.store.now.levels
+here c = let v = c.levels-variables.ensures.value in let m = c.loop-variable.invariant.many in omega arith
+
+pub loop-variable-preserved : goal.loop-variable-preserved
+loop-variable-preserved c =
+    let s : Nodes = c.args.store.now in
+    let bits : List Bool = c.loop-variable.bits.items in
+    let tried : c.push.new.self.items ≡ bits ++ false ∷ [] = c.in_ok-push.ensures.items in
+    let many : length bits ≡ c.loop-variable.variable = c.loop-variable.invariant.many in
+    let len : c.loop-variable.able.len ≡ length c.loop-variable.able.items = c.loop-variable.able.ok.0 in
+    let within = Stands-within s c.args.order.now c.as_slice-lines.result.now c.in_ok-root.root c.args.function (stands c) in
+    elim c.if-index.branch [
+      | then-index+then-not-index w ↦
+          let ws : List Bool = w.mark_able.new.able in
+          let q = w.mark_able.auto in
+          let k = w.as_mut_slice.ensures.len in
+          let same : length ws ≡ c.loop-variable.able.len = omega arith in
+          let last : c.if-index.bits.items ≡ bits ++ true ∷ [] = ap (λ z. z.items) w.bits-is ∙ ap (λ z. set z c.loop-variable.variable true) tried ∙ set_at bits false [] true c.loop-variable.variable many in
+          record {
+            many = ap length last ∙ length_push bits true ∙ ap (λ n. n + 1) many;
+            each = ap (λ z. length z.items) w.able-is ∙ ap length (with_items_is c.loop-variable.able ws same) ∙ omega arith;
+            fixed = turn_one s c.levels-variables.ensures.sound c.args.order.now c.requires.order c.as_slice-lines.result.now c.in_ok-root.root c.args.function c.requires.known (stands c)
+                ws bits c.push.new.self.items c.if-index.bits.items (here c) tried (subst (λ z. AreAble c.as_slice-lines.result.now z ws) w.as_slice.ensures.value w.mark_able.ensures)
+                (read_back c.loop-variable.able ws c.in_ok-root.root w.index-then-index.result.now false same (omega arith) w.index-then-index.ensures w.if-not-index.true) last c.loop-variable.invariant.fixed;
+          }
+      | then-index+else-not-index w ↦
+          let ws : List Bool = w.mark_able.new.able in
+          let q = w.mark_able.auto in
+          let k = w.as_mut_slice.ensures.len in
+          let same : length ws ≡ c.loop-variable.able.len = omega arith in
+          let last : c.if-index.bits.items ≡ bits ++ false ∷ [] = ap (λ z. z.items) w.bits-is ∙ tried in
+          record {
+            many = ap length last ∙ length_push bits false ∙ ap (λ n. n + 1) many;
+            each = ap (λ z. length z.items) w.able-is ∙ ap length (with_items_is c.loop-variable.able ws same) ∙ omega arith;
+            fixed = turn_zero s c.levels-variables.ensures.sound c.args.order.now c.requires.order c.as_slice-lines.result.now c.in_ok-root.root c.args.function c.requires.known (stands c)
+                ws bits c.push.new.self.items c.if-index.bits.items (here c) tried (subst (λ z. AreAble c.as_slice-lines.result.now z ws) w.as_slice.ensures.value w.mark_able.ensures)
+                (read_back c.loop-variable.able ws c.in_ok-root.root w.index-then-index.result.now true same (omega arith) w.index-then-index.ensures w.if-not-index.false) last c.loop-variable.invariant.fixed;
+          }
+      | else-index w ↦
+          let last : c.if-index.bits.items ≡ bits ++ false ∷ [] = ap (λ z. z.items) w.bits-is ∙ tried in
+          let reads : List Bool = c.in_ok-reads.reads.items in
+          let r = c.in_ok-reads.ensures.length in
+          let off : get_or reads c.loop-variable.variable false ≡ false = sym (get_or_read reads c.loop-variable.variable c.index.result.now (omega arith) c.index.ensures false) ∙ w.if-index.false in
+          record {
+            many = ap length last ∙ length_push bits false ∙ ap (λ n. n + 1) many;
+            each = ap (λ z. length z.items) w.able-is ∙ c.loop-variable.invariant.each;
+            fixed = turn_free s c.levels-variables.ensures.sound c.args.order.now c.requires.order c.as_slice-lines.result.now c.in_ok-root.root c.args.function c.requires.known (stands c)
+                reads bits c.if-index.bits.items (here c) c.in_ok-reads.ensures.read (ap (λ n. get_or reads n false) many ∙ off) last c.loop-variable.invariant.fixed;
+          }
+    ]
+
+all_fixed : (c : goal.After-drop-table-3) → IsLeastTrue c.args.store.now.levels c.args.order.now (den c.args.store.now c.args.function) c.loop-variable.bits.items
+all_fixed c =
+    let v = c.levels-variables.ensures.value in
+    let m = c.loop-variable.invariant.many in
+    fixed_all c.args.store.now c.levels-variables.ensures.sound c.args.order.now c.requires.order c.args.function c.loop-variable.bits.items (omega arith) c.loop-variable.invariant.fixed
+
+pub returns-clause-least : goal.returns-clause-least
+returns-clause-least c = all_fixed c
+
+pub returns-clause-difference : goal.returns-clause-difference
+returns-clause-difference c = λ f g is.
+    differ_of_true c.args.store.now.levels c.args.order.now f g (den c.args.store.now c.args.function) c.loop-variable.bits.items c.requires.order.each_level is (all_fixed c)

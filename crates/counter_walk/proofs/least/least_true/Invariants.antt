@@ -1,0 +1,11 @@
+use Rattle.std.proofs.Common.{◌≡◌, length}
+use Rattle.counter_walk.proofs.Fixing.{IsFixed}
+use Rattle.counter_walk.proofs.least.least_true.Given as goal
+
+-- the variables so far are fixed
+abbrev pub invariant-loop-variable : goal.invariant-loop-variable
+invariant-loop-variable l = record {
+  many : length l.bits.items ≡ l.variable;
+  each : length l.able.items ≡ length l.lines;
+  fixed : IsFixed l.store l.order l.fn.function l.bits.items;
+}
