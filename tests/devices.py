@@ -160,6 +160,24 @@ class Devices:
         for name in ("whole", "over"):
             (self.place / name).unlink()
 
+    def front_parts(self):
+        """Each front part of C17 as the first text: its fault, or none."""
+        for length in range(len(C17) + 1):
+            front = C17[:length]
+            line, closed, left = 1 + front.count(b"\n"), front.count(b")"), front.rsplit(b")", 1)[-1]
+            fault = None
+            if re.search(rb"= N(A|AN)?$", left):
+                fault = f"first: line {line}: unknown gate"
+            elif left.strip():
+                fault = f"first: line {line}: broken statement"
+            elif 6 <= closed <= 12:
+                fault = f"first: line {6 if closed < 12 else 7}: signal without definition"
+            seen = self.run(self.file("front", front), self.c17)
+            if fault:
+                self.check(f"{length} bytes of C17", seen, refused(fault))
+            else:
+                self.tally.check(f"{length} bytes of C17", seen.status in (0, 1) and not seen.err, seen)
+
     def no_files(self):
         none, place = self.place / "none", self.place
         bad = self.file("bad", C17 + b"x")
@@ -295,6 +313,7 @@ def main():
         devices.socket_output()
         devices.endless()
         devices.limits()
+        devices.front_parts()
         devices.no_files()
         devices.no_permission()
         devices.slow_files()

@@ -9,7 +9,13 @@ The file has sections, each begun by a line `== ..`. Lines before the first one,
     == copy NAME OLD PYTHON    a file made of another by a Python expression over its bytes, `text`
     == run WORDS [< NAME]      a run on these words, with the file NAME on standard input; then come its lines:
                                those of standard output behind `  `, those of standard error behind `! `, and last
-                               `status N`. `! ..` alone stands for any text, one line or more
+                               `status N`. `! ..` alone stands for any text, one line or more, and `! .. WORD` for any that has WORD
+    == ways WORDS NAME NAME    four such runs on two files, by 1 and 3 workers, and by 2 and 16 with both on standard input
+    == order WORDS             a run with --print-order, whose names follow on one line
+    == best N N N WORDS        with --order best at each limit from 1 to 49 the answer is that of the first of interleave, depth and declared
+                               that is within the limit, and --verbose says which. They need N nodes each
+    == texts                   lines `TEXT => SAID`: the text, written as in Python, is refused beside itself by the line SAID, or where that
+                               is `netlist` it is equal to itself
     == when FEATURE            the runs from here on are made where FEATURES of kit.py has this on; `when not FEATURE`
                                where it is off, `always` ever
 """
@@ -39,13 +45,23 @@ def joined(lines):
 
 
 def expected(head, body):
-    """The status, the output and the errors that a run must give; None where any errors will do."""
+    """The status, the output and the errors that a run must give; a word where any errors will do that have it."""
     out = [line[2:] for line in body if line.startswith("  ")]
     errors = [line[2:] for line in body if line.startswith("! ")]
     status = [line for line in body if line.startswith("status ")]
     if len(status) != 1 or len(out) + len(errors) + 1 != len(body):
         sys.exit(f"tests/stored.txt: a section that cannot be read: {head}")
-    return int(status[0].split()[1]), joined(out), None if errors == [".."] else joined(errors)
+    any_errors = len(errors) == 1 and errors[0].split(" ")[0] == ".."
+    return int(status[0].split()[1]), joined(out), errors[0][2:].strip() if any_errors else joined(errors)
+
+
+def compared(tally, head, body, seen):
+    status, out, errors = expected(head, body)
+    if isinstance(errors, str):
+        has = seen.err and errors.encode() in seen.err
+        tally.check(head, (seen.status, seen.out) == (status, out) and has, seen)
+    else:
+        tally.same(head, seen, status, out, errors)
 
 
 def try_run(program, tally, place, files, head, body):
@@ -54,12 +70,56 @@ def try_run(program, tally, place, files, head, body):
     if "<" in words:
         given = files[words[words.index("<") + 1]]
         words = words[: words.index("<")]
-    status, out, errors = expected(head, body)
-    seen = run([program, *words], given, cwd=place)
-    if errors is None:
-        tally.check(head, (seen.status, seen.out) == (status, out) and seen.err, seen)
-    else:
-        tally.same(head, seen, status, out, errors)
+    compared(tally, head, body, run([program, *words], given, cwd=place))
+
+
+def try_ways(program, tally, place, files, head, body):
+    *words, first, second = shlex.split(head)[1:]
+    both = files[first] + b"\n%%\r\n" + files[second]
+    for workers, names, given in ((1, [first, second], b""), (2, [], both), (3, [first, second], b""), (16, [], both)):
+        seen = run([program, "--workers", workers, *words, *names], given, cwd=place)
+        compared(tally, f"{head}, by {workers} workers", body, seen)
+
+
+def try_order(program, tally, place, _files, head, body):
+    words = shlex.split(head)[1:]
+    names = "".join(body).split()
+    tally.same(head, run([program, "--print-order", *words], cwd=place), 0, joined(names), b"")
+
+
+def best_of(program, place, tally, name, limit, needs, words):
+    """The run that the best order is to give, of those in a single order, each of which is within the limit from its need on."""
+    wanted = None
+    for order, need in needs:
+        single = run([program, "--order", order, "--limit", limit, *words], cwd=place)
+        tally.check(f"{name}: {order}", (single.status != 3) == (need <= limit), single)
+        if wanted is None and single.status != 3:
+            wanted = single.status, single.out, joined([f"bddcheck: order {order}, budget {limit}"])
+    tried = "interleave, depth and declared were tried; a list by --order-file may need fewer nodes"
+    return wanted or (3, b"", joined(["bddcheck: build: more nodes than the limit", f"bddcheck: {tried}"]))
+
+
+def try_best(program, tally, place, _files, head, _body):
+    *needs, words = head.split(" ", 4)[1:]
+    words = shlex.split(words)
+    for limit in range(1, 50):
+        name = f"{head}, limit {limit}"
+        wanted = best_of(program, place, tally, name, limit, list(zip(("interleave", "depth", "declared"), map(int, needs))), words)
+        tally.same(name, run([program, "--verbose", "--order", "best", "--limit", limit, *words], cwd=place), *wanted)
+
+
+def try_texts(program, tally, place, _files, _head, body):
+    for line in body:
+        written, _, said = line.rpartition(" => ")
+        kit.written(place, "text", written.encode().decode("unicode_escape").encode("latin-1"))
+        seen = run([program, "text", "text"], cwd=place)
+        if said == "netlist":
+            tally.check(line, seen.status == 0 and not seen.err, seen)
+        else:
+            tally.same(line, seen, 2, b"", joined(["bddcheck: first: " + said]))
+
+
+TRIED = {"run": try_run, "ways": try_ways, "order": try_order, "best": try_best, "texts": try_texts}
 
 
 def holds(words):
@@ -77,9 +137,9 @@ def main():
             if kind in ("when", "always"):
                 is_on = holds(head.split())
                 continue
-            if kind == "run":
+            if kind in TRIED:
                 if is_on:
-                    try_run(sys.argv[1], tally, place, files, head, body)
+                    TRIED[kind](sys.argv[1], tally, place, files, head, body)
                 continue
             name = rest.split()[0]
             if kind == "copy":
