@@ -39,6 +39,7 @@ fn order_word(order: &Order) -> &'static str
         Order::Declared => "declared",
         Order::Depth => "depth",
         Order::Interleave => "interleave",
+        Order::Index => "index",
         Order::Listed(_) => "file",
     }
 }

@@ -6,7 +6,7 @@ use Rattle.std.proofs.lemmas.List.{append-nil}
 use Rattle.net_bench.specs.Circuit.{is_name_in, with_name, distinct}
 use Rattle.net_bench.proofs.Numbers.{name_itself, in_distinct, or_left, or_right, or_cases, same_name}
 use Rattle.net_order.specs.declared.order.Order.{Order}
-use Rattle.net_order.specs.declared.order.Order.TheVariants.{Declared, Depth, Interleave, Listed}
+use Rattle.net_order.specs.declared.order.Order.TheVariants.{Declared, Depth, Interleave, Index, Listed}
 use Rattle.std.specs.List.{slice_index_or}
 use Rattle.net_order.specs.Order.{Sided, met, all_names, declared, by_depth, interleaved, woven, numbered, ordered, names_of_sides, bad_place, IsListing, IsFit}
 use Rattle.net_order.specs.Tables.{with_names}
@@ -14,6 +14,7 @@ use Rattle.net_order.proofs.Named.{joined}
 use Rattle.net_order.proofs.AllNames.{known_declared, known_met, known_sides, told_names}
 use Rattle.net_order.proofs.Members.{joined_names, right_names, distinct_names, no_true}
 use Rattle.net_order.proofs.Woven.{woven_low}
+use Rattle.net_order.proofs.Indexing.{indexed_all, indexed_different, indexed_known}
 use Rattle.net_order.proofs.Different.{AmongNames, no_more, all_different, all_there}
 
 -- ---- depth order and interleaved order
@@ -134,6 +135,7 @@ module _ (sides given : List Sided) where
   ordered_different Declared fit = all_different (all_names sides given)
   ordered_different Depth fit = all_different (names_of_sides met sides ++ all_names sides given)
   ordered_different Interleave fit = all_different (numbered (declared sides given) (woven (declared sides given) sides) ++ all_names sides given)
+  ordered_different Index fit = indexed_different sides given
   ordered_different (Listed names) fit = listed_different names fit
 
   -- each of the names is a variable
@@ -144,6 +146,7 @@ module _ (sides given : List Sided) where
   ordered_known Interleave fit n e =
       distinct_names (numbered (declared sides given) (woven (declared sides given) sides) ++ all_names sides given) (all_names sides given)
       (with_all sides given (numbered (declared sides given) (woven (declared sides given) sides)) (woven_among sides given)) n e
+  ordered_known Index fit n e = indexed_known sides given n e
   ordered_known (Listed names) fit n e = (fitting (declared sides given) [] names 1 fit).known n e
 
   -- each variable is one of the names
@@ -151,6 +154,7 @@ module _ (sides given : List Sided) where
   ordered_all Declared fit n e = e
   ordered_all Depth fit n e = has_all sides given (names_of_sides met sides) n e
   ordered_all Interleave fit n e = has_all sides given (numbered (declared sides given) (woven (declared sides given) sides)) n e
+  ordered_all Index fit n e = indexed_all sides given n e
   ordered_all (Listed names) fit n e =
       all_there names (declared sides given) (listed_different names fit) (ordered_known (Listed names) fit) (fitting (declared sides given) [] names 1 fit).many n e
 

@@ -1,3 +1,4 @@
+pub mod Index
 pub mod Order
 pub mod Fault
 pub mod OrderText

@@ -7,9 +7,10 @@ use Rattle.net_bench.specs.Circuit.{Circuit, Net, circuit, is_name_in, distinct,
 use Rattle.net_order.specs.declared.order.Match.{Match}
 use Rattle.net_order.specs.declared.order.Match.TheVariants.{Name, Position}
 use Rattle.net_order.specs.declared.order.Order.{Order}
-use Rattle.net_order.specs.declared.order.Order.TheVariants.{Declared, Depth, Interleave, Listed}
+use Rattle.net_order.specs.declared.order.Order.TheVariants.{Declared, Depth, Interleave, Index, Listed}
 use Rattle.net_order.specs.declared.order.OrderFault.{OrderFault}
 use Rattle.net_order.specs.declared.order.OrderFault.TheVariants.{CountsDiffer, NotAPermutation, TooManyInputs, OutOfMemory, BadName, TooLong, Read}
+use Rattle.net_order.specs.Index.{index_key, rising}
 use Rattle.net_order.specs.declared.walk.Way.{Way}
 use Rattle.net_order.specs.declared.walk.Way.TheVariants.{Written, ByRank}
 
@@ -215,6 +216,12 @@ numbered names vs = map (λ v. slice_index_or names v []) vs
 abbrev pub interleaved : List Sided → List Sided → List (List ℕ)
 interleaved sides given = distinct (numbered (declared sides given) (woven (declared sides given) sides) ++ all_names sides given)
 
+-- ---- by the numbers at the end of names
+
+-- The variables by rising number at the end of their names, those without one first, equal numbers as they are declared.
+abbrev pub by_index : List Sided → List Sided → List (List ℕ)
+by_index sides given = rising index_key (declared sides given)
+
 -- ---- the orders
 
 -- The names of the variables in the order that is asked for, from level 0 on.
@@ -222,6 +229,7 @@ abbrev pub ordered : List Sided → List Sided → Order → List (List ℕ)
 ordered sides given Declared = declared sides given
 ordered sides given Depth = by_depth sides given
 ordered sides given Interleave = interleaved sides given
+ordered sides given Index = by_index sides given
 ordered sides given (Listed names) = names
 
 -- ---- a list of names
@@ -307,6 +315,7 @@ abbrev pub IsFit : List (List ℕ) → Order → Type 0
 IsFit variables Declared = Unit {0}
 IsFit variables Depth = Unit {0}
 IsFit variables Interleave = Unit {0}
+IsFit variables Index = Unit {0}
 IsFit variables (Listed names) = IsListing variables names
 
 -- A pairing as its users see it: the variables by level, by signal the level of an input or register of each netlist and of the

@@ -2,6 +2,7 @@
 #![tactic(auto)]
 
 mod correspondence;
+mod indexed;
 mod interleave;
 mod levels;
 mod listed;
@@ -13,5 +14,6 @@ pub mod pairing;
 mod ranked;
 mod roots;
 mod side;
+mod trailing;
 mod variables;
 mod walk;
