@@ -40,6 +40,7 @@ fn order_word(order: &Order) -> &'static str
         Order::Depth => "depth",
         Order::Interleave => "interleave",
         Order::Index => "index",
+        Order::Force => "force",
         Order::Listed(_) => "file",
     }
 }

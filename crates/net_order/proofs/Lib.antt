@@ -14,6 +14,7 @@ pub mod AllNames
 pub mod Weaving
 pub mod Woven
 pub mod Indexing
+pub mod Forcing
 pub mod Orders
 pub mod InputLevels
 pub mod Matching

@@ -2,6 +2,8 @@
 #![tactic(auto)]
 
 mod correspondence;
+mod force;
+mod hypergraph;
 mod indexed;
 mod interleave;
 mod levels;

@@ -31,6 +31,8 @@ pub enum Order {
     Interleave,
     /// By rising number at the end of their names, those without one first, equal numbers as they are declared.
     Index,
+    /// As FORCE moves them, gates of all netlists among them, towards what they are joined with, begun by `Index`, the last one first.
+    Force,
     /// The names of a list, which must have each variable once.
     Listed(Names),
 }

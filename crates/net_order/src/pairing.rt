@@ -5,6 +5,7 @@ ghost use Rattle.net_order.specs.Order.{AreAsMany, AreCounted, IsFit, IsPairing,
 ghost use Rattle.net_order.specs.Tables.{AreLevels, IsUnordered};
 
 use crate::correspondence::{Correspondence, correspond};
+use crate::force::forced_table;
 use crate::indexed::indexed_table;
 use crate::interleave::interleaved_table;
 use crate::levels::{Levels, all_levels, level_at};
@@ -163,6 +164,7 @@ fn ordered_table(
             let table = indexed_table(alloc, &variables)?;
             Ok(table)
         }
+        Order::Force => forced_table(alloc, sides, given, &variables),
         Order::Listed(list) => listed(alloc, &variables, list),
     }
 }
