@@ -7,7 +7,7 @@ use Rattle.json.specs.Written.{Written}
 use Rattle.net_order.specs.declared.order.Match.{Match}
 use Rattle.net_order.specs.declared.order.Match.TheVariants.{Name, Position}
 use Rattle.net_order.specs.declared.order.Order.{Order}
-use Rattle.net_order.specs.declared.order.Order.TheVariants.{Declared, Depth, Interleave, Listed}
+use Rattle.net_order.specs.declared.order.Order.TheVariants.{Declared, Depth, Interleave, Index, Force, Listed}
 use Rattle.check_report.specs.declared.outcome.Outcome.{Outcome}
 use Rattle.check_report.specs.declared.outcome.Role.{Role}
 use Rattle.check_report.specs.declared.outcome.Role.TheVariants.{Output, NextState}
@@ -27,6 +27,8 @@ abbrev pub order_kind : Order → List ℕ
 order_kind Declared = codes "declared"
 order_kind Depth = codes "depth"
 order_kind Interleave = codes "interleave"
+order_kind Index = codes "index"
+order_kind Force = codes "force"
 order_kind (Listed names) = codes "file"
 
 -- A name as a text. The names of a netlist are ASCII, so each of them is its own text; bytes that are none have the empty one.

@@ -39,6 +39,8 @@ fn order_word(order: &Order) -> &'static str
         Order::Declared => "declared",
         Order::Depth => "depth",
         Order::Interleave => "interleave",
+        Order::Index => "index",
+        Order::Force => "force",
         Order::Listed(_) => "file",
     }
 }

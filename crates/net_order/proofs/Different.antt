@@ -19,7 +19,7 @@ both_ways x y true b e f = sym (name_itself x) ∙ ap (λ w. bytes_eq w x) (same
 both_ways x y false true e f = sym e ∙ ap (λ w. bytes_eq x w) (same_name y x f) ∙ name_itself x
 both_ways x y false false e f = refl
 
-names_equal : IsEquivalence bytes_eq
+pub names_equal : IsEquivalence bytes_eq
 names_equal = record {
   refl = name_itself;
   symm = λ x y. both_ways x y (bytes_eq x y) (bytes_eq y x) refl refl;

@@ -146,21 +146,21 @@ one_order rank (x ∷ xs) (y ∷ ys) f g same =
 abbrev pub before : (ℕ → ℕ) → ℕ → ℕ → Bool
 before rank x y = is_lt (nat_cmp (rank y) (rank x))
 
-is_less : (m n : ℕ) → m < n → is_lt (nat_cmp m n) ≡ true
+pub is_less : (m n : ℕ) → m < n → is_lt (nat_cmp m n) ≡ true
 is_less m n low = let yes : nat_lt m n ≡ true = grind (arith, nat_tests) in ap (λ b. is_lt (cond b Less (cond (m == n) Equal Greater))) yes
 
 equal_or_more : (b : Bool) → is_lt (cond b Equal Greater) ≡ false
 equal_or_more true = refl
 equal_or_more false = refl
 
-not_less : (m n : ℕ) → n ≤ m → is_lt (nat_cmp m n) ≡ false
+pub not_less : (m n : ℕ) → n ≤ m → is_lt (nat_cmp m n) ≡ false
 not_less m n high = let no : nat_lt m n ≡ false = grind (arith, nat_tests) in ap (λ b. is_lt (cond b Less (cond (m == n) Equal Greater))) no ∙ equal_or_more (m == n)
 
 no_both : true ≡ false → ⊥
 no_both e = cc
 
-at_most : (m n : ℕ) → is_lt (nat_cmp m n) ≡ false → n ≤ m
-at_most m n e = elim (cases_lt m n) [
+pub at_least : (m n : ℕ) → is_lt (nat_cmp m n) ≡ false → n ≤ m
+at_least m n e = elim (cases_lt m n) [
   | inl low ↦ absurd (no_both (sym (is_less m n low) ∙ e))
   | inr high ↦ high
 ]
@@ -198,7 +198,7 @@ falls_from rank (x ∷ []) h = (λ o among. absurd (omega (arith, among.1)), tt)
 falls_from rank (x ∷ y ∷ xs) h =
     let rest : Falls rank (y ∷ xs) = falls_from rank (y ∷ xs)
     (λ k d low high. ap₂ (λ u v. before rank u v) (sym (shifted x (y ∷ xs) (k + 1) d)) (sym (shifted x (y ∷ xs) k d)) ∙ h (k + 1) d (omega arith) (omega (arith, high))) in
-    let first : rank y ≤ rank x = at_most (rank x) (rank y) (h 0 0 (omega arith) (omega arith)) in (
+    let first : rank y ≤ rank x = at_least (rank x) (rank y) (h 0 0 (omega arith) (omega arith)) in (
       λ o among. elim (less y xs o among) [
         | inl here ↦ subst (λ z. rank z ≤ rank x) here first
         | inr more_right ↦ let low : rank o ≤ rank y = rest.0 o more_right in omega arith

@@ -4,6 +4,7 @@ pub mod Steps
 pub mod Tabling
 pub mod Walking
 pub mod Falling
+pub mod Rising
 pub mod Leaves
 pub mod Ranking
 pub mod Walks
@@ -12,6 +13,8 @@ pub mod Members
 pub mod AllNames
 pub mod Weaving
 pub mod Woven
+pub mod Indexing
+pub mod Forcing
 pub mod Orders
 pub mod InputLevels
 pub mod Matching

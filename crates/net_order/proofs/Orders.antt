@@ -6,14 +6,16 @@ use Rattle.std.proofs.lemmas.List.{append-nil}
 use Rattle.net_bench.specs.Circuit.{is_name_in, with_name, distinct}
 use Rattle.net_bench.proofs.Numbers.{name_itself, in_distinct, or_left, or_right, or_cases, same_name}
 use Rattle.net_order.specs.declared.order.Order.{Order}
-use Rattle.net_order.specs.declared.order.Order.TheVariants.{Declared, Depth, Interleave, Listed}
+use Rattle.net_order.specs.declared.order.Order.TheVariants.{Declared, Depth, Interleave, Index, Force, Listed}
 use Rattle.std.specs.List.{slice_index_or}
-use Rattle.net_order.specs.Order.{Sided, met, all_names, declared, by_depth, interleaved, woven, numbered, ordered, names_of_sides, bad_place, IsListing, IsFit}
+use Rattle.net_order.specs.Order.{Sided, by_index, forced, forced_back, met, all_names, declared, by_depth, interleaved, woven, numbered, ordered, names_of_sides, bad_place, IsListing, IsFit}
 use Rattle.net_order.specs.Tables.{with_names}
 use Rattle.net_order.proofs.Named.{joined}
 use Rattle.net_order.proofs.AllNames.{known_declared, known_met, known_sides, told_names}
 use Rattle.net_order.proofs.Members.{joined_names, right_names, distinct_names, no_true}
 use Rattle.net_order.proofs.Woven.{woven_low}
+use Rattle.net_order.proofs.Indexing.{indexed_all, indexed_different, indexed_known}
+use Rattle.net_order.proofs.Forcing.{forced_low}
 use Rattle.net_order.proofs.Different.{AmongNames, no_more, all_different, all_there}
 
 -- ---- depth order and interleaved order
@@ -41,6 +43,13 @@ module _ (sides given : List Sided) where
       told_names (λ v. slice_index_or (declared sides given) v []) (woven (declared sides given) sides) (all_names sides given)
       (λ v e. at_declared v (woven_low (declared sides given) sides (known_declared sides given) v e))
 
+  forced_among : AmongNames (numbered (by_index sides given) (forced_back (by_index sides given) sides given)) (all_names sides given)
+  forced_among =
+      told_names (λ v. slice_index_or (by_index sides given) v []) (forced_back (by_index sides given) sides given) (all_names sides given)
+      (λ v e.
+      let n = slice_index_or (by_index sides given) v [] in
+      sym (in_distinct (all_names sides given) n) ∙ indexed_known sides given n (name_there (by_index sides given) v (forced_low (by_index sides given) sides given v e)))
+
   -- with all names behind them
   with_all : (xs : List (List ℕ)) → AmongNames xs (all_names sides given) → AmongNames (xs ++ all_names sides given) (all_names sides given)
   with_all xs h = joined_names xs (all_names sides given) (all_names sides given) h (λ n e. e)
@@ -64,6 +73,19 @@ module _ (sides given : List Sided) where
 
   pub interleaved_few : length (interleaved sides given) ≤ length (declared sides given)
   interleaved_few = whole_few (numbered (declared sides given) (woven (declared sides given) sides)) woven_among
+
+  pub forced_few : length (distinct (numbered (by_index sides given) (forced_back (by_index sides given) sides given))) ≤ length (declared sides given)
+  forced_few = few_of (numbered (by_index sides given) (forced_back (by_index sides given) sides given)) forced_among
+
+  pub forced_all_few : length (forced sides given) ≤ length (declared sides given)
+  forced_all_few = whole_few (numbered (by_index sides given) (forced_back (by_index sides given) sides given)) forced_among
+
+  -- the table of the order that FORCE gives, before the others are put behind
+  pub forced_made : (empty names new : List (List ℕ)) (vs : List ℕ) → empty ≡ [] → names ≡ by_index sides given → vs ≡ forced_back names sides given → new ≡ with_names empty (numbered names vs) →
+      new ≡ distinct (numbered (by_index sides given) (forced_back (by_index sides given) sides given))
+  forced_made empty names new vs is_empty all is grown =
+      grown ∙ ap (λ (z : List (List ℕ)). with_names z (numbered names vs)) is_empty ∙ ap (λ zs. with_names [] (numbered names zs)) is ∙
+      ap (λ (z : List (List ℕ)). with_names [] (numbered z (forced_back z sides given))) all
 
   -- the table of interleaved order, before the others are put behind
   pub woven_table : (empty variables new : List (List ℕ)) (vs : List ℕ) → empty ≡ [] → variables ≡ declared sides given → vs ≡ woven variables sides → new ≡ with_names empty (numbered variables vs) →
@@ -134,6 +156,8 @@ module _ (sides given : List Sided) where
   ordered_different Declared fit = all_different (all_names sides given)
   ordered_different Depth fit = all_different (names_of_sides met sides ++ all_names sides given)
   ordered_different Interleave fit = all_different (numbered (declared sides given) (woven (declared sides given) sides) ++ all_names sides given)
+  ordered_different Index fit = indexed_different sides given
+  ordered_different Force fit = all_different (numbered (by_index sides given) (forced_back (by_index sides given) sides given) ++ all_names sides given)
   ordered_different (Listed names) fit = listed_different names fit
 
   -- each of the names is a variable
@@ -144,6 +168,10 @@ module _ (sides given : List Sided) where
   ordered_known Interleave fit n e =
       distinct_names (numbered (declared sides given) (woven (declared sides given) sides) ++ all_names sides given) (all_names sides given)
       (with_all sides given (numbered (declared sides given) (woven (declared sides given) sides)) (woven_among sides given)) n e
+  ordered_known Index fit n e = indexed_known sides given n e
+  ordered_known Force fit n e =
+      distinct_names (numbered (by_index sides given) (forced_back (by_index sides given) sides given) ++ all_names sides given) (all_names sides given)
+      (with_all sides given (numbered (by_index sides given) (forced_back (by_index sides given) sides given)) (forced_among sides given)) n e
   ordered_known (Listed names) fit n e = (fitting (declared sides given) [] names 1 fit).known n e
 
   -- each variable is one of the names
@@ -151,6 +179,8 @@ module _ (sides given : List Sided) where
   ordered_all Declared fit n e = e
   ordered_all Depth fit n e = has_all sides given (names_of_sides met sides) n e
   ordered_all Interleave fit n e = has_all sides given (numbered (declared sides given) (woven (declared sides given) sides)) n e
+  ordered_all Index fit n e = indexed_all sides given n e
+  ordered_all Force fit n e = has_all sides given (numbered (by_index sides given) (forced_back (by_index sides given) sides given)) n e
   ordered_all (Listed names) fit n e =
       all_there names (declared sides given) (listed_different names fit) (ordered_known (Listed names) fit) (fitting (declared sides given) [] names 1 fit).many n e
 

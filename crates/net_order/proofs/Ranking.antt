@@ -66,3 +66,13 @@ module _ (n : Net) (sound : IsNet n) where
   pub falling_is : (xs ys : List ℕ) → All (λ s. s < length n.names) xs → ys ≡ falling (slice_index n.ranks) xs → ys ≡ falling (rank_of (circuit n)) xs
   falling_is xs ys inside e =
       e ∙ sym (falling_same (rank_of (circuit n)) (slice_index n.ranks) xs (λ o among. rank_is o (at_contained (λ t. t < length n.names) xs o inside among)))
+
+  gates_ranked : (gs : List GateLine) → All (λ g. g.out < length n.names) gs → map (λ g. slice_index n.ranks g.out) gs ≡ map (λ g. rank_of (circuit n) g.out) gs
+  gates_ranked [] inside = refl
+  gates_ranked (g ∷ gs) inside =
+      ap (λ r. r ∷ map (λ h. slice_index n.ranks h.out) gs) (sym (rank_is g.out (inside 0 g (omega arith)))) ∙
+      ap (λ rs. rank_of (circuit n) g.out ∷ rs) (gates_ranked gs (λ i d low. inside (suc i) d (omega (arith, low))))
+
+  -- the ranks of gates, in their order
+  pub gate_ranks_are : map (λ g. slice_index n.ranks g.out) n.gates ≡ map (λ g. rank_of (circuit n) g.out) n.gates
+  gate_ranks_are = gates_ranked n.gates sound.outs

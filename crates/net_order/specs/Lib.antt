@@ -1,3 +1,5 @@
+pub mod Index
+pub mod Force
 pub mod Order
 pub mod Fault
 pub mod OrderText

@@ -7,9 +7,11 @@ use Rattle.net_bench.specs.Circuit.{Circuit, Net, circuit, is_name_in, distinct,
 use Rattle.net_order.specs.declared.order.Match.{Match}
 use Rattle.net_order.specs.declared.order.Match.TheVariants.{Name, Position}
 use Rattle.net_order.specs.declared.order.Order.{Order}
-use Rattle.net_order.specs.declared.order.Order.TheVariants.{Declared, Depth, Interleave, Listed}
+use Rattle.net_order.specs.declared.order.Order.TheVariants.{Declared, Depth, Interleave, Index, Force, Listed}
 use Rattle.net_order.specs.declared.order.OrderFault.{OrderFault}
 use Rattle.net_order.specs.declared.order.OrderFault.TheVariants.{CountsDiffer, NotAPermutation, TooManyInputs, OutOfMemory, BadName, TooLong, Read}
+use Rattle.net_order.specs.Force.{Graph, moved, variables_alone, variables_back, with_gates}
+use Rattle.net_order.specs.Index.{index_key, rising}
 use Rattle.net_order.specs.declared.walk.Way.{Way}
 use Rattle.net_order.specs.declared.walk.Way.TheVariants.{Written, ByRank}
 
@@ -215,6 +217,31 @@ numbered names vs = map (λ v. slice_index_or names v []) vs
 abbrev pub interleaved : List Sided → List Sided → List (List ℕ)
 interleaved sides given = distinct (numbered (declared sides given) (woven (declared sides given) sides) ++ all_names sides given)
 
+-- ---- by the numbers at the end of names
+
+-- The variables by rising number at the end of their names, those without one first, equal numbers as they are declared.
+abbrev pub by_index : List Sided → List Sided → List (List ℕ)
+by_index sides given = rising index_key (declared sides given)
+
+-- ---- FORCE
+
+-- The gates of one more side, whose variables are the vertices of their levels in these names.
+abbrev pub with_side : List (List ℕ) → Graph → Sided → Graph
+with_side names graph side = with_gates side.net (rank_of side.net) (λ s. level_of names (named side s)) graph
+
+-- The graph of all netlists, whose first vertices are the variables of these names.
+unfoldable pub graph_of : List (List ℕ) → List Sided → List Sided → Graph
+graph_of names sides given = fold (with_side names) (fold (with_side names) (variables_alone (length names)) sides) given
+
+-- The numbers of the variables as FORCE leaves them, from the last one back.
+unfoldable pub forced_back : List (List ℕ) → List Sided → List Sided → List ℕ
+forced_back names sides given = variables_back (length names) (moved (length names) (graph_of names sides given))
+
+-- The variables as FORCE leaves them when they begin by rising number at the end of their names, the last one first. No variable is
+-- left out there; any that were would follow as they are declared.
+abbrev pub forced : List Sided → List Sided → List (List ℕ)
+forced sides given = distinct (numbered (by_index sides given) (forced_back (by_index sides given) sides given) ++ all_names sides given)
+
 -- ---- the orders
 
 -- The names of the variables in the order that is asked for, from level 0 on.
@@ -222,6 +249,8 @@ abbrev pub ordered : List Sided → List Sided → Order → List (List ℕ)
 ordered sides given Declared = declared sides given
 ordered sides given Depth = by_depth sides given
 ordered sides given Interleave = interleaved sides given
+ordered sides given Index = by_index sides given
+ordered sides given Force = forced sides given
 ordered sides given (Listed names) = names
 
 -- ---- a list of names
@@ -307,6 +336,8 @@ abbrev pub IsFit : List (List ℕ) → Order → Type 0
 IsFit variables Declared = Unit {0}
 IsFit variables Depth = Unit {0}
 IsFit variables Interleave = Unit {0}
+IsFit variables Index = Unit {0}
+IsFit variables Force = Unit {0}
 IsFit variables (Listed names) = IsListing variables names
 
 -- A pairing as its users see it: the variables by level, by signal the level of an input or register of each netlist and of the

@@ -2,6 +2,9 @@
 #![tactic(auto)]
 
 mod correspondence;
+mod force;
+mod hypergraph;
+mod indexed;
 mod interleave;
 mod levels;
 mod listed;
@@ -13,5 +16,6 @@ pub mod pairing;
 mod ranked;
 mod roots;
 mod side;
+mod trailing;
 mod variables;
 mod walk;

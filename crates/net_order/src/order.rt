@@ -29,6 +29,10 @@ pub enum Order {
     /// As walks below the outputs and next states interleave them, each with what it met last: these and operands by falling rank. Then
     /// the others as they are declared.
     Interleave,
+    /// By rising number at the end of their names, those without one first, equal numbers as they are declared.
+    Index,
+    /// As FORCE moves them, gates of all netlists among them, towards what they are joined with, begun by `Index`, the last one first.
+    Force,
     /// The names of a list, which must have each variable once.
     Listed(Names),
 }

@@ -5,6 +5,8 @@ ghost use Rattle.net_order.specs.Order.{AreAsMany, AreCounted, IsFit, IsPairing,
 ghost use Rattle.net_order.specs.Tables.{AreLevels, IsUnordered};
 
 use crate::correspondence::{Correspondence, correspond};
+use crate::force::forced_table;
+use crate::indexed::indexed_table;
 use crate::interleave::interleaved_table;
 use crate::levels::{Levels, all_levels, level_at};
 use crate::listed::listed;
@@ -158,6 +160,11 @@ fn ordered_table(
         Order::Declared => Ok(variables),
         Order::Depth => depth_table(alloc, sides, given),
         Order::Interleave => interleaved_table(alloc, sides, given, &variables),
+        Order::Index => {
+            let table = indexed_table(alloc, &variables)?;
+            Ok(table)
+        }
+        Order::Force => forced_table(alloc, sides, given, &variables),
         Order::Listed(list) => listed(alloc, &variables, list),
     }
 }

@@ -9,7 +9,7 @@ use std::alloc::{AllocError, Global};
 use std::cmp::Reverse;
 
 /// The rank of a signal, 0 for what is none.
-fn rank_at(net: &Netlist, signal: Signal) -> u32
+pub(crate) fn rank_at(net: &Netlist, signal: Signal) -> u32
     ensures { result ≡ slice_index net.now.ranks signal }
 {
     if (signal.number() as usize) < net.count() {

@@ -1,0 +1,40 @@
+-- The rounds of FORCE, and the variables that they leave.
+use Rattle.std.proofs.Common.{◌≡◌, ℕ, zero, suc, get_or, ◌+◌, ◌-◌, ◌<◌, List, [], ◌∷◌, Bool, true, false, refl, sym, ap, ◌∙◌, subst, length, arith, inl, inr, reverse, filter, All}
+use Rattle.std.specs.Prelude.{cond, nat_lt, ◌==◌}
+use Rattle.std.proofs.lemmas.Bool.Decides.{nat_tests}
+use Rattle.net_bench.proofs.Numbers.{or_cases}
+use Rattle.net_order.specs.Force.{moved, round, rounds_of}
+use Rattle.net_order.specs.Order.{Sided, forced_back, graph_of, is_member}
+use Rattle.net_order.proofs.Members.{all_of, equal_numbers, no_true}
+
+-- one more round
+pub rounds_more : (edges : List (List ℕ)) (degrees : List ℕ) (n i : ℕ) (order new : List ℕ) → i < n → new ≡ round edges degrees order → rounds_of edges degrees (n - (i + 1)) new ≡ rounds_of edges degrees (n - i) order
+unfolding rounds_of
+rounds_more edges degrees n i order new low is =
+    let one : suc (n - (i + 1)) ≡ n - i = omega arith in
+    ap (rounds_of edges degrees (n - (i + 1))) is ∙ ap (λ k. rounds_of edges degrees k order) one
+
+either_low : (n v s : ℕ) (b : Bool) (rest : List ℕ) → nat_lt v n ≡ b → (is_member s rest ≡ true → s < n) → is_member s (cond b (v ∷ rest) rest) ≡ true → s < n
+either_low n v s true rest is h e = elim (or_cases (v == s) (is_member s rest) e) [
+  | inl same ↦ let low : v < n = grind (arith, nat_tests) in subst (λ k. k < n) (equal_numbers v s same) low
+  | inr more ↦ h more
+]
+either_low n v s false rest is h e = h e
+
+filter_low : (n : ℕ) (xs : List ℕ) (s : ℕ) → is_member s (filter (λ v. nat_lt v n) xs) ≡ true → s < n
+filter_low n [] s e = absurd (no_true e)
+filter_low n (v ∷ xs) s e = either_low n v s (nat_lt v n) (filter (λ w. nat_lt w n) xs) refl (filter_low n xs s) e
+
+-- the numbers that are left are those of variables
+pub forced_low : (names : List (List ℕ)) (sides given : List Sided) (s : ℕ) → is_member s (forced_back names sides given) ≡ true → s < length names
+unfolding forced_back
+forced_low names sides given s e = filter_low (length names) (reverse (moved (length names) (graph_of names sides given))) s e
+
+pub all_forced_low : (names : List (List ℕ)) (sides given : List Sided) (numbers : List ℕ) → numbers ≡ forced_back names sides given → All (λ s. s < length names) numbers
+all_forced_low names sides given numbers is = subst (All (λ s. s < length names)) (sym is) (all_of (λ s. s < length names) (forced_back names sides given) (forced_low names sides given))
+
+-- an item is the same whatever stands for one that is missing
+pub same_default : {X : Type 0} (xs : List X) (i : ℕ) (d e : X) → i < length xs → get_or xs i d ≡ get_or xs i e
+same_default [] i d e low = absurd (omega arith)
+same_default (x ∷ xs) zero d e low = refl
+same_default (x ∷ xs) (suc i) d e low = same_default xs i d e (omega arith)

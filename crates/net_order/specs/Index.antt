@@ -1,0 +1,53 @@
+-- The number at the end of a name, and a stable sort by a key.
+use Rattle.std.specs.Prelude.{ℕ, ◌+◌, ◌-◌, ◌*◌, min, nat_le, if◌then◌else◌, List, [], ◌∷◌, fold}
+use Rattle.std.specs.Char.{is_ascii_digit, is_ascii_alphabetic}
+use Rattle.net_order.specs.declared.trailing.Trailing.{Trailing}
+use Rattle.net_order.specs.declared.trailing.Trailing.TheVariants.{Nothing, Digits, Marked}
+
+-- A greater number counts as this one.
+abbrev pub max_number : ℕ
+max_number = 1000000000000000000
+
+-- The number with one more digit.
+abbrev pub lengthened : ℕ → ℕ → ℕ
+lengthened n digit = min (n * 10 + digit) max_number
+
+-- A digit behind a digit lengthens the number, any other begins one.
+abbrev pub with_digit : Trailing → ℕ → Trailing
+with_digit Nothing digit = Digits digit
+with_digit (Digits n) digit = Digits (lengthened n digit)
+with_digit (Marked n) digit = Digits digit
+
+-- A mark, as a bracket, leaves the number where it is.
+abbrev pub with_mark : Trailing → Trailing
+with_mark Nothing = Nothing
+with_mark (Digits n) = Marked n
+with_mark (Marked n) = Marked n
+
+-- What a name has at its end when one more byte of it has been read: a letter leaves no number.
+abbrev pub with_byte : Trailing → ℕ → Trailing
+with_byte t byte = if is_ascii_digit byte then with_digit t (byte - 48) else (if is_ascii_alphabetic byte then Nothing else with_mark t)
+
+-- What a name has at its end: a number, marks behind a number, or neither.
+abbrev pub trailing : List ℕ → Trailing
+trailing name = fold with_byte Nothing name
+
+-- No number comes before each number.
+abbrev pub rank_of_end : Trailing → ℕ
+rank_of_end Nothing = 0
+rank_of_end (Digits n) = n + 1
+rank_of_end (Marked n) = n + 1
+
+-- The key of a name: 0 where no number is at its end, else one more than the number.
+abbrev pub index_key : List ℕ → ℕ
+index_key name = rank_of_end (trailing name)
+
+-- The item before the first one of the list whose key is not less.
+abbrev pub put_by_key : {X : Type 0} → (X → ℕ) → X → List X → List X
+put_by_key key x [] = x ∷ []
+put_by_key key x (y ∷ ys) = if nat_le (key x) (key y) then x ∷ y ∷ ys else y ∷ put_by_key key x ys
+
+-- The items by rising key, equal keys from left to right.
+abbrev pub rising : {X : Type 0} → (X → ℕ) → List X → List X
+rising key [] = []
+rising key (x ∷ xs) = put_by_key key x (rising key xs)
