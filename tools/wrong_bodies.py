@@ -82,6 +82,10 @@ class Said:
         return "took too long" if self.status is None else f"ended with status {self.status}"
 
 
+class Stopped(Exception):
+    """That no more checks are to begin."""
+
+
 class Runs:
     """The checks that run now, so that all of them end with this program."""
 
@@ -89,6 +93,8 @@ class Runs:
         self.running, self.is_over = set(), False
 
     def check(self, folder, words, seconds):
+        if self.is_over:
+            raise Stopped
         # A group of its own, which ends as a whole.
         how = {"stdin": subprocess.DEVNULL, "stdout": subprocess.PIPE, "stderr": subprocess.STDOUT, "start_new_session": True}
         child = subprocess.Popen(["rt", "check", *words], cwd=folder, **how)
@@ -108,10 +114,12 @@ class Runs:
         with contextlib.suppress(ProcessLookupError):
             os.killpg(child.pid, signal.SIGKILL)
 
-    def end_all(self):
+    def end_all(self, status, *_):
+        """Ends the checks, and then the program."""
         self.is_over = True
         for child in list(self.running):
             self.end(child)
+        sys.exit(128 + status)
 
 
 def say(line):
@@ -253,9 +261,11 @@ class Case:
     edit: object
     symbols: list[str | None]
     kind: str = ""
+    # Whether no company tells more than a check of the whole crate with this edit alone.
+    is_alone: bool = False
 
-    def is_alone(self):
-        return self.edit.is_wide or None in self.symbols or not self.symbols
+    def __post_init__(self):
+        self.is_alone = self.edit.is_wide or None in self.symbols or not self.symbols
 
     def meets(self, other):
         """Whether both change one function, or one that stands in the other's."""
@@ -333,7 +343,7 @@ class Crate:
             told = [line for line in said.lines if GOAL.match(line) or UNPROVED.match(line)]
             plain = [line for line in told if not NAMES.search(line)]
             only = "" if plain or not told else "(only since a proof file names what it took away: change a value and keep the names) "
-            self.ends(case, REFUSED, only + next(iter(plain or told), ""))
+            self.ends(case, REFUSED, only + re.sub("^note: ", "", next(iter(plain or told), "")))
         elif said.status == 3 and said.limit():
             self.ends(case, REFUSED, f"(only by a limit of the prover: choose a change that it refuses sooner) {said.limit()}")
         else:
@@ -372,6 +382,8 @@ class Crate:
                 goals += own_goals(said, function, symbol) if is_open else []
             if goals:
                 self.ends(case, REFUSED, goals[0])
+            elif not any(CALLED.search(verdicts.get(symbol, "")) for symbol in case.symbols):
+                case.is_alone = True
 
     def reached(self, symbol):
         """The functions that were seen to be called by this one, by those too, and so on."""
@@ -436,7 +448,7 @@ class Crate:
         likely = self.likely_calls({symbol for case in cases for symbol in case.symbols if symbol})
         with concurrent.futures.ThreadPoolExecutor(self.jobs) as pool:
             for _ in range(ROUNDS):
-                waiting = [case for case in cases if not case.kind and not case.is_alone()]
+                waiting = [case for case in cases if not case.kind and not case.is_alone]
                 batches = self.batches(waiting, likely) if waiting else []
                 self.run_all(pool, self.try_batch, batches)
             self.run_all(pool, self.try_alone, [case for case in cases if not case.kind])
@@ -536,12 +548,12 @@ def main():
     if settings.crates and (settings.since or settings.all):
         parser.error("crates are named, or chosen by --since or --all")
     crates, runs = chosen(settings), Runs()
-    signal.signal(signal.SIGTERM, lambda *_: sys.exit(143))
+    if not shutil.which("rt"):
+        sys.exit("wrong_bodies.py: the command `rt` is not found. It comes with the kit; README.md says which one")
+    for kind in (signal.SIGINT, signal.SIGTERM):
+        signal.signal(kind, runs.end_all)
     with tempfile.TemporaryDirectory(prefix="wrong-bodies-") as room:
-        try:
-            refused, failed = try_crates(crates, max(1, settings.jobs or jobs_here()), pathlib.Path(room), runs)
-        finally:
-            runs.end_all()
+        refused, failed = try_crates(crates, max(1, settings.jobs or jobs_here()), pathlib.Path(room), runs)
     print(f"{refused} refused, {failed} failed")
     return failed > 0
 
