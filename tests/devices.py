@@ -292,7 +292,8 @@ class Devices:
         odd = self.file("é ü\n", C17)
         self.check("an odd path", self.run(odd, self.c17), Run(0, C17_EQUAL, b""))
         seen = self.run("--help")
-        self.tally.check("help", seen.status == 0 and seen.out.startswith(b"Decides") and not seen.err, seen)
+        parts = all(part in seen.out for part in (b"Usage: bddcheck", b"FIRST", b"SECOND", b"Status:"))
+        self.tally.check("help", seen.status == 0 and seen.out.startswith(b"Decides") and parts and not seen.err, seen)
 
     def bytes_run(self, words):
         child = subprocess.run([os.fsencode(self.program), *words], capture_output=True, stdin=subprocess.DEVNULL)
