@@ -29,8 +29,8 @@ use crate::settings::Settings;
 use crate::verdicts::Verdicts;
 use crate::write::write_whole;
 use dd_store::Store;
-use expand_work::{Gate, WaveFault};
-use gate_plan::build;
+use expand_work::{Crew, Gate, WaveFault, Workers};
+use gate_plan::{Circuits, build};
 use net_bench::device::{Sink, Source};
 use net_bench::reader::{Netlist, read_bench};
 use net_order::pairing::Pairing;
@@ -72,21 +72,23 @@ pub fn compare<H: Threads + Wait + Sync, G: Gate>(
     let Ok(mut store) = Store::new(task.alloc, levels, limit) else {
         return Err(CheckFault::OutOfMemory);
     };
-    let built = match build(
-        task.rt,
-        task.alloc,
-        &mut store,
-        task.first,
-        task.second,
-        task.given,
-        &pairing,
-        task.settings.workers,
+    let crew = Crew {
+        rt: task.rt,
+        alloc: task.alloc,
+        workers: Workers::new(task.settings.workers),
         gate,
-    ) {
+    };
+    let circuits = Circuits {
+        first: task.first,
+        second: task.second,
+        given: task.given,
+        pairing: &pairing,
+    };
+    let built = match build(&crew, &mut store, &circuits) {
         Ok(built) => built,
         Err(fault) => return Err(CheckFault::Wave(fault)),
     };
-    let shown = match shown_of(task, &mut store, &built, &pairing, gate) {
+    let shown = match shown_of(task, &mut store, &built, &pairing, &crew) {
         Ok(shown) => shown,
         Err(fault) => return Err(fault),
     };

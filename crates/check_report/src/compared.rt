@@ -17,7 +17,7 @@ use crate::checking::Task;
 use crate::fault::CheckFault;
 use crate::outcome::{Role, Subject};
 use dd_store::{Ref, Store};
-use expand_work::{Gate, WaveFault};
+use expand_work::{Crew, Gate, WaveFault};
 use gate_plan::{Built, conjoin};
 use net_bench::netlist::Signal;
 use net_bench::reader::Netlist;
@@ -149,7 +149,7 @@ pub fn shown_of<H: Threads + Wait + Sync, G: Gate>(
     store: &mut Store,
     built: &Built,
     pairing: &Pairing,
-    gate: &G,
+    crew: &Crew<'_, H, G>,
 ) -> Result<Shown, CheckFault>
     requires built { AreBuilt (circuit task.now.first.now) (circuit task.now.second.now) (condition task.now.given) pairing.now store.old built.now }
     ensures sound { IsSound store.new }
@@ -159,8 +159,8 @@ pub fn shown_of<H: Threads + Wait + Sync, G: Gate>(
         OnOk result (HasAll (circuit task.now.first.now) (circuit task.now.second.now) (condition task.now.given) pairing.now store.new) }
     ensures full { HasNeed (circuit task.now.first.now) (circuit task.now.second.now) (condition task.now.given) pairing.now store.old →
         result ≡ Err (CheckFault.Wave WaveFault.Full) → IsOver (circuit task.now.first.now) (circuit task.now.second.now) (condition task.now.given) pairing.now store.new }
-    ensures past { result ≡ Err (CheckFault.Wave WaveFault.TooManyRequests) → IsSomeAnd (G.bound gate.now) (λ n. IsSomeAnd (condition task.now.given) (λ c. IsWideWhere n (circuit task.now.first.now) (circuit task.now.second.now) c pairing.now)) }
-    ensures alone { most_of (G.bound gate.now) < 2 ^ 64 - 1 → result ≢ Err (CheckFault.Wave WaveFault.NoWorker) }
+    ensures past { result ≡ Err (CheckFault.Wave WaveFault.TooManyRequests) → IsSomeAnd (G.bound crew.now.gate.now) (λ n. IsSomeAnd (condition task.now.given) (λ c. IsWideWhere n (circuit task.now.first.now) (circuit task.now.second.now) c pairing.now)) }
+    ensures alone { most_of (G.bound crew.now.gate.now) < 2 ^ 64 - 1 → result ≢ Err (CheckFault.Wave WaveFault.NoWorker) }
     ensures err { IfErr result IsLate }
 {
     let _ = store.levels();
@@ -179,15 +179,7 @@ pub fn shown_of<H: Threads + Wait + Sync, G: Gate>(
         });
     };
     let holds = built.given(given.outputs()[0]);
-    match conjoin(
-        task.rt,
-        task.alloc,
-        store,
-        references.as_slice(),
-        holds,
-        task.settings.workers,
-        gate,
-    ) {
+    match conjoin(crew, store, references.as_slice(), holds) {
         Ok(references) => Ok(Shown {
             subjects,
             references,

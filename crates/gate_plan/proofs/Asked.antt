@@ -22,7 +22,7 @@ use Rattle.gate_plan.specs.declared.steps.Step.{Step}
 use Rattle.gate_plan.specs.Plans.{operand_at, folds_of, step_of, step_at, rank_of, plan_steps, plan_folds, IsPlan}
 use Rattle.gate_plan.specs.Building.{Placed, input_level, reference_of, first_operand, entry_of, Denotes, value_after, AreFolded, AllFolded, ArePlaced, Levelled, levelled_of, asked}
 use Rattle.gate_plan.specs.Needing.{IsStillWithin}
-use Rattle.gate_plan.specs.Asking.{first_taken, second_taken, IsAsked, Asks, AnyAsks, AnyAsksAt, AnyAsksIn, IsWithinOrUnasked, IsHeldWithin, IsEntryOf, IsEntryAt, IsPast}
+use Rattle.gate_plan.specs.Asking.{first_taken, second_taken, IsAsked, Asks, AnyAsks, AnyAsksAt, AnyAsksIn, AnyAsksBelow, IsWithinOrUnasked, IsHeldWithin, IsEntryOf, IsEntryAt, IsPast}
 use Rattle.gate_plan.proofs.Lists.{same_number}
 use Rattle.gate_plan.proofs.Together.{image, of_map, refs_there, asked_has, asked_holds}
 use Rattle.gate_plan.proofs.Ranks.{above_none, operand_lower, some_operand, operand_below, rank_top}
@@ -174,6 +174,12 @@ pub still_within : (S T : Nodes) (asked : Type 0) → IsWithinOrUnasked asked S 
 still_within S T asked (inl le) = inl le
 still_within S T asked (inr (none, same)) = inr same
 
+-- behind a store that is within its limit or as it was
+pub later_unasked : (S T U : Nodes) (asked : Type 0) → IsStillWithin S T → IsWithinOrUnasked asked T U → IsWithinOrUnasked asked S U
+later_unasked S T U asked still (inl le) = inl le
+later_unasked S T U asked (inl le) (inr (none, same)) = inl (subst (λ V. count_of V ≤ V.limit) (sym same) le)
+later_unasked S T U asked (inr was) (inr (none, same)) = inr (none, same ∙ was)
+
 -- the folds of a rank are all its steps
 pub rank_unasked : (sides : List Placed) (S T : Nodes) (r n : ℕ) → ((one : Placed) → Contains sides one → plan_folds one.net one.net.gates r ≤ n) →
     IsWithinOrUnasked ((j : ℕ) × (j < n) × AnyAsksAt sides T r j) S T → IsWithinOrUnasked (AnyAsksIn sides T r) S T
@@ -194,8 +200,8 @@ rank_unasked sides S T r n few w = less_unasked S T (AnyAsksIn sides T r) ((j : 
 -- and the ranks are all gates
 pub all_unasked : (a b : Circuit) (given : Option Circuit) (p : Paired) (sides : List Placed) → ArePlaced a b given p sides → (S T : Nodes) (n : ℕ) →
     ((one : Placed) → Contains sides one → greatest (map (rank_of one.net) one.net.gates) ≤ n) →
-    IsWithinOrUnasked ((k : ℕ) × (k < n) × AnyAsksIn sides T (k + 1)) S T → IsWithinOrUnasked (AnyAsks a b given p T) S T
-all_unasked a b given p sides placed S T n few w = less_unasked S T (AnyAsks a b given p T) ((k : ℕ) × (k < n) × AnyAsksIn sides T (k + 1)) by w
+    IsWithinOrUnasked (AnyAsksBelow sides T n) S T → IsWithinOrUnasked (AnyAsks a b given p T) S T
+all_unasked a b given p sides placed S T n few w = less_unasked S T (AnyAsks a b given p T) (AnyAsksBelow sides T n) by w
   where
     below : (one : Placed) → Contains sides one → (g : GateLine) → Contains one.net.gates g → (i : ℕ) × (i < n) × (rank_of one.net g ≡ i + 1)
     below one c g among =
@@ -204,10 +210,10 @@ all_unasked a b given p sides placed S T n few w = less_unasked S T (AnyAsks a b
         let most = few one c in
         (rank_of one.net g - 1, omega arith, omega arith)
 
-    of_one : (one : Placed) → Contains sides one → Asks (circuit one.net) (input_level one) T → (k : ℕ) × (k < n) × AnyAsksIn sides T (k + 1)
+    of_one : (one : Placed) → Contains sides one → Asks (circuit one.net) (input_level one) T → AnyAsksBelow sides T n
     of_one one c (g, among, (j, is_asked)) = let d = below one c g among in (d.0, d.1, (j, (one, c, (g, among, d.2, is_asked))))
 
-    by : AnyAsks a b given p T → (k : ℕ) × (k < n) × AnyAsksIn sides T (k + 1)
+    by : AnyAsks a b given p T → AnyAsksBelow sides T n
     by (l, c, asks) =
         let m = of_map levelled_of sides l (subst (λ z. Contains z l) (sym placed.netlists) c) in
         of_one m.0 m.1 (subst (λ (z : Levelled). Asks z.netlist z.level T) (sym m.2) asks)

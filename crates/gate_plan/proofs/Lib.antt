@@ -1,6 +1,7 @@
 pub mod Asked
 pub mod Conjoined
 pub mod Counted
+pub mod Finished
 pub mod Folding
 pub mod Lists
 pub mod Needed

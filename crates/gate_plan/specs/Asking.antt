@@ -53,6 +53,10 @@ AnyAsksAt sides S r j = (one : Placed) × Contains sides one × AsksAt one S r j
 abbrev pub AnyAsksIn : List Placed → Nodes → ℕ → Type 0
 AnyAsksIn sides S r = (j : ℕ) × AnyAsksAt sides S r j
 
+-- and so for some step of the first n ranks
+abbrev pub AnyAsksBelow : List Placed → Nodes → ℕ → Type 0
+AnyAsksBelow sides S n = (k : ℕ) × (k < n) × AnyAsksIn sides S (k + 1)
+
 -- the store `new` is within its limit, or nothing was asked for and it is as it was
 abbrev pub IsWithinOrUnasked : Type 0 → Nodes → Nodes → Type 0
 IsWithinOrUnasked asked old new = (count_of new ≤ new.limit) ⊎ ((asked → ⊥) × (new ≡ old))

@@ -15,7 +15,8 @@ use Rattle.net_bench.specs.Circuit.{Circuit, Net, circuit, variables_of}
 use Rattle.net_bench.specs.Labels.{bit_of, IsLabelling, IsFunctionOf}
 use Rattle.net_order.specs.declared.order.Match.{Match}
 use Rattle.net_order.specs.declared.order.Order.{Order}
-use Rattle.net_order.specs.Order.{Paired, IsPairing, first_level, second_level, given_level}
+use Rattle.net_order.specs.Order.{Paired, IsPairing, condition, first_level, second_level, given_level}
+use Rattle.gate_plan.specs.declared.circuits.Circuits.{Circuits}
 use Rattle.gate_plan.specs.declared.inputs.Which.{Which}
 use Rattle.gate_plan.specs.declared.inputs.Which.TheVariants.{First, Second, Given}
 use Rattle.gate_plan.specs.declared.steps.Step.{Step}
@@ -44,6 +45,17 @@ ranks_of one = length one.plan
 -- how many folds its gates of a rank have
 abbrev pub folds_at : ℕ → Placed → ℕ
 folds_at rank one = plan_folds one.net one.net.gates rank
+
+-- the netlists that are built together: two, and a condition where there is one, over the variables of a pairing
+pub record PairedCircuits : Type 0 where
+  pub first : Circuit
+  pub second : Circuit
+  pub given : Option Circuit
+  pub pairing : Paired
+
+-- these are what `Circuits` has
+abbrev pub circuits_of : Circuits → PairedCircuits
+circuits_of c = record { first = circuit c.first.now; second = circuit c.second.now; given = condition c.given; pairing = c.pairing.now }
 
 -- p is the pairing of the two netlists, with this condition or none, for some way of matching and some order
 abbrev pub IsPaired : Circuit → Circuit → Option Circuit → Paired → Type 0
@@ -76,6 +88,13 @@ levelled a b given p = record { netlist = a; level = first_level p } ∷ record 
 -- a netlist of a pairing without its plan
 abbrev pub levelled_of : Placed → Levelled
 levelled_of one = record { netlist = circuit one.net; level = input_level one }
+
+-- a netlist of a pairing is put at the end of a list, with its plan
+pub record AddsPlaced (old : List Placed) (net : Net) (which : Which) (p : Paired) (new : List Placed) : Type 0 where
+  pub one : Placed
+  pub added : new ≡ old ++ one ∷ []
+  pub is : one ≡ record { net = net; which = which; pairing = p; plan = one.plan }
+  pub plan : IsPlan net one.plan
 
 -- these are the netlists that are built for a pairing, each with its plan
 pub record ArePlaced (a b : Circuit) (given : Option Circuit) (p : Paired) (sides : List Placed) : Type 0 where
@@ -181,6 +200,12 @@ AllRight sides S built rank = Each (λ one refs. AreRight one.net (input_level o
 
 abbrev pub AllFolded : List Placed → Nodes → List (List Ref) → ℕ → ℕ → Type 0
 AllFolded sides S built rank fold = Each (λ one refs. AreFolded one.net (input_level one) S refs rank fold) sides built
+
+-- what a build of these netlists begins with: each with its plan, and references for all signals, those of the first rank's operands right
+pub record IsBeginning (c : PairedCircuits) (S : Nodes) (sides : List Placed) (built : List (List Ref)) : Type 0 where
+  pub placed : ArePlaced c.first c.second c.given c.pairing sides
+  pub variables : (variables : List Ref) × AreVariables S variables
+  pub right : AllRight sides S built 1
 
 -- what the steps of a rank and a fold number ask for, netlist after netlist
 abbrev pub asked : List Placed → List (List Ref) → ℕ → ℕ → List (Op × Ref × Ref)

@@ -2,28 +2,28 @@
 ghost use Rattle.std.specs.Prelude.{◌≡◌, ◌≢◌, ◌+◌, ◌-◌, ◌^◌, ◌<◌, ◌≤◌, Err, [], Contains, length, map, min, IfOk, IfErr, IfSome, OnOk, slice_get, slice_index_or, Some};
 ghost use Rattle.dd_store.specs.Nodes.{IsSound, count_of};
 ghost use Rattle.dd_store.specs.View.{Keeps};
-ghost use Rattle.net_bench.specs.Circuit.{circuit};
-ghost use Rattle.net_order.specs.Order.{condition, first_level, second_level, given_level};
+ghost use Rattle.net_bench.specs.Circuit.{greatest};
+ghost use Rattle.net_order.specs.Order.{first_level, second_level, given_level};
 ghost use Rattle.expand_work.specs.Bounds.{most_of};
 ghost use Rattle.reduce_up.specs.Reducing.{AddsDescribed};
+ghost use Rattle.gate_plan.specs.Folds.{IsVariable};
 ghost use Rattle.gate_plan.specs.Need.{IsCounted};
-ghost use Rattle.gate_plan.specs.Needing.{IsNeeded, IsNeededValue, HasNeed, IsBuildFault, IsPlacedValue};
-ghost use Rattle.gate_plan.specs.Asking.{AnyAsks, AnyAsksAt, AnyAsksIn, IsWithinOrUnasked, IsHeldWithin, IsPast};
+ghost use Rattle.gate_plan.specs.Needing.{IsNeeded, IsNeededValue, HasNeed, IsBuildFault, IsPlacedValue, IsStillWithin};
+ghost use Rattle.gate_plan.specs.Asking.{AnyAsks, AnyAsksAt, AnyAsksIn, AnyAsksBelow, IsWithinOrUnasked, IsHeldWithin, IsPast};
 ghost use Rattle.gate_plan.specs.Plans.{IsPlan};
-ghost use Rattle.gate_plan.specs.Building.{Placed, IsPaired, AreDiagrams, AllRight, AllFolded, levelled, levelled_of};
+ghost use Rattle.gate_plan.specs.Building.{Placed, IsPaired, AreDiagrams, AllRight, AllFolded, IsBeginning, circuits_of, levelled, levelled_of, ranks_of};
 
+use crate::circuits::Circuits;
 use crate::inputs::make_variables;
 use crate::sides::{Diagrams, Side, copy_rank, entries_of, last_rank, most_folds, sides_of, start};
 use dd_store::{Ref, Store};
-use expand_work::{Gate, WaveFault};
+use expand_work::{Crew, Gate, WaveFault};
 use net_bench::netlist::Signal;
-use net_bench::reader::Netlist;
-use net_order::pairing::Pairing;
 use std::alloc::Global;
 use std::marker::Model;
 use std::sync::Wait;
 use std::thread::Threads;
-use wave_engine::{Engine, Workers};
+use wave_engine::Engine;
 
 /// A reference for each signal of two netlists, and of a condition where there is one.
 #[derive(Drop)]
@@ -157,59 +157,117 @@ fn told(number: usize) -> u32
     u32::try_from(number).unwrap_or(u32::MAX)
 }
 
+/// All ranks, one after the other.
+fn build_ranks<R: Threads + Wait + Sync, G: Gate>(
+    engine: &mut Engine<'_, R, G>,
+    store: &mut Store,
+    sides: &[Side<'_>],
+    built: &mut [Diagrams],
+    gate: &G,
+) -> Result<(), WaveFault>
+    requires plans { (one : Placed) → Contains sides.now one → IsPlan one.net one.plan }
+    requires held { IsHeldWithin store.old engine.old.held }
+    requires right { AllRight sides.now store.old built.old 1 }
+    ensures sound { IsSound store.new }
+    ensures adds { AddsDescribed store.old store.new (IsCounted store.old.levels (IsPlacedValue store.old.levels sides.now)) }
+    ensures built { OnOk result (AllRight sides.now store.new built.new (greatest (map ranks_of sides.now) + 1)) }
+    ensures within { OnOk result (IsWithinOrUnasked (AnyAsksBelow sides.now store.new (greatest (map ranks_of sides.now))) store.old store.new) }
+    ensures fault { IfErr result (IsBuildFault store.old.levels (IsPlacedValue store.old.levels sides.now) store.new) }
+    ensures past { result ≡ Err WaveFault.TooManyRequests → IsPast engine.old.bound store.old.levels (map levelled_of sides.now) }
+    ensures alone { most_of engine.old.bound < 2 ^ 64 - 1 → result ≢ Err WaveFault.NoWorker }
+{
+    let _ = store.levels();
+    let ranks = last_rank(sides);
+    for below in 0..ranks {
+        gate.at_rank(told(below + 1), told(ranks), store.count());
+        build_rank(engine, store, sides, built, below + 1)?;
+    }
+    Ok(())
+}
+
+/// All ranks, by an engine of their own.
+fn build_all<R: Threads + Wait + Sync, G: Gate>(
+    crew: &Crew<'_, R, G>,
+    store: &mut Store,
+    sides: &[Side<'_>],
+    built: &mut [Diagrams],
+) -> Result<(), WaveFault>
+    requires plans { (one : Placed) → Contains sides.now one → IsPlan one.net one.plan }
+    requires right { AllRight sides.now store.old built.old 1 }
+    ensures sound { IsSound store.new }
+    ensures adds { AddsDescribed store.old store.new (IsCounted store.old.levels (IsPlacedValue store.old.levels sides.now)) }
+    ensures built { OnOk result (AllRight sides.now store.new built.new (greatest (map ranks_of sides.now) + 1)) }
+    ensures within { OnOk result (IsWithinOrUnasked (AnyAsksBelow sides.now store.new (greatest (map ranks_of sides.now))) store.old store.new) }
+    ensures fault { IfErr result (IsBuildFault store.old.levels (IsPlacedValue store.old.levels sides.now) store.new) }
+    ensures past { result ≡ Err WaveFault.TooManyRequests → IsPast (G.bound crew.now.gate.now) store.old.levels (map levelled_of sides.now) }
+    ensures alone { most_of (G.bound crew.now.gate.now) < 2 ^ 64 - 1 → result ≢ Err WaveFault.NoWorker }
+{
+    let _ = store.levels();
+    let mut engine = Engine::new(crew)?;
+    build_ranks(&mut engine, store, sides, built, crew.gate)
+}
+
+/// What is there before the first rank: the netlists with their plans, and the diagrams of their inputs and registers.
+#[derive(Drop)]
+struct Begun<'a> {
+    sides: Vec<Side<'a>>,
+    built: Vec<Diagrams>,
+}
+
+/// Makes the variables, and what the first rank is built on.
+fn begin<'a>(
+    alloc: Global,
+    store: &mut Store,
+    circuits: &Circuits<'a>,
+) -> Result<Begun<'a>, WaveFault>
+    requires paired { let c = circuits_of circuits.now in IsPaired c.first c.second c.given c.pairing }
+    requires levels { let c = circuits_of circuits.now in store.old.levels ≡ length c.pairing.names }
+    ensures sound { IsSound store.new }
+    ensures adds { AddsDescribed store.old store.new (IsCounted store.old.levels (IsVariable store.old.levels)) }
+    ensures begun { IfOk result (λ b. IsBeginning (circuits_of circuits.now) store.new b.sides.items b.built.items) }
+    ensures within { IsStillWithin store.old store.new }
+    ensures fault { IfErr result (IsBuildFault store.old.levels (IsVariable store.old.levels) store.new) }
+    ensures served { IfErr result (λ e. e ≢ WaveFault.NoWorker) }
+    ensures unbounded { IfErr result (λ e. e ≢ WaveFault.TooManyRequests) }
+{
+    let variables = make_variables(alloc, store)?;
+    let sides = sides_of(alloc, circuits)?;
+    let built = start(alloc, sides.as_slice(), variables.as_slice())?;
+    Ok(Begun { sides, built })
+}
+
 /// Builds the diagrams of all signals of two netlists, and of a condition where there is one, over the variables of their pairing: all
 /// variables in level order, then per rank the copies and one wave for each fold number, of all netlists together. What an earlier wave of
 /// the build was asked for is answered at once while it is held. A wave's requests are expanded by as many threads as there are workers;
 /// NoWorker is answered where one could not be started.
 pub fn build<R: Threads + Wait + Sync, G: Gate>(
-    rt: &R,
-    alloc: Global,
+    crew: &Crew<'_, R, G>,
     store: &mut Store,
-    first: &Netlist,
-    second: &Netlist,
-    given: Option<&Netlist>,
-    pairing: &Pairing,
-    workers: u32,
-    gate: &G,
+    circuits: &Circuits<'_>,
 ) -> Result<Built, WaveFault>
-    requires paired { IsPaired (circuit first.now) (circuit second.now) (condition given) pairing.now }
-    requires levels { store.old.levels ≡ length pairing.now.names }
-    requires some_worker { 1 ≤ workers }
-    requires few_workers { workers ≤ 16 }
+    requires paired { let c = circuits_of circuits.now in IsPaired c.first c.second c.given c.pairing }
+    requires levels { let c = circuits_of circuits.now in store.old.levels ≡ length c.pairing.names }
     ensures sound { IsSound store.new }
     ensures keeps { Keeps store.old store.new }
     // Each signal of the netlists has the diagram of its function.
-    ensures first { IfOk result (λ b. AreDiagrams (circuit first.now) (first_level pairing.now) store.new b.first) }
-    ensures second { IfOk result (λ b. AreDiagrams (circuit second.now) (second_level pairing.now) store.new b.second) }
-    ensures given { IfOk result (λ b. IfSome (condition given.entry) (λ c. AreDiagrams c (given_level pairing.now) store.new b.given)) }
+    ensures first { let c = circuits_of circuits.now in IfOk result (λ b. AreDiagrams c.first (first_level c.pairing) store.new b.first) }
+    ensures second { let c = circuits_of circuits.now in IfOk result (λ b. AreDiagrams c.second (second_level c.pairing) store.new b.second) }
+    ensures given { let c = circuits_of circuits.now in IfOk result (λ b. IfSome c.given (λ holds. AreDiagrams holds (given_level c.pairing) store.new b.given)) }
     // Each node that is added is needed, also where the build is refused.
-    ensures adds { AddsDescribed store.old store.new (IsNeeded (circuit first.now) (circuit second.now) (condition given.entry) pairing.now) }
+    ensures adds { let c = circuits_of circuits.now in AddsDescribed store.old store.new (IsNeeded c.first c.second c.given c.pairing) }
     // A store that is over its limit after a build is as it was, and no step of a gate had to be asked for.
-    ensures within { OnOk result (IsWithinOrUnasked (AnyAsks (circuit first.now) (circuit second.now) (condition given.entry) pairing.now store.new) store.old store.new) }
+    ensures within { let c = circuits_of circuits.now in OnOk result (IsWithinOrUnasked (AnyAsks c.first c.second c.given c.pairing store.new) store.old store.new) }
     // A store without nodes gets the nodes that are needed and no others, within its limit.
-    ensures need { count_of store.old ≡ 0 → OnOk result (HasNeed (circuit first.now) (circuit second.now) (condition given.entry) pairing.now store.new) }
+    ensures need { let c = circuits_of circuits.now in count_of store.old ≡ 0 → OnOk result (HasNeed c.first c.second c.given c.pairing store.new) }
     // Full is answered only where the store has more nodes than its limit, or as many and lacks one that is needed.
-    ensures fault { IfErr result (IsBuildFault (length pairing.now.names) (IsNeededValue (circuit first.now) (circuit second.now) (condition given.entry) pairing.now) store.new) }
+    ensures fault { let c = circuits_of circuits.now in IfErr result (IsBuildFault (length c.pairing.names) (IsNeededValue c.first c.second c.given c.pairing) store.new) }
     // The build is refused for its requests only where one of its waves reaches more than the gate allows.
-    ensures past { result ≡ Err WaveFault.TooManyRequests → IsPast (G.bound gate.now) (length pairing.now.names) (levelled (circuit first.now) (circuit second.now) (condition given.entry) pairing.now) }
+    ensures past { let c = circuits_of circuits.now in result ≡ Err WaveFault.TooManyRequests → IsPast (G.bound crew.now.gate.now) (length c.pairing.names) (levelled c.first c.second c.given c.pairing) }
     // Where the gate sets a bound, no worker is wanted.
-    ensures alone { most_of (G.bound gate.now) < 2 ^ 64 - 1 → result ≢ Err WaveFault.NoWorker }
+    ensures alone { most_of (G.bound crew.now.gate.now) < 2 ^ 64 - 1 → result ≢ Err WaveFault.NoWorker }
 {
-    let variables = make_variables(alloc, store)?;
-    let Ok(sides) = sides_of(alloc, first, second, given, pairing) else {
-        return Err(WaveFault::OutOfMemory);
-    };
-    let sides = sides.as_slice();
-    let Ok(mut list) = start(alloc, sides, variables.as_slice()) else {
-        return Err(WaveFault::OutOfMemory);
-    };
-    let Ok(mut engine) = Engine::new(rt, alloc, Workers::new(workers), gate) else {
-        return Err(WaveFault::OutOfMemory);
-    };
-    let ranks = last_rank(sides);
-    for below in 0..ranks {
-        gate.at_rank(told(below + 1), told(ranks), store.count());
-        build_rank(&mut engine, store, sides, list.as_mut_slice(), below + 1)?;
-    }
-    Ok(Built { list })
+    let begun = begin(crew.alloc, store, circuits)?;
+    let Begun { sides, mut built } = begun;
+    build_all(crew, store, sides.as_slice(), built.as_mut_slice())?;
+    Ok(Built { list: built })
 }

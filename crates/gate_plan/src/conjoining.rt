@@ -9,12 +9,12 @@ ghost use Rattle.wave_engine.specs.Bounds.{AreAtMost, ArePast};
 ghost use Rattle.gate_plan.specs.Conjoining.{AreConjoined, conjunctions};
 
 use dd_store::{Ref, Store};
-use expand_work::{Gate, WaveFault};
-use req_table::Op;
+use expand_work::{Crew, Gate, WaveFault};
+use req_table::{Memo, Op};
 use std::alloc::{AllocError, Global};
 use std::sync::Wait;
 use std::thread::Threads;
-use wave_engine::{Engine, Workers};
+use wave_engine::wave;
 
 /// What the wave is asked for.
 fn conjunctions(
@@ -33,18 +33,13 @@ fn conjunctions(
 
 /// The diagram of each reference and the condition's, by one wave of its own.
 pub fn conjoin<R: Threads + Wait + Sync, G: Gate>(
-    rt: &R,
-    alloc: Global,
+    crew: &Crew<'_, R, G>,
     store: &mut Store,
     references: &[Ref],
     given: Ref,
-    workers: u32,
-    gate: &G,
 ) -> Result<Vec<Ref>, WaveFault>
     requires references { All (Has store.old) references.now }
     requires given { Has store.old given }
-    requires some_worker { 1 ≤ workers }
-    requires few_workers { workers ≤ 16 }
     ensures sound { IsSound store.new }
     // Each reference gets the diagram of what it and the condition's denote together.
     ensures conjoined { IfOk result (λ answers. AreConjoined store.old references.now given store.new answers.items) }
@@ -55,21 +50,14 @@ pub fn conjoin<R: Threads + Wait + Sync, G: Gate>(
     // Full is answered only where the store has more nodes than its limit, or as many and lacks one that is wanted.
     ensures fault { IfErr result (IsWaveFault store.old (conjunctions references.now given) store.new) }
     // The wave is refused for its requests only where it reaches more than the gate allows.
-    ensures past { result ≡ Err WaveFault.TooManyRequests → ArePast (G.bound gate.now) store.old (conjunctions references.now given) }
+    ensures past { result ≡ Err WaveFault.TooManyRequests → ArePast (G.bound crew.now.gate.now) store.old (conjunctions references.now given) }
     // A wave that was done reached no more than the gate allows.
-    ensures within_bound { most_of (G.bound gate.now) < 2 ^ 64 - 1 → OnOk result (AreAtMost (most_of (G.bound gate.now)) store.old (conjunctions references.now given)) }
+    ensures within_bound { most_of (G.bound crew.now.gate.now) < 2 ^ 64 - 1 → OnOk result (AreAtMost (most_of (G.bound crew.now.gate.now)) store.old (conjunctions references.now given)) }
     // Where the gate sets a bound, no worker is wanted.
-    ensures alone { most_of (G.bound gate.now) < 2 ^ 64 - 1 → result ≢ Err WaveFault.NoWorker }
+    ensures alone { most_of (G.bound crew.now.gate.now) < 2 ^ 64 - 1 → result ≢ Err WaveFault.NoWorker }
 {
     let _ = store.levels();
-    let Ok(entries) = conjunctions(alloc, references, given) else {
-        return Err(WaveFault::OutOfMemory);
-    };
-    let Ok(mut engine) = Engine::new(rt, alloc, Workers::new(workers), gate) else {
-        return Err(WaveFault::OutOfMemory);
-    };
-    match engine.wave(store, entries.as_slice()) {
-        Ok(answers) => Ok(answers),
-        Err(fault) => Err(fault),
-    }
+    let entries = conjunctions(crew.alloc, references, given)?;
+    let mut memo = Memo::new(crew.alloc, 1)?;
+    wave(crew, store, &mut memo, entries.as_slice())
 }

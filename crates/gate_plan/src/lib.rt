@@ -2,6 +2,7 @@
 #![tactic(auto)]
 
 mod building;
+mod circuits;
 mod conjoining;
 mod folds;
 mod inputs;
@@ -9,5 +10,6 @@ mod sides;
 mod steps;
 
 pub use building::{Built, build};
+pub use circuits::Circuits;
 pub use conjoining::conjoin;
 pub use steps::{Copied, Plan, Step};

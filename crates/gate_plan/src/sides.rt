@@ -1,10 +1,10 @@
 //! The netlists that are built together, and the references of their signals.
-ghost use Rattle.std.specs.Prelude.{◌≡◌, ◌<◌, ◌≤◌, ℕ, Contains, length, map, IfOk, All};
+ghost use Rattle.std.specs.Prelude.{◌≡◌, ◌<◌, ◌≤◌, ℕ, Contains, length, map, IfOk, OnOk, All};
 ghost use Rattle.net_bench.specs.Circuit.{circuit, greatest, variables_of};
-ghost use Rattle.net_order.specs.Order.{condition};
 ghost use Rattle.gate_plan.specs.Plans.{IsPlan, plan_steps, plan_copies, plan_folds};
-ghost use Rattle.gate_plan.specs.Building.{Placed, ranks_of, folds_at, input_level, AreInputs, ArePlaced, AreCopied, Each, IsCopyBelow, IsStepBelow, answered_all, asked, copied_all};
+ghost use Rattle.gate_plan.specs.Building.{Placed, circuits_of, ranks_of, folds_at, input_level, AddsPlaced, AreInputs, ArePlaced, AreCopied, Each, IsCopyBelow, IsStepBelow, answered_all, asked, copied_all};
 
+use crate::circuits::Circuits;
 use crate::folds::{add_entries, copy_all, take_answers};
 use crate::inputs::{Which, input_references};
 use crate::steps::{Copied, Plan, Step};
@@ -148,22 +148,31 @@ impl<'a> Side<'a> {
     }
 }
 
-/// The netlists of a pairing, each with the plan of its gates: the first, the second, and the condition where there is one.
-pub fn sides_of<'a>(
+/// Puts a netlist of a pairing at the end, with the plan of its gates.
+fn add_side<'a>(
     alloc: Global,
-    first: &'a Netlist,
-    second: &'a Netlist,
-    given: Option<&'a Netlist>,
+    sides: &mut Vec<Side<'a>>,
+    netlist: &'a Netlist,
     pairing: &'a Pairing,
-) -> Result<Vec<Side<'a>>, AllocError>
-    ensures { IfOk result (λ sides. ArePlaced (circuit first.entry.now) (circuit second.entry.now) (condition given.entry) pairing.entry.now sides.items) }
+    which: Which,
+) -> Result<(), AllocError>
+    ensures { OnOk result (AddsPlaced sides.old.items netlist.entry.now which pairing.entry.now sides.new.items) }
 {
+    let side = Side::new(alloc, netlist, pairing, which)?;
+    sides.push(side)?;
+    Ok(())
+}
+
+/// The netlists of a pairing, each with the plan of its gates: the first, the second, and the condition where there is one.
+pub fn sides_of<'a>(alloc: Global, circuits: &Circuits<'a>) -> Result<Vec<Side<'a>>, AllocError>
+    ensures { let c = circuits_of circuits.now in IfOk result (λ sides. ArePlaced c.first c.second c.given c.pairing sides.items) }
+{
+    let pairing = circuits.pairing;
     let mut sides = Vec::new(alloc);
-    sides.push(Side::new(alloc, first, pairing, Which::First)?)?;
-    sides.push(Side::new(alloc, second, pairing, Which::Second)?)?;
-    match given {
-        None => {}
-        Some(given) => sides.push(Side::new(alloc, given, pairing, Which::Given)?)?,
+    add_side(alloc, &mut sides, circuits.first, pairing, Which::First)?;
+    add_side(alloc, &mut sides, circuits.second, pairing, Which::Second)?;
+    if let Some(given) = circuits.given {
+        add_side(alloc, &mut sides, given, pairing, Which::Given)?;
     }
     Ok(sides)
 }

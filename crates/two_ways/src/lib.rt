@@ -9,12 +9,12 @@ ghost use Rattle.req_table.specs.Memos.{IsRight};
 ghost use Rattle.reduce_up.specs.Waves.{IsEntry, entry_value};
 
 use dd_store::{Ref, Store};
-use expand_work::{Free, WaveFault};
+use expand_work::{Crew, Free, WaveFault, Workers};
 use req_table::Op;
 use std::alloc::Global;
 use std::sync::Wait;
 use std::thread::Threads;
-use wave_engine::{Engine, Workers};
+use wave_engine::Engine;
 
 /// The diagrams of two operations, by one wave. What references denote stays.
 #[tactic(auto, using(dd_store::proofs::View::kept_den))]
@@ -51,7 +51,13 @@ pub fn two_ways<R: Threads + Wait + Sync>(
     requires g { Has store.old g }
     ensures same { IfOk result (λ r. r.0 ≡ r.1) }
 {
-    let mut engine = Engine::new(rt, alloc, Workers::new(1), &Free)?;
+    let crew = Crew {
+        rt,
+        alloc,
+        workers: Workers::new(1),
+        gate: &Free,
+    };
+    let mut engine = Engine::new(&crew)?;
     let (not_f, not_g) = both(&mut engine, store, (Op::Nand, f, f), (Op::Nand, g, g))?;
     let ways = both(&mut engine, store, (Op::Or, f, g), (Op::Nand, not_f, not_g))?;
     let _ = store.levels();

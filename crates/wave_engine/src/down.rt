@@ -83,39 +83,47 @@ fn expand_level(
     Ok(())
 }
 
-/// Expands level after level, of those that have requests, and stops before the first with more than so many: all levels
-/// before the one that is answered are expanded. Where the levels that it comes to have more than `bound` together, it refuses.
+/// How far the caller's thread goes down.
+#[derive(Clone, Copy, Drop)]
+pub(crate) struct Limits {
+    /// The most requests that one level may have.
+    pub(crate) level: usize,
+    /// The most requests that all levels together may have, where they are bounded.
+    pub(crate) wave: usize,
+}
+
+/// Expands level after level, of those that have requests, and stops before the first with more than its limit: all levels
+/// before the one that is answered are expanded. Where the levels that it comes to have more than the wave's limit together, it refuses.
 pub(crate) fn expand(
     store: &Store,
     entries: &[(Op, Ref, Ref)],
     requests: &mut Requests,
     rows: &mut Vec<Row>,
     roots: &[Placed],
-    most: usize,
-    bound: usize,
+    limits: Limits,
 ) -> Result<u16, WaveFault>
     requires start { AreExpanded store.now entries.now roots.now 0 requests.old rows.old.items }
     ensures bound { IfOk result (λ v. v ≤ store.now.levels) }
     ensures expanded { IfOk result (λ v. AreExpanded store.now entries.now roots.now v requests.new rows.new.items) }
-    ensures wide { IfOk result (λ v. v < store.now.levels → most < length (row requests.new v)) }
-    ensures alone { most ≡ 2 ^ 64 - 1 → IfOk result (λ v. v ≡ store.now.levels) }
+    ensures wide { IfOk result (λ v. v < store.now.levels → limits.level < length (row requests.new v)) }
+    ensures alone { limits.level ≡ 2 ^ 64 - 1 → IfOk result (λ v. v ≡ store.now.levels) }
     ensures refused { IfErr result (λ e. e ≢ WaveFault.Full) }
     ensures served { IfErr result (λ e. e ≢ WaveFault.NoWorker) }
-    ensures bounded { result ≡ Err WaveFault.TooManyRequests → bound < 2 ^ 64 - 1 }
-    ensures past { result ≡ Err WaveFault.TooManyRequests → AreMoreThan bound store.now entries.now }
-    ensures within_bound { bound < 2 ^ 64 - 1 → IfOk result (λ v. v ≡ store.now.levels → AreAtMost bound store.now entries.now) }
+    ensures bounded { result ≡ Err WaveFault.TooManyRequests → limits.wave < 2 ^ 64 - 1 }
+    ensures past { result ≡ Err WaveFault.TooManyRequests → AreMoreThan limits.wave store.now entries.now }
+    ensures within_bound { limits.wave < 2 ^ 64 - 1 → IfOk result (λ v. v ≡ store.now.levels → AreAtMost limits.wave store.now entries.now) }
 {
     let _ = entries.len();
     let _ = roots.len();
     let levels = store.levels();
     let mut level = 0;
-    let mut left = bound;
+    let mut left = limits.wave;
     while let Some(next) = requests.next_level(level) {
         let count = requests.count(next);
-        if bound < usize::MAX && count > left {
+        if limits.wave < usize::MAX && count > left {
             return Err(WaveFault::TooManyRequests);
         }
-        if count > most {
+        if count > limits.level {
             return Ok(next);
         }
         left = left.saturating_sub(count);

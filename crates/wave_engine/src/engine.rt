@@ -9,7 +9,7 @@ ghost use Rattle.wave_engine.specs.Bounds.{AreAtMost, ArePast};
 
 use crate::workspace::Workspace;
 use dd_store::{Ref, Store};
-use expand_work::{Gate, WaveFault, Workers};
+use expand_work::{Crew, Gate, WaveFault};
 use reduce_up::Sought;
 use req_table::{Memo, Op};
 use std::alloc::{AllocError, Global};
@@ -29,12 +29,12 @@ pub(crate) struct Runner<'a, R, G> {
 
 impl<'a, R: Threads + Wait + Sync, G: Gate> Runner<'a, R, G> {
     /// A runner that has done no wave. It takes no memory yet.
-    pub(crate) fn new(rt: &'a R, alloc: Global, workers: Workers, gate: &'a G) -> Self
-        ensures gate { result.workspace.crew.gate.now ≡ gate.now }
+    pub(crate) fn new(crew: &'a Crew<'a, R, G>) -> Self
+        ensures gate { result.workspace.crew.now.gate.now ≡ crew.entry.now.gate.now }
     {
         Runner {
-            workspace: Workspace::new(rt, alloc, workers, gate),
-            sought: Sought::new(alloc),
+            workspace: Workspace::new(crew),
+            sought: Sought::new(crew.alloc),
         }
     }
 
@@ -48,10 +48,10 @@ impl<'a, R: Threads + Wait + Sync, G: Gate> Runner<'a, R, G> {
         requires operands { All (IsEntry store.old) entries.now }
         requires right { IsRight store.old memo.old }
         ensures wave { AnswersWave store.old entries.now (unknown memo.old entries.now) result store.new }
-        ensures past { result ≡ Err WaveFault.TooManyRequests → ArePast (G.bound self.old.workspace.crew.gate.now) store.old (unknown memo.old entries.now) }
-        ensures within_bound { most_of (G.bound self.old.workspace.crew.gate.now) < 2 ^ 64 - 1 → OnOk result (AreAtMost (most_of (G.bound self.old.workspace.crew.gate.now)) store.old (unknown memo.old entries.now)) }
-        ensures alone { most_of (G.bound self.old.workspace.crew.gate.now) < 2 ^ 64 - 1 → result ≢ Err WaveFault.NoWorker }
-        ensures gate { self.new.workspace.crew.gate ≡ self.old.workspace.crew.gate }
+        ensures past { result ≡ Err WaveFault.TooManyRequests → ArePast (G.bound self.old.workspace.crew.now.gate.now) store.old (unknown memo.old entries.now) }
+        ensures within_bound { most_of (G.bound self.old.workspace.crew.now.gate.now) < 2 ^ 64 - 1 → OnOk result (AreAtMost (most_of (G.bound self.old.workspace.crew.now.gate.now)) store.old (unknown memo.old entries.now)) }
+        ensures alone { most_of (G.bound self.old.workspace.crew.now.gate.now) < 2 ^ 64 - 1 → result ≢ Err WaveFault.NoWorker }
+        ensures gate { self.new.workspace.crew.now.gate ≡ self.old.workspace.crew.now.gate }
         ensures kept { IfOk result (λ answers. IsKeptWave memo.old entries.now answers.items memo.new) }
         ensures refused { OnErr result (memo.new ≡ memo.old) }
         ensures right { IsRight store.new memo.new }
@@ -81,19 +81,20 @@ impl<'a, R, G: Gate> Model for Engine<'a, R, G> {
 
     ghost Value = { AtRest };
 
-    ghost view = { λ e. record { held = e.memo; bound = G.bound e.runner.workspace.crew.gate.now } };
+    ghost view = { λ e. record { held = e.memo; bound = G.bound e.runner.workspace.crew.now.gate.now } };
 }
 
 impl<'a, R: Threads + Wait + Sync, G: Gate> Engine<'a, R, G> {
     /// An engine that has done no wave.
-    pub fn new(rt: &'a R, alloc: Global, workers: Workers, gate: &'a G) -> Result<Self, AllocError>
+    pub fn new(crew: &'a Crew<'a, R, G>) -> Result<Self, AllocError>
         ensures empty { IfOk result (λ e. e.held.pairs ≡ []) }
         ensures right { IfOk result (λ e. (S : Nodes) → IsRight S e.held) }
-        ensures bound { IfOk result (λ e. e.bound ≡ G.bound gate.now) }
+        ensures bound { IfOk result (λ e. e.bound ≡ G.bound crew.entry.now.gate.now) }
     {
+        let memo = Memo::new(crew.alloc, CAPACITY)?;
         Ok(Engine {
-            runner: Runner::new(rt, alloc, workers, gate),
-            memo: Memo::new(alloc, CAPACITY)?,
+            runner: Runner::new(crew),
+            memo,
         })
     }
 

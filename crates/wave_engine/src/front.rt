@@ -18,6 +18,13 @@ use std::sync::Wait;
 use std::thread::Threads;
 
 /// The requests from a level on.
+#[derive(Drop)]
+pub(crate) struct Frontier<'a> {
+    pub(crate) requests: &'a Requests,
+    pub(crate) from: u16,
+}
+
+/// The requests from a level on, in one list.
 fn frontier_of(alloc: Global, requests: &Requests, from: u16) -> Result<Vec<Key>, AllocError>
     requires { from ≤ length requests.now }
     ensures { IfOk result (λ ks. ks.items ≡ keys_from from requests.now) }
@@ -74,25 +81,24 @@ pub(crate) fn hand_over<R: Threads + Wait + Sync, G: Gate>(
     rooms: &mut Rooms,
     store: &mut Store,
     entries: &[(Op, Ref, Ref)],
-    requests: &Requests,
+    frontier: &Frontier<'_>,
     answers: &mut Vec<Answers>,
-    from: u16,
 ) -> Result<usize, WaveFault>
     requires operands { All (IsEntry store.old) entries.now }
-    requires admitted { AreAdmitted store.old entries.now requests.now }
-    requires bound { from ≤ store.old.levels }
+    requires admitted { AreAdmitted store.old entries.now frontier.now.requests.now }
+    requires bound { frontier.now.from ≤ store.old.levels }
     requires levels { length answers.old.items ≡ store.old.levels }
     ensures sound { IsSound store.new }
     ensures adds { AddsDescribed store.old store.new (IsWanted store.old entries.now) }
-    ensures reduced { OnOk result (AreReducedBelow store.new entries.now requests.now from store.new answers.new.items) }
-    ensures within { OnOk result (IsWithinBelow store.old requests.now from store.new) }
+    ensures reduced { OnOk result (AreReducedBelow store.new entries.now frontier.now.requests.now frontier.now.from store.new answers.new.items) }
+    ensures within { OnOk result (IsWithinBelow store.old frontier.now.requests.now frontier.now.from store.new) }
     ensures fault { IfErr result (λ e. IsWaveFault store.old entries.now store.new e) }
     ensures unbounded { IfErr result (λ e. e ≢ WaveFault.TooManyRequests) }
-    ensures idle { from ≡ store.old.levels → result ≢ Err WaveFault.NoWorker }
+    ensures idle { frontier.now.from ≡ store.old.levels → result ≢ Err WaveFault.NoWorker }
 {
     let _ = store.levels();
     let _ = entries.len();
-    let Ok(front) = frontier_of(crew.alloc, requests, from) else {
+    let Ok(front) = frontier_of(crew.alloc, frontier.requests, frontier.from) else {
         return Err(WaveFault::OutOfMemory);
     };
     let asked = front.as_slice();
@@ -103,7 +109,7 @@ pub(crate) fn hand_over<R: Threads + Wait + Sync, G: Gate>(
         Ok(found) => found,
         Err(fault) => return Err(fault),
     };
-    match put_answers(answers, requests, from, found.as_slice()) {
+    match put_answers(answers, frontier.requests, frontier.from, found.as_slice()) {
         Ok(()) => Ok(rooms.requests()),
         Err(_) => Err(WaveFault::OutOfMemory),
     }

@@ -13,5 +13,4 @@ mod waves;
 mod workspace;
 
 pub use engine::Engine;
-pub use expand_work::Workers;
 pub use waves::wave;

@@ -9,33 +9,28 @@ ghost use Rattle.wave_engine.specs.Bounds.{AreAtMost, ArePast};
 
 use crate::engine::Runner;
 use dd_store::{Ref, Store};
-use expand_work::{Gate, WaveFault, Workers};
+use expand_work::{Crew, Gate, WaveFault};
 use req_table::{Memo, Op};
-use std::alloc::Global;
 use std::sync::Wait;
 use std::thread::Threads;
 
 /// The diagram of each operation on its two operands, as an engine does it with a memo of its own: what has a short answer or is
 /// held in the memo is answered at once, and the memo then keeps the other entries with their answers.
 pub fn wave<R: Threads + Wait + Sync, G: Gate>(
-    rt: &R,
-    alloc: Global,
+    crew: &Crew<'_, R, G>,
     store: &mut Store,
     memo: &mut Memo,
     entries: &[(Op, Ref, Ref)],
-    workers: u32,
-    gate: &G,
 ) -> Result<Vec<Ref>, WaveFault>
     requires operands { All (IsEntry store.old) entries.now }
-    requires workers { (0 < workers) × (workers ≤ 16) }
     requires right { IsRight store.old memo.old }
     ensures wave { AnswersWave store.old entries.now (unknown memo.old entries.now) result store.new }
-    ensures past { result ≡ Err WaveFault.TooManyRequests → ArePast (G.bound gate.now) store.old (unknown memo.old entries.now) }
-    ensures within_bound { most_of (G.bound gate.now) < 2 ^ 64 - 1 → OnOk result (AreAtMost (most_of (G.bound gate.now)) store.old (unknown memo.old entries.now)) }
-    ensures alone { most_of (G.bound gate.now) < 2 ^ 64 - 1 → result ≢ Err WaveFault.NoWorker }
+    ensures past { result ≡ Err WaveFault.TooManyRequests → ArePast (G.bound crew.now.gate.now) store.old (unknown memo.old entries.now) }
+    ensures within_bound { most_of (G.bound crew.now.gate.now) < 2 ^ 64 - 1 → OnOk result (AreAtMost (most_of (G.bound crew.now.gate.now)) store.old (unknown memo.old entries.now)) }
+    ensures alone { most_of (G.bound crew.now.gate.now) < 2 ^ 64 - 1 → result ≢ Err WaveFault.NoWorker }
     ensures kept { IfOk result (λ answers. IsKeptWave memo.old entries.now answers.items memo.new) }
     ensures refused { OnErr result (memo.new ≡ memo.old) }
     ensures right { IsRight store.new memo.new }
 {
-    Runner::new(rt, alloc, Workers::new(workers), gate).wave(store, memo, entries)
+    Runner::new(crew).wave(store, memo, entries)
 }

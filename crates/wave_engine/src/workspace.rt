@@ -9,14 +9,14 @@ ghost use Rattle.wave_engine.specs.Bounds.{AreMoreThan, AreAtMost, ArePast};
 ghost use Rattle.wave_engine.specs.Down.{IsDown};
 ghost use Rattle.wave_engine.specs.Up.{ComesTo};
 
-use crate::down::{expand, place_roots};
-use crate::front::hand_over;
+use crate::down::{Limits, expand, place_roots};
+use crate::front::{Frontier, hand_over};
 use crate::lists::{Answers, Row};
 use crate::requests::Requests;
 use crate::sizes::Sizes;
 use crate::up::{reduce, resolve};
 use dd_store::{Ref, Store};
-use expand_work::{Crew, Gate, WaveFault, Workers};
+use expand_work::{Crew, Gate, WaveFault};
 use reduce_up::Rooms;
 use req_table::{Op, Placed};
 use std::alloc::{AllocError, Global};
@@ -62,25 +62,24 @@ fn fit_answers(alloc: Global, answers: &mut Vec<Answers>, levels: u16) -> Result
     Ok(())
 }
 
-/// Places and expands what the entries ask for, down to the first level with more than so many requests. It refuses where they are
-/// more than `bound` in all.
+/// Places and expands what the entries ask for, down to the first level with more requests than its limit. It refuses where they are
+/// more than the wave's limit in all.
 fn go_down(
     alloc: Global,
     store: &Store,
     entries: &[(Op, Ref, Ref)],
     down: &mut Down,
     answers: &mut Vec<Answers>,
-    most: usize,
-    bound: usize,
+    limits: Limits,
 ) -> Result<u16, WaveFault>
     requires operands { All (IsEntry store.now) entries.now }
     ensures down { IfOk result (λ v. IsDown store.now entries.now v down.new.requests down.new.rows.items down.new.roots.items answers.new.items) }
-    ensures alone { most ≡ 2 ^ 64 - 1 → IfOk result (λ v. v ≡ store.now.levels) }
+    ensures alone { limits.level ≡ 2 ^ 64 - 1 → IfOk result (λ v. v ≡ store.now.levels) }
     ensures refused { IfErr result (λ e. e ≢ WaveFault.Full) }
     ensures served { IfErr result (λ e. e ≢ WaveFault.NoWorker) }
-    ensures bounded { result ≡ Err WaveFault.TooManyRequests → bound < 2 ^ 64 - 1 }
-    ensures past { result ≡ Err WaveFault.TooManyRequests → AreMoreThan bound store.now entries.now }
-    ensures within_bound { bound < 2 ^ 64 - 1 → IfOk result (λ v. v ≡ store.now.levels → AreAtMost bound store.now entries.now) }
+    ensures bounded { result ≡ Err WaveFault.TooManyRequests → limits.wave < 2 ^ 64 - 1 }
+    ensures past { result ≡ Err WaveFault.TooManyRequests → AreMoreThan limits.wave store.now entries.now }
+    ensures within_bound { limits.wave < 2 ^ 64 - 1 → IfOk result (λ v. v ≡ store.now.levels → AreAtMost limits.wave store.now entries.now) }
 {
     let levels = store.levels();
     down.requests.restart(alloc, levels)?;
@@ -94,8 +93,7 @@ fn go_down(
         &mut down.requests,
         &mut down.rows,
         down.roots.as_slice(),
-        most,
-        bound,
+        limits,
     )
 }
 
@@ -135,7 +133,7 @@ fn root_answers(
 /// are called in; no answer depends on an earlier wave.
 #[derive(Drop)]
 pub(crate) struct Workspace<'a, R, G> {
-    pub(crate) crew: Crew<'a, R, G>,
+    pub(crate) crew: &'a Crew<'a, R, G>,
     down: Down,
     answers: Vec<Answers>,
     /// The memory of the workers.
@@ -146,16 +144,12 @@ pub(crate) struct Workspace<'a, R, G> {
 
 impl<'a, R: Threads + Wait + Sync, G: Gate> Workspace<'a, R, G> {
     /// A workspace that has done no wave. It takes no memory yet.
-    pub(crate) fn new(rt: &'a R, alloc: Global, workers: Workers, gate: &'a G) -> Self
-        ensures gate { result.crew.gate.now ≡ gate.now }
+    pub(crate) fn new(crew: &'a Crew<'a, R, G>) -> Self
+        ensures gate { result.crew.now.gate.now ≡ crew.entry.now.gate.now }
     {
+        let alloc = crew.alloc;
         Workspace {
-            crew: Crew {
-                rt,
-                alloc,
-                workers,
-                gate,
-            },
+            crew,
             down: Down {
                 requests: Requests::new(alloc),
                 rows: Vec::new(alloc),
@@ -185,36 +179,37 @@ impl<'a, R: Threads + Wait + Sync, G: Gate> Workspace<'a, R, G> {
     ) -> Result<Vec<Ref>, WaveFault>
         requires operands { All (IsEntry store.old) entries.now }
         ensures wave { AnswersWave store.old entries.now entries.now result store.new }
-        ensures past { result ≡ Err WaveFault.TooManyRequests → ArePast (G.bound self.old.crew.gate.now) store.old entries.now }
-        ensures within_bound { most_of (G.bound self.old.crew.gate.now) < 2 ^ 64 - 1 → OnOk result (AreAtMost (most_of (G.bound self.old.crew.gate.now)) store.old entries.now) }
-        ensures alone { most_of (G.bound self.old.crew.gate.now) < 2 ^ 64 - 1 → result ≢ Err WaveFault.NoWorker }
-        ensures gate { self.new.crew.gate ≡ self.old.crew.gate }
+        ensures past { result ≡ Err WaveFault.TooManyRequests → ArePast (G.bound self.old.crew.now.gate.now) store.old entries.now }
+        ensures within_bound { most_of (G.bound self.old.crew.now.gate.now) < 2 ^ 64 - 1 → OnOk result (AreAtMost (most_of (G.bound self.old.crew.now.gate.now)) store.old entries.now) }
+        ensures alone { most_of (G.bound self.old.crew.now.gate.now) < 2 ^ 64 - 1 → result ≢ Err WaveFault.NoWorker }
+        ensures gate { self.new.crew.now.gate ≡ self.old.crew.now.gate }
     {
         let _ = store.levels();
         let alloc = self.crew.alloc;
-        let most = self.crew.most_alone(self.sizes.expected());
-        let bound = self.crew.gate.most_requests();
-        let from = match go_down(
+        let limits = Limits {
+            level: self.crew.most_alone(self.sizes.expected()),
+            wave: self.crew.gate.most_requests(),
+        };
+        let from = go_down(
             alloc,
             store,
             entries,
             &mut self.down,
             &mut self.answers,
-            most,
-            bound,
-        ) {
-            Ok(from) => from,
-            Err(fault) => return Err(fault),
-        };
+            limits,
+        )?;
         let alone = tell_requests(self.crew.gate, &self.down.requests, from);
+        let frontier = Frontier {
+            requests: &self.down.requests,
+            from,
+        };
         let shared = hand_over(
-            &self.crew,
+            self.crew,
             &mut self.rooms,
             store,
             entries,
-            &self.down.requests,
+            &frontier,
             &mut self.answers,
-            from,
         )?;
         self.sizes = self.sizes.then(alone.saturating_add(shared));
         reduce(store, entries, &self.down, &mut self.answers, from)?;

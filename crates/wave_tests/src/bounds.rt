@@ -1,7 +1,7 @@
 //! Waves whose requests are bounded.
 ghost use Rattle.std.specs.Prelude.{Option, Some, ℕ};
 
-use crate::waves::{Way, entries_of, run, start};
+use crate::waves::{Way, crew_of, entries_of, run, start};
 use dd_store::{Store, Watch};
 use expand_work::{Gate, WaveFault};
 use req_table::{Memo, Op};
@@ -72,7 +72,8 @@ fn within<R: Threads + Wait + Abort + Sync>(
     let before = store.count();
     let mut memo = Memo::new(alloc, 1)?;
     let entries = entries.as_slice();
-    let answers = wave(rt, alloc, &mut store, &mut memo, entries, 4, &gate);
+    let crew = crew_of(rt, alloc, 4, &gate);
+    let answers = wave(&crew, &mut store, &mut memo, entries);
     Ok(Seen {
         fault: answers.err(),
         told: gate.told.load(Ordering::SeqCst),

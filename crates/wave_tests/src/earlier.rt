@@ -1,7 +1,7 @@
 //! Waves of one engine, whose workers are called in by how large the waves before were.
 ghost use Rattle.std.specs.Prelude.{◌<◌, ◌≤◌};
 
-use crate::waves::start;
+use crate::waves::{crew_of, start};
 use crate::wide::{pairs, products, sums};
 use crate::widths::run_engine;
 use dd_store::{Store, Watch};
@@ -13,7 +13,7 @@ use std::sync::Wait;
 use std::sync::atomic::{AtomicBool, Ordering};
 use std::test::Fail;
 use std::thread::Threads;
-use wave_engine::{Engine, Workers};
+use wave_engine::Engine;
 
 /// Calls in workers as `Free` does, and hears whether any were.
 #[derive(Drop)]
@@ -72,7 +72,8 @@ fn call_in<R: Threads + Wait + Abort + Sync>(
     let gate = Heard {
         called: AtomicBool::new(false),
     };
-    let mut engine = Engine::new(rt, alloc, Workers::new(workers), &gate)?;
+    let crew = crew_of(rt, alloc, workers, &gate);
+    let mut engine = Engine::new(&crew)?;
     let mut store = Store::new(alloc, 66, 1_000_000)?;
     let mut known = start(rt, alloc, &mut store);
     let factors = products(rt, alloc, 66);

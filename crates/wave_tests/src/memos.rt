@@ -6,10 +6,10 @@ ghost use Rattle.req_table.specs.Memos.{IsRight};
 ghost use Rattle.reduce_up.specs.Waves.{IsEntry};
 
 use crate::plans::{C17, read};
-use crate::waves::{Narrow, WAYS, Way};
+use crate::waves::{Narrow, WAYS, Way, crew_of};
 use dd_store::{Ref, Store};
 use expand_work::{Free, WaveFault};
-use gate_plan::build;
+use gate_plan::{Circuits, build};
 use net_order::order::{Match, Order};
 use net_order::pairing::pair;
 use reduce_up::wave_one;
@@ -51,8 +51,15 @@ fn ask<R: Threads + Wait + Sync>(
 {
     let answers = match way {
         Way::Alone(choices) => wave_one(rt, alloc, store, memo, &[entry], 2, choices)?,
-        Way::Threads => wave(rt, alloc, store, memo, &[entry], 2, &Free)?,
-        Way::Upto(most) => wave(rt, alloc, store, memo, &[entry], 2, &Narrow::new(most))?,
+        Way::Threads => {
+            let crew = crew_of(rt, alloc, 2, &Free);
+            wave(&crew, store, memo, &[entry])?
+        }
+        Way::Upto(most) => {
+            let gate = Narrow::new(most);
+            let crew = crew_of(rt, alloc, 2, &gate);
+            wave(&crew, store, memo, &[entry])?
+        }
     };
     Ok(answers[0])
 }
@@ -209,9 +216,14 @@ fn told<R: Abort + Threads + Wait + Sync>(
     let pairing = pair(alloc, &first, &second, None, Match::Name, &Order::Declared)?;
     let mut store = Store::new(alloc, pairing.names().len() as u16, 100)?;
     let gate = Narrow::new(0);
-    build(
-        rt, alloc, &mut store, &first, &second, None, &pairing, 2, &gate,
-    )?;
+    let crew = crew_of(rt, alloc, 2, &gate);
+    let circuits = Circuits {
+        first: &first,
+        second: &second,
+        given: None,
+        pairing: &pairing,
+    };
+    build(&crew, &mut store, &circuits)?;
     assert_eq!(rt; store.count(), 13);
     Ok(gate.told.load(Ordering::SeqCst))
 }

@@ -4,9 +4,10 @@ ghost use Rattle.net_bench.specs.Circuit.{circuit};
 ghost use Rattle.gate_plan.specs.Building.{AreDiagrams};
 ghost use Rattle.net_order.specs.Order.{first_level, second_level};
 
+use crate::waves::crew_of;
 use dd_store::{Ref, Store};
 use expand_work::{Free, WaveFault};
-use gate_plan::{Built, Plan, build};
+use gate_plan::{Built, Circuits, Plan, build};
 use net_bench::netlist::Signal;
 use net_bench::reader::{Netlist, parse_bench};
 use net_order::order::{Match, Order};
@@ -185,18 +186,21 @@ fn compare_builds<R: Abort + Threads + Wait + Sync>(
     let pairing = pair(alloc, first, second, None, Match::Name, &Order::Declared)?;
     let levels = pairing.names().len() as u16;
     let mut store = Store::new(alloc, levels, need)?;
-    let built = build(
-        rt, alloc, &mut store, first, second, None, &pairing, workers, &Free,
-    )?;
+    let crew = crew_of(rt, alloc, workers, &Free);
+    let circuits = Circuits {
+        first,
+        second,
+        given: None,
+        pairing: &pairing,
+    };
+    let built = build(&crew, &mut store, &circuits)?;
     assert_eq!(rt; store.count(), need);
     let equal = diagrams(rt, &store, first, second, &pairing, &built, "22");
     assert_eq!(rt; equal.0, equal.1);
     let other = diagrams(rt, &store, first, second, &pairing, &built, "23");
     assert_eq!(rt; other.0 == other.1, same);
     let mut small = Store::new(alloc, levels, need - 1)?;
-    let refused = build(
-        rt, alloc, &mut small, first, second, None, &pairing, workers, &Free,
-    );
+    let refused = build(&crew, &mut small, &circuits);
     assert_eq!(rt; refused.err(), Some(WaveFault::Full));
     Ok(())
 }
@@ -232,9 +236,14 @@ fn copies_with_marks(rt: HostRuntime) -> Result<(), Fail> {
         &Order::Declared,
     )?;
     let mut store = Store::new(alloc, pairing.names().len() as u16, 1)?;
-    let built = build(
-        &rt, alloc, &mut store, &netlist, &netlist, None, &pairing, 2, &Free,
-    )?;
+    let crew = crew_of(&rt, alloc, 2, &Free);
+    let circuits = Circuits {
+        first: &netlist,
+        second: &netlist,
+        given: None,
+        pairing: &pairing,
+    };
+    let built = build(&crew, &mut store, &circuits)?;
     assert_eq!(rt; store.count(), 1);
     let (a, _) = diagrams(&rt, &store, &netlist, &netlist, &pairing, &built, "a");
     for (name, mark) in [

@@ -8,7 +8,7 @@ ghost use Rattle.reduce_up.specs.Reducing.{HasAnswer};
 ghost use Rattle.reduce_up.specs.Waves.{IsEntry, IsClosureOf};
 
 use dd_store::{Ref, Store, Watch};
-use expand_work::{Free, Gate, WaveFault};
+use expand_work::{Crew, Free, Gate, WaveFault, Workers};
 use gate_plan::conjoin;
 use reduce_up::law::closures_are_records;
 use reduce_up::{Results, reduce, wave_one};
@@ -139,6 +139,23 @@ pub(crate) fn entries_of<R: Abort>(
     entries
 }
 
+/// A crew of so many workers.
+pub(crate) fn crew_of<'a, R, G>(
+    rt: &'a R,
+    alloc: Global,
+    workers: u32,
+    gate: &'a G,
+) -> Crew<'a, R, G>
+    requires { (0 < workers) × (workers ≤ 16) }
+{
+    Crew {
+        rt,
+        alloc,
+        workers: Workers::new(workers),
+        gate,
+    }
+}
+
 /// The answers of a wave that knows of no earlier one.
 fn answers_of<R: Threads + Wait + Sync>(
     rt: &R,
@@ -156,10 +173,14 @@ fn answers_of<R: Threads + Wait + Sync>(
     let mut memo = Memo::new(alloc, 8)?;
     match way {
         Way::Alone(choices) => wave_one(rt, alloc, store, &mut memo, entries, workers, choices),
-        Way::Threads => wave(rt, alloc, store, &mut memo, entries, workers, &Free),
+        Way::Threads => {
+            let crew = crew_of(rt, alloc, workers, &Free);
+            wave(&crew, store, &mut memo, entries)
+        }
         Way::Upto(most) => {
             let gate = Narrow::new(most);
-            wave(rt, alloc, store, &mut memo, entries, workers, &gate)
+            let crew = crew_of(rt, alloc, workers, &gate);
+            wave(&crew, store, &mut memo, entries)
         }
     }
 }
@@ -289,15 +310,8 @@ fn conjoined(rt: HostRuntime) -> Result<(), Fail> {
         let mut store = Store::new(rt.alloc(), 2, 4)?;
         let known = start(&rt, rt.alloc(), &mut store);
         let b = known_at(&rt, &store, known.as_slice(), B);
-        let answers = conjoin(
-            &rt,
-            rt.alloc(),
-            &mut store,
-            known.as_slice(),
-            b,
-            workers,
-            &Free,
-        )?;
+        let crew = crew_of(&rt, rt.alloc(), workers, &Free);
+        let answers = conjoin(&crew, &mut store, known.as_slice(), b)?;
         let both = node(&rt, &store, 0, Ref::FALSE, b);
         assert_eq!(rt; answers.as_slice(), [Ref::FALSE, b, both, b].as_slice());
     }

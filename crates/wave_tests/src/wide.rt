@@ -1,7 +1,7 @@
 //! A level with so many records that several threads share it.
 ghost use Rattle.std.specs.Prelude.{◌≤◌};
 
-use crate::waves::{Step, Way, entries_of, node, run, start};
+use crate::waves::{Step, Way, crew_of, entries_of, node, run, start};
 use dd_store::{Ref, Store, Watch};
 use expand_work::{Gate, WaveFault};
 use req_table::{Memo, Op};
@@ -167,15 +167,8 @@ fn told_shards<R: Threads + Wait + Abort + Sync>(
         elsewhere: AtomicBool::new(false),
     };
     let mut memo = Memo::new(alloc, 1)?;
-    let answers = wave(
-        rt,
-        alloc,
-        &mut store,
-        &mut memo,
-        entries.as_slice(),
-        2,
-        &gate,
-    );
+    let crew = crew_of(rt, alloc, 2, &gate);
+    let answers = wave(&crew, &mut store, &mut memo, entries.as_slice());
     assert!(rt; answers.is_ok());
     Ok((
         gate.counts.load(Ordering::SeqCst),
@@ -251,15 +244,8 @@ fn four_at_shards(rt: HostRuntime) -> Result<(), Fail> {
         missed: AtomicBool::new(false),
     };
     let mut memo = Memo::new(alloc, 1)?;
-    let answers = wave(
-        &rt,
-        alloc,
-        &mut store,
-        &mut memo,
-        entries.as_slice(),
-        1,
-        &gate,
-    );
+    let crew = crew_of(&rt, alloc, 1, &gate);
+    let answers = wave(&crew, &mut store, &mut memo, entries.as_slice());
     assert!(rt; answers.is_ok());
     assert!(rt; gate.met.load(Ordering::SeqCst));
     Ok(())

@@ -4,7 +4,7 @@ ghost use Rattle.dd_store.specs.View.{Has, Keeps};
 ghost use Rattle.req_table.specs.Memos.{IsRight};
 ghost use Rattle.reduce_up.specs.Waves.{IsEntry};
 
-use crate::waves::{Step, Way, entries_of, run, start};
+use crate::waves::{Step, Way, crew_of, entries_of, run, start};
 use dd_store::{Ref, Store, Watch};
 use expand_work::{Gate, WaveFault};
 use req_table::Op;
@@ -14,7 +14,7 @@ use std::sync::Wait;
 use std::sync::atomic::{AtomicU32, Ordering};
 use std::test::Fail;
 use std::thread::Threads;
-use wave_engine::{Engine, Workers};
+use wave_engine::Engine;
 
 /// No level has more requests.
 const NEVER: u32 = u32::MAX;
@@ -166,7 +166,8 @@ fn widths(rt: HostRuntime) -> Result<(), Fail> {
             most: AtomicU32::new(0),
             told: AtomicU32::new(0),
         };
-        let mut engine = Engine::new(&rt, rt.alloc(), Workers::new(workers), &gate)?;
+        let crew = crew_of(&rt, rt.alloc(), workers, &gate);
+        let mut engine = Engine::new(&crew)?;
         let mut refused = false;
         for seed in 0..12 {
             for limit in [10_000, 40] {

@@ -167,7 +167,13 @@ fn two_at_a_level(rt: HostRuntime) -> Result<(), Fail> {
     let gate = AtFirst(Meeting::of(2));
     let entries = two_entries(&rt, &store);
     let mut memo = Memo::new(rt.alloc(), 2)?;
-    let answers = wave(&rt, rt.alloc(), &mut store, &mut memo, &entries, 2, &gate)?;
+    let crew = Crew {
+        rt: &rt,
+        alloc: rt.alloc(),
+        workers: Workers::new(2),
+        gate: &gate,
+    };
+    let answers = wave(&crew, &mut store, &mut memo, &entries)?;
     assert!(rt; gate.0.met());
     let first = store.find(0, Ref::FALSE, entries[0].2);
     let last = store.find(2, Ref::FALSE, entries[1].2);

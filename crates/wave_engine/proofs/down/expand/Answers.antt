@@ -7,11 +7,11 @@ use Rattle.wave_engine.specs.Places.{IsNextLevel}
 use Rattle.wave_engine.specs.Down.{AreExpanded}
 use Rattle.wave_engine.proofs.Placing.{level_more, levels_passed}
 use Rattle.wave_engine.proofs.Counting.{more_counted, too_many, all_counted}
-use Rattle.wave_engine.proofs.down.expand.Goals.{else-bound-lt18446744073709551615-via-then-bound-lt18446744073709551615+else-count-left, else-bound-lt18446744073709551615-via-else-bound-lt18446744073709551615}
+use Rattle.wave_engine.proofs.down.expand.Goals.{else-limits-lt18446744073709551615-via-then-limits-lt18446744073709551615+else-count-left, else-limits-lt18446744073709551615-via-else-limits-lt18446744073709551615}
 use Rattle.wave_engine.proofs.down.expand.Goals as goal
 
-pub returns-then-count-most-clause-expanded : goal.returns-then-count-most-clause-expanded
-returns-then-count-most-clause-expanded c =
+pub returns-then-count-limits-clause-expanded : goal.returns-then-count-limits-clause-expanded
+returns-then-count-limits-clause-expanded c =
     let S : Nodes = c.args.store.now in
     let es : List Entry = c.args.entries.now in
     let ps : List Placed = c.args.roots.now in
@@ -30,7 +30,7 @@ returns-then-count-left-clause-past c = λ _.
     let T : List (List Key) = c.loop-next.requests in
     let next : ℕ = c.in-Some.next in
     let h : IsNextLevel T c.loop-next.level (Some next) = c.in-Some.ensures in
-    too_many S es T c.loop-next.invariant.expanded.admitted c.args.bound c.loop-next.left c.loop-next.level (c.loop-next.invariant.counted c.if-bound-lt18446744073709551615.true) next h.0 c.count-count.ensures.once
+    too_many S es T c.loop-next.invariant.expanded.admitted c.args.limits.wave c.loop-next.left c.loop-next.level (c.loop-next.invariant.counted c.if-limits-lt18446744073709551615.true) next h.0 c.count-count.ensures.once
     c.count-count.result c.count-count.ensures.value c.if-count-left.true
 
 pub overflow_add-level : goal.overflow_add-level
@@ -61,13 +61,13 @@ loop-next-preserved c =
     record {
       bound = omega (arith, fit);
       few = c.loop-next.invariant.few;
-      counted = λ bounded. elim c.else-bound-lt18446744073709551615.branch [
-        | else-bound-lt18446744073709551615-via-then-bound-lt18446744073709551615+else-count-left w ↦
+      counted = λ bounded. elim c.else-limits-lt18446744073709551615.branch [
+        | else-limits-lt18446744073709551615-via-then-limits-lt18446744073709551615+else-count-left w ↦
             let fits : c.count-count.result ≤ c.loop-next.left = let over = w.if-count-left.false in grind (arith, over) in
             let left : c.saturating_sub-left.result ≡ c.loop-next.left - c.count-count.result = c.saturating_sub-left.ensures in
-            more_counted S es T e.admitted c.args.bound c.loop-next.left c.loop-next.level (c.loop-next.invariant.counted bounded) next h.0 c.count-count.ensures.once h.3
+            more_counted S es T e.admitted c.args.limits.wave c.loop-next.left c.loop-next.level (c.loop-next.invariant.counted bounded) next h.0 c.count-count.ensures.once h.3
             c.expand_level.new.requests c.in_ok-expand_level.ensures.expanded.above c.count-count.result c.saturating_sub-left.result c.count-count.ensures.value (omega (arith, fits, left))
-        | else-bound-lt18446744073709551615-via-else-bound-lt18446744073709551615 w ↦ absurd (let free = w.if-bound-lt18446744073709551615.false in grind (arith, free, bounded))
+        | else-limits-lt18446744073709551615-via-else-limits-lt18446744073709551615 w ↦ absurd (let free = w.if-limits-lt18446744073709551615.false in grind (arith, free, bounded))
       ];
       expanded = level_more S es ps next T rows fit e c.expand_level.new.requests c.expand_level.new.pairs c.in_ok-expand_level.ensures.expanded;
     }
@@ -89,4 +89,4 @@ returns-clause-within_bound c = λ bounded same.
     let T : List (List Key) = c.loop-next.requests in
     let rows : List (List (Placed × Placed)) = c.loop-next.rows.items in
     let e : AreExpanded S es ps S.levels T rows = levels_passed S es ps c.loop-next.level S.levels T rows c.loop-next.invariant.expanded (λ w q k le lt h. c.in_default.ensures w q k le h) in
-    all_counted S es ps T rows e c.args.bound c.loop-next.left c.loop-next.level (c.loop-next.invariant.counted bounded) c.in_default.ensures
+    all_counted S es ps T rows e c.args.limits.wave c.loop-next.left c.loop-next.level (c.loop-next.invariant.counted bounded) c.in_default.ensures

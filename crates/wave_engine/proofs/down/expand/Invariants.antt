@@ -7,7 +7,7 @@ abbrev pub invariant-loop-next : goal.invariant-loop-next
 invariant-loop-next l = record {
   bound : l.level ≤ l.store.levels;
   few : l.store.levels < 2 ^ 16;
-  counted : l.bound < 2 ^ 64 - 1 → IsCounted l.store l.entries l.requests l.bound l.left l.level;
+  counted : l.limits.wave < 2 ^ 64 - 1 → IsCounted l.store l.entries l.requests l.limits.wave l.left l.level;
   expanded : AreExpanded l.store l.entries l.roots l.level l.requests l.rows.items;
 }
 

@@ -12,69 +12,69 @@ use Rattle.wave_engine.proofs.front.hand_over.Goals as goal
 
 pub returns-then-is_empty-clause-reduced : goal.returns-then-is_empty-clause-reduced
 returns-then-is_empty-clause-reduced g c =
-    let front : c.in-Ok.front.items ≡ keys_from c.args.from c.args.requests.now = c.in-Ok.ensures in
-    let none : keys_from c.args.from c.args.requests.now ≡ [] = front_none (keys_from c.args.from c.args.requests.now) (let z : (length c.as_slice-asked.result.now == 0) ≡ true = sym c.is_empty.ensures ∙ c.if-is_empty.true in let l : length c.as_slice-asked.result.now ≡ 0 = grind (arith, nat_tests, z) in sym (ap length (c.as_slice-asked.ensures.value ∙ front)) ∙ l) in
-    none_over c.args.store.now c.levels.ensures.sound c.args.entries.now c.requires.operands c.args.requests.now c.requires.admitted c.args.from none c.args.answers.now.items c.requires.levels
+    let front : c.in-Ok.front.items ≡ keys_from c.args.frontier.now.from c.args.frontier.now.requests.now = c.in-Ok.ensures in
+    let none : keys_from c.args.frontier.now.from c.args.frontier.now.requests.now ≡ [] = front_none (keys_from c.args.frontier.now.from c.args.frontier.now.requests.now) (let z : (length c.as_slice-asked.result.now == 0) ≡ true = sym c.is_empty.ensures ∙ c.if-is_empty.true in let l : length c.as_slice-asked.result.now ≡ 0 = grind (arith, nat_tests, z) in sym (ap length (c.as_slice-asked.ensures.value ∙ front)) ∙ l) in
+    none_over c.args.store.now c.levels.ensures.sound c.args.entries.now c.requires.operands c.args.frontier.now.requests.now c.requires.admitted c.args.frontier.now.from none c.args.answers.now.items c.requires.levels
 
 pub returns-then-is_empty-clause-within : goal.returns-then-is_empty-clause-within
 returns-then-is_empty-clause-within g c =
-    let front : c.in-Ok.front.items ≡ keys_from c.args.from c.args.requests.now = c.in-Ok.ensures in
-    let none : keys_from c.args.from c.args.requests.now ≡ [] = front_none (keys_from c.args.from c.args.requests.now) (let z : (length c.as_slice-asked.result.now == 0) ≡ true = sym c.is_empty.ensures ∙ c.if-is_empty.true in let l : length c.as_slice-asked.result.now ≡ 0 = grind (arith, nat_tests, z) in sym (ap length (c.as_slice-asked.ensures.value ∙ front)) ∙ l) in
-    none_within c.args.store.now c.levels.ensures.sound c.args.entries.now c.requires.operands c.args.requests.now c.requires.admitted c.args.from none
+    let front : c.in-Ok.front.items ≡ keys_from c.args.frontier.now.from c.args.frontier.now.requests.now = c.in-Ok.ensures in
+    let none : keys_from c.args.frontier.now.from c.args.frontier.now.requests.now ≡ [] = front_none (keys_from c.args.frontier.now.from c.args.frontier.now.requests.now) (let z : (length c.as_slice-asked.result.now == 0) ≡ true = sym c.is_empty.ensures ∙ c.if-is_empty.true in let l : length c.as_slice-asked.result.now ≡ 0 = grind (arith, nat_tests, z) in sym (ap length (c.as_slice-asked.ensures.value ∙ front)) ∙ l) in
+    none_within c.args.store.now c.levels.ensures.sound c.args.entries.now c.requires.operands c.args.frontier.now.requests.now c.requires.admitted c.args.frontier.now.from none
 
 pub shared_wave-requires-clause-roots : goal.shared_wave-requires-clause-roots
 shared_wave-requires-clause-roots g c κs within =
     let slice = c.as_slice-asked.ensures.value ∙ c.in-Ok.ensures in
-    subst (All (IsKey c.args.store.now)) (sym slice) (front_keys c.args.store.now c.levels.ensures.sound c.args.entries.now c.requires.operands c.args.requests.now c.requires.admitted c.args.from)
+    subst (All (IsKey c.args.store.now)) (sym slice) (front_keys c.args.store.now c.levels.ensures.sound c.args.entries.now c.requires.operands c.args.frontier.now.requests.now c.requires.admitted c.args.frontier.now.from)
 
 pub returns-in-Err-clause-adds : goal.returns-in-Err-clause-adds
 returns-in-Err-clause-adds g c =
-    let front : c.in-Ok.front.items ≡ keys_from c.args.from c.args.requests.now = c.in-Ok.ensures in
-    let slice : entries_for c.as_slice-asked.result.now ≡ entries_for (keys_from c.args.from c.args.requests.now) = ap entries_for (c.as_slice-asked.ensures.value ∙ front) in
-    over_adds c.args.store.now c.levels.ensures.sound c.args.entries.now c.requires.operands c.args.requests.now c.requires.admitted c.args.from c.shared_wave.new.store c.shared_wave.ensures.wave.sound (subst (λ (z : List Entry). AddsDescribed c.args.store.now c.shared_wave.new.store (IsWanted c.args.store.now z)) slice c.shared_wave.ensures.wave.adds)
+    let front : c.in-Ok.front.items ≡ keys_from c.args.frontier.now.from c.args.frontier.now.requests.now = c.in-Ok.ensures in
+    let slice : entries_for c.as_slice-asked.result.now ≡ entries_for (keys_from c.args.frontier.now.from c.args.frontier.now.requests.now) = ap entries_for (c.as_slice-asked.ensures.value ∙ front) in
+    over_adds c.args.store.now c.levels.ensures.sound c.args.entries.now c.requires.operands c.args.frontier.now.requests.now c.requires.admitted c.args.frontier.now.from c.shared_wave.new.store c.shared_wave.ensures.wave.sound (subst (λ (z : List Entry). AddsDescribed c.args.store.now c.shared_wave.new.store (IsWanted c.args.store.now z)) slice c.shared_wave.ensures.wave.adds)
 
 pub returns-in-Ok-put_answers-clause-adds : goal.returns-in-Ok-put_answers-clause-adds
 returns-in-Ok-put_answers-clause-adds g c =
-    let front : c.in-Ok.front.items ≡ keys_from c.args.from c.args.requests.now = c.in-Ok.ensures in
-    let slice : entries_for c.as_slice-asked.result.now ≡ entries_for (keys_from c.args.from c.args.requests.now) = ap entries_for (c.as_slice-asked.ensures.value ∙ front) in
-    over_adds c.args.store.now c.levels.ensures.sound c.args.entries.now c.requires.operands c.args.requests.now c.requires.admitted c.args.from c.shared_wave.new.store c.shared_wave.ensures.wave.sound (subst (λ (z : List Entry). AddsDescribed c.args.store.now c.shared_wave.new.store (IsWanted c.args.store.now z)) slice c.shared_wave.ensures.wave.adds)
+    let front : c.in-Ok.front.items ≡ keys_from c.args.frontier.now.from c.args.frontier.now.requests.now = c.in-Ok.ensures in
+    let slice : entries_for c.as_slice-asked.result.now ≡ entries_for (keys_from c.args.frontier.now.from c.args.frontier.now.requests.now) = ap entries_for (c.as_slice-asked.ensures.value ∙ front) in
+    over_adds c.args.store.now c.levels.ensures.sound c.args.entries.now c.requires.operands c.args.frontier.now.requests.now c.requires.admitted c.args.frontier.now.from c.shared_wave.new.store c.shared_wave.ensures.wave.sound (subst (λ (z : List Entry). AddsDescribed c.args.store.now c.shared_wave.new.store (IsWanted c.args.store.now z)) slice c.shared_wave.ensures.wave.adds)
 
 pub returns-clause-adds : goal.returns-clause-adds
 returns-clause-adds g c =
-    let front : c.in-Ok.front.items ≡ keys_from c.args.from c.args.requests.now = c.in-Ok.ensures in
-    let slice : entries_for c.as_slice-asked.result.now ≡ entries_for (keys_from c.args.from c.args.requests.now) = ap entries_for (c.as_slice-asked.ensures.value ∙ front) in
-    over_adds c.args.store.now c.levels.ensures.sound c.args.entries.now c.requires.operands c.args.requests.now c.requires.admitted c.args.from c.shared_wave.new.store c.shared_wave.ensures.wave.sound (subst (λ (z : List Entry). AddsDescribed c.args.store.now c.shared_wave.new.store (IsWanted c.args.store.now z)) slice c.shared_wave.ensures.wave.adds)
+    let front : c.in-Ok.front.items ≡ keys_from c.args.frontier.now.from c.args.frontier.now.requests.now = c.in-Ok.ensures in
+    let slice : entries_for c.as_slice-asked.result.now ≡ entries_for (keys_from c.args.frontier.now.from c.args.frontier.now.requests.now) = ap entries_for (c.as_slice-asked.ensures.value ∙ front) in
+    over_adds c.args.store.now c.levels.ensures.sound c.args.entries.now c.requires.operands c.args.frontier.now.requests.now c.requires.admitted c.args.frontier.now.from c.shared_wave.new.store c.shared_wave.ensures.wave.sound (subst (λ (z : List Entry). AddsDescribed c.args.store.now c.shared_wave.new.store (IsWanted c.args.store.now z)) slice c.shared_wave.ensures.wave.adds)
 
 pub returns-in-Err-clause-fault : goal.returns-in-Err-clause-fault
 returns-in-Err-clause-fault g c =
-    let front : c.in-Ok.front.items ≡ keys_from c.args.from c.args.requests.now = c.in-Ok.ensures in
-    let slice : entries_for c.as_slice-asked.result.now ≡ entries_for (keys_from c.args.from c.args.requests.now) = ap entries_for (c.as_slice-asked.ensures.value ∙ front) in
-    let adds : AddsDescribed c.args.store.now c.shared_wave.new.store (IsWanted c.args.store.now (entries_for (keys_from c.args.from c.args.requests.now))) = subst (λ (z : List Entry). AddsDescribed c.args.store.now c.shared_wave.new.store (IsWanted c.args.store.now z)) slice c.shared_wave.ensures.wave.adds in
-    over_fault c.args.store.now c.levels.ensures.sound c.args.entries.now c.requires.operands c.args.requests.now c.requires.admitted c.args.from c.shared_wave.new.store c.shared_wave.ensures.wave.sound adds c.in-Err.fault (subst (λ (z : List Entry). IsWaveFault c.args.store.now z c.shared_wave.new.store c.in-Err.fault) slice c.in-Err.ensures.wave.fault)
+    let front : c.in-Ok.front.items ≡ keys_from c.args.frontier.now.from c.args.frontier.now.requests.now = c.in-Ok.ensures in
+    let slice : entries_for c.as_slice-asked.result.now ≡ entries_for (keys_from c.args.frontier.now.from c.args.frontier.now.requests.now) = ap entries_for (c.as_slice-asked.ensures.value ∙ front) in
+    let adds : AddsDescribed c.args.store.now c.shared_wave.new.store (IsWanted c.args.store.now (entries_for (keys_from c.args.frontier.now.from c.args.frontier.now.requests.now))) = subst (λ (z : List Entry). AddsDescribed c.args.store.now c.shared_wave.new.store (IsWanted c.args.store.now z)) slice c.shared_wave.ensures.wave.adds in
+    over_fault c.args.store.now c.levels.ensures.sound c.args.entries.now c.requires.operands c.args.frontier.now.requests.now c.requires.admitted c.args.frontier.now.from c.shared_wave.new.store c.shared_wave.ensures.wave.sound adds c.in-Err.fault (subst (λ (z : List Entry). IsWaveFault c.args.store.now z c.shared_wave.new.store c.in-Err.fault) slice c.in-Err.ensures.wave.fault)
 
 pub put_answers-requires-clause-all : goal.put_answers-requires-clause-all
 put_answers-requires-clause-all g c =
-    let front : c.in-Ok.front.items ≡ keys_from c.args.from c.args.requests.now = c.in-Ok.ensures in
-    let slice : entries_for c.as_slice-asked.result.now ≡ entries_for (keys_from c.args.from c.args.requests.now) = ap entries_for (c.as_slice-asked.ensures.value ∙ front) in
-    let answers : AnswersEach c.args.store.now (entries_for (keys_from c.args.from c.args.requests.now)) c.shared_wave.new.store c.in-Ok-shared_wave.found.items = subst (λ (z : List Entry). AnswersEach c.args.store.now z c.shared_wave.new.store c.in-Ok-shared_wave.found.items) slice c.in-Ok-shared_wave.ensures.wave.answers in
-    ap length c.as_slice.ensures.value ∙ zip_length (λ e r. IsDiagram c.shared_wave.new.store r (entry_value c.args.store.now e)) (keys_from c.args.from c.args.requests.now) c.in-Ok-shared_wave.found.items answers
+    let front : c.in-Ok.front.items ≡ keys_from c.args.frontier.now.from c.args.frontier.now.requests.now = c.in-Ok.ensures in
+    let slice : entries_for c.as_slice-asked.result.now ≡ entries_for (keys_from c.args.frontier.now.from c.args.frontier.now.requests.now) = ap entries_for (c.as_slice-asked.ensures.value ∙ front) in
+    let answers : AnswersEach c.args.store.now (entries_for (keys_from c.args.frontier.now.from c.args.frontier.now.requests.now)) c.shared_wave.new.store c.in-Ok-shared_wave.found.items = subst (λ (z : List Entry). AnswersEach c.args.store.now z c.shared_wave.new.store c.in-Ok-shared_wave.found.items) slice c.in-Ok-shared_wave.ensures.wave.answers in
+    ap length c.as_slice.ensures.value ∙ zip_length (λ e r. IsDiagram c.shared_wave.new.store r (entry_value c.args.store.now e)) (keys_from c.args.frontier.now.from c.args.frontier.now.requests.now) c.in-Ok-shared_wave.found.items answers
 
 pub returns-in-Ok-put_answers-clause-reduced : goal.returns-in-Ok-put_answers-clause-reduced
 returns-in-Ok-put_answers-clause-reduced g c =
-    let front : c.in-Ok.front.items ≡ keys_from c.args.from c.args.requests.now = c.in-Ok.ensures in
-    let slice : entries_for c.as_slice-asked.result.now ≡ entries_for (keys_from c.args.from c.args.requests.now) = ap entries_for (c.as_slice-asked.ensures.value ∙ front) in
-    let adds : AddsDescribed c.args.store.now c.shared_wave.new.store (IsWanted c.args.store.now (entries_for (keys_from c.args.from c.args.requests.now))) = subst (λ (z : List Entry). AddsDescribed c.args.store.now c.shared_wave.new.store (IsWanted c.args.store.now z)) slice c.shared_wave.ensures.wave.adds in
-    let some : keys_from c.args.from c.args.requests.now ≡ [] → ⊥ = λ e. (let z : (length c.as_slice-asked.result.now == 0) ≡ false = sym c.is_empty.ensures ∙ c.if-is_empty.false in let l : length c.as_slice-asked.result.now ≡ 0 = ap length (c.as_slice-asked.ensures.value ∙ front ∙ e) in grind (arith, nat_tests, z, l)) in
-    let within : count_of c.shared_wave.new.store ≤ c.shared_wave.new.store.limit = over_within c.args.store.now c.levels.ensures.sound c.args.entries.now c.requires.operands c.args.requests.now c.requires.admitted c.args.from c.shared_wave.new.store c.shared_wave.ensures.wave.sound adds some (subst (λ (z : List Entry). IsWithinLimit c.args.store.now z c.shared_wave.new.store) slice c.in-Ok-shared_wave.ensures.wave.within) in
-    let answers : AnswersEach c.args.store.now (entries_for (keys_from c.args.from c.args.requests.now)) c.shared_wave.new.store c.in-Ok-shared_wave.found.items = subst (λ (z : List Entry). AnswersEach c.args.store.now z c.shared_wave.new.store c.in-Ok-shared_wave.found.items) slice c.in-Ok-shared_wave.ensures.wave.answers in
-    let put : ArePut c.args.requests.now c.args.from c.in-Ok-shared_wave.found.items (length c.args.requests.now) c.put_answers.new.answers.items = subst (λ (z : List Ref). ArePut c.args.requests.now c.args.from z (length c.args.requests.now) c.put_answers.new.answers.items) c.as_slice.ensures.value c.in-Ok-put_answers.ensures in
-    over_reduced c.args.store.now c.levels.ensures.sound c.args.entries.now c.requires.operands c.args.requests.now c.requires.admitted c.args.from c.shared_wave.new.store c.shared_wave.ensures.wave.sound adds c.in-Ok-shared_wave.found.items c.put_answers.new.answers.items answers put within
+    let front : c.in-Ok.front.items ≡ keys_from c.args.frontier.now.from c.args.frontier.now.requests.now = c.in-Ok.ensures in
+    let slice : entries_for c.as_slice-asked.result.now ≡ entries_for (keys_from c.args.frontier.now.from c.args.frontier.now.requests.now) = ap entries_for (c.as_slice-asked.ensures.value ∙ front) in
+    let adds : AddsDescribed c.args.store.now c.shared_wave.new.store (IsWanted c.args.store.now (entries_for (keys_from c.args.frontier.now.from c.args.frontier.now.requests.now))) = subst (λ (z : List Entry). AddsDescribed c.args.store.now c.shared_wave.new.store (IsWanted c.args.store.now z)) slice c.shared_wave.ensures.wave.adds in
+    let some : keys_from c.args.frontier.now.from c.args.frontier.now.requests.now ≡ [] → ⊥ = λ e. (let z : (length c.as_slice-asked.result.now == 0) ≡ false = sym c.is_empty.ensures ∙ c.if-is_empty.false in let l : length c.as_slice-asked.result.now ≡ 0 = ap length (c.as_slice-asked.ensures.value ∙ front ∙ e) in grind (arith, nat_tests, z, l)) in
+    let within : count_of c.shared_wave.new.store ≤ c.shared_wave.new.store.limit = over_within c.args.store.now c.levels.ensures.sound c.args.entries.now c.requires.operands c.args.frontier.now.requests.now c.requires.admitted c.args.frontier.now.from c.shared_wave.new.store c.shared_wave.ensures.wave.sound adds some (subst (λ (z : List Entry). IsWithinLimit c.args.store.now z c.shared_wave.new.store) slice c.in-Ok-shared_wave.ensures.wave.within) in
+    let answers : AnswersEach c.args.store.now (entries_for (keys_from c.args.frontier.now.from c.args.frontier.now.requests.now)) c.shared_wave.new.store c.in-Ok-shared_wave.found.items = subst (λ (z : List Entry). AnswersEach c.args.store.now z c.shared_wave.new.store c.in-Ok-shared_wave.found.items) slice c.in-Ok-shared_wave.ensures.wave.answers in
+    let put : ArePut c.args.frontier.now.requests.now c.args.frontier.now.from c.in-Ok-shared_wave.found.items (length c.args.frontier.now.requests.now) c.put_answers.new.answers.items = subst (λ (z : List Ref). ArePut c.args.frontier.now.requests.now c.args.frontier.now.from z (length c.args.frontier.now.requests.now) c.put_answers.new.answers.items) c.as_slice.ensures.value c.in-Ok-put_answers.ensures in
+    over_reduced c.args.store.now c.levels.ensures.sound c.args.entries.now c.requires.operands c.args.frontier.now.requests.now c.requires.admitted c.args.frontier.now.from c.shared_wave.new.store c.shared_wave.ensures.wave.sound adds c.in-Ok-shared_wave.found.items c.put_answers.new.answers.items answers put within
 
 pub returns-in-Ok-put_answers-clause-within : goal.returns-in-Ok-put_answers-clause-within
 returns-in-Ok-put_answers-clause-within g c =
-    let front : c.in-Ok.front.items ≡ keys_from c.args.from c.args.requests.now = c.in-Ok.ensures in
-    let slice : entries_for c.as_slice-asked.result.now ≡ entries_for (keys_from c.args.from c.args.requests.now) = ap entries_for (c.as_slice-asked.ensures.value ∙ front) in
-    let adds : AddsDescribed c.args.store.now c.shared_wave.new.store (IsWanted c.args.store.now (entries_for (keys_from c.args.from c.args.requests.now))) = subst (λ (z : List Entry). AddsDescribed c.args.store.now c.shared_wave.new.store (IsWanted c.args.store.now z)) slice c.shared_wave.ensures.wave.adds in
-    let some : keys_from c.args.from c.args.requests.now ≡ [] → ⊥ = λ e. (let z : (length c.as_slice-asked.result.now == 0) ≡ false = sym c.is_empty.ensures ∙ c.if-is_empty.false in let l : length c.as_slice-asked.result.now ≡ 0 = ap length (c.as_slice-asked.ensures.value ∙ front ∙ e) in grind (arith, nat_tests, z, l)) in
-    let within : count_of c.shared_wave.new.store ≤ c.shared_wave.new.store.limit = over_within c.args.store.now c.levels.ensures.sound c.args.entries.now c.requires.operands c.args.requests.now c.requires.admitted c.args.from c.shared_wave.new.store c.shared_wave.ensures.wave.sound adds some (subst (λ (z : List Entry). IsWithinLimit c.args.store.now z c.shared_wave.new.store) slice c.in-Ok-shared_wave.ensures.wave.within) in
+    let front : c.in-Ok.front.items ≡ keys_from c.args.frontier.now.from c.args.frontier.now.requests.now = c.in-Ok.ensures in
+    let slice : entries_for c.as_slice-asked.result.now ≡ entries_for (keys_from c.args.frontier.now.from c.args.frontier.now.requests.now) = ap entries_for (c.as_slice-asked.ensures.value ∙ front) in
+    let adds : AddsDescribed c.args.store.now c.shared_wave.new.store (IsWanted c.args.store.now (entries_for (keys_from c.args.frontier.now.from c.args.frontier.now.requests.now))) = subst (λ (z : List Entry). AddsDescribed c.args.store.now c.shared_wave.new.store (IsWanted c.args.store.now z)) slice c.shared_wave.ensures.wave.adds in
+    let some : keys_from c.args.frontier.now.from c.args.frontier.now.requests.now ≡ [] → ⊥ = λ e. (let z : (length c.as_slice-asked.result.now == 0) ≡ false = sym c.is_empty.ensures ∙ c.if-is_empty.false in let l : length c.as_slice-asked.result.now ≡ 0 = ap length (c.as_slice-asked.ensures.value ∙ front ∙ e) in grind (arith, nat_tests, z, l)) in
+    let within : count_of c.shared_wave.new.store ≤ c.shared_wave.new.store.limit = over_within c.args.store.now c.levels.ensures.sound c.args.entries.now c.requires.operands c.args.frontier.now.requests.now c.requires.admitted c.args.frontier.now.from c.shared_wave.new.store c.shared_wave.ensures.wave.sound adds some (subst (λ (z : List Entry). IsWithinLimit c.args.store.now z c.shared_wave.new.store) slice c.in-Ok-shared_wave.ensures.wave.within) in
     inl within

@@ -1,0 +1,43 @@
+use Rattle.std.proofs.Common.{refl, inr, arith, ◌∙◌, ◌≡◌, ◌+◌, map, subst}
+use Rattle.net_bench.specs.Circuit.{greatest}
+use Rattle.gate_plan.specs.Building.{AllRight, ranks_of}
+use Rattle.gate_plan.specs.Need.{IsCounted}
+use Rattle.gate_plan.specs.Needing.{IsPlacedValue}
+use Rattle.gate_plan.specs.Asking.{AnyAsksIn, AnyAsksBelow, IsWithinOrUnasked}
+use Rattle.gate_plan.proofs.Asked.{none_unasked, next_unasked}
+use Rattle.gate_plan.proofs.Counted.{adds_same, adds_next}
+use Rattle.gate_plan.proofs.building.build_ranks.Goals as goal
+
+pub loop-below-init : goal.loop-below-init
+loop-below-init g c = record {
+  sound = c.levels.ensures.sound;
+  adds = adds_same c.args.store.now c.args.store.now (IsCounted c.args.store.now.levels (IsPlacedValue c.args.store.now.levels c.args.sides.now)) refl;
+  held = c.requires.held;
+  bound = refl;
+  within = none_unasked c.args.store.now c.args.store.now (λ k. AnyAsksIn c.args.sides.now c.args.store.now (k + 1)) (inr refl);
+  right = c.requires.right;
+}
+
+pub returns-in_err-build_rank-clause-adds : goal.returns-in_err-build_rank-clause-adds
+returns-in_err-build_rank-clause-adds g c =
+    adds_next c.args.store.now c.loop-below.store c.build_rank.new.store (λ n. IsPlacedValue n c.args.sides.now) c.loop-below.invariant.sound c.loop-below.invariant.adds c.build_rank.ensures.adds
+
+pub loop-below-preserved : goal.loop-below-preserved
+loop-below-preserved g c = record {
+  sound = c.build_rank.ensures.sound;
+  adds = adds_next c.args.store.now c.loop-below.store c.build_rank.new.store (λ n. IsPlacedValue n c.args.sides.now) c.loop-below.invariant.sound c.loop-below.invariant.adds c.build_rank.ensures.adds;
+  held = c.in_ok-build_rank.ensures.held;
+  bound = c.build_rank.ensures.bound ∙ c.loop-below.invariant.bound;
+  within = next_unasked c.args.store.now c.loop-below.store c.build_rank.new.store (λ S k. AnyAsksIn c.args.sides.now S (k + 1)) c.loop-below.below c.loop-below.invariant.within c.in_ok-build_rank.ensures.within;
+  right = c.in_ok-build_rank.ensures.next;
+}
+
+pub returns-clause-built : goal.returns-clause-built
+returns-clause-built g c =
+    let all : c.loop-below.below ≡ greatest (map ranks_of c.args.sides.now) = omega (arith, c.last_rank-ranks.ensures) in
+    subst (λ n. AllRight c.args.sides.now c.loop-below.store c.loop-below.built (n + 1)) all c.loop-below.invariant.right
+
+pub returns-clause-within : goal.returns-clause-within
+returns-clause-within g c =
+    let all : c.loop-below.below ≡ greatest (map ranks_of c.args.sides.now) = omega (arith, c.last_rank-ranks.ensures) in
+    subst (λ n. IsWithinOrUnasked (AnyAsksBelow c.args.sides.now c.loop-below.store n) c.args.store.now c.loop-below.store) all c.loop-below.invariant.within
