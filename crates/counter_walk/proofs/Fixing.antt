@@ -31,7 +31,8 @@ pub record IsFixed (S : Nodes) (order : List ℕ) (r : Ref) (bits : List Bool) :
   pub least : (y : List Bool) → length y ≡ S.levels → (e : ℕ) → e < length bits → ((k : ℕ) → k < e → get_or y k false ≡ get_or bits k false)
       → get_or y e false ≡ false → get_or bits e false ≡ true → val S order r y ≡ false
 
-pub get_or-arranged : (order : List ℕ) (x : List Bool) (v : ℕ) → v < length order → get_or (arranged order x) v false ≡ get_or x (get_or order v 0) false
+pub get_or-arranged : (order : List ℕ) (x : List Bool) (v : ℕ) → v < length order
+    → get_or (arranged order x) v false ≡ get_or x (get_or order v 0) false
 get_or-arranged [] x v lt = absurd (omega arith)
 get_or-arranged (d ∷ ds) x zero lt = refl
 get_or-arranged (d ∷ ds) x (suc v) lt = get_or-arranged ds x v (omega arith)
@@ -77,7 +78,8 @@ module _ (S : Nodes) (w : IsSound S) (order : List ℕ) (o : IsOrder S.levels or
       ∙ ap (λ b. den S (cond b hi lo) (arranged order x)) (get_or-arranged order x v (omega arith))
 
   -- a child stands below its node
-  pub child : (r : Ref) (v : ℕ) (lo hi : Ref) → Has S r → part S r ≡ node v lo hi → (b : Bool) → Has S (cond b hi lo) × (v < top S (cond b hi lo))
+  pub child : (r : Ref) (v : ℕ) (lo hi : Ref) → Has S r → part S r ≡ node v lo hi → (b : Bool)
+      → Has S (cond b hi lo) × (v < top S (cond b hi lo))
   child r v lo hi h e true =
       let k = (parts S w).high r v lo hi h e in
       (k.0, subst (λ n. v < n) (sym (top-part S S.levels hi k.0)) k.1)
@@ -97,7 +99,8 @@ module _ (S : Nodes) (w : IsSound S) (order : List ℕ) (o : IsOrder S.levels or
       ∙ of_child at k h (get_or x (get_or order v 0) false)
       ∙ sym (val-node r v lo hi h e x)
     where
-      of_child : top S r ≡ v → (get_or order v 0 ≢ d) × Q lo × Q hi → Has S r → (c : Bool) → val S order (cond c hi lo) (set x d b) ≡ val S order (cond c hi lo) x
+      of_child : top S r ≡ v → (get_or order v 0 ≢ d) × Q lo × Q hi → Has S r → (c : Bool)
+          → val S order (cond c hi lo) (set x d b) ≡ val S order (cond c hi lo) x
       of_child at k h true = let l : v < top S hi = (child r v lo hi h e true).1 in next hi k.2 (omega arith)
       of_child at k h false = let l : v < top S lo = (child r v lo hi h e false).1 in next lo k.1 (omega arith)
 
@@ -107,7 +110,8 @@ module _ (S : Nodes) (w : IsSound S) (order : List ℕ) (o : IsOrder S.levels or
   unread d b Q f zero r q le x = unread_step d b Q f r (part S r) refl q x (λ c t lt. let m : top S c ≤ S.levels = top_most S w c (f.has c t) in absurd (omega arith))
   unread d b Q f (suc k) r q le x = unread_step d b Q f r (part S r) refl q x (λ c t lt. unread d b Q f k c t (omega arith) x)
 
-  pub unread_of : (d : ℕ) (b : Bool) (Q : Ref → Type 0) → IsFree S order d Q → (r : Ref) → Q r → (x : List Bool) → val S order r (set x d b) ≡ val S order r x
+  pub unread_of : (d : ℕ) (b : Bool) (Q : Ref → Type 0) → IsFree S order d Q → (r : Ref) → Q r → (x : List Bool)
+      → val S order r (set x d b) ≡ val S order r x
   unread_of d b Q f r q x = unread d b Q f S.levels r q (omega arith) x
 
   below_free : (v : ℕ) → v < S.levels → IsFree S order (get_or order v 0) (λ r. Has S r × (v < top S r))
@@ -117,10 +121,11 @@ module _ (S : Nodes) (w : IsSound S) (order : List ℕ) (o : IsOrder S.levels or
         let at : top S r ≡ u = top-node S r u lo hi q.0 e in
         let within : u < S.levels = (parts S w).level r u lo hi q.0 e in
         let l = child r u lo hi q.0 e false in
-        let m = child r u lo hi q.0 e true in
-        (λ same. let one : u ≡ v = o.once u v within lt same in let above = q.1 in absurd (omega arith),
-        (l.0, let above = q.1 in let under = l.1 in omega arith),
-        (m.0, let above = q.1 in let under = m.1 in omega arith));
+        let m = child r u lo hi q.0 e true in (
+          λ same. let one : u ≡ v = o.once u v within lt same in let above = q.1 in absurd (omega arith),
+          (l.0, let above = q.1 in let under = l.1 in omega arith),
+          (m.0, let above = q.1 in let under = m.1 in omega arith),
+        );
   }
 
   -- a node is 1 where a child is, with the bit for this child
@@ -138,7 +143,8 @@ module _ (S : Nodes) (w : IsSound S) (order : List ℕ) (o : IsOrder S.levels or
   Somewhere : Ref → Type 0
   Somewhere r = (x : List Bool) × (length x ≡ S.levels) × (val S order r x ≡ true)
 
-  somewhere_step : (r : Ref) (P : Part Ref) → part S r ≡ P → Has S r → r ≢ False → ((c : Ref) → Has S c → top S r < top S c → c ≢ False → Somewhere c) → Somewhere r
+  somewhere_step : (r : Ref) (P : Part Ref) → part S r ≡ P → Has S r → r ≢ False
+      → ((c : Ref) → Has S c → top S r < top S c → c ≢ False → Somewhere c) → Somewhere r
   unfolding Somewhere
   somewhere_step r (leaf true) e h ne next = (replicate S.levels false, length-replicate S.levels false, val-leaf r true h e (replicate S.levels false))
   somewhere_step r (leaf false) e h ne next = absurd (ne ((parts S w).unique r False h tt e))
@@ -172,7 +178,8 @@ module _ (S : Nodes) (w : IsSound S) (order : List ℕ) (o : IsOrder S.levels or
       }
 
   -- one variable more
-  begins-push : (bits x : List Bool) (b : Bool) → ((e : ℕ) → e < length bits → get_or x e false ≡ get_or bits e false) → get_or x (length bits) false ≡ b
+  begins-push : (bits x : List Bool) (b : Bool) → ((e : ℕ) → e < length bits → get_or x e false ≡ get_or bits e false)
+      → get_or x (length bits) false ≡ b
       → (e : ℕ) → e < length (bits ++ b ∷ []) → get_or x e false ≡ get_or (bits ++ b ∷ []) e false
   begins-push bits x b begins there e lt =
       let long : length (bits ++ b ∷ []) ≡ length bits + 1 = length_push bits b in
@@ -183,7 +190,8 @@ module _ (S : Nodes) (w : IsSound S) (order : List ℕ) (o : IsOrder S.levels or
             subst (λ k. get_or x k false ≡ b) at there ∙ sym (get_or_push bits b false e at)
       ]
 
-  fixed_push : (r : Ref) (bits : List Bool) (b : Bool) → Can S order (bits ++ b ∷ []) r → (b ≡ true → Can S order (bits ++ false ∷ []) r → ⊥) → IsFixed S order r bits
+  fixed_push : (r : Ref) (bits : List Bool) (b : Bool) → Can S order (bits ++ b ∷ []) r
+      → (b ≡ true → Can S order (bits ++ false ∷ []) r → ⊥) → IsFixed S order r bits
       → IsFixed S order r (bits ++ b ∷ [])
   fixed_push r bits b can never g = record {
     can = can;
@@ -205,10 +213,12 @@ module _ (S : Nodes) (w : IsSound S) (order : List ℕ) (o : IsOrder S.levels or
         ];
   }
 
-  pub fixed_zero : (r : Ref) (bits : List Bool) → Can S order (bits ++ false ∷ []) r → IsFixed S order r bits → IsFixed S order r (bits ++ false ∷ [])
+  pub fixed_zero : (r : Ref) (bits : List Bool) → Can S order (bits ++ false ∷ []) r → IsFixed S order r bits
+      → IsFixed S order r (bits ++ false ∷ [])
   fixed_zero r bits can g = fixed_push r bits false can (λ e. absurd (true≢false (sym e))) g
 
-  pub fixed_one : (r : Ref) (bits : List Bool) → (Can S order (bits ++ false ∷ []) r → ⊥) → IsFixed S order r bits → IsFixed S order r (bits ++ true ∷ [])
+  pub fixed_one : (r : Ref) (bits : List Bool) → (Can S order (bits ++ false ∷ []) r → ⊥) → IsFixed S order r bits
+      → IsFixed S order r (bits ++ true ∷ [])
   fixed_one r bits never g =
       let z = g.can in
       elim (cases_Bool (get_or z.at (length bits) false)) [
@@ -217,7 +227,8 @@ module _ (S : Nodes) (w : IsSound S) (order : List ℕ) (o : IsOrder S.levels or
       ]
 
   -- a variable that is not read is 0
-  pub fixed_free : (r : Ref) (bits : List Bool) (Q : Ref → Type 0) → length bits < S.levels → IsFree S order (length bits) Q → Q r → IsFixed S order r bits
+  pub fixed_free : (r : Ref) (bits : List Bool) (Q : Ref → Type 0) → length bits < S.levels → IsFree S order (length bits) Q → Q r
+      → IsFixed S order r bits
       → IsFixed S order r (bits ++ false ∷ [])
   fixed_free r bits Q lt f q g =
       let z = g.can in

@@ -41,7 +41,8 @@ pub record IsNodeBy (S : Nodes) (r : Ref) (m : NodeId) (p : Ref × Ref) : Type 0
   pub low_below : m.level < top S p.0
   pub high_below : m.level < top S p.1
 
-pub node_by : (S : Nodes) → IsSound S → (r : Ref) (m : NodeId) (b : Bool) (p : Ref × Ref) → Has S r → r ≡ Node m b → children S r ≡ Some p → IsNodeBy S r m p
+pub node_by : (S : Nodes) → IsSound S → (r : Ref) (m : NodeId) (b : Bool) (p : Ref × Ref) → Has S r → r ≡ Node m b → children S r ≡ Some p
+    → IsNodeBy S r m p
 node_by S w r m b p h is e =
     let f : children S (Node m b) ≡ Some p = ap (children S) (sym is) ∙ e in
     let k = child_refs S m b p w f in
@@ -58,7 +59,8 @@ node_by S w r m b p h is e =
 
 -- ---- a line more
 
-pub Stands-push : (S : Nodes) (order : List ℕ) (lines : List Line) (l : Line) (p : ℕ) (r : Ref) → Stands S order lines p r → Stands S order (lines ++ l ∷ []) p r
+pub Stands-push : (S : Nodes) (order : List ℕ) (lines : List Line) (l : Line) (p : ℕ) (r : Ref) → Stands S order lines p r
+    → Stands S order (lines ++ l ∷ []) p r
 Stands-push S order lines l _ _ (terminal p r b e q) = terminal p r b (slice_get-append lines (l ∷ []) p (Terminal b) e) q
 Stands-push S order lines l _ _ (branch p r v low high lo hi e q s t) =
     branch p r v low high lo hi (slice_get-append lines (l ∷ []) p (Branch (get_or order v 0) low high) e) q (Stands-push S order lines l low lo s) (Stands-push S order lines l high hi t)
@@ -74,14 +76,16 @@ pub data IsLineFor (S : Nodes) (order : List ℕ) (lines : List Line) (r : Ref) 
   for_node : (v low high : ℕ) (lo hi : Ref) → part S r ≡ node v lo hi → Stands S order lines low lo → Stands S order lines high hi
       → IsLineFor S order lines r (Branch (get_or order v 0) low high)
 
-Stands-last : (S : Nodes) (order : List ℕ) (lines : List Line) (r : Ref) (l : Line) → IsLineFor S order lines r l → Stands S order (lines ++ l ∷ []) (length lines) r
+Stands-last : (S : Nodes) (order : List ℕ) (lines : List Line) (r : Ref) (l : Line) → IsLineFor S order lines r l
+    → Stands S order (lines ++ l ∷ []) (length lines) r
 Stands-last S order lines r _ (for_leaf b q) = terminal (length lines) r b (slice_get-push lines (Terminal b)) q
 Stands-last S order lines r _ (for_node v low high lo hi q s t) =
     let l : Line = Branch (get_or order v 0) low high in
     branch (length lines) r v low high lo hi (slice_get-push lines l) q (Stands-push S order lines l low lo s) (Stands-push S order lines l high hi t)
 
 -- what a line for a reference names
-named : (S : Nodes) → IsSound S → (order : List ℕ) → IsOrder S.levels order → (lines : List Line) (r : Ref) (l : Line) → Has S r → IsLineFor S order lines r l
+named : (S : Nodes) → IsSound S → (order : List ℕ) → IsOrder S.levels order → (lines : List Line) (r : Ref) (l : Line) → Has S r
+    → IsLineFor S order lines r l
     → (d low high : ℕ) → l ≡ Branch d low high → (d < S.levels) × (low < length lines) × (high < length lines)
 named S w order o lines r _ h (for_leaf b q) d low high e = absurd (cc)
 named S w order o lines r _ h (for_node v lw hg lo hi q s t) d low high e =
@@ -136,22 +140,27 @@ pub record IsReady (S : Nodes) (order : List ℕ) (r : Ref) (old t : Table) (l :
   pub keeps : (p : ℕ) (z : Ref) → Stands S order old.lines.items p z → Stands S order t.lines.items p z
   pub line : IsLineFor S order t.lines.items r l
 
-pub ready_leaf : (S : Nodes) (order : List ℕ) (r : Ref) (old t : Table) (l : Line) (b : Bool) → IsTable S S.levels order old → part S r ≡ leaf b → t ≡ old → l ≡ Terminal b → IsReady S order r old t l
+pub ready_leaf : (S : Nodes) (order : List ℕ) (r : Ref) (old t : Table) (l : Line) (b : Bool) → IsTable S S.levels order old
+    → part S r ≡ leaf b → t ≡ old → l ≡ Terminal b → IsReady S order r old t l
 ready_leaf S order r old t l b i q e f =
     subst (λ x. IsReady S order r old x l) (sym e)
     (subst (λ x. IsReady S order r old old x) (sym f) (record { table = i; keeps = λ p z s. s; line = for_leaf b q }))
 
 pub ready_node : (S : Nodes) (order : List ℕ) (r : Ref) (old first second t : Table) (l : Line) (m : NodeId) (p : Ref × Ref) (low high : ℕ) → IsNodeBy S r m p
-    → ((q : ℕ) (z : Ref) → Stands S order old.lines.items q z → Stands S order first.lines.items q z) → Stands S order first.lines.items low p.0
-    → IsTable S S.levels order second → ((q : ℕ) (z : Ref) → Stands S order first.lines.items q z → Stands S order second.lines.items q z) → Stands S order second.lines.items high p.1
+    → ((q : ℕ) (z : Ref) → Stands S order old.lines.items q z → Stands S order first.lines.items q z)
+    → Stands S order first.lines.items low p.0
+    → IsTable S S.levels order second → ((q : ℕ) (z : Ref) → Stands S order first.lines.items q z → Stands S order second.lines.items q z)
+    → Stands S order second.lines.items high p.1
     → t ≡ second → l ≡ Branch (get_or order m.level 0) low high → IsReady S order r old t l
 ready_node S order r old one two t l m p low high k keep at_low i keep_on at_high e f =
     subst (λ x. IsReady S order r old x l) (sym e)
     (subst (λ x. IsReady S order r old two x) (sym f)
     (record { table = i; keeps = λ q z s. keep_on q z (keep q z s); line = for_node m.level low high p.0 p.1 k.part_is (keep_on low p.0 at_low) at_high }))
 
-pub placed : (S : Nodes) → IsSound S → (order : List ℕ) → IsOrder S.levels order → (old t new : Table) (r : Ref) (l : Line) (answer : Result ℕ AllocError) → Has S r → IsReady S order r old t l
-    → IfOk answer (λ p. p ≡ length t.lines.items) → OnOk answer (new.lines.items ≡ t.lines.items ++ l ∷ []) → IfOk answer (λ p. Updates ref_eq.it t.places new.places r (Some p))
+pub placed : (S : Nodes) → IsSound S → (order : List ℕ) → IsOrder S.levels order
+    → (old t new : Table) (r : Ref) (l : Line) (answer : Result ℕ AllocError) → Has S r → IsReady S order r old t l
+    → IfOk answer (λ p. p ≡ length t.lines.items) → OnOk answer (new.lines.items ≡ t.lines.items ++ l ∷ [])
+    → IfOk answer (λ p. Updates ref_eq.it t.places new.places r (Some p))
     → IfOk answer (λ p. IsAdded S order r old new p)
 placed S w order o old t new r l (Err e) h i at grown u = tt
 placed S w order o old t new r l (Ok p) h i at grown u =
@@ -161,7 +170,8 @@ placed S w order o old t new r l (Ok p) h i at grown u =
 -- ---- marking
 
 -- what is marked at a place does not change what is before it
-line_can-set : (lines : List Line) (bits able : List Bool) (i p : ℕ) (v : Bool) (l : Line) → AreInOrder lines → slice_get lines p ≡ Some l → p ≤ i
+line_can-set : (lines : List Line) (bits able : List Bool) (i p : ℕ) (v : Bool) (l : Line) → AreInOrder lines → slice_get lines p ≡ Some l
+    → p ≤ i
     → line_can bits (set able i v) l ≡ line_can bits able l
 line_can-set lines bits able i p v (Terminal b) o e le = refl
 line_can-set lines bits able i p v (Branch d low high) o e le =
@@ -171,7 +181,8 @@ line_can-set lines bits able i p v (Branch d low high) o e le =
     ap (λ z. either (slice_get bits d) z (get_or (set able i v) high false)) (get_or-set_other able i low v false (λ same. absurd (omega arith)))
     ∙ ap (λ z. either (slice_get bits d) (get_or able low false) z) (get_or-set_other able i high v false (λ same. absurd (omega arith)))
 
-pub marked_more : (lines : List Line) (bits able : List Bool) (i : ℕ) (v : Bool) (x : Line) → AreInOrder lines → slice_get lines i ≡ Some x → i < length able
+pub marked_more : (lines : List Line) (bits able : List Bool) (i : ℕ) (v : Bool) (x : Line) → AreInOrder lines
+    → slice_get lines i ≡ Some x → i < length able
     → v ≡ line_can bits able x → ((p : ℕ) (l : Line) → p < i → slice_get lines p ≡ Some l → get_or able p false ≡ line_can bits able l)
     → (p : ℕ) (l : Line) → p < i + 1 → slice_get lines p ≡ Some l → get_or (set able i v) p false ≡ line_can bits (set able i v) l
 marked_more lines bits able i v x o at within is done p l lt e =
@@ -189,7 +200,8 @@ marked_more lines bits able i v x o at within is done p l lt e =
 -- ---- what marks say
 
 -- a node's line, and those of its children
-of_node : (S : Nodes) (order : List ℕ) (lines : List Line) (p : ℕ) (r : Ref) (v : ℕ) (lo hi : Ref) → part S r ≡ node v lo hi → Stands S order lines p r
+of_node : (S : Nodes) (order : List ℕ) (lines : List Line) (p : ℕ) (r : Ref) (v : ℕ) (lo hi : Ref) → part S r ≡ node v lo hi
+    → Stands S order lines p r
     → (low : ℕ) × (high : ℕ) × (slice_get lines p ≡ Some (Branch (get_or order v 0) low high)) × Stands S order lines low lo × Stands S order lines high hi
 of_node S order lines _ _ v lo hi is (terminal p r b e q) = let f : ◌≡◌ {A = Part Ref} (leaf b) (node v lo hi) = sym q ∙ is in absurd (cc)
 of_node S order lines _ _ v lo hi is (branch p r u low high lw hg e q s t) =
@@ -200,19 +212,21 @@ of_node S order lines _ _ v lo hi is (branch p r u low high lw hg e q s t) =
     (low, high, subst (λ n. slice_get lines p ≡ Some (Branch (get_or order n 0) low high)) at e, subst (Stands S order lines low) one s, subst (Stands S order lines high) two t)
 
 -- below a line no node reads a variable that no line reads
-pub lines_free : (S : Nodes) → IsSound S → (order : List ℕ) → IsOrder S.levels order → (lines : List Line) (reads : List Bool) (d : ℕ) → AreRead lines reads → get_or reads d false ≡ false
+pub lines_free : (S : Nodes) → IsSound S → (order : List ℕ) → IsOrder S.levels order → (lines : List Line) (reads : List Bool) (d : ℕ)
+    → AreRead lines reads → get_or reads d false ≡ false
     → IsFree S order d (λ r. Has S r × ((p : ℕ) × Stands S order lines p r))
 lines_free S w order o lines reads d all off = record {
   has = λ r q. q.0;
   below = λ r q v lo hi e.
-      let k = of_node S order lines q.1.0 r v lo hi e q.1.1 in
-      (λ same.
-          let t : get_or reads (get_or order v 0) false ≡ true = all q.1.0 (get_or order v 0) k.0 k.1 k.2 in
-          let f : get_or reads d false ≡ true = subst (λ n. get_or reads n false ≡ true) same t in
-          let g : true ≡ false = sym f ∙ off in
-          cc,
-      ((child S w order o r v lo hi q.0 e false).0, (k.0, k.3)),
-      ((child S w order o r v lo hi q.0 e true).0, (k.1, k.4)));
+      let k = of_node S order lines q.1.0 r v lo hi e q.1.1 in (
+        λ same.
+            let t : get_or reads (get_or order v 0) false ≡ true = all q.1.0 (get_or order v 0) k.0 k.1 k.2 in
+            let f : get_or reads d false ≡ true = subst (λ n. get_or reads n false ≡ true) same t in
+            let g : true ≡ false = sym f ∙ off in
+            cc,
+        ((child S w order o r v lo hi q.0 e false).0, (k.0, k.3)),
+        ((child S w order o r v lo hi q.0 e true).0, (k.1, k.4)),
+      );
 }
 
 -- a mark tells whether a reference can be 1
@@ -234,7 +248,8 @@ module _ (S : Nodes) (w : IsSound S) (order : List ℕ) (o : IsOrder S.levels or
   }
 
   -- the same assignment, for the child of its bit
-  to_child : (r : Ref) (v : ℕ) (lo hi : Ref) → Has S r → part S r ≡ node v lo hi → (z : Can S order bits r) (b : Bool) → get_or z.at (get_or order v 0) false ≡ b → Can S order bits (cond b hi lo)
+  to_child : (r : Ref) (v : ℕ) (lo hi : Ref) → Has S r → part S r ≡ node v lo hi → (z : Can S order bits r) (b : Bool)
+      → get_or z.at (get_or order v 0) false ≡ b → Can S order bits (cond b hi lo)
   to_child r v lo hi h e z b is = record {
     at = z.at;
     size = z.size;
@@ -242,7 +257,8 @@ module _ (S : Nodes) (w : IsSound S) (order : List ℕ) (o : IsOrder S.levels or
     one = ap (λ c. val S order (cond c hi lo) z.at) (sym is) ∙ sym (val-node S w order o r v lo hi h e z.at) ∙ z.one;
   }
 
-  from_child : (r : Ref) (v : ℕ) (lo hi : Ref) → Has S r → part S r ≡ node v lo hi → (b : Bool) (z : Can S order bits (cond b hi lo)) → get_or z.at (get_or order v 0) false ≡ b → Can S order bits r
+  from_child : (r : Ref) (v : ℕ) (lo hi : Ref) → Has S r → part S r ≡ node v lo hi → (b : Bool) (z : Can S order bits (cond b hi lo))
+      → get_or z.at (get_or order v 0) false ≡ b → Can S order bits r
   from_child r v lo hi h e b z is = record {
     at = z.at;
     size = z.size;
@@ -251,7 +267,8 @@ module _ (S : Nodes) (w : IsSound S) (order : List ℕ) (o : IsOrder S.levels or
   }
 
   -- any assignment, where the bit is not fixed
-  free_child : (r : Ref) (v : ℕ) (lo hi : Ref) → Has S r → part S r ≡ node v lo hi → length bits ≤ get_or order v 0 → (b : Bool) → Can S order bits (cond b hi lo) → Can S order bits r
+  free_child : (r : Ref) (v : ℕ) (lo hi : Ref) → Has S r → part S r ≡ node v lo hi → length bits ≤ get_or order v 0 → (b : Bool)
+      → Can S order bits (cond b hi lo) → Can S order bits r
   free_child r v lo hi h e past b z =
       let d : ℕ = get_or order v 0 in
       record {
@@ -261,7 +278,8 @@ module _ (S : Nodes) (w : IsSound S) (order : List ℕ) (o : IsOrder S.levels or
         one = into S w order o r v lo hi h e b z.at z.size z.one;
       }
 
-  node_able : (p : ℕ) (r : Ref) (v low high : ℕ) (lo hi : Ref) → Has S r → slice_get lines p ≡ Some (Branch (get_or order v 0) low high) → part S r ≡ node v lo hi
+  node_able : (p : ℕ) (r : Ref) (v low high : ℕ) (lo hi : Ref) → Has S r → slice_get lines p ≡ Some (Branch (get_or order v 0) low high)
+      → part S r ≡ node v lo hi
       → IsAbleIff S order bits able low lo → IsAbleIff S order bits able high hi → IsAbleIff S order bits able p r
   unfolding IsAbleIff
   node_able p r v low high lo hi h e q l m =
@@ -286,7 +304,8 @@ module _ (S : Nodes) (w : IsSound S) (order : List ℕ) (o : IsOrder S.levels or
             )
       ]
     where
-      fixed : get_or order v 0 < length bits → (b : Bool) → get_or bits (get_or order v 0) false ≡ b → get_or able p false ≡ cond b (get_or able high false) (get_or able low false)
+      fixed : get_or order v 0 < length bits → (b : Bool) → get_or bits (get_or order v 0) false ≡ b
+          → get_or able p false ≡ cond b (get_or able high false) (get_or able low false)
           → IsAbleIff S order bits able p r
       fixed lt true at is = (
         λ t. let z : Can S order bits hi = m.0 (sym is ∙ t) in from_child r v lo hi h q true z (z.begins (get_or order v 0) lt ∙ at),
@@ -316,13 +335,15 @@ module _ (S : Nodes) (w : IsSound S) (order : List ℕ) (o : IsOrder S.levels or
 -- ---- a variable more
 
 module _ (S : Nodes) (w : IsSound S) (order : List ℕ) (o : IsOrder S.levels order) (lines : List Line) (root : ℕ) (r : Ref) (h : Has S r) (stands : Stands S order lines root r) where
-  pub turn_free : (reads bits more : List Bool) → length bits < S.levels → AreRead lines reads → get_or reads (length bits) false ≡ false → more ≡ bits ++ false ∷ []
+  pub turn_free : (reads bits more : List Bool) → length bits < S.levels → AreRead lines reads → get_or reads (length bits) false ≡ false
+      → more ≡ bits ++ false ∷ []
       → IsFixed S order r bits → IsFixed S order r more
   turn_free reads bits more lt all off is g =
       subst (IsFixed S order r) (sym is)
       (fixed_free S w order o r bits (λ z. Has S z × ((p : ℕ) × Stands S order lines p z)) lt (lines_free S w order o lines reads (length bits) all off) (h, (root, stands)) g)
 
-  pub turn_zero : (able bits tried more : List Bool) → length bits < S.levels → tried ≡ bits ++ false ∷ [] → AreAble lines tried able → get_or able root false ≡ true
+  pub turn_zero : (able bits tried more : List Bool) → length bits < S.levels → tried ≡ bits ++ false ∷ [] → AreAble lines tried able
+      → get_or able root false ≡ true
       → more ≡ bits ++ false ∷ [] → IsFixed S order r bits → IsFixed S order r more
   turn_zero able bits tried more lt is marks on last g =
       let long : length (bits ++ false ∷ []) ≡ length bits + 1 = length_push bits false in
@@ -330,7 +351,8 @@ module _ (S : Nodes) (w : IsSound S) (order : List ℕ) (o : IsOrder S.levels or
       subst (IsFixed S order r) (sym last)
       (fixed_zero S w order o r bits (able_can S w order o lines (bits ++ false ∷ []) able (omega arith) marks' root r h stands on) g)
 
-  pub turn_one : (able bits tried more : List Bool) → length bits < S.levels → tried ≡ bits ++ false ∷ [] → AreAble lines tried able → get_or able root false ≡ false
+  pub turn_one : (able bits tried more : List Bool) → length bits < S.levels → tried ≡ bits ++ false ∷ [] → AreAble lines tried able
+      → get_or able root false ≡ false
       → more ≡ bits ++ true ∷ [] → IsFixed S order r bits → IsFixed S order r more
   turn_one able bits tried more lt is marks off last g =
       let long : length (bits ++ false ∷ []) ≡ length bits + 1 = length_push bits false in
@@ -339,7 +361,8 @@ module _ (S : Nodes) (w : IsSound S) (order : List ℕ) (o : IsOrder S.levels or
       (fixed_one S w order o r bits (unable_cannot S w order o lines (bits ++ false ∷ []) able (omega arith) marks' root r h stands off) g)
 
 -- what is read of a vector that was written through a slice
-pub read_back : {Z : Type 0} (v : Vec Bool Z) (ws : List Bool) (i : ℕ) (x b : Bool) → length ws ≡ v.len → i < length ws → x ≡ get_or (with_items v ws).items i x → x ≡ b → get_or ws i false ≡ b
+pub read_back : {Z : Type 0} (v : Vec Bool Z) (ws : List Bool) (i : ℕ) (x b : Bool) → length ws ≡ v.len → i < length ws
+    → x ≡ get_or (with_items v ws).items i x → x ≡ b → get_or ws i false ≡ b
 read_back v ws i x b len lt e is =
     let same : (with_items v ws).items ≡ ws = with_items_is v ws len in
     let read : x ≡ get_or ws i x = e ∙ ap (λ z. get_or z i x) same in

@@ -1,5 +1,6 @@
 -- A diagram as a list of lines, in which the lines of children stand before those of their nodes.
-use Rattle.std.specs.Prelude.{◌≡◌, ℕ, ◌<◌, Bool, true, false, cond, ◌||◌, List, slice_index, slice_index_or, slice_get, Option, Some, None}
+use Rattle.std.specs.Prelude.{◌≡◌, ℕ, ◌<◌, Bool, true, false, cond, ◌||◌, List, Option, Some, None}
+use Rattle.std.specs.Prelude.{slice_index, slice_index_or, slice_get}
 use Rattle.std.specs.HashMap.{get}
 use Rattle.dd_store.specs.declared.reference.Ref.{Ref}
 use Rattle.dd_store.specs.contracts.reference.ReferencePartialEq.TheImpl.{eq-value as ref_eq}
@@ -13,8 +14,8 @@ use Rattle.counter_walk.specs.declared.least.Table.{Table}
 -- the line at a place stands for a reference of a store: it has the same children, through their lines
 pub data Stands (S : Nodes) (order : List ℕ) (lines : List Line) : ℕ → Ref → Type 0 where
   terminal : (p : ℕ) (r : Ref) (b : Bool) → slice_get lines p ≡ Some (Terminal b) → part S r ≡ leaf b → Stands S order lines p r
-  branch : (p : ℕ) (r : Ref) (v low high : ℕ) (lo hi : Ref) → slice_get lines p ≡ Some (Branch (slice_index order v) low high) → part S r ≡ node v lo hi
-      → Stands S order lines low lo → Stands S order lines high hi → Stands S order lines p r
+  branch : (p : ℕ) (r : Ref) (v low high : ℕ) (lo hi : Ref) → slice_get lines p ≡ Some (Branch (slice_index order v) low high)
+      → part S r ≡ node v lo hi → Stands S order lines low lo → Stands S order lines high hi → Stands S order lines p r
 
 -- lines name lines before them
 abbrev pub AreInOrder : List Line → Type 0

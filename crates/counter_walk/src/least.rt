@@ -1,7 +1,8 @@
 //! The least assignment in declared order, whatever order the levels have. The variables are fixed one after the other as declared: 0
 //! where the function can still be 1 under what is fixed, else 1. Whether it can is found by one pass over the diagram, from the lowest
 //! level up, and only for the variables that the diagram reads; the others are 0.
-ghost use Rattle.std.specs.Prelude.{◌≡◌, ◌<◌, ◌↔◌, ◌++◌, ◌∷◌, [], ℕ, List, Bool, length, IfOk, OnOk, IfSome, IsNone, MatchOption};
+ghost use Rattle.std.specs.Prelude.{◌≡◌, ◌<◌, ◌↔◌, ◌++◌, ◌∷◌, [], ℕ, List, Bool, length};
+ghost use Rattle.std.specs.Prelude.{IfOk, OnOk, IfSome, IsNone, MatchOption};
 ghost use Rattle.std.specs.HashMap.{Updates};
 ghost use Rattle.dd_store.specs.declared.reference.Ref.{Ref};
 ghost use Rattle.dd_store.specs.contracts.reference.ReferencePartialEq.TheImpl.{eq-value as ref_eq};
@@ -56,8 +57,9 @@ fn place_of(
     requires known { Has store.now reference }
     requires order { IsOrder store.now.levels order.now }
     requires table { IsTable store.now store.now.levels order.now table.old }
-    ensures table { IfOk result (λ _. IsTable store.now store.now.levels order.now table.new) }
-    ensures keeps { IfOk result (λ _. (p : ℕ) (r : Ref) → Stands store.now order.now table.old.lines.items p r → Stands store.now order.now table.new.lines.items p r) }
+    ensures table { OnOk result (IsTable store.now store.now.levels order.now table.new) }
+    ensures keeps { OnOk result ((p : ℕ) (r : Ref) → Stands store.now order.now table.old.lines.items p r →
+        Stands store.now order.now table.new.lines.items p r) }
     ensures place { IfOk result (λ p. Stands store.now order.now table.new.lines.items p reference) }
 {
     let _ = store.levels();
@@ -140,9 +142,11 @@ pub fn least_true(
     requires known { Has store.now function }
     requires order { IsOrder store.now.levels order.now }
     ensures none { IfOk result (λ found. IsNone found ↔ Agree store.now.levels (den store.now function) nowhere) }
-    ensures least { IfOk result (λ found. IfSome found (λ bits. IsLeastTrue store.now.levels order.now (den store.now function) bits.items)) }
+    ensures least { IfOk result (λ found. IfSome found (λ bits.
+        IsLeastTrue store.now.levels order.now (den store.now function) bits.items)) }
     ensures difference { (f g : List Bool → Bool) → IsExclusiveOr store.now.levels f g (den store.now function) →
-        IfOk result (λ found. MatchOption found (Agree store.now.levels f g) (λ bits. IsLeastDeclared store.now.levels order.now f g bits.items)) }
+        IfOk result (λ found. MatchOption found (Agree store.now.levels f g) (λ bits.
+        IsLeastDeclared store.now.levels order.now f g bits.items)) }
 {
     let variables = store.levels();
     if same(function, Ref::FALSE) {
