@@ -51,7 +51,8 @@ MOST_OF_A_LINE = 300
 GOAL = re.compile(r"^note: (?:\./)?(src/\S+?):(\d+):\d+: (it is not proved that .*)")
 FAULT = re.compile(r"^(?:\./)?(src/\S+?):(\d+):\d+: (error\b.*)")
 # An error with a word in brackets is the compiler's, and one that names no statement the prover's, who cannot read a text.
-UNREAD = re.compile(r"error\[|error: (?!`[^`]*`: )|.*(?:is not in scope|has no field|is no name|operand is missing|expected the end|cannot continue)")
+MISREAD = "is not in scope|has no field|is no name|operand is missing|expected the end|cannot continue"
+UNREAD = re.compile(rf"error\[|error: (?!`[^`]*`: )|.*(?:{MISREAD})")
 UNPROVED = re.compile(r"^(?:\./)?proofs/(\S+)/\w+\.antt:\d+:\d+: (error: .*)")
 VERDICT = re.compile(r"^fn (\S+?): (.*)")
 CALLED = re.compile(r"it calls ((?:`[^`]+`(?:, | and )?)+)")
