@@ -47,9 +47,12 @@ ROUNDS = 3
 REFUSED, MISSED, BAD, UNSURE = "REFUSED", "NOT REFUSED", "BAD EDIT", "NOT TRIED"
 UNREADABLE = "it does not compile or read"
 MOST_OF_A_LINE = 300
-# What a check says: of a place in the sources, of a proof file, and of a function. An error with a word in brackets is the compiler's.
+# What a check says: of a place in the sources, of a proof file, and of a function.
 GOAL = re.compile(r"^note: (?:\./)?(src/\S+?):(\d+):\d+: (it is not proved that .*)")
-UNREAD = re.compile(r"^(?:\./)?(src/\S+?):(\d+):\d+: (error\b.*)")
+FAULT = re.compile(r"^(?:\./)?(src/\S+?):(\d+):\d+: (error\b.*)")
+# An error with a word in brackets is the compiler's, and one that names no statement the prover's, who cannot read a text.
+MISREAD = "is not in scope|has no field|is no name|operand is missing|expected the end|cannot continue"
+UNREAD = re.compile(rf"error\[|error: (?!`[^`]*`: )|.*(?:{MISREAD})")
 UNPROVED = re.compile(r"^(?:\./)?proofs/(\S+)/\w+\.antt:\d+:\d+: (error: .*)")
 VERDICT = re.compile(r"^fn (\S+?): (.*)")
 CALLED = re.compile(r"it calls ((?:`[^`]+`(?:, | and )?)+)")
@@ -233,9 +236,9 @@ def own_goals(said, function, symbol):
     names that are gone."""
     goals, inside = [], "/".join(symbol.split("::")[1:])
     for line in said.lines:
-        goal, proof = GOAL.match(line), UNPROVED.match(line)
+        goal, proof = GOAL.match(line) or FAULT.match(line), UNPROVED.match(line)
         if goal and goal.group(1) == function.file and function.first < int(goal.group(2)) <= function.last + 1:
-            goals.append(line[len("note: ") :])
+            goals.append(re.sub("^note: ", "", line))
         elif proof and proof.group(1) == inside and not NAMES.search(line):
             goals.append(line)
     verdict = said.verdicts().get(symbol, "")
@@ -244,7 +247,7 @@ def own_goals(said, function, symbol):
 
 def misread(said, edits):
     """Of each edit that the compiler or the prover cannot read: the error that says so."""
-    found, errors = {}, [match for match in map(UNREAD.match, said.lines) if match]
+    found, errors = {}, [match for match in map(FAULT.match, said.lines) if match and UNREAD.match(match.group(3))]
     for file, line, error in (match.groups() for match in errors):
         number = int(line) - 1
         of_line = [edit for edit in edits if number in edit.lines.get(file, {})]
@@ -340,7 +343,7 @@ class Crate:
         elif said.starts("logic=proved"):
             self.ends(case, MISSED, "the crate is still proved with it")
         elif said.starts("logic=not-proved"):
-            told = [line for line in said.lines if GOAL.match(line) or UNPROVED.match(line)]
+            told = [line for line in said.lines if GOAL.match(line) or FAULT.match(line) or UNPROVED.match(line)]
             plain = [line for line in told if not NAMES.search(line)]
             only = "" if plain or not told else "(only since a proof file names what it took away: change a value and keep the names) "
             self.ends(case, REFUSED, only + re.sub("^note: ", "", next(iter(plain or told), "")))
