@@ -49,7 +49,7 @@ made() {
     keep='setattr -set keep 1 t:$_*DFF*_ %co1:+[Q] w:* %i'
     write='write_verilog -noattr "made of/made.v"'
     case $3 in
-    rtl | cells) cp "$1" 'made of/made.v' && return ;;
+    rtl | cells) cp "$1" "made of/made.${1##*.}" && return ;;
     synth) yosys -q -p "$read; synth -nofsm; $write" ;;
     mapped)
         yosys -q -p "$read; techmap; opt_expr; opt_clean; $keep; dfflibmap -liberty cells.lib; abc -liberty cells.lib; opt_clean; $write"
@@ -105,6 +105,33 @@ while read -r first second macro way match left seen; do
         cat pair.out
     fi
 done <rows
+
+# Words that must end with a status, the text that must be said, and that no temporary folder stays.
+mkdir temporary && echo 'INPUT(d) q = DFF(d)' >bare.bench && cp states.v 'two words.v' || exit 2
+ends() {
+    status=$1 said=$2 && shift 2
+    TMPDIR=$place/temporary rtl2bench "$@" >ends.out 2>&1 </dev/null
+    if [ $? -eq "$status" ] && grep -qF -e "$said" ends.out && [ -z "$(ls temporary)" ]; then
+        passed=$((passed + 1))
+    else
+        failed=$((failed + 1))
+        echo "FAILED flows: rtl2bench $* does not end with status $status and '$said', or leaves files:"
+        cat ends.out && ls temporary
+    fi
+}
+ends 0 'inputs stand for what is left open' -D 'NO=1' 'two words.v' -o 'two words.bench'
+ends 0 '2 alike, 0 different' --compare 'two words.bench' 'two words.bench'
+ends 3 'it says nothing of its registers' --compare 'two words.bench' bare.bench
+ends 2 'init,foo' --compare --leave-out init,foo 'two words.bench' 'two words.bench'
+ends 2 'no file to write' states.v
+ends 2 'no option --fast' --fast states.v -o no.bench
+ends 2 '-o wants a word' states.v -o
+ends 3 'absent.v: cannot be read' absent.v -o no.bench
+ends 3 'absent.lib' --liberty absent.lib states.v -o no.bench
+ends 3 'absent.bench' --like absent.bench states.v -o no.bench
+ends 3 'absent/no.bench' states.v -o absent/no.bench
+ends 3 'state' --top state states.v -o no.bench
+
 echo "flows: $recipes recipes and $(wc -l <rows) pairs tried with $(yosys -V | cut -d ' ' -f 1,2)"
 echo "flows: $passed passed, $failed failed"
 [ "$failed" -eq 0 ]

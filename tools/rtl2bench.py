@@ -419,10 +419,10 @@ class Writer:
 
     def constant(self, value):
         if value not in self.constants:
-            if not self.inputs and not self.names.of:
+            if not self.inputs and not self.module.registers:
                 self.inputs.append(self.names.fresh("unused"))
-            any_signal = self.inputs[0] if self.inputs else next(iter(self.names.of.values()))
-            self.constants[value] = self.gate("XNOR" if value == "1" else "XOR", any_signal, any_signal, name=f"constant${value}")
+            source = self.inputs[0] if self.inputs else self.module.registers[0].name
+            self.constants[value] = self.gate("XNOR" if value == "1" else "XOR", source, source, name=f"constant${value}")
         return self.constants[value]
 
     def any_value(self, reader):
@@ -542,6 +542,8 @@ class Writer:
         single = self.single(control)
         if single and not single[0]:
             return "always" if single[1] else "none"
+        if unless and self.single(unless) == ("", 0):
+            unless = None
         if single and not unless:
             return f"{single[0]}/{single[1]}"
         acts = self.active(control)
@@ -597,7 +599,9 @@ def read_facts(path):
             is_marked = is_marked or line.startswith(MARK)
             if line.startswith(REGISTER):
                 name, *tokens = line[len(REGISTER) :].split()
-                facts.registers[name] = dict(token.split("=", 1) for token in tokens)
+                facts.registers[name] = dict(token.partition("=")[::2] for token in tokens)
+                if list(facts.registers[name]) != FACTS:
+                    raise Refusal(f"{path}: a broken line: {line.strip()}")
             elif match := re.match(r"\s*INPUT\s*\(\s*([^\s()]+)\s*\)", line, re.IGNORECASE):
                 facts.inputs.append(match[1])
             elif match := re.match(r"\s*([^\s()#=]+)\s*=\s*DFF\s*\(", line, re.IGNORECASE):
@@ -630,8 +634,8 @@ def compare(words):
 
 
 def differences(first, second, called, left_out):
-    for what in sorted({*first, *second} - set(left_out), key=FACTS.index):
-        one, other = first.get(what), second.get(what)
+    for what in [what for what in FACTS if what not in left_out]:
+        one, other = first[what], second[what]
         name, slash, level = other.rpartition("/") if what in ("clear", "set") else (other, "", "")
         if one != called.get(name, name) + slash + level or one == "unknown":
             yield what, one, other
