@@ -287,8 +287,8 @@ def add_inits(inits, net):
 
 
 def written(name):
-    """A name as the format can hold it."""
-    text = "".join(c if "!" <= c <= "~" else "?" for c in name.translate(str.maketrans("(),=#", "<>;:?")))
+    """A name as the format can hold it; `?` as yosys has it in BLIF."""
+    text = "".join(c if "!" <= c <= "~" else "?" for c in name.translate(str.maketrans("(),=#", "<>;??")))
     if len(text) > MOST_NAME:
         raise Refusal(f"a name of more than {MOST_NAME} characters: {name}")
     return text
