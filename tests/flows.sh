@@ -107,7 +107,8 @@ while read -r first second macro way match left seen; do
 done <rows
 
 # Words that must end with a status, the text that must be said, and that no temporary folder stays.
-mkdir temporary && echo 'INPUT(d) q = DFF(d)' >bare.bench && cp states.v 'two words.v' || exit 2
+mkdir temporary && echo 'INPUT(d) q = DFF(d)' >bare.bench && cp states.v 'two words.v' &&
+    echo 'module declares(input a, output y); always_comb y = ~a; endmodule' >declares.v || exit 2
 ends() {
     status=$1 said=$2 && shift 2
     TMPDIR=$place/temporary rtl2bench "$@" >ends.out 2>&1 </dev/null
@@ -130,6 +131,8 @@ ends 3 'absent.v: cannot be read' absent.v -o no.bench
 ends 3 'absent.lib' --liberty absent.lib states.v -o no.bench
 ends 3 'absent.bench' --like absent.bench states.v -o no.bench
 ends 3 'absent/no.bench' states.v -o absent/no.bench
+ends 3 'ERROR' 'declares.v' -o no.bench
+ends 0 '' --sv 'declares.v' -o no.bench
 ends 3 'state' --top state states.v -o no.bench
 
 echo "flows: $recipes recipes and $(wc -l <rows) pairs tried with $(yosys -V | cut -d ' ' -f 1,2)"

@@ -6,6 +6,7 @@
 #
 # FILE is Verilog (.v), SystemVerilog (.sv), BLIF as abc writes it (.blif), or a netlist mapped to the cells of --liberty.
 #
+#   --sv                the files behind it are SystemVerilog, whatever their names
 #   --top NAME          the top module; without it yosys looks for it
 #   --liberty FILE      the functions of the cells that a mapped netlist names; may be repeated
 #   -D NAME[=VALUE]     defines a macro; -I FOLDER is searched for included files
@@ -70,7 +71,7 @@ reads() {
     case $1 in
     *.sv | *.svh) command='read_verilog -sv -icells' ;;
     *.blif) command=read_blif tables=yes ;;
-    *.v | *.vh | *.verilog) command='read_verilog -icells' ;;
+    *.v | *.vh | *.vg | *.vm | *.vo | *.gv | *.verilog) command="read_verilog$dialect -icells" ;;
     *) wrong "$1: no Verilog (.v, .sv) and no BLIF (.blif)" ;;
     esac
     [ -r "$1" ] || fault "$1: cannot be read"
@@ -84,7 +85,7 @@ includes() {
     echo "verilog_defaults -add -I$work/include$folders" >>"$work/begin"
 }
 : >"$work/begin" && : >"$work/files" || exit 3
-tables='' out='' top=-auto-top style=net like='' undefined=''
+dialect='' tables='' out='' top=-auto-top style=net like='' undefined=''
 while [ $# -gt 0 ]; do
     case $1 in
     -o | --top | --liberty | -D | -I | --name-style | --like | --undefined) [ $# -gt 1 ] || wrong "$1 wants a word behind it" ;;
@@ -95,6 +96,7 @@ while [ $# -gt 0 ]; do
     --name-style) style=$2 && shift ;;
     --like) like=$2 && shift ;;
     --undefined) undefined=$2 && shift ;;
+    --sv) dialect=' -sv' ;;
     -D) name=$(plain "$2") && echo "verilog_defaults -add -D$name" >>"$work/begin" && shift || exit ;;
     -I) includes "$2" && shift ;;
     --liberty) name=$(quoted "$2") && echo "read_liberty -ignore_miss_func $name" >>"$work/begin" && shift || exit ;;
