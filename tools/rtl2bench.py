@@ -327,7 +327,9 @@ class Names:
         self.ports = {named for named, _ in module.outputs}
         for named, bit in module.inputs:
             self.of[bit] = self.claim(written(named), named)
-        self.reserved = {written(named) for named, _ in module.outputs}
+        self.reserved, self.own = {written(named) for named, _ in module.outputs}, {}
+        for named, bit in module.outputs:
+            self.own.setdefault(bit, set()).add(written(named))
 
     def claim(self, name, what):
         if name in self.taken:
@@ -363,22 +365,22 @@ class Names:
         if self.like:
             waiting = [register for register in waiting if not self.take_liked(register, complements)]
         for register in waiting:
-            own = {written(named) for named, bit in self.module.outputs if bit == register.q}
-            free = [name for name in self.candidates(register.q) if self.is_free(name, own)]
-            register.name = free[0] if free else self.fresh(self.candidates(register.q)[0])
+            names = self.candidates(register.q)
+            free = [name for name in names if self.is_free(name, register.q)]
+            register.name = free[0] if free else self.fresh(names[0])
             self.taken.add(register.name)
             self.of[register.q] = register.name
         self.module.registers.sort(key=lambda register: natural(register.name))
 
-    def is_free(self, name, own):
-        return name not in self.taken and (name not in self.reserved or name in own)
+    def is_free(self, name, bit):
+        """Whether a register of this bit may have the name: an output's only where it is that output."""
+        return name not in self.taken and (name not in self.reserved or name in self.own.get(bit, ()))
 
     def take_liked(self, register, complements):
         """Takes the name that the other netlist has for this register, or for its complement."""
         for bit in [register.q, *complements.get(register.q, [])]:
-            own = {written(named) for named, port in self.module.outputs if port == bit}
             for name in self.candidates(bit):
-                if name in self.like and self.is_free(name, own):
+                if name in self.like and self.is_free(name, bit):
                     self.taken.add(name)
                     self.of[bit] = register.name = name
                     register.complement = bit if bit != register.q else None
@@ -400,7 +402,8 @@ class Writer:
         self.constants, self.undriven = {}, []
         self.choosers, self.open, self.complemented = module.choosers(), {}, {}
 
-    def gate(self, word, *operands, name="$"):
+    def gate(self, word, *operands, name="$g"):
+        """Writes a gate, and gives its signal."""
         name = self.names.fresh(name)
         self.lines.append(f"{name} = {word}({', '.join(operands)})")
         return name
