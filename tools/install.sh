@@ -1,6 +1,6 @@
 #!/bin/sh
-# Puts bddcheck where it belongs: tools/install.sh PREFIX, as /usr/local or ~/.local. The program, its manual page and
-# completions for bash, zsh and fish go below PREFIX; DESTDIR, if it is set, stands before it, for those who make packages.
+# Puts bddcheck where it belongs: tools/install.sh PREFIX, as /usr/local or ~/.local. The program, its manual page,
+# completions for bash, zsh and fish, and rtl2bench go below PREFIX; DESTDIR, if it is set, stands before it, for those who make packages.
 # In a clone it takes the proved program and builds it where that is needed; in an unpacked release the one beside it.
 usage='usage: install.sh PREFIX'
 case ${1-} in
@@ -23,4 +23,7 @@ put 755 "$program" "$prefix/bin/bddcheck" &&
     put 644 "$manual" "$prefix/share/man/man1/bddcheck.1" &&
     put 644 "$completions/bddcheck.bash" "$prefix/share/bash-completion/completions/bddcheck" &&
     put 644 "$completions/_bddcheck" "$prefix/share/zsh/site-functions/_bddcheck" &&
-    put 644 "$completions/bddcheck.fish" "$prefix/share/fish/vendor_completions.d/bddcheck.fish"
+    put 644 "$completions/bddcheck.fish" "$prefix/share/fish/vendor_completions.d/bddcheck.fish" &&
+    put 755 "$here/rtl2bench.sh" "$prefix/share/bddcheck/rtl2bench.sh" &&
+    put 755 "$here/rtl2bench.py" "$prefix/share/bddcheck/rtl2bench.py" &&
+    ln -sf ../share/bddcheck/rtl2bench.sh "$prefix/bin/rtl2bench" && echo "$prefix/bin/rtl2bench"

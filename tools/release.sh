@@ -1,5 +1,5 @@
 #!/bin/sh
-# Makes an archive of the proved program, its manual page, its completions and its documents: tools/release.sh [FOLDER].
+# Makes an archive of the proved program, its manual page, its completions, rtl2bench and its documents: tools/release.sh [FOLDER].
 # FOLDER (the current one) gets bddcheck-COMMIT-x86_64-linux.tar.gz. In it PROVENANCE says of which commit the
 # program is and by which kit it was proved. The program in it runs without the kit: it needs the C library alone.
 # A tree with changes that are not committed is refused, since no commit would say what was built.
@@ -16,7 +16,7 @@ work=$(mktemp -d) || exit 2
 trap 'rm -rf "$work"' EXIT
 place=$work/$name
 mkdir "$place" &&
-    cp crates/bddcheck/out/bddcheck docs/bddcheck.1 tools/install.sh README.md docs/FLOWS.md docs/CI.md docs/report.schema.json docs/report.example.json "$place" &&
+    cp crates/bddcheck/out/bddcheck docs/bddcheck.1 tools/install.sh tools/rtl2bench.sh tools/rtl2bench.py README.md docs/FLOWS.md docs/CI.md docs/report.schema.json docs/report.example.json "$place" &&
     cp -R tools/completions examples "$place" || exit 2
 cat >"$place/PROVENANCE" <<TEXT
 bddcheck, x86-64 (x86-64-v2), Linux

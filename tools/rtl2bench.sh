@@ -1,0 +1,140 @@
+#!/bin/sh
+# Makes a bench netlist for bddcheck of a design that yosys reads, and compares what two such netlists say of their registers.
+#
+# usage: tools/rtl2bench.sh [OPTIONS] FILE .. -o OUT.bench
+#        tools/rtl2bench.sh --compare [--match name|position] [--leave-out FACT,..] FIRST.bench SECOND.bench
+#
+# FILE is Verilog (.v), SystemVerilog (.sv), BLIF as abc writes it (.blif), or a netlist mapped to the cells of --liberty.
+#
+#   --sv                the files behind it are SystemVerilog, whatever their names
+#   --top NAME          the top module; without it yosys looks for it
+#   --liberty FILE      the functions of the cells that a mapped netlist names; may be repeated
+#   -D NAME[=VALUE]     defines a macro; -I FOLDER is searched for included files
+#   --name-style net    a register has the name of the net that it drives, a port's before others (the default)
+#   --name-style cell   the name that its cell tells, where one does: q[3] for a cell q_reg[3] or q_reg_3_
+#   --like OTHER.bench  the name that OTHER.bench has for it, where one of its nets or its cell has that name
+#   --undefined 0|1     x, z and nets without a driver are this; without it each is an input of its own
+#
+# Nothing is optimised; case tables and memories become gates and registers. OUT.bench has a comment of each register with what the format
+# does not hold: latch or flip-flop, clock, edge, asynchronous reset and set, initial value. --compare pairs registers as bddcheck
+# does, and tells where these differ; --leave-out kind, clock, edge, clear, set or init does not look at it.
+#
+# Status: 0, done or alike; 1, registers differ; 2, wrong words; 3, a step failed, and standard error says why: there is no OUT.bench then.
+script=$0
+while [ -L "$script" ]; do
+    link=$(readlink "$script") || exit 3
+    case $link in
+    /*) script=$link ;;
+    *) script=$(dirname "$script")/$link ;;
+    esac
+done
+here=$(cd "$(dirname "$script")" && pwd -P) || exit 3
+usage() {
+    sed -n '/^# usage/,/^# Status/s/^# \{0,1\}//p' "$script"
+}
+wrong() {
+    echo "rtl2bench: $*; --help says more" >&2
+    exit 2
+}
+fault() {
+    echo "rtl2bench: $*" >&2
+    exit 3
+}
+command -v python3 >/dev/null || fault 'python3 is not installed'
+case ${1-} in
+--help | -h) usage && exit ;;
+--compare) shift && exec python3 "$here/rtl2bench.py" compare "$@" ;;
+esac
+
+work=$(mktemp -d) || exit 3
+trap 'rm -rf "$work"' EXIT
+trap 'exit 130' INT TERM HUP
+# A word of a yosys script. yosys takes a name in quotes for the name of a file, and else ends words at blanks.
+quoted() {
+    case $1 in
+    *'"'* | *'
+'*) wrong "yosys cannot be given the name $1" ;;
+    esac
+    case $1 in
+    /*) printf '"%s"' "$1" ;;
+    *) printf '"./%s"' "$1" ;;
+    esac
+}
+plain() {
+    case $1 in
+    '' | *[!A-Za-z0-9_\$\\=.:/\']*) wrong "yosys cannot be given the word $1" ;;
+    esac
+    printf '%s' "$1"
+}
+# Adds the command that reads a file.
+reads() {
+    case $1 in
+    *.sv | *.svh) command='read_verilog -sv -icells' ;;
+    *.blif) command=read_blif tables=yes ;;
+    *.v | *.vh | *.vg | *.vm | *.vo | *.gv | *.verilog) command="read_verilog$dialect -icells" ;;
+    *) wrong "$1: no Verilog (.v, .sv) and no BLIF (.blif)" ;;
+    esac
+    [ -r "$1" ] || fault "$1: cannot be read"
+    name=$(quoted "$1") || exit
+    echo "$command $name" >>"$work/files"
+}
+folders=0
+includes() {
+    folders=$((folders + 1))
+    ln -s "$(cd "$1" && pwd -P)" "$work/include$folders" || fault "$1: no folder"
+    echo "verilog_defaults -add -I$work/include$folders" >>"$work/begin"
+}
+: >"$work/begin" && : >"$work/files" || exit 3
+dialect='' tables='' out='' top=-auto-top style=net like='' undefined=''
+while [ $# -gt 0 ]; do
+    case $1 in
+    -o | --top | --liberty | -D | -I | --name-style | --like | --undefined) [ $# -gt 1 ] || wrong "$1 wants a word behind it" ;;
+    esac
+    case $1 in
+    -o) out=$2 && shift ;;
+    --top) top="-top $(plain "$2")" && shift || exit ;;
+    --name-style) style=$2 && shift ;;
+    --like) like=$2 && shift ;;
+    --undefined) undefined=$2 && shift ;;
+    --sv) dialect=' -sv' ;;
+    -D) name=$(plain "$2") && echo "verilog_defaults -add -D$name" >>"$work/begin" && shift || exit ;;
+    -I) includes "$2" && shift ;;
+    --liberty) name=$(quoted "$2") && echo "read_liberty -ignore_miss_func $name" >>"$work/begin" && shift || exit ;;
+    --compare) wrong '--compare comes first' ;;
+    -*) wrong "no option $1" ;;
+    *) reads "$1" ;;
+    esac
+    shift
+done
+[ -s "$work/files" ] || wrong 'no file to read'
+[ -n "$out" ] || wrong 'no file to write: -o OUT.bench'
+case $style in net | cell) ;; *) wrong "--name-style $style: net or cell" ;; esac
+case $undefined in '' | 0 | 1) ;; *) wrong "--undefined $undefined: 0 or 1" ;; esac
+command -v yosys >/dev/null || fault 'yosys is not installed'
+
+# What an earlier run wrote does not stand for what this one could not write.
+rm -f "$out" || exit 3
+{
+    cat "$work/begin" "$work/files"
+    echo "hierarchy -check $top"
+    cat <<'END'
+proc
+flatten
+memory_collect
+memory_map
+chformal -remove
+techmap
+dfflegalize -cell $_DFF_?_ 01 -cell $_DFF_?P?_ 01 -cell $_DFFSR_?PP_ 01 \
+    -cell $_DLATCH_P_ 01 -cell $_DLATCH_PP?_ 01 -cell $_DLATCHSR_PPP_ 01 -cell $_SR_PP_ 01
+END
+    # A table of BLIF becomes multiplexers over constants.
+    [ -z "$tables" ] || echo 'opt_expr -keepdc -mux_bool'
+    echo opt_clean
+    echo "write_json \"$work/design.json\""
+} >"$work/script.ys"
+# Only warnings and errors are said.
+yosys -q -s "$work/script.ys" >&2 </dev/null || fault "yosys could not do it: status $?"
+[ -s "$work/design.json" ] || fault 'yosys wrote nothing'
+python3 "$here/rtl2bench.py" convert "$work/design.json" "$work/out.bench" --name-style "$style" \
+    ${like:+--like "$like"} ${undefined:+--undefined "$undefined"} || exit 3
+cat "$work/out.bench" >"$out" || fault "$out: cannot be written"
