@@ -8,17 +8,17 @@ use Rattle.net_bench.specs.Labels.{IsFunctionOf}
 use Rattle.net_order.specs.Order.{Paired, first_level, second_level, name_of, names_of}
 use Rattle.dd_store.specs.declared.reference.Ref.{Ref}
 use Rattle.dd_store.specs.Nodes.{Nodes}
-use Rattle.check_report.specs.declared.outcome.Role.{Role}
-use Rattle.check_report.specs.declared.outcome.Side.{Side}
-use Rattle.check_report.specs.declared.outcome.Side.TheVariants.{First, Second}
-use Rattle.check_report.specs.declared.outcome.Subject.{Subject}
-use Rattle.check_report.specs.declared.verdict.Verdict.{Verdict}
-use Rattle.check_report.specs.declared.verdict.Verdict.TheVariants.{Lone}
-use Rattle.check_report.specs.Lines.{line_text, lines_text}
+use Rattle.report_text.specs.declared.outcome.Role.{Role}
+use Rattle.report_text.specs.declared.outcome.Side.{Side}
+use Rattle.report_text.specs.declared.outcome.Side.TheVariants.{First, Second}
+use Rattle.check_report.specs.declared.subject.Subject.{Subject}
+use Rattle.report_text.specs.declared.verdict.Verdict.{Verdict}
+use Rattle.report_text.specs.declared.verdict.Verdict.TheVariants.{Lone}
+use Rattle.report_text.specs.Lines.{line_text, lines_text}
 use Rattle.check_report.specs.Report.{Compared, AreFunctions, IsVerdictOf, CallsEqual, AreVerdicts, lone_side, subjects}
 use Rattle.check_report.specs.Conditions.{everywhere, AgreeWhere}
 use Rattle.check_report.specs.Comparing.{AreSignals, IsInside, HaveVerdicts, HaveAllVerdicts, DenotesWhere, subject_at, compared_of}
-use Rattle.check_report.proofs.Wording.{there}
+use Rattle.report_text.proofs.Wording.{there}
 use Rattle.gate_plan.proofs.Ranks.{any_default}
 use Rattle.check_report.proofs.Calling.{exact}
 use Rattle.check_report.proofs.Restricting.{verdict_where}

@@ -1,8 +1,8 @@
 -- A verdict calls two functions equal exactly where they agree wherever the condition holds.
 use Rattle.std.proofs.Common.{ℕ, Bool, List}
 use Rattle.std.specs.Prelude.{◌↔◌}
-use Rattle.check_report.specs.declared.verdict.Verdict.{Verdict}
-use Rattle.check_report.specs.declared.verdict.Verdict.TheVariants.{Equal, Differs, Lone}
+use Rattle.report_text.specs.declared.verdict.Verdict.{Verdict}
+use Rattle.report_text.specs.declared.verdict.Verdict.TheVariants.{Equal, Differs, Lone}
 use Rattle.check_report.specs.Conditions.{AgreeWhere}
 use Rattle.check_report.specs.Report.{Compared, IsVerdictOf, CallsEqual}
 use Rattle.check_report.specs.Report.IsVerdictOf.{where_equal, where_different}

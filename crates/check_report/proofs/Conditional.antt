@@ -28,14 +28,14 @@ use Rattle.gate_plan.specs.Needing.{IsNeededValue, HasNeed}
 use Rattle.gate_plan.proofs.Needs.{complete}
 use Rattle.gate_plan.proofs.Ranks.{any_default}
 use Rattle.gate_plan.proofs.Together.{of_map}
-use Rattle.check_report.specs.declared.outcome.Subject.{Subject}
+use Rattle.check_report.specs.declared.subject.Subject.{Subject}
 use Rattle.check_report.specs.Conditions.{HoldsWhere, everywhere, output_of, restricted}
 use Rattle.check_report.specs.Comparing.{AreBuilt, AreCompared, AreShown, IsInside, DenotesWhere, references, subject_at}
 use Rattle.check_report.specs.Limits.{IsComparedValue, IsFunctionIn, IsNeededIn, HasNeededAlone, HasAllNeeded, HasAll, IsOver}
 use Rattle.check_report.specs.Report.{subjects}
 use Rattle.check_report.proofs.Determined.{one_function}
 use Rattle.check_report.proofs.Restricting.{swapped}
-use Rattle.check_report.proofs.Wording.{there}
+use Rattle.report_text.proofs.Wording.{there}
 
 -- ---- more functions, and more nodes
 

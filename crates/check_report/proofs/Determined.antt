@@ -11,13 +11,13 @@ use Rattle.net_bench.proofs.Built.{same_labelling}
 use Rattle.net_order.specs.declared.order.Match.{Match}
 use Rattle.net_order.specs.declared.order.Order.{Order}
 use Rattle.net_order.specs.Order.{Paired, IsPairing}
-use Rattle.check_report.specs.declared.outcome.Outcome.{Outcome}
-use Rattle.check_report.specs.declared.verdict.Verdict.{Verdict}
-use Rattle.check_report.specs.declared.verdict.Verdict.TheVariants.{Equal, Differs}
-use Rattle.check_report.specs.Lines.{Found, counted}
+use Rattle.report_text.specs.declared.outcome.Outcome.{Outcome}
+use Rattle.report_text.specs.declared.verdict.Verdict.{Verdict}
+use Rattle.report_text.specs.declared.verdict.Verdict.TheVariants.{Equal, Differs}
+use Rattle.report_text.specs.Lines.{Found, counted}
 use Rattle.check_report.specs.Report.{Compared, IsSizeShown, AreSizesShown, IsVerdictOf, AreFunctions, AreVerdicts, lone_verdicts, subjects, IsReport}
 use Rattle.check_report.specs.Report.IsVerdictOf.{where_equal, where_different}
-use Rattle.check_report.specs.declared.outcome.Subject.{Subject}
+use Rattle.check_report.specs.declared.subject.Subject.{Subject}
 use Rattle.check_report.specs.Conditions.{HasOneOutput, HoldsWhere, output_of, restricted, AgreeWhere, IsLeastWhere}
 use Rattle.check_report.specs.Comparing.{IsInside}
 use Rattle.check_report.proofs.Restricting.{size_as}

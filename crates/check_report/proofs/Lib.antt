@@ -1,5 +1,3 @@
-pub mod Written
-pub mod Wording
 pub mod Subjects
 pub mod Adding
 pub mod Reporting
@@ -11,7 +9,6 @@ pub mod Pigeons
 pub mod Numbering
 pub mod Excluding
 pub mod Determined
-pub mod Tokens
 pub mod Trying
 pub mod Printing
 pub mod Widening

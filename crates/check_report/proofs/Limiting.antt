@@ -1,5 +1,5 @@
 -- What the store of a build says of the limit.
-use Rattle.std.proofs.Common.{Option, ◌≡◌, ℕ, ◌<◌, ◌≤◌, ◌⊎◌, inl, inr, length, sym, subst, arith, ◌^◌}
+use Rattle.std.proofs.Common.{Option, Result, Ok, Err, OnOk, ◌≡◌, ℕ, ◌<◌, ◌≤◌, ◌⊎◌, inl, inr, length, sym, subst, arith, ◌^◌}
 use Rattle.dd_store.specs.Nodes.{Nodes, IsSound, count_of, empty_nodes}
 use Rattle.dd_store.proofs.Storing.{IsKept-empty}
 use Rattle.expand_work.specs.declared.fault.WaveFault.{WaveFault}
@@ -17,6 +17,11 @@ none_before n limit T sound levels same =
     let few : n ≤ 4096 = (let k = sound.few_levels in omega arith) in
     let small : limit < 2 ^ 32 = subst (λ m. m < 2 ^ 32) same sound.small_limit in
     sym (IsKept-empty n limit few small).counted
+
+-- what holds anyhow holds of an answer
+pub on_ok : {T E P : Type 0} (r : Result T E) → P → OnOk r P
+on_ok (Ok value) h = h
+on_ok (Err fault) h = tt
 
 pub fits : (limit : ℕ) (a b : Circuit) (given : Option Circuit) (p : Paired) (T : Nodes) → IsSound T → T.levels ≡ length p.names → T.limit ≡ limit → HasAll a b given p T → FitsWithin limit a b given p
 fits limit a b given p T sound levels same need = record {

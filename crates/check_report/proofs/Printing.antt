@@ -3,19 +3,20 @@ use Rattle.std.proofs.Common.{◌≡◌, ◌∙◌, ap, ℕ, Bool, List, Option,
 use Rattle.net_order.specs.declared.order.Match.{Match}
 use Rattle.net_order.specs.declared.order.Order.{Order}
 use Rattle.net_order.specs.OrderText.{order_text}
+use Rattle.check_report.specs.Devices.{Told}
 use Rattle.check_report.specs.declared.choice.Choice.{Choice}
 use Rattle.check_report.specs.declared.choice.Choice.TheVariants.{One, Best}
 use Rattle.check_report.specs.declared.choice.Attempt.{Attempt}
 use Rattle.check_report.specs.Best.{IsAllowed, IsFound}
 use Rattle.check_report.specs.Check.{IsJudged}
-use Rattle.check_report.specs.Lines.{Found}
+use Rattle.report_text.specs.Lines.{Found}
 use Rattle.check_report.specs.Listing.{IsOrderPrinted}
 
-pub printed : (one two : Option (List ℕ)) (three : Option (Option (List ℕ))) (how : Match) (order : Order) (sizes : Bool) (found : Found) (bytes : List ℕ) → IsJudged one two three how order sizes found → bytes ≡ order_text found.variables → IsOrderPrinted one two three how order bytes
-printed one two three how order sizes found bytes j e = record { a = j.a; b = j.b; c = j.c; p = j.p; paired = j.paired; text = e ∙ ap order_text j.verdicts.variables }
+pub printed : (told : Told) (how : Match) (order : Order) (sizes : Bool) (found : Found) (bytes : List ℕ) → IsJudged told how order sizes found → bytes ≡ order_text found.variables → IsOrderPrinted told how order bytes
+printed told how order sizes found bytes j e = record { a = j.a; b = j.b; c = j.c; p = j.p; paired = j.paired; text = e ∙ ap order_text j.verdicts.variables }
 
 -- an order that was found is allowed
-pub found_allowed : (one two : Option (List ℕ)) (three : Option (Option (List ℕ))) (how : Match) (choice : Choice) (limit : ℕ) (tried : Option Attempt) (order : Order) → IsFound one two three how choice limit tried order → IsAllowed choice order
-found_allowed one two three how (One o) limit tried order f = f.1
-found_allowed one two three how Best limit None order f = absurd f
-found_allowed one two three how Best limit (Some t) order f = (t.order, f.0)
+pub found_allowed : (told : Told) (how : Match) (choice : Choice) (limit : ℕ) (tried : Option Attempt) (order : Order) → IsFound told how choice limit tried order → IsAllowed choice order
+found_allowed told how (One o) limit tried order f = f.1
+found_allowed told how Best limit None order f = absurd f
+found_allowed told how Best limit (Some t) order f = (t.order, f.0)

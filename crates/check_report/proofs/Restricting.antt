@@ -4,8 +4,8 @@ use Rattle.std.specs.Prelude.{◌&&◌, ◌↔◌, IsTrue}
 use Rattle.dd_store.specs.Functions.{Agree, Before, IsLeastDifference}
 use Rattle.dd_store.specs.Size.{HasSize}
 use Rattle.net_order.specs.Order.{Paired}
-use Rattle.check_report.specs.declared.verdict.Verdict.{Verdict}
-use Rattle.check_report.specs.declared.verdict.Verdict.TheVariants.{Differs}
+use Rattle.report_text.specs.declared.verdict.Verdict.{Verdict}
+use Rattle.report_text.specs.declared.verdict.Verdict.TheVariants.{Differs}
 use Rattle.check_report.specs.Conditions.{HoldsWhere, everywhere, restricted, AgreeWhere, IsLeastWhere}
 use Rattle.check_report.specs.Report.{Compared, IsSizeShown, AreSizesShown, IsVerdictOf}
 use Rattle.check_report.specs.Report.IsVerdictOf.{where_equal, where_different}

@@ -1,6 +1,6 @@
 -- Candidates, and the budgets within which they are tried.
-use Rattle.std.proofs.Common.{◌≡◌, ℕ, suc, ◌*◌, ◌^◌, List, Option, Some, None, Result, Ok, Err, IfErr, arith, refl, ap, sym, ◌∙◌, Bool}
-use Rattle.std.specs.Prelude.{IsSomeAnd, is_some, option_map}
+use Rattle.std.proofs.Common.{◌≡◌, ℕ, suc, ◌*◌, ◌^◌, List, Option, Some, None, Result, Ok, Err, IfErr, arith, refl, ap, sym, subst, ◌∙◌, Bool}
+use Rattle.std.specs.Prelude.{IfSome, IsSomeAnd, is_some, option_map}
 use Rattle.std.specs.Option.{option_copied}
 use Rattle.std.specs.Borrow.{Bor}
 use Rattle.std.proofs.Math.Nat.{pow-suc}
@@ -17,11 +17,12 @@ use Rattle.check_report.specs.declared.choice.Attempt.{Attempt}
 use Rattle.check_report.specs.Best.{IsAllowed, IsChosen, tried_order}
 use Rattle.net_bench.specs.Circuit.{Circuit, Net, circuit}
 use Rattle.net_order.specs.Order.{condition}
-use Rattle.check_report.specs.Devices.{told_by}
-use Rattle.check_report.specs.Json.{form_text}
-use Rattle.check_report.specs.Lines.{Found}
+use Rattle.check_report.specs.Devices.{Told, told_by}
+use Rattle.report_text.specs.Json.{form_text}
+use Rattle.report_text.specs.Lines.{Found}
 use Rattle.net_bench.specs.declared.netlist.BenchFault.{BenchFault}
-use Rattle.check_report.specs.Check.{Gives, IsUnread, IsConditionFault, IsCheckFault}
+use Rattle.check_report.specs.Check.{AreGiven, Gives, IsCondition, IsUnread, IsConditionFault, IsCheckFault}
+use Rattle.check_report.specs.Conditions.{HasOneOutput}
 
 -- what holds of the three candidates holds of each
 pub each_candidate : (P : Candidate → Type 0) → P Interleave → P Depth → P Declared → (c : Candidate) → P c
@@ -46,38 +47,48 @@ uncondition : (given : Option (Option (List ℕ))) (failed : Type 0) (fault : Be
 uncondition None failed fault u = absurd u
 uncondition (Some told) failed fault u = unread told failed fault u
 
-pub none_failed : (one two : Option (List ℕ)) (three : Option (Option (List ℕ))) (first second third : Type 0) (how : Match) (order : Order) (fault : CheckFault) → IsCheckFault one two three ⊥ ⊥ ⊥ how order fault → IsCheckFault one two three first second third how order fault
-none_failed one two three first second third how order (First fault) c = unread one first fault c
-none_failed one two three first second third how order (Second fault) c = (c.0, c.1, unread two second fault c.2)
-none_failed one two three first second third how order (Given fault) c = (c.0, c.1, c.2, c.3, uncondition three third fault c.4)
-none_failed one two three first second third how order GivenOutputs c = c
-none_failed one two three first second third how order (OrderRefused fault) c = c
-none_failed one two three first second third how order (Wave fault) c = c
-none_failed one two three first second third how order Write c = c
-none_failed one two three first second third how order OutOfMemory c = c
+pub none_failed : (told : Told) (first second third : Type 0) (how : Match) (order : Order) (fault : CheckFault) → IsCheckFault told ⊥ ⊥ ⊥ how order fault → IsCheckFault told first second third how order fault
+none_failed told first second third how order (First fault) c = unread told.first first fault c
+none_failed told first second third how order (Second fault) c = (c.0, c.1, unread told.second second fault c.2)
+none_failed told first second third how order (Given fault) c = (c.0, c.1, c.2, c.3, uncondition told.given third fault c.4)
+none_failed told first second third how order GivenOutputs c = c
+none_failed told first second third how order (OrderRefused fault) c = c
+none_failed told first second third how order (Wave fault) c = c
+none_failed told first second third how order Write c = c
+none_failed told first second third how order OutOfMemory c = c
 
-module _ (one two : Option (List ℕ)) (three : Option (Option (List ℕ))) (first second third : Type 0) (how : Match) (choice : Choice) where
-  pub none_failed_in : {T : Type 0} (r : Result T CheckFault) → IfErr r (λ fault. (order : Order) × IsAllowed choice order × IsCheckFault one two three ⊥ ⊥ ⊥ how order fault)
-      → IfErr r (λ fault. (order : Order) × IsAllowed choice order × IsCheckFault one two three first second third how order fault)
+module _ (told : Told) (first second third : Type 0) (how : Match) (choice : Choice) where
+  pub none_failed_in : {T : Type 0} (r : Result T CheckFault) → IfErr r (λ fault. (order : Order) × IsAllowed choice order × IsCheckFault told ⊥ ⊥ ⊥ how order fault)
+      → IfErr r (λ fault. (order : Order) × IsAllowed choice order × IsCheckFault told first second third how order fault)
   none_failed_in (Ok v) h = tt
-  none_failed_in (Err fault) h = (h.0, h.1, none_failed one two three first second third how h.0 fault h.2)
+  none_failed_in (Err fault) h = (h.0, h.1, none_failed told first second third how h.0 fault h.2)
 
 -- why there is no condition, where both texts were accepted
-pub condition_fault : (one two : Option (List ℕ)) (three : Option (Option (List ℕ))) (a b : Circuit) (first second third : Type 0) (how : Match) (order : Order) (fault : CheckFault) → Gives one a → Gives two b →
-    IsConditionFault three third fault → IsCheckFault one two three first second third how order fault
-condition_fault one two three a b first second third how order (First fault) ga gb f = absurd f
-condition_fault one two three a b first second third how order (Second fault) ga gb f = absurd f
-condition_fault one two three a b first second third how order (Given fault) ga gb f = (a, b, ga, gb, f)
-condition_fault one two three a b first second third how order GivenOutputs ga gb f = (a, b, ga, gb, f)
-condition_fault one two three a b first second third how order (OrderRefused fault) ga gb f = absurd f
-condition_fault one two three a b first second third how order (Wave fault) ga gb f = absurd f
-condition_fault one two three a b first second third how order Write ga gb f = absurd f
-condition_fault one two three a b first second third how order OutOfMemory ga gb f = absurd f
+pub condition_fault : (told : Told) (a b : Circuit) (first second third : Type 0) (how : Match) (order : Order) (fault : CheckFault) → Gives told.first a → Gives told.second b →
+    IsConditionFault told.given third fault → IsCheckFault told first second third how order fault
+condition_fault told a b first second third how order (First fault) ga gb f = absurd f
+condition_fault told a b first second third how order (Second fault) ga gb f = absurd f
+condition_fault told a b first second third how order (Given fault) ga gb f = (a, b, ga, gb, f)
+condition_fault told a b first second third how order GivenOutputs ga gb f = (a, b, ga, gb, f)
+condition_fault told a b first second third how order (OrderRefused fault) ga gb f = absurd f
+condition_fault told a b first second third how order (Wave fault) ga gb f = absurd f
+condition_fault told a b first second third how order Write ga gb f = absurd f
+condition_fault told a b first second third how order OutOfMemory ga gb f = absurd f
 
 -- a condition that is borrowed
 pub as_condition : (o : Option Net) (r : Option (Bor Net)) → option_copied r ≡ o → option_map circuit o ≡ condition r
 as_condition o None e = ap (option_map circuit) (sym e)
 as_condition o (Some net) e = ap (option_map circuit) (sym e)
+
+-- the texts of a task, whose condition is borrowed
+pub given_as : (told : Told) (a b : Circuit) (o : Option Net) (r : Option (Bor Net)) → option_copied r ≡ o → AreGiven told a b (option_map circuit o) → AreGiven told a b (condition r)
+given_as told a b o r e h = subst (AreGiven told a b) (as_condition o r e) h
+
+-- a condition that was read has one output
+pub one_output_of : (told : Option (Option (List ℕ))) (c : Option Circuit) → IsCondition told c → IfSome c HasOneOutput
+one_output_of told None h = tt
+one_output_of None (Some c) h = absurd h
+one_output_of (Some text) (Some c) h = h.1
 
 -- there is a text where there is a device
 pub is_told : {R : Type 0} (tells : R → Option (List ℕ)) (r : Option R) → is_some (told_by tells r) ≡ is_some r
@@ -85,12 +96,19 @@ is_told tells None = refl
 is_told tells (Some device) = refl
 
 -- the order of what a comparison ended with
-pub chosen_is : (one two : Option (List ℕ)) (three : Option (Option (List ℕ))) (how : Match) (choice : Choice) (limit : ℕ) (tried : Option Attempt) (order : Order) → IsChosen one two three how choice limit tried order → order ≡ tried_order choice tried
-chosen_is one two three how (One o) limit None order c = c.0
-chosen_is one two three how (One o) limit (Some t) order c = absurd c
-chosen_is one two three how Best limit None order c = absurd c
-chosen_is one two three how Best limit (Some t) order c = c.0
+pub chosen_is : (told : Told) (how : Match) (choice : Choice) (limit : ℕ) (tried : Option Attempt) (order : Order) → IsChosen told how choice limit tried order → order ≡ tried_order choice tried
+chosen_is told how (One o) limit None order c = c.0
+chosen_is told how (One o) limit (Some t) order c = absurd c
+chosen_is told how Best limit None order c = absurd c
+chosen_is told how Best limit (Some t) order c = c.0
 
 -- the bytes of a report, by what its order and its condition are
 pub form_as : (json : Bool) (how : Match) (found : Found) (items : List ℕ) (o order : Order) (h given : Bool) → items ≡ form_text json how o h found → order ≡ o → h ≡ given → items ≡ form_text json how order given found
 form_as json how found items o order h given e same told = e ∙ ap (λ z. form_text json how z h found) (sym same) ∙ ap (λ z. form_text json how order z found) told
+
+-- and it is allowed
+pub chosen_allowed : (told : Told) (how : Match) (choice : Choice) (limit : ℕ) (tried : Option Attempt) (order : Order) → IsChosen told how choice limit tried order → IsAllowed choice order
+chosen_allowed told how (One o) limit None order c = c.0
+chosen_allowed told how (One o) limit (Some t) order c = absurd c
+chosen_allowed told how Best limit None order c = absurd c
+chosen_allowed told how Best limit (Some t) order c = (t.order, c.0)

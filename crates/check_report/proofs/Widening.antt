@@ -15,12 +15,13 @@ use Rattle.wave_engine.specs.Bounds.{AreMoreThan, ArePast}
 use Rattle.gate_plan.specs.Asking.{IsPast}
 use Rattle.gate_plan.specs.Building.{References, levelled, reference_of}
 use Rattle.gate_plan.specs.Conjoining.{conjunctions}
+use Rattle.check_report.specs.Devices.{Told}
 use Rattle.check_report.specs.declared.choice.Candidate.{Candidate}
 use Rattle.check_report.specs.declared.choice.Candidate.TheVariants.{Interleave, Depth, Declared}
 use Rattle.check_report.specs.declared.choice.Attempt.{Attempt}
 use Rattle.check_report.specs.declared.fault.CheckFault.{CheckFault}
 use Rattle.check_report.specs.declared.fault.CheckFault.TheVariants.{Wave}
-use Rattle.check_report.specs.declared.outcome.Subject.{Subject}
+use Rattle.check_report.specs.declared.subject.Subject.{Subject}
 use Rattle.check_report.specs.Best.{AllBefore, AreGivenUp, IsBudget, IsGivenUp, IsPassed, order_of}
 use Rattle.check_report.specs.Check.{ArePaired}
 use Rattle.check_report.specs.Comparing.{AreBuilt, references}
@@ -51,10 +52,10 @@ wide_compared a b given p None past = absurd past
 wide_compared a b given p (Some n) past = inr past
 
 -- and so is that of what the devices gave
-pub wide_given : (one two : Option (List ℕ)) (three : Option (Option (List ℕ))) (how : Match) (order : Order) (a b : Circuit) (given : Option Circuit) (p : Paired) → ArePaired one two three how order a b given p →
-    (o : Option ℕ) → IsSomeAnd o (λ n. IsTooWide n a b given p) → IsSomeAnd o (AreTooWide one two three how order)
-wide_given one two three how order a b given p paired None past = absurd past
-wide_given one two three how order a b given p paired (Some n) past = (a, b, given, p, paired, past)
+pub wide_given : (told : Told) (how : Match) (order : Order) (a b : Circuit) (given : Option Circuit) (p : Paired) → ArePaired told how order a b given p →
+    (o : Option ℕ) → IsSomeAnd o (λ n. IsTooWide n a b given p) → IsSomeAnd o (AreTooWide told how order)
+wide_given told how order a b given p paired None past = absurd past
+wide_given told how order a b given p paired (Some n) past = (a, b, given, p, paired, past)
 
 -- ---- attempts
 
@@ -66,10 +67,10 @@ fewer j k lt = by (cases_lt j k)
     by (inr le) = let more = pow-le-pow_right {n = 4} (omega arith) le in absurd (omega (arith, lt, more))
 
 -- one that was not kept was passed over
-pub passed_over : (one two : Option (List ℕ)) (three : Option (Option (List ℕ))) (how : Match) (budget : ℕ) (c : Candidate) (o : Option ℕ) (fault : CheckFault) → (fault ≡ Wave Full) ⊎ (fault ≡ Wave TooManyRequests) →
-    (fault ≡ Wave Full → AreBeyond one two three how (order_of c) budget) → (fault ≡ Wave TooManyRequests → IsSomeAnd o (AreTooWide one two three how (order_of c))) → IsPassed one two three how budget o c
-passed_over one two three how budget c o fault (inl full) beyond wide = inl (beyond full)
-passed_over one two three how budget c o fault (inr many) beyond wide = inr (wide many)
+pub passed_over : (told : Told) (how : Match) (budget : ℕ) (c : Candidate) (o : Option ℕ) (fault : CheckFault) → (fault ≡ Wave Full) ⊎ (fault ≡ Wave TooManyRequests) →
+    (fault ≡ Wave Full → AreBeyond told how (order_of c) budget) → (fault ≡ Wave TooManyRequests → IsSomeAnd o (AreTooWide told how (order_of c))) → IsPassed told how budget o c
+passed_over told how budget c o fault (inl full) beyond wide = inl (beyond full)
+passed_over told how budget c o fault (inr many) beyond wide = inr (wide many)
 
 -- a fault by its answer
 pub which_fault : {T : Type 0} (fault : CheckFault) → (◌≡◌ {A = Result T CheckFault} (Err fault) (Err (Wave Full))) ⊎ (◌≡◌ {A = Result T CheckFault} (Err fault) (Err (Wave TooManyRequests))) → (fault ≡ Wave Full) ⊎ (fault ≡ Wave TooManyRequests)
@@ -94,37 +95,37 @@ tried_next P k b e before now j lt = by (cases_lt j k)
     by (inl less) = before j less
     by (inr le) = subst P (e ∙ ap (λ i. 65536 * 4 ^ i) (let same : k ≡ j = omega (arith, lt, le) in same)) now
 
-module _ (one two : Option (List ℕ)) (three : Option (Option (List ℕ))) (how : Match) (limit : ℕ) (small : limit < 2 ^ 32) where
+module _ (told : Told) (how : Match) (limit : ℕ) (small : limit < 2 ^ 32) where
   -- an attempt below the limit that was passed over was given up
-  pub given_up : (budget : ℕ) → budget < limit → (o : Option ℕ) → o ≡ None → (c : Candidate) → IsPassed one two three how budget (Some (min (budget * 8) (most_of o))) c → IsGivenUp one two three how limit budget c
+  pub given_up : (budget : ℕ) → budget < limit → (o : Option ℕ) → o ≡ None → (c : Candidate) → IsPassed told how budget (Some (min (budget * 8) (most_of o))) c → IsGivenUp told how limit budget c
   given_up budget lt o none c (inl beyond) = inl beyond
   given_up budget lt o none c (inr wide) =
       let most : most_of o ≡ 2 ^ 64 - 1 = ap most_of none in
       let same : min (budget * 8) (most_of o) ≡ 8 * budget = omega (arith, most, lt, small) in
-      inr (lt, subst (AreTooWide one two three how (order_of c)) same wide)
+      inr (lt, subst (AreTooWide told how (order_of c)) same wide)
 
   all_before : (P Q : Candidate → Type 0) → ((c : Candidate) → P c → Q c) → (c : Candidate) → AllBefore c P → AllBefore c Q
   all_before P Q f Interleave h = tt
   all_before P Q f Depth h = f Interleave h
   all_before P Q f Declared h = (f Interleave h.0, f Depth h.1)
 
-  module _ (o : Option ℕ) (none : o ≡ None) (k : ℕ) (tried : (j : ℕ) → j < k → (c : Candidate) → IsPassed one two three how (65536 * 4 ^ j) (Some (min (65536 * 4 ^ j * 8) (most_of o))) c) where
-    smaller : (top : ℕ) → top ≤ 65536 * 4 ^ k → top ≤ limit → (budget : ℕ) → IsBudget limit budget → budget < top → (c : Candidate) → IsGivenUp one two three how limit budget c
+  module _ (o : Option ℕ) (none : o ≡ None) (k : ℕ) (tried : (j : ℕ) → j < k → (c : Candidate) → IsPassed told how (65536 * 4 ^ j) (Some (min (65536 * 4 ^ j * 8) (most_of o))) c) where
+    smaller : (top : ℕ) → top ≤ 65536 * 4 ^ k → top ≤ limit → (budget : ℕ) → IsBudget limit budget → budget < top → (c : Candidate) → IsGivenUp told how limit budget c
     smaller top most within budget (inl (j, power, less)) lt c =
         let few : 4 ^ j < 4 ^ k = omega (arith, power, lt, most) in
-        given_up budget less o none c (subst (λ z. IsPassed one two three how z (Some (min (z * 8) (most_of o))) c) (sym power) (tried j (fewer j k few) c))
+        given_up budget less o none c (subst (λ z. IsPassed told how z (Some (min (z * 8) (most_of o))) c) (sym power) (tried j (fewer j k few) c))
     smaller top most within budget (inr same) lt c = absurd (omega (arith, same, lt, within))
 
     -- an attempt within a budget below the limit
-    pub all_given_up : (t : Attempt) → t.budget ≡ 65536 * 4 ^ k → t.budget < limit → AllBefore t.order (IsPassed one two three how t.budget (Some (min (t.budget * 8) (most_of o)))) → AreGivenUp one two three how limit t
+    pub all_given_up : (t : Attempt) → t.budget ≡ 65536 * 4 ^ k → t.budget < limit → AllBefore t.order (IsPassed told how t.budget (Some (min (t.budget * 8) (most_of o)))) → AreGivenUp told how limit t
     all_given_up t power lt before = record {
       smaller = smaller t.budget (omega (arith, power)) (omega (arith, lt));
-      same = all_before (IsPassed one two three how t.budget (Some (min (t.budget * 8) (most_of o)))) (IsGivenUp one two three how limit t.budget) (given_up t.budget lt o none) t.order before;
+      same = all_before (IsPassed told how t.budget (Some (min (t.budget * 8) (most_of o)))) (IsGivenUp told how limit t.budget) (given_up t.budget lt o none) t.order before;
     }
 
     -- and one within the limit
-    pub last_given_up : (t : Attempt) → t.budget ≡ limit → limit ≤ 65536 * 4 ^ k → AllBefore t.order (λ c. AreBeyond one two three how (order_of c) limit) → AreGivenUp one two three how limit t
+    pub last_given_up : (t : Attempt) → t.budget ≡ limit → limit ≤ 65536 * 4 ^ k → AllBefore t.order (λ c. AreBeyond told how (order_of c) limit) → AreGivenUp told how limit t
     last_given_up t same le before = record {
       smaller = smaller t.budget (omega (arith, same, le)) (omega (arith, same));
-      same = all_before (λ c. AreBeyond one two three how (order_of c) limit) (IsGivenUp one two three how limit t.budget) (λ c h. inl (subst (AreBeyond one two three how (order_of c)) (sym same) h)) t.order before;
+      same = all_before (λ c. AreBeyond told how (order_of c) limit) (IsGivenUp told how limit t.budget) (λ c h. inl (subst (AreBeyond told how (order_of c)) (sym same) h)) t.order before;
     }

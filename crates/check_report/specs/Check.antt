@@ -8,12 +8,13 @@ use Rattle.net_order.specs.declared.order.Match.{Match}
 use Rattle.net_order.specs.declared.order.Order.{Order}
 use Rattle.net_order.specs.declared.order.OrderFault.TheVariants.{OutOfMemory as NoOrderMemory}
 use Rattle.net_order.specs.Order.{Paired, IsPairing, IsRefused}
-use Rattle.check_report.specs.declared.outcome.Outcome.{Outcome}
+use Rattle.report_text.specs.declared.outcome.Outcome.{Outcome}
+use Rattle.check_report.specs.Devices.{Told}
 use Rattle.check_report.specs.declared.fault.CheckFault.{CheckFault}
 use Rattle.check_report.specs.declared.fault.CheckFault.TheVariants.{First, Second, Given, GivenOutputs, Order as OrderRefused, Wave, Write, OutOfMemory}
 use Rattle.check_report.specs.Conditions.{HasOneOutput}
-use Rattle.check_report.specs.Json.{form_text}
-use Rattle.check_report.specs.Lines.{Found}
+use Rattle.report_text.specs.Json.{form_text}
+use Rattle.report_text.specs.Lines.{Found}
 use Rattle.check_report.specs.Report.{AreVerdicts, IsReport}
 
 -- what a device told is the text of this netlist
@@ -28,31 +29,33 @@ IsCondition (Some told) None = ⊥
 IsCondition (Some told) (Some c) = Gives told c × HasOneOutput c
 
 -- the devices gave these netlists, and the condition where there is one
-abbrev pub AreGiven : (one two : Option (List ℕ)) → Option (Option (List ℕ)) → Circuit → Circuit → Option Circuit → Type 0
-AreGiven one two given a b c = Gives one a × Gives two b × IsCondition given c
+pub record AreGiven (told : Told) (a b : Circuit) (c : Option Circuit) : Type 0 where
+  pub first : Gives told.first a
+  pub second : Gives told.second b
+  pub condition : IsCondition told.given c
 
 -- the devices gave two netlists and the condition, where there is one, and this is their pairing
-pub record ArePaired (one two : Option (List ℕ)) (given : Option (Option (List ℕ))) (how : Match) (order : Order) (a b : Circuit) (c : Option Circuit) (p : Paired) : Type 0 where
-  pub netlists : AreGiven one two given a b c
+pub record ArePaired (told : Told) (how : Match) (order : Order) (a b : Circuit) (c : Option Circuit) (p : Paired) : Type 0 where
+  pub netlists : AreGiven told a b c
   pub pairing : IsPairing how a b c order p
 
 -- This is what a comparison of what the devices gave finds.
-pub record IsJudged (one two : Option (List ℕ)) (given : Option (Option (List ℕ))) (how : Match) (order : Order) (sizes : Bool) (found : Found) : Type 0 where
+pub record IsJudged (told : Told) (how : Match) (order : Order) (sizes : Bool) (found : Found) : Type 0 where
   pub a : Circuit
   pub b : Circuit
   pub c : Option Circuit
   pub p : Paired
-  pub paired : ArePaired one two given how order a b c p
+  pub paired : ArePaired told how order a b c p
   pub verdicts : AreVerdicts sizes a b c p found
 
 -- The bytes are the report of what the devices gave, as JSON or by lines, and these are its counts.
-pub record IsChecked (json : Bool) (one two : Option (List ℕ)) (given : Option (Option (List ℕ))) (how : Match) (order : Order) (sizes : Bool) (o : Outcome) (bytes : List ℕ) : Type 0 where
+pub record IsChecked (json : Bool) (told : Told) (how : Match) (order : Order) (sizes : Bool) (o : Outcome) (bytes : List ℕ) : Type 0 where
   pub a : Circuit
   pub b : Circuit
   pub c : Option Circuit
   pub p : Paired
-  pub paired : ArePaired one two given how order a b c p
-  pub report : IsReport (form_text json how order (is_some given)) sizes a b c p o bytes
+  pub paired : ArePaired told how order a b c p
+  pub report : IsReport (form_text json how order (is_some told.given)) sizes a b c p o bytes
 
 -- Why a text was not accepted: want of memory, a device that has failed, or the text's first fault.
 pub record IsUnread (told : Option (List ℕ)) (has_failed : Type 0) (fault : BenchFault) : Type 0 where
@@ -71,8 +74,19 @@ IsConditionFault given has_failed Write = ⊥
 IsConditionFault given has_failed OutOfMemory = ⊥
 
 -- the devices gave netlists that have a pairing
-abbrev pub AreAccepted : (one two : Option (List ℕ)) → Option (Option (List ℕ)) → Match → Order → Type 0
-AreAccepted one two given how order = (a b : Circuit) × (c : Option Circuit) × (p : Paired) × ArePaired one two given how order a b c p
+abbrev pub AreAccepted : Told → Match → Order → Type 0
+AreAccepted told how order = (a b : Circuit) × (c : Option Circuit) × (p : Paired) × ArePaired told how order a b c p
+
+-- a fault before the pairing: one of the reading
+abbrev pub IsEarly : CheckFault → Type 0
+IsEarly (First fault) = Unit {0}
+IsEarly (Second fault) = Unit {0}
+IsEarly (Given fault) = Unit {0}
+IsEarly GivenOutputs = Unit {0}
+IsEarly (OrderRefused fault) = ⊥
+IsEarly (Wave fault) = ⊥
+IsEarly Write = ⊥
+IsEarly OutOfMemory = ⊥
 
 -- a fault behind the pairing and before the writing
 abbrev pub IsLate : CheckFault → Type 0
@@ -87,15 +101,15 @@ IsLate OutOfMemory = Unit {0}
 
 -- Why there is no report, where this says that the first device has failed, that the second has, and that the condition's has. What
 -- comes before was accepted: the first text, the second, the condition's, its outputs, the pairing.
-abbrev pub IsCheckFault : (one two : Option (List ℕ)) → Option (Option (List ℕ)) → (first_failed second_failed given_failed : Type 0) → Match → Order → CheckFault → Type 0
-IsCheckFault one two given first_failed second_failed given_failed how order (First fault) = IsUnread one first_failed fault
-IsCheckFault one two given first_failed second_failed given_failed how order (Second fault) = (a : Circuit) × Gives one a × IsUnread two second_failed fault
-IsCheckFault one two given first_failed second_failed given_failed how order (Given fault) =
-    (a b : Circuit) × Gives one a × Gives two b × IsConditionFault given given_failed (Given fault)
-IsCheckFault one two given first_failed second_failed given_failed how order GivenOutputs =
-    (a b : Circuit) × Gives one a × Gives two b × IsConditionFault given given_failed GivenOutputs
-IsCheckFault one two given first_failed second_failed given_failed how order (OrderRefused fault) =
-    (a b : Circuit) × (c : Option Circuit) × AreGiven one two given a b c × ((fault ≡ NoOrderMemory) ⊎ IsRefused how a b c order fault)
-IsCheckFault one two given first_failed second_failed given_failed how order (Wave fault) = AreAccepted one two given how order
-IsCheckFault one two given first_failed second_failed given_failed how order Write = AreAccepted one two given how order
-IsCheckFault one two given first_failed second_failed given_failed how order OutOfMemory = AreAccepted one two given how order
+abbrev pub IsCheckFault : Told → (first_failed second_failed given_failed : Type 0) → Match → Order → CheckFault → Type 0
+IsCheckFault told first_failed second_failed given_failed how order (First fault) = IsUnread told.first first_failed fault
+IsCheckFault told first_failed second_failed given_failed how order (Second fault) = (a : Circuit) × Gives told.first a × IsUnread told.second second_failed fault
+IsCheckFault told first_failed second_failed given_failed how order (Given fault) =
+    (a b : Circuit) × Gives told.first a × Gives told.second b × IsConditionFault told.given given_failed (Given fault)
+IsCheckFault told first_failed second_failed given_failed how order GivenOutputs =
+    (a b : Circuit) × Gives told.first a × Gives told.second b × IsConditionFault told.given given_failed GivenOutputs
+IsCheckFault told first_failed second_failed given_failed how order (OrderRefused fault) =
+    (a b : Circuit) × (c : Option Circuit) × AreGiven told a b c × ((fault ≡ NoOrderMemory) ⊎ IsRefused how a b c order fault)
+IsCheckFault told first_failed second_failed given_failed how order (Wave fault) = AreAccepted told how order
+IsCheckFault told first_failed second_failed given_failed how order Write = AreAccepted told how order
+IsCheckFault told first_failed second_failed given_failed how order OutOfMemory = AreAccepted told how order

@@ -9,10 +9,10 @@ use Rattle.dd_store.specs.Functions.{Agree}
 use Rattle.dd_store.specs.Nodes.{Nodes, den}
 use Rattle.dd_store.specs.View.{Has}
 use Rattle.gate_plan.specs.Building.{References, AreDiagrams, reference_of}
-use Rattle.check_report.specs.declared.outcome.Role.{Role}
-use Rattle.check_report.specs.declared.outcome.Role.TheVariants.{Output}
-use Rattle.check_report.specs.declared.outcome.Subject.{Subject}
-use Rattle.check_report.specs.declared.verdict.Verdict.{Verdict}
+use Rattle.report_text.specs.declared.outcome.Role.{Role}
+use Rattle.report_text.specs.declared.outcome.Role.TheVariants.{Output}
+use Rattle.check_report.specs.declared.subject.Subject.{Subject}
+use Rattle.report_text.specs.declared.verdict.Verdict.{Verdict}
 use Rattle.check_report.specs.Conditions.{HoldsWhere, restricted}
 use Rattle.check_report.specs.Report.{Compared, AreFunctions, IsVerdictOf, subjects}
 

@@ -1,4 +1,4 @@
--- A device that may be missing: what it tells, and whether it has failed.
+-- What the devices of a comparison tell, and whether they have failed. That of the condition may be missing.
 use Rattle.std.specs.Prelude.{ℕ, Bool, List, Option, Some, None, IsTrue}
 
 -- what the device tells, where there is one
@@ -10,3 +10,13 @@ told_by tells (Some device) = Some (tells device)
 abbrev pub HasFailedIn : {R : Type 0} → (R → Bool) → Option R → Type 0
 HasFailedIn failed None = ⊥
 HasFailedIn failed (Some device) = IsTrue (failed device)
+
+-- what the devices tell: those of the two netlists, and the condition's where there is one
+pub record Told : Type 0 where
+  pub first : Option (List ℕ)
+  pub second : Option (List ℕ)
+  pub given : Option (Option (List ℕ))
+
+-- the same, each by itself
+abbrev pub told_of : (first second : Option (List ℕ)) → Option (Option (List ℕ)) → Told
+told_of first second given = record { first = first; second = second; given = given }

@@ -1,13 +1,11 @@
-pub mod Writing
-pub mod Lines
 pub mod Devices
 pub mod Conditions
 pub mod Report
 pub mod Comparing
 pub mod Check
+pub mod Tasks
 pub mod Limits
 pub mod Widths
 pub mod Best
 pub mod Texts
 pub mod Listing
-pub mod Json

@@ -10,7 +10,8 @@ use Rattle.net_order.specs.declared.order.Order.{Order}
 use Rattle.net_order.specs.Order.{Paired}
 use Rattle.gate_plan.specs.Need.{IsLean, IsComplete}
 use Rattle.gate_plan.specs.Needing.{IsNeededValue}
-use Rattle.check_report.specs.declared.outcome.Subject.{Subject}
+use Rattle.check_report.specs.Devices.{Told}
+use Rattle.check_report.specs.declared.subject.Subject.{Subject}
 use Rattle.check_report.specs.Check.{ArePaired}
 use Rattle.check_report.specs.Conditions.{HoldsWhere, restricted}
 use Rattle.check_report.specs.Report.{subjects}
@@ -71,9 +72,9 @@ pub record Exceeds (limit : ℕ) (a b : Circuit) (given : Option Circuit) (p : P
   pub over : (limit < count_of store) ⊎ ((count_of store ≡ limit) × (HasAllNeeded a b given p store → ⊥))
 
 -- the devices gave netlists that have a pairing, and the nodes that these need are within the limit
-abbrev pub AreWithin : (one two : Option (List ℕ)) → Option (Option (List ℕ)) → Match → Order → (limit : ℕ) → Type 0
-AreWithin one two given how order limit = (a b : Circuit) × (c : Option Circuit) × (p : Paired) × ArePaired one two given how order a b c p × FitsWithin limit a b c p
+abbrev pub AreWithin : Told → Match → Order → (limit : ℕ) → Type 0
+AreWithin told how order limit = (a b : Circuit) × (c : Option Circuit) × (p : Paired) × ArePaired told how order a b c p × FitsWithin limit a b c p
 
 -- the same, and the nodes that these need are not within the limit
-abbrev pub AreBeyond : (one two : Option (List ℕ)) → Option (Option (List ℕ)) → Match → Order → (limit : ℕ) → Type 0
-AreBeyond one two given how order limit = (a b : Circuit) × (c : Option Circuit) × (p : Paired) × ArePaired one two given how order a b c p × Exceeds limit a b c p
+abbrev pub AreBeyond : Told → Match → Order → (limit : ℕ) → Type 0
+AreBeyond told how order limit = (a b : Circuit) × (c : Option Circuit) × (p : Paired) × ArePaired told how order a b c p × Exceeds limit a b c p

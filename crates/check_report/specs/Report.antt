@@ -5,16 +5,16 @@ use Rattle.net_bench.specs.Circuit.{Circuit}
 use Rattle.net_bench.specs.Labels.{IsFunctionOf}
 use Rattle.net_order.specs.Order.{Paired, gate_operands, name_of, names_of}
 use Rattle.dd_store.specs.Size.{HasSize}
-use Rattle.check_report.specs.declared.outcome.Outcome.{Outcome}
-use Rattle.check_report.specs.declared.outcome.Role.{Role}
-use Rattle.check_report.specs.declared.outcome.Role.TheVariants.{Output, NextState}
-use Rattle.check_report.specs.declared.outcome.Side.{Side}
-use Rattle.check_report.specs.declared.outcome.Side.TheVariants.{First, Second}
-use Rattle.check_report.specs.declared.outcome.Subject.{Subject}
-use Rattle.check_report.specs.declared.verdict.Verdict.{Verdict}
-use Rattle.check_report.specs.declared.verdict.Verdict.TheVariants.{Equal, Differs, Lone}
+use Rattle.report_text.specs.declared.outcome.Outcome.{Outcome}
+use Rattle.report_text.specs.declared.outcome.Role.{Role}
+use Rattle.report_text.specs.declared.outcome.Role.TheVariants.{Output, NextState}
+use Rattle.report_text.specs.declared.outcome.Side.{Side}
+use Rattle.report_text.specs.declared.outcome.Side.TheVariants.{First, Second}
+use Rattle.check_report.specs.declared.subject.Subject.{Subject}
+use Rattle.report_text.specs.declared.verdict.Verdict.{Verdict}
+use Rattle.report_text.specs.declared.verdict.Verdict.TheVariants.{Equal, Differs, Lone}
 use Rattle.check_report.specs.Conditions.{HoldsWhere, restricted, AgreeWhere, IsLeastWhere}
-use Rattle.check_report.specs.Lines.{Found, counted}
+use Rattle.report_text.specs.Lines.{Found, counted}
 
 -- The signal that a register takes next: its operand.
 abbrev pub next_of : Circuit → ℕ → ℕ

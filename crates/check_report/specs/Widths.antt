@@ -1,5 +1,5 @@
 -- How many requests the waves of a comparison reach.
-use Rattle.std.specs.Prelude.{◌⊎◌, ℕ, List, length, Option, Some, IsSomeAnd}
+use Rattle.std.specs.Prelude.{◌⊎◌, ℕ, length, Option, Some, IsSomeAnd}
 use Rattle.net_bench.specs.Circuit.{Circuit}
 use Rattle.net_order.specs.declared.order.Match.{Match}
 use Rattle.net_order.specs.declared.order.Order.{Order}
@@ -9,6 +9,7 @@ use Rattle.wave_engine.specs.Bounds.{AreMoreThan}
 use Rattle.gate_plan.specs.Asking.{IsWide}
 use Rattle.gate_plan.specs.Building.{References, levelled, reference_of}
 use Rattle.gate_plan.specs.Conjoining.{conjunctions}
+use Rattle.check_report.specs.Devices.{Told}
 use Rattle.check_report.specs.Check.{ArePaired}
 use Rattle.check_report.specs.Comparing.{AreBuilt, references}
 use Rattle.check_report.specs.Conditions.{output_of}
@@ -27,5 +28,5 @@ abbrev pub IsTooWide : ℕ → Circuit → Circuit → Option Circuit → Paired
 IsTooWide n a b given p = IsWide n (length p.names) (levelled a b given p) ⊎ IsSomeAnd given (λ c. IsWideWhere n a b c p)
 
 -- the devices gave netlists that have a pairing, and one wave of their comparison reaches more than n requests
-abbrev pub AreTooWide : (one two : Option (List ℕ)) → Option (Option (List ℕ)) → Match → Order → (n : ℕ) → Type 0
-AreTooWide one two given how order n = (a b : Circuit) × (c : Option Circuit) × (p : Paired) × ArePaired one two given how order a b c p × IsTooWide n a b c p
+abbrev pub AreTooWide : Told → Match → Order → (n : ℕ) → Type 0
+AreTooWide told how order n = (a b : Circuit) × (c : Option Circuit) × (p : Paired) × ArePaired told how order a b c p × IsTooWide n a b c p

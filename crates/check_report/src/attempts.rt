@@ -1,23 +1,23 @@
 //! The attempts of a comparison: an order, and the nodes within which it is to stay.
 ghost use Rattle.std.specs.Prelude.{min, None, ◌≡◌, ◌≢◌, ◌≤◌, ◌<◌, ◌-◌, ◌^◌, ◌*◌, ◌⊎◌, ℕ, List, Option, Some, true, false, IfOk, IfErr, IfSome, IsSomeAnd, OnOk, IsTrue, Err};
 ghost use Rattle.expand_work.specs.Bounds.{most_of};
-ghost use Rattle.net_bench.specs.Circuit.{circuit};
-ghost use Rattle.net_order.specs.Order.{condition};
 ghost use Rattle.check_report.specs.declared.choice.Candidate.{Candidate as CandidateValue};
 ghost use Rattle.net_order.specs.declared.order.Order.{Order as OrderValue};
 ghost use Rattle.check_report.specs.Best.{AllBefore, AreGivenUp, IsAllowed, IsBudget, IsChosen, IsPassed, order_of};
-ghost use Rattle.check_report.specs.Check.{AreGiven, IsJudged, IsCheckFault};
+ghost use Rattle.check_report.specs.Check.{IsJudged, IsCheckFault};
 ghost use Rattle.check_report.specs.Limits.{AreWithin, AreBeyond};
+ghost use Rattle.check_report.specs.Tasks.{OfTask};
 ghost use Rattle.check_report.specs.Widths.{AreTooWide};
 
-use crate::checking::{Task, compare};
+use crate::checking::compare;
 use crate::choice::{Attempt, Candidate, Choice};
 use crate::fault::CheckFault;
-use crate::verdicts::Verdicts;
+use crate::task::Task;
 use dd_store::Watch;
 use expand_work::{Gate, WaveFault};
 use net_order::order::Order;
 use net_order::pairing::pair;
+use report_text::Verdicts;
 use std::sync::Wait;
 use std::thread::Threads;
 
@@ -72,17 +72,13 @@ fn attempt<H: Threads + Wait + Sync, G: Gate>(
     gate: &G,
 ) -> Result<Verdicts, CheckFault>
     requires { limit < 2 ^ 32 }
-    ensures judged { (one two : Option (List ℕ)) (three : Option (Option (List ℕ))) → AreGiven one two three (circuit task.now.first.now) (circuit task.now.second.now) (condition task.now.given) →
-        IfOk result (IsJudged one two three task.now.settings.now.matching order.now task.now.settings.now.sizes) }
-    ensures within { (one two : Option (List ℕ)) (three : Option (Option (List ℕ))) → AreGiven one two three (circuit task.now.first.now) (circuit task.now.second.now) (condition task.now.given) →
-        OnOk result (AreWithin one two three task.now.settings.now.matching order.now limit) }
-    ensures full { (one two : Option (List ℕ)) (three : Option (Option (List ℕ))) → AreGiven one two three (circuit task.now.first.now) (circuit task.now.second.now) (condition task.now.given) →
-        result ≡ Err (CheckFault.Wave WaveFault.Full) → AreBeyond one two three task.now.settings.now.matching order.now limit }
-    ensures fault { (one two : Option (List ℕ)) (three : Option (Option (List ℕ))) → AreGiven one two three (circuit task.now.first.now) (circuit task.now.second.now) (condition task.now.given) →
-        IfErr result (IsCheckFault one two three ⊥ ⊥ ⊥ task.now.settings.now.matching order.now) }
+    ensures judged { OfTask task.now (λ told s. IfOk result (IsJudged told s.matching order.now s.sizes)) }
+    ensures within { OfTask task.now (λ told s. OnOk result (AreWithin told s.matching order.now limit)) }
+    ensures full { OfTask task.now (λ told s. result ≡ Err (CheckFault.Wave WaveFault.Full) → AreBeyond told s.matching order.now limit) }
+    ensures fault { OfTask task.now (λ told s. IfErr result (IsCheckFault told ⊥ ⊥ ⊥ s.matching order.now)) }
     ensures unwritten { result ≢ Err CheckFault.Write }
-    ensures past { (one two : Option (List ℕ)) (three : Option (Option (List ℕ))) → AreGiven one two three (circuit task.now.first.now) (circuit task.now.second.now) (condition task.now.given) →
-        result ≡ Err (CheckFault.Wave WaveFault.TooManyRequests) → IsSomeAnd (G.bound gate.now) (AreTooWide one two three task.now.settings.now.matching order.now) }
+    ensures past { OfTask task.now (λ told s.
+        result ≡ Err (CheckFault.Wave WaveFault.TooManyRequests) → IsSomeAnd (G.bound gate.now) (AreTooWide told s.matching order.now)) }
     ensures alone { most_of (G.bound gate.now) < 2 ^ 64 - 1 → result ≢ Err (CheckFault.Wave WaveFault.NoWorker) }
 {
     let _ = task.first.inputs();
@@ -123,23 +119,20 @@ fn try_candidates<H: Threads + Wait + Sync, G: Gate>(
     gate: &G,
 ) -> Result<(Verdicts, Candidate), CheckFault>
     requires { limit < 2 ^ 32 }
-    ensures judged { (one two : Option (List ℕ)) (three : Option (Option (List ℕ))) → AreGiven one two three (circuit task.now.first.now) (circuit task.now.second.now) (condition task.now.given) →
-        IfOk result (λ r. IsJudged one two three task.now.settings.now.matching (order_of r.1) task.now.settings.now.sizes r.0) }
-    ensures within { (one two : Option (List ℕ)) (three : Option (Option (List ℕ))) → AreGiven one two three (circuit task.now.first.now) (circuit task.now.second.now) (condition task.now.given) →
-        IfOk result (λ r. AreWithin one two three task.now.settings.now.matching (order_of r.1) limit) }
-    ensures before { (one two : Option (List ℕ)) (three : Option (Option (List ℕ))) → AreGiven one two three (circuit task.now.first.now) (circuit task.now.second.now) (condition task.now.given) →
-        bounded ≡ false → IfOk result (λ r. AllBefore r.1 (λ c. AreBeyond one two three task.now.settings.now.matching (order_of c) limit)) }
-    ensures full { (one two : Option (List ℕ)) (three : Option (Option (List ℕ))) → AreGiven one two three (circuit task.now.first.now) (circuit task.now.second.now) (condition task.now.given) →
-        bounded ≡ false → result ≡ Err (CheckFault.Wave WaveFault.Full) → (c : CandidateValue) → AreBeyond one two three task.now.settings.now.matching (order_of c) limit }
-    ensures fault { (one two : Option (List ℕ)) (three : Option (Option (List ℕ))) → AreGiven one two three (circuit task.now.first.now) (circuit task.now.second.now) (condition task.now.given) →
-        IfErr result (λ fault. (c : CandidateValue) × IsCheckFault one two three ⊥ ⊥ ⊥ task.now.settings.now.matching (order_of c) fault) }
+    ensures judged { OfTask task.now (λ told s. IfOk result (λ r. IsJudged told s.matching (order_of r.1) s.sizes r.0)) }
+    ensures within { OfTask task.now (λ told s. IfOk result (λ r. AreWithin told s.matching (order_of r.1) limit)) }
+    ensures before { OfTask task.now (λ told s.
+        bounded ≡ false → IfOk result (λ r. AllBefore r.1 (λ c. AreBeyond told s.matching (order_of c) limit))) }
+    ensures full { OfTask task.now (λ told s.
+        bounded ≡ false → result ≡ Err (CheckFault.Wave WaveFault.Full) → (c : CandidateValue) → AreBeyond told s.matching (order_of c) limit) }
+    ensures fault { OfTask task.now (λ told s.
+        IfErr result (λ fault. (c : CandidateValue) × IsCheckFault told ⊥ ⊥ ⊥ s.matching (order_of c) fault)) }
     ensures unwritten { result ≢ Err CheckFault.Write }
-    ensures past { (one two : Option (List ℕ)) (three : Option (Option (List ℕ))) → AreGiven one two three (circuit task.now.first.now) (circuit task.now.second.now) (condition task.now.given) →
-        result ≡ Err (CheckFault.Wave WaveFault.TooManyRequests) → (c : CandidateValue) × IsSomeAnd (G.bound gate.now) (AreTooWide one two three task.now.settings.now.matching (order_of c)) }
-    ensures passed { (one two : Option (List ℕ)) (three : Option (Option (List ℕ))) → AreGiven one two three (circuit task.now.first.now) (circuit task.now.second.now) (condition task.now.given) →
-        IfOk result (λ r. AllBefore r.1 (IsPassed one two three task.now.settings.now.matching limit (G.bound gate.now))) }
-    ensures refused { (one two : Option (List ℕ)) (three : Option (Option (List ℕ))) → AreGiven one two three (circuit task.now.first.now) (circuit task.now.second.now) (condition task.now.given) →
-        bounded ≡ true → (result ≡ Err (CheckFault.Wave WaveFault.Full)) ⊎ (result ≡ Err (CheckFault.Wave WaveFault.TooManyRequests)) → (c : CandidateValue) → IsPassed one two three task.now.settings.now.matching limit (G.bound gate.now) c }
+    ensures past { OfTask task.now (λ told s.
+        result ≡ Err (CheckFault.Wave WaveFault.TooManyRequests) → (c : CandidateValue) × IsSomeAnd (G.bound gate.now) (AreTooWide told s.matching (order_of c))) }
+    ensures passed { OfTask task.now (λ told s. IfOk result (λ r. AllBefore r.1 (IsPassed told s.matching limit (G.bound gate.now)))) }
+    ensures refused { OfTask task.now (λ told s.
+        bounded ≡ true → (result ≡ Err (CheckFault.Wave WaveFault.Full)) ⊎ (result ≡ Err (CheckFault.Wave WaveFault.TooManyRequests)) → (c : CandidateValue) → IsPassed told s.matching limit (G.bound gate.now) c) }
     ensures alone { most_of (G.bound gate.now) < 2 ^ 64 - 1 → result ≢ Err (CheckFault.Wave WaveFault.NoWorker) }
 {
     match attempt(task, &Order::Interleave, limit, gate) {
@@ -165,19 +158,17 @@ pub fn find_best<H: Threads + Wait + Sync, G: Gate>(
     task: &Task<'_, H>,
     gate: &G,
 ) -> Result<(Verdicts, Attempt), CheckFault>
-    ensures judged { (one two : Option (List ℕ)) (three : Option (Option (List ℕ))) → AreGiven one two three (circuit task.now.first.now) (circuit task.now.second.now) (condition task.now.given) →
-        IfOk result (λ r. IsJudged one two three task.now.settings.now.matching (order_of r.1.order) task.now.settings.now.sizes r.0) }
-    ensures chosen { (one two : Option (List ℕ)) (three : Option (Option (List ℕ))) → AreGiven one two three (circuit task.now.first.now) (circuit task.now.second.now) (condition task.now.given) →
-        IfOk result (λ r. IsChosen one two three task.now.settings.now.matching Choice.Best task.now.settings.now.limit (Some r.1) (order_of r.1.order)) }
-    ensures full { (one two : Option (List ℕ)) (three : Option (Option (List ℕ))) → AreGiven one two three (circuit task.now.first.now) (circuit task.now.second.now) (condition task.now.given) →
-        result ≡ Err (CheckFault.Wave WaveFault.Full) → (c : CandidateValue) → AreBeyond one two three task.now.settings.now.matching (order_of c) task.now.settings.now.limit }
-    ensures fault { (one two : Option (List ℕ)) (three : Option (Option (List ℕ))) → AreGiven one two three (circuit task.now.first.now) (circuit task.now.second.now) (condition task.now.given) →
-        IfErr result (λ fault. (c : CandidateValue) × IsCheckFault one two three ⊥ ⊥ ⊥ task.now.settings.now.matching (order_of c) fault) }
+    ensures judged { OfTask task.now (λ told s. IfOk result (λ r. IsJudged told s.matching (order_of r.1.order) s.sizes r.0)) }
+    ensures chosen { OfTask task.now (λ told s.
+        IfOk result (λ r. IsChosen told s.matching Choice.Best s.limit (Some r.1) (order_of r.1.order))) }
+    ensures full { OfTask task.now (λ told s.
+        result ≡ Err (CheckFault.Wave WaveFault.Full) → (c : CandidateValue) → AreBeyond told s.matching (order_of c) s.limit) }
+    ensures fault { OfTask task.now (λ told s.
+        IfErr result (λ fault. (c : CandidateValue) × IsCheckFault told ⊥ ⊥ ⊥ s.matching (order_of c) fault)) }
     ensures unwritten { result ≢ Err CheckFault.Write }
-    ensures past { (one two : Option (List ℕ)) (three : Option (Option (List ℕ))) → AreGiven one two three (circuit task.now.first.now) (circuit task.now.second.now) (condition task.now.given) →
-        result ≡ Err (CheckFault.Wave WaveFault.TooManyRequests) → (c : CandidateValue) × IsSomeAnd (G.bound gate.now) (AreTooWide one two three task.now.settings.now.matching (order_of c)) }
-    ensures passed { G.bound gate.now ≡ None → (one two : Option (List ℕ)) (three : Option (Option (List ℕ))) → AreGiven one two three (circuit task.now.first.now) (circuit task.now.second.now) (condition task.now.given) →
-        IfOk result (λ r. AreGivenUp one two three task.now.settings.now.matching task.now.settings.now.limit r.1) }
+    ensures past { OfTask task.now (λ told s.
+        result ≡ Err (CheckFault.Wave WaveFault.TooManyRequests) → (c : CandidateValue) × IsSomeAnd (G.bound gate.now) (AreTooWide told s.matching (order_of c))) }
+    ensures passed { G.bound gate.now ≡ None → OfTask task.now (λ told s. IfOk result (λ r. AreGivenUp told s.matching s.limit r.1)) }
     ensures alone { most_of (G.bound gate.now) < 2 ^ 64 - 1 → result ≢ Err (CheckFault.Wave WaveFault.NoWorker) }
 {
     let limit = task.settings.limit;
@@ -195,16 +186,9 @@ pub fn find_best<H: Threads + Wait + Sync, G: Gate>(
         }
         budget *= 4;
     }
-    match try_candidates(task, limit, false, gate) {
-        Ok((verdicts, order)) => Ok((
-            verdicts,
-            Attempt {
-                order,
-                budget: limit,
-            },
-        )),
-        Err(fault) => Err(fault),
-    }
+    let (verdicts, order) = try_candidates(task, limit, false, gate)?;
+    let budget = limit;
+    Ok((verdicts, Attempt { order, budget }))
 }
 
 /// Compares two netlists in this order.
@@ -213,18 +197,18 @@ fn by_order<H: Threads + Wait + Sync, G: Gate>(
     order: &Order,
     gate: &G,
 ) -> Result<(Verdicts, Option<Attempt>), CheckFault>
-    ensures chosen { (one two : Option (List ℕ)) (three : Option (Option (List ℕ))) → AreGiven one two three (circuit task.now.first.now) (circuit task.now.second.now) (condition task.now.given) →
-        IfOk result (λ r. (o : OrderValue) × IsJudged one two three task.now.settings.now.matching o task.now.settings.now.sizes r.0
-        × IsChosen one two three task.now.settings.now.matching (Choice.One order.now) task.now.settings.now.limit r.1 o) }
-    ensures full { (one two : Option (List ℕ)) (three : Option (Option (List ℕ))) → AreGiven one two three (circuit task.now.first.now) (circuit task.now.second.now) (condition task.now.given) →
-        result ≡ Err (CheckFault.Wave WaveFault.Full) → (o : OrderValue) → IsAllowed (Choice.One order.now) o → AreBeyond one two three task.now.settings.now.matching o task.now.settings.now.limit }
-    ensures fault { (one two : Option (List ℕ)) (three : Option (Option (List ℕ))) → AreGiven one two three (circuit task.now.first.now) (circuit task.now.second.now) (condition task.now.given) →
-        IfErr result (λ fault. (o : OrderValue) × IsAllowed (Choice.One order.now) o × IsCheckFault one two three ⊥ ⊥ ⊥ task.now.settings.now.matching o fault) }
+    ensures chosen { OfTask task.now (λ told s.
+        IfOk result (λ r. (o : OrderValue) × IsJudged told s.matching o s.sizes r.0
+        × IsChosen told s.matching (Choice.One order.now) s.limit r.1 o)) }
+    ensures full { OfTask task.now (λ told s.
+        result ≡ Err (CheckFault.Wave WaveFault.Full) → (o : OrderValue) → IsAllowed (Choice.One order.now) o → AreBeyond told s.matching o s.limit) }
+    ensures fault { OfTask task.now (λ told s.
+        IfErr result (λ fault. (o : OrderValue) × IsAllowed (Choice.One order.now) o × IsCheckFault told ⊥ ⊥ ⊥ s.matching o fault)) }
     ensures unwritten { result ≢ Err CheckFault.Write }
-    ensures past { (one two : Option (List ℕ)) (three : Option (Option (List ℕ))) → AreGiven one two three (circuit task.now.first.now) (circuit task.now.second.now) (condition task.now.given) →
-        result ≡ Err (CheckFault.Wave WaveFault.TooManyRequests) → (o : OrderValue) × IsAllowed (Choice.One order.now) o × IsSomeAnd (G.bound gate.now) (AreTooWide one two three task.now.settings.now.matching o) }
-    ensures passed { G.bound gate.now ≡ None → (one two : Option (List ℕ)) (three : Option (Option (List ℕ))) → AreGiven one two three (circuit task.now.first.now) (circuit task.now.second.now) (condition task.now.given) →
-        IfOk result (λ r. IfSome r.1 (AreGivenUp one two three task.now.settings.now.matching task.now.settings.now.limit)) }
+    ensures past { OfTask task.now (λ told s.
+        result ≡ Err (CheckFault.Wave WaveFault.TooManyRequests) → (o : OrderValue) × IsAllowed (Choice.One order.now) o × IsSomeAnd (G.bound gate.now) (AreTooWide told s.matching o)) }
+    ensures passed { G.bound gate.now ≡ None → OfTask task.now (λ told s.
+        IfOk result (λ r. IfSome r.1 (AreGivenUp told s.matching s.limit))) }
     ensures alone { most_of (G.bound gate.now) < 2 ^ 64 - 1 → result ≢ Err (CheckFault.Wave WaveFault.NoWorker) }
 {
     match attempt(task, order, task.settings.limit, gate) {
@@ -238,18 +222,18 @@ fn by_best<H: Threads + Wait + Sync, G: Gate>(
     task: &Task<'_, H>,
     gate: &G,
 ) -> Result<(Verdicts, Option<Attempt>), CheckFault>
-    ensures chosen { (one two : Option (List ℕ)) (three : Option (Option (List ℕ))) → AreGiven one two three (circuit task.now.first.now) (circuit task.now.second.now) (condition task.now.given) →
-        IfOk result (λ r. (o : OrderValue) × IsJudged one two three task.now.settings.now.matching o task.now.settings.now.sizes r.0
-        × IsChosen one two three task.now.settings.now.matching Choice.Best task.now.settings.now.limit r.1 o) }
-    ensures full { (one two : Option (List ℕ)) (three : Option (Option (List ℕ))) → AreGiven one two three (circuit task.now.first.now) (circuit task.now.second.now) (condition task.now.given) →
-        result ≡ Err (CheckFault.Wave WaveFault.Full) → (o : OrderValue) → IsAllowed Choice.Best o → AreBeyond one two three task.now.settings.now.matching o task.now.settings.now.limit }
-    ensures fault { (one two : Option (List ℕ)) (three : Option (Option (List ℕ))) → AreGiven one two three (circuit task.now.first.now) (circuit task.now.second.now) (condition task.now.given) →
-        IfErr result (λ fault. (o : OrderValue) × IsAllowed Choice.Best o × IsCheckFault one two three ⊥ ⊥ ⊥ task.now.settings.now.matching o fault) }
+    ensures chosen { OfTask task.now (λ told s.
+        IfOk result (λ r. (o : OrderValue) × IsJudged told s.matching o s.sizes r.0
+        × IsChosen told s.matching Choice.Best s.limit r.1 o)) }
+    ensures full { OfTask task.now (λ told s.
+        result ≡ Err (CheckFault.Wave WaveFault.Full) → (o : OrderValue) → IsAllowed Choice.Best o → AreBeyond told s.matching o s.limit) }
+    ensures fault { OfTask task.now (λ told s.
+        IfErr result (λ fault. (o : OrderValue) × IsAllowed Choice.Best o × IsCheckFault told ⊥ ⊥ ⊥ s.matching o fault)) }
     ensures unwritten { result ≢ Err CheckFault.Write }
-    ensures past { (one two : Option (List ℕ)) (three : Option (Option (List ℕ))) → AreGiven one two three (circuit task.now.first.now) (circuit task.now.second.now) (condition task.now.given) →
-        result ≡ Err (CheckFault.Wave WaveFault.TooManyRequests) → (o : OrderValue) × IsAllowed Choice.Best o × IsSomeAnd (G.bound gate.now) (AreTooWide one two three task.now.settings.now.matching o) }
-    ensures passed { G.bound gate.now ≡ None → (one two : Option (List ℕ)) (three : Option (Option (List ℕ))) → AreGiven one two three (circuit task.now.first.now) (circuit task.now.second.now) (condition task.now.given) →
-        IfOk result (λ r. IfSome r.1 (AreGivenUp one two three task.now.settings.now.matching task.now.settings.now.limit)) }
+    ensures past { OfTask task.now (λ told s.
+        result ≡ Err (CheckFault.Wave WaveFault.TooManyRequests) → (o : OrderValue) × IsAllowed Choice.Best o × IsSomeAnd (G.bound gate.now) (AreTooWide told s.matching o)) }
+    ensures passed { G.bound gate.now ≡ None → OfTask task.now (λ told s.
+        IfOk result (λ r. IfSome r.1 (AreGivenUp told s.matching s.limit))) }
     ensures alone { most_of (G.bound gate.now) < 2 ^ 64 - 1 → result ≢ Err (CheckFault.Wave WaveFault.NoWorker) }
 {
     match find_best(task, gate) {
@@ -263,18 +247,18 @@ pub fn decide<H: Threads + Wait + Sync, G: Gate>(
     task: &Task<'_, H>,
     gate: &G,
 ) -> Result<(Verdicts, Option<Attempt>), CheckFault>
-    ensures chosen { (one two : Option (List ℕ)) (three : Option (Option (List ℕ))) → AreGiven one two three (circuit task.now.first.now) (circuit task.now.second.now) (condition task.now.given) →
-        IfOk result (λ r. (order : OrderValue) × IsJudged one two three task.now.settings.now.matching order task.now.settings.now.sizes r.0
-        × IsChosen one two three task.now.settings.now.matching task.now.settings.now.order task.now.settings.now.limit r.1 order) }
-    ensures full { (one two : Option (List ℕ)) (three : Option (Option (List ℕ))) → AreGiven one two three (circuit task.now.first.now) (circuit task.now.second.now) (condition task.now.given) →
-        result ≡ Err (CheckFault.Wave WaveFault.Full) → (order : OrderValue) → IsAllowed task.now.settings.now.order order → AreBeyond one two three task.now.settings.now.matching order task.now.settings.now.limit }
-    ensures fault { (one two : Option (List ℕ)) (three : Option (Option (List ℕ))) → AreGiven one two three (circuit task.now.first.now) (circuit task.now.second.now) (condition task.now.given) →
-        IfErr result (λ fault. (order : OrderValue) × IsAllowed task.now.settings.now.order order × IsCheckFault one two three ⊥ ⊥ ⊥ task.now.settings.now.matching order fault) }
+    ensures chosen { OfTask task.now (λ told s.
+        IfOk result (λ r. (order : OrderValue) × IsJudged told s.matching order s.sizes r.0
+        × IsChosen told s.matching s.order s.limit r.1 order)) }
+    ensures full { OfTask task.now (λ told s.
+        result ≡ Err (CheckFault.Wave WaveFault.Full) → (order : OrderValue) → IsAllowed s.order order → AreBeyond told s.matching order s.limit) }
+    ensures fault { OfTask task.now (λ told s.
+        IfErr result (λ fault. (order : OrderValue) × IsAllowed s.order order × IsCheckFault told ⊥ ⊥ ⊥ s.matching order fault)) }
     ensures unwritten { result ≢ Err CheckFault.Write }
-    ensures past { (one two : Option (List ℕ)) (three : Option (Option (List ℕ))) → AreGiven one two three (circuit task.now.first.now) (circuit task.now.second.now) (condition task.now.given) →
-        result ≡ Err (CheckFault.Wave WaveFault.TooManyRequests) → (o : OrderValue) × IsAllowed task.now.settings.now.order o × IsSomeAnd (G.bound gate.now) (AreTooWide one two three task.now.settings.now.matching o) }
-    ensures passed { G.bound gate.now ≡ None → (one two : Option (List ℕ)) (three : Option (Option (List ℕ))) → AreGiven one two three (circuit task.now.first.now) (circuit task.now.second.now) (condition task.now.given) →
-        IfOk result (λ r. IfSome r.1 (AreGivenUp one two three task.now.settings.now.matching task.now.settings.now.limit)) }
+    ensures past { OfTask task.now (λ told s.
+        result ≡ Err (CheckFault.Wave WaveFault.TooManyRequests) → (o : OrderValue) × IsAllowed s.order o × IsSomeAnd (G.bound gate.now) (AreTooWide told s.matching o)) }
+    ensures passed { G.bound gate.now ≡ None → OfTask task.now (λ told s.
+        IfOk result (λ r. IfSome r.1 (AreGivenUp told s.matching s.limit))) }
     ensures alone { most_of (G.bound gate.now) < 2 ^ 64 - 1 → result ≢ Err (CheckFault.Wave WaveFault.NoWorker) }
 {
     match &task.settings.order {

@@ -9,13 +9,13 @@ ghost use Rattle.check_report.specs.Conditions.{everywhere};
 ghost use Rattle.check_report.specs.Report.{IsSizeShown, AreSizesShown, IsVerdictOf, AreVerdicts, lone_side};
 ghost use Rattle.check_report.specs.Comparing.{AreCompared, AreSignals, HaveAllVerdicts, compared_of, subject_at};
 
-use crate::outcome::{Role, Side, Subject};
-use crate::verdict::{Bits, Name, Verdict};
+use crate::subject::Subject;
 use counter_walk::{least_difference, value};
 use dd_store::{Ref, Store};
 use net_bench::netlist::Signal;
 use net_bench::reader::Netlist;
 use net_order::pairing::Pairing;
+use report_text::{Bits, Name, Role, Side, Verdict};
 use std::alloc::{AllocError, Global};
 
 /// Two netlists, how they are paired, what is compared of them, and the diagrams of this: the first netlist's of each, then the second's.

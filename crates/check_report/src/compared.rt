@@ -13,15 +13,16 @@ ghost use Rattle.check_report.specs.Limits.{HasAll, IsOver};
 ghost use Rattle.check_report.specs.Widths.{IsWideWhere};
 ghost use Rattle.check_report.specs.Report.{next_of, next_subject, output_subject, subjects};
 
-use crate::checking::Task;
 use crate::fault::CheckFault;
-use crate::outcome::{Role, Subject};
+use crate::subject::Subject;
+use crate::task::Task;
 use dd_store::{Ref, Store};
 use expand_work::{Crew, Gate, WaveFault};
 use gate_plan::{Built, conjoin};
 use net_bench::netlist::Signal;
 use net_bench::reader::Netlist;
 use net_order::pairing::Pairing;
+use report_text::Role;
 use std::alloc::{AllocError, Global};
 use std::sync::Wait;
 use std::thread::Threads;

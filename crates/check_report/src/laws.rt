@@ -5,10 +5,10 @@ ghost use Rattle.net_order.specs.declared.order.Match.{Match};
 ghost use Rattle.net_order.specs.declared.order.Order.{Order};
 ghost use Rattle.net_order.specs.Order.{Paired, IsPairing};
 ghost use Rattle.dd_store.specs.Functions.{Agree, IsLeastDifference};
-ghost use Rattle.check_report.specs.declared.outcome.Outcome.{Outcome};
+ghost use Rattle.report_text.specs.declared.outcome.Outcome.{Outcome};
 ghost use Rattle.check_report.specs.Conditions.{HasOneOutput, HoldsWhere, restricted, AgreeWhere, IsLeastWhere};
 ghost use Rattle.check_report.specs.Limits.{FitsWithin, Exceeds};
-ghost use Rattle.check_report.specs.Lines.{Found};
+ghost use Rattle.report_text.specs.Lines.{Found};
 ghost use Rattle.check_report.specs.Report.{IsReport};
 
 /// What two netlists need, with a condition or without, is within a limit or beyond it, and never both.

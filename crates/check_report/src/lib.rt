@@ -1,32 +1,27 @@
 //! Two netlists to the report of their comparison.
 #![tactic(auto)]
 
-mod as_json;
 mod attempts;
 mod checking;
 mod choice;
 mod compare;
 mod compared;
 mod fault;
+mod judging;
 pub mod laws;
-mod lines;
 mod listing;
-mod outcome;
 mod reading;
 mod report;
 mod settings;
-mod verdict;
-mod verdicts;
-mod write;
+mod subject;
+mod task;
 
-pub use as_json::json_of;
-pub use checking::{check, judge};
 pub use choice::{Attempt, Candidate, Choice};
 pub use fault::CheckFault;
+pub use judging::{check, judge};
 pub use listing::print_order;
-pub use outcome::{Outcome, Role, Side};
-pub use report::report_of;
+pub use report_text::{
+    Bits, Name, Outcome, Role, Side, Verdict, Verdicts, json_of, report_of, write_whole,
+};
 pub use settings::Settings;
-pub use verdict::{Bits, Name, Verdict};
-pub use verdicts::Verdicts;
-pub use write::write_whole;
+pub use task::Context;

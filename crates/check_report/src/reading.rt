@@ -1,16 +1,26 @@
-//! The reading of a condition.
-ghost use Rattle.std.specs.Prelude.{◌≡◌, IfOk, IfErr, option_map};
+//! The reading of two netlists and of a condition.
+ghost use Rattle.std.specs.Prelude.{◌≡◌, IfOk, IfErr, IfSome, IsTrue, option_map};
 ghost use Rattle.net_bench.specs.Circuit.{circuit};
-ghost use Rattle.check_report.specs.Check.{IsCondition, IsConditionFault};
-ghost use Rattle.check_report.specs.Devices.{told_by, HasFailedIn};
+ghost use Rattle.net_order.specs.declared.order.Match.{Match};
+ghost use Rattle.net_order.specs.declared.order.Order.{Order};
+ghost use Rattle.check_report.specs.Check.{AreGiven, IsCheckFault, IsCondition, IsConditionFault, IsEarly};
+ghost use Rattle.check_report.specs.Devices.{HasFailedIn, told_by, told_of};
 
 use crate::fault::CheckFault;
 use net_bench::device::Source;
 use net_bench::reader::{Netlist, read_bench};
 use std::alloc::Global;
 
+/// Two netlists, and a condition where there is one.
+#[derive(Drop)]
+pub struct Netlists {
+    pub first: Netlist,
+    pub second: Netlist,
+    pub given: Option<Netlist>,
+}
+
 /// Reads the condition, where there is one. It has exactly one output.
-pub fn read_condition<R: Source>(
+fn read_condition<R: Source>(
     alloc: Global,
     given: &mut Option<R>,
 ) -> Result<Option<Netlist>, CheckFault>
@@ -29,4 +39,37 @@ pub fn read_condition<R: Source>(
         return Err(CheckFault::GivenOutputs);
     }
     Ok(Some(net))
+}
+
+/// Reads the first netlist, the second, and then the condition where there is one.
+pub fn read_netlists<R1: Source, R2: Source, R3: Source>(
+    alloc: Global,
+    first: &mut R1,
+    second: &mut R2,
+    given: &mut Option<R3>,
+) -> Result<Netlists, CheckFault>
+    ensures read { let told = told_of (R1.remaining first.old) (R2.remaining second.old) (told_by R3.remaining given.old) in
+        IfOk result (λ nets. AreGiven told (circuit nets.first) (circuit nets.second) (option_map circuit nets.given)) }
+    ensures fault { let told = told_of (R1.remaining first.old) (R2.remaining second.old) (told_by R3.remaining given.old) in
+        (how : Match) (order : Order) → IfErr result (IsCheckFault told (IsTrue (R1.has_failed first.new)) (IsTrue (R2.has_failed second.new)) (HasFailedIn R3.has_failed given.new) how order) }
+    ensures early { IfErr result IsEarly }
+    ensures origins { (R1.origin first.new ≡ R1.origin first.old) × (R2.origin second.new ≡ R2.origin second.old) × (told_by R3.origin given.new ≡ told_by R3.origin given.old) }
+{
+    let one = match read_bench(alloc, first) {
+        Ok(net) => net,
+        Err(fault) => return Err(CheckFault::First(fault)),
+    };
+    let two = match read_bench(alloc, second) {
+        Ok(net) => net,
+        Err(fault) => return Err(CheckFault::Second(fault)),
+    };
+    let condition = match read_condition(alloc, given) {
+        Ok(condition) => condition,
+        Err(fault) => return Err(fault),
+    };
+    Ok(Netlists {
+        first: one,
+        second: two,
+        given: condition,
+    })
 }

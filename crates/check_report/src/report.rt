@@ -1,29 +1,14 @@
-//! What a comparison found as the bytes of a report.
+//! What a comparison found as the bytes of a report, in the form that is asked for.
 ghost use Rattle.std.specs.Prelude.{◌≡◌, IfOk};
 ghost use Rattle.check_report.specs.declared.choice.Choice.{Choice as ChoiceValue};
 ghost use Rattle.check_report.specs.Best.{tried_order};
-ghost use Rattle.check_report.specs.Json.{form_text, json_text};
-ghost use Rattle.check_report.specs.Lines.{report_text};
+ghost use Rattle.report_text.specs.Json.{form_text, json_text};
 
-use crate::as_json::json_of;
 use crate::choice::{Attempt, Choice};
-use crate::lines::{add_counts, add_line};
 use crate::settings::Settings;
-use crate::verdicts::Verdicts;
 use net_order::order::Order;
+use report_text::{Verdicts, json_of, report_of};
 use std::alloc::{AllocError, Global};
-
-/// The report of what a comparison found: a line for each verdict, and last their counts.
-pub fn report_of(alloc: Global, verdicts: &Verdicts) -> Result<Vec<u8>, AllocError>
-    ensures { IfOk result (λ text. text.items ≡ report_text verdicts.now) }
-{
-    let mut text = Vec::new(alloc);
-    for verdict in verdicts.as_slice() {
-        add_line(alloc, &mut text, verdicts.variables(), verdict)?;
-    }
-    add_counts(alloc, &mut text, verdicts.outcome())?;
-    Ok(text)
-}
 
 /// The order of the attempt that a search for the best ended with.
 fn best_order(tried: Option<Attempt>) -> Order

@@ -5,10 +5,11 @@ use Rattle.std.specs.Borrow.{Bor}
 use Rattle.std.specs.Io.KnownBytes.{Appends, Keeps}
 use Rattle.std.proofs.lemmas.List.{append_assoc}
 use Rattle.check_tool.specs.declared.done.Done.{Done}
+use Rattle.check_report.specs.Devices.{told_of}
 use Rattle.check_report.specs.Limits.{AreBeyond}
 use Rattle.check_report.specs.Best.{IsAllowed}
 use Rattle.check_report.specs.declared.choice.Choice.{Choice}
-use Rattle.check_report.specs.Writing.{AppendsFront}
+use Rattle.report_text.specs.Writing.{AppendsFront}
 use Rattle.net_order.specs.declared.order.Order.{Order}
 use Rattle.command_line.specs.declared.options.Options.{Options}
 use Rattle.command_line.specs.declared.options.Texts.{Texts}
@@ -118,7 +119,7 @@ module _ (told : List ℕ → Option (List ℕ)) (input : Option (List ℕ)) (o 
   whole_front told' e before now has_failed has_stopped h =
       (h.0, h.1, record { one = one; two = two; texts = texts; compared = subst (λ t. IsCompared t one two o h.0 h.1) e h.2 }, h.3)
 
-  pub whole_beyond : (told' : List ℕ → Option (List ℕ)) → told' ≡ told → (given : Option (Option (List ℕ))) × (choice : Choice) × IsGivenOf told' o.given given × IsOrderOf told' o.order choice × ((order : Order) → IsAllowed choice order → AreBeyond one two given o.matching order o.limit) → IsBeyond told input o
+  pub whole_beyond : (told' : List ℕ → Option (List ℕ)) → told' ≡ told → (given : Option (Option (List ℕ))) × (choice : Choice) × IsGivenOf told' o.given given × IsOrderOf told' o.order choice × ((order : Order) → IsAllowed choice order → AreBeyond (told_of one two given) o.matching order o.limit) → IsBeyond told input o
   whole_beyond told' e h = (one, two, h.0, h.1, texts, subst (λ t. IsGivenOf t o.given h.0) e h.2, subst (λ t. IsOrderOf t o.order h.1) e h.3, h.4)
 
   module _ (broken : List ℕ → Type 0) (input_broken first_failed second_failed : Type 0) (first : first_failed → HasFirstFailed broken input_broken o.texts) (second : second_failed → HasSecondFailed broken input_broken o.texts) where

@@ -11,13 +11,13 @@ use Rattle.net_order.specs.declared.order.OrderFault.TheVariants.{Read as OrderR
 use Rattle.net_order.specs.OrderText.{IsBadText}
 use Rattle.command_line.specs.declared.options.Texts.{Texts}
 use Rattle.check_tool.specs.Opening.{HasFailedAt}
-use Rattle.check_report.specs.Devices.{told_by, HasFailedIn}
+use Rattle.check_report.specs.Devices.{told_of, told_by, HasFailedIn}
 use Rattle.std.specs.Borrow.{Bor}
 use Rattle.check_tool.specs.Running.{HasFirstFailed, HasSecondFailed, HasGivenFailed, IsGivenFrom, IsOrderRefused}
 
 -- what a failure of the devices implies stands in the cause of a fault in its place
 pub check_fault : (one two : Option (List ℕ)) (given : Option (Option (List ℕ))) (first_failed second_failed given_failed first second condition : Type 0) (how : Match) (order : Order) → (first_failed → first) → (second_failed → second) → (given_failed → condition) → (fault : CheckFault) →
-    IsCheckFault one two given first_failed second_failed given_failed how order fault → IsCheckFault one two given first second condition how order fault
+    IsCheckFault (told_of one two given) first_failed second_failed given_failed how order fault → IsCheckFault (told_of one two given) first second condition how order fault
 check_fault one two given first_failed second_failed given_failed first second condition how order f g h (First fault) c = record { cause = c.cause; read = λ e. f (c.read e) }
 check_fault one two given first_failed second_failed given_failed first second condition how order f g h (Second fault) c = (c.0, c.1, record { cause = c.2.cause; read = λ e. g (c.2.read e) })
 check_fault one two None first_failed second_failed given_failed first second condition how order f g h (Given fault) c = c

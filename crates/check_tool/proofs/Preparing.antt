@@ -1,6 +1,7 @@
 -- The files behind those of the texts: the condition's and the order's.
 use Rattle.std.proofs.Common.{◌≡◌, ◌++◌, inl, inr, ℕ, false, List, [], ◌∷◌, Option, Some, refl, sym, subst}
 use Rattle.std.specs.Borrow.{Bor}
+use Rattle.check_report.specs.Devices.{told_of}
 use Rattle.check_report.specs.declared.choice.Choice.{Choice}
 use Rattle.check_report.specs.declared.fault.CheckFault.{CheckFault}
 use Rattle.check_report.specs.Best.{IsAllowed}
@@ -41,7 +42,7 @@ later_opened o a b c e f =
 -- why a check failed, once these files were opened
 pub checked_fault : (told : List ℕ → Option (List ℕ)) (broken : List ℕ → Type 0) (one two : Option (List ℕ)) (given : Option (Option (List ℕ))) (first_failed second_failed given_failed : Type 0) (o : Options) (choice : Choice) (fault : CheckFault) (a b : Option (List Try))
     → Extends a b (opened (later_paths o)) → IsGivenOf told o.given given → IsOrderOf told o.order choice → (given_failed → HasGivenFailed broken o.given)
-    → (order : Order) × IsAllowed choice order × IsCheckFault one two given first_failed second_failed given_failed o.matching order fault
+    → (order : Order) × IsAllowed choice order × IsCheckFault (told_of one two given) first_failed second_failed given_failed o.matching order fault
     → (tries : List Try) × Extends a b tries × IsCompareFault told broken one two first_failed second_failed o tries (Check fault)
 checked_fault told broken one two given first_failed second_failed given_failed o choice fault a b e conditioned ordered to h = (
   opened (later_paths o),

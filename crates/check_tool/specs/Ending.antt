@@ -1,11 +1,11 @@
 -- How a run ends: what it has written, what it says, and its status.
 use Rattle.std.specs.Prelude.{◌≡◌, ◌≢◌, ◌≤◌, ◌⊎◌, ◌↔◌, ℕ, Bool, true, false, List, [], ◌++◌, Option, Some, None, IsTrue, string_bytes, codes, decimal}
 use Rattle.std.specs.Io.KnownBytes.{Appends, Keeps}
-use Rattle.check_report.specs.declared.outcome.Outcome.{Outcome}
+use Rattle.report_text.specs.declared.outcome.Outcome.{Outcome}
 use Rattle.check_report.specs.declared.choice.Attempt.{Attempt}
 use Rattle.check_report.specs.Best.{candidate_text}
 use Rattle.check_report.specs.declared.fault.CheckFault.TheVariants.{Wave, Write}
-use Rattle.check_report.specs.Writing.{AppendsFront}
+use Rattle.report_text.specs.Writing.{AppendsFront}
 use Rattle.command_line.specs.declared.options.Options.{Options}
 use Rattle.command_line.specs.declared.reading.Refused.{Refused}
 use Rattle.command_line.specs.declared.reading.Refused.TheVariants.{Help, Mistake, OutOfMemory as NoWordMemory}
@@ -28,6 +28,11 @@ pub record Written : Type 0 where
   pub holds : Option (List ℕ)
   pub has_failed : Bool
   pub has_stopped : Bool
+
+-- what was written to a device between these two states of it
+abbrev pub written : {D : Type 0} → (contents : D → Option (List ℕ)) → (has_failed has_stopped : D → Bool) → (before now : D) → Written
+written contents has_failed has_stopped before now =
+    record { held = contents before; holds = contents now; has_failed = has_failed now; has_stopped = has_stopped now }
 
 -- a front part of the bytes was written, for a cause
 abbrev pub HasFront : Written → List ℕ → Type 0
@@ -111,6 +116,18 @@ pub record Scene : Type 0 where
   pub input_failed : Bool
   pub output : Written
   pub errors : Written
+
+-- the same, of a folder and an input before and now
+abbrev pub scene_of : {F R : Type 0} → (told : F → List ℕ → Option (List ℕ)) → (tries : F → Option (List Try)) → (folder folder' : F) → (remaining : R → Option (List ℕ)) → (has_failed : R → Bool) → (input input' : R) → (output errors : Written) → Scene
+scene_of told tries folder folder' remaining has_failed input input' output errors = record {
+  told = told folder;
+  tried = tries folder;
+  tries = tries folder';
+  input = remaining input;
+  input_failed = has_failed input';
+  output = output;
+  errors = errors;
+}
 
 -- What the options ask for of what they name was written, and all files were opened. Nothing was said without `--verbose`.
 pub record Reports (s : Scene) (o : Options) (done : Done) (status : ℕ) : Type 0 where

@@ -2,7 +2,7 @@
 use Rattle.std.specs.Prelude.{◌≡◌, ◌<◌, ◌≤◌, ◌⊎◌, ℕ, Bool, true, false, List, [], ◌∷◌, ◌++◌, length, Option, Some, None, IfSome, ⊤}
 use Rattle.std.specs.Borrow.{Bor}
 use Rattle.std.specs.Io.KnownBytes.{Appends}
-use Rattle.check_report.specs.Writing.{AppendsFront}
+use Rattle.report_text.specs.Writing.{AppendsFront}
 use Rattle.net_order.specs.declared.order.Order.{Order}
 use Rattle.net_order.specs.declared.order.Order.TheVariants.{Declared as declared, Depth as depth, Interleave as interleave, Listed}
 use Rattle.net_order.specs.declared.order.OrderFault.{OrderFault}
@@ -10,6 +10,7 @@ use Rattle.net_order.specs.declared.order.OrderFault.TheVariants.{Read as OrderR
 use Rattle.net_order.specs.OrderText.{IsOrderText, IsBadText}
 use Rattle.check_report.specs.Listing.{IsOrderPrinted}
 use Rattle.check_report.specs.Check.{IsChecked, IsCheckFault}
+use Rattle.check_report.specs.Devices.{told_of}
 use Rattle.check_report.specs.declared.fault.CheckFault.{CheckFault}
 use Rattle.check_report.specs.Limits.{AreBeyond}
 use Rattle.check_report.specs.Best.{IsAllowed, IsChosen, IsFound}
@@ -125,9 +126,9 @@ IsOrderOf told (File path) choice = (names : List (List ℕ)) × (choice ≡ Ord
 -- itself. The nodes that are needed in this order are within the limit of the options.
 abbrev pub IsMade : (one two : Option (List ℕ)) → (given : Option (Option (List ℕ))) → Options → Choice → Done → (bytes : List ℕ) → Type 0
 IsMade one two given o choice (Compared outcome tried) bytes =
-    (o.print_order ≡ false) × (order : Order) × IsChecked o.json one two given o.matching order o.sizes outcome bytes × IsChosen one two given o.matching choice o.limit tried order
+    (o.print_order ≡ false) × (order : Order) × IsChecked o.json (told_of one two given) o.matching order o.sizes outcome bytes × IsChosen (told_of one two given) o.matching choice o.limit tried order
 IsMade one two given o choice (OrderPrinted tried) bytes =
-    (o.print_order ≡ true) × (order : Order) × IsOrderPrinted one two given o.matching order bytes × IsFound one two given o.matching choice o.limit tried order
+    (o.print_order ≡ true) × (order : Order) × IsOrderPrinted (told_of one two given) o.matching order bytes × IsFound (told_of one two given) o.matching choice o.limit tried order
 
 -- the bytes are what the options ask for of these two texts
 pub record IsCompared (told : List ℕ → Option (List ℕ)) (one two : Option (List ℕ)) (o : Options) (done : Done) (bytes : List ℕ) : Type 0 where
@@ -160,12 +161,12 @@ AreNamed told input o P =
 
 -- the nodes that the texts need are not within the limit of the options, in any order that is asked for
 abbrev pub IsBeyond : (List ℕ → Option (List ℕ)) → Option (List ℕ) → Options → Type 0
-IsBeyond told input o = AreNamed told input o (λ one two given choice. (order : Order) → IsAllowed choice order → AreBeyond one two given o.matching order o.limit)
+IsBeyond told input o = AreNamed told input o (λ one two given choice. (order : Order) → IsAllowed choice order → AreBeyond (told_of one two given) o.matching order o.limit)
 
 -- why the check of two texts failed, in an order of this choice
 abbrev pub IsFailedCheck : (one two : Option (List ℕ)) → (given : Option (Option (List ℕ))) → (first_failed second_failed given_failed : Type 0) → Options → Choice → CheckFault → Type 0
 IsFailedCheck one two given first_failed second_failed given_failed o choice fault =
-    (order : Order) × IsAllowed choice order × IsCheckFault one two given first_failed second_failed given_failed o.matching order fault
+    (order : Order) × IsAllowed choice order × IsCheckFault (told_of one two given) first_failed second_failed given_failed o.matching order fault
 
 -- both texts are at hand
 abbrev pub HasTexts : Option (List ℕ) → Texts → Type 0

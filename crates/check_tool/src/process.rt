@@ -1,6 +1,6 @@
 //! A run over the arguments, the files and the devices of a process.
 ghost use Rattle.std.specs.Prelude.{◌≡◌, ◌≤◌, ◌⊎◌, IsOkAnd, MatchResult, drop, map, string_bytes};
-ghost use Rattle.check_tool.specs.Ending.{Written, Scene, AskForMore, IsRun, IsWordless};
+ghost use Rattle.check_tool.specs.Ending.{written, scene_of, AskForMore, IsRun, IsWordless};
 ghost use Rattle.check_tool.specs.Opening.{HasFailedAt};
 
 use crate::fault::ToolFault;
@@ -44,7 +44,7 @@ fn behind_name(words: &[String]) -> &[String]
 
 /// Says why there are no words, and answers the status.
 fn wordless<E: Sink>(alloc: Global, why: NoWords, errors: &mut E) -> u8
-    ensures told { IsWordless (record { held = E.contents errors.old; holds = E.contents errors.new; has_failed = E.has_failed errors.new; has_stopped = E.has_stopped errors.new }) why result }
+    ensures told { IsWordless (written E.contents E.has_failed E.has_stopped errors.old errors.new) why result }
     ensures bound { result ≤ 3 }
     ensures refused { 2 ≤ result }
 {
@@ -76,15 +76,9 @@ pub fn status_of<
     errors: &mut E,
 ) -> u8
     // The program runs on the words behind its name; where there are none to be had, that is told.
-    ensures ending { let scene : Scene = record {
-      told = F.told folder.old;
-      tried = F.tries folder.old;
-      tries = F.tries folder.new;
-      input = R.remaining input.old;
-      input_failed = R.has_failed input.new;
-      output = record { held = W.contents out.old; holds = W.contents out.new; has_failed = W.has_failed out.new; has_stopped = W.has_stopped out.new };
-      errors = record { held = E.contents errors.old; holds = E.contents errors.new; has_failed = E.has_failed errors.new; has_stopped = E.has_stopped errors.new };
-    } in MatchResult arguments
+    ensures ending { let scene = scene_of F.told F.tries folder.old folder.new R.remaining R.has_failed input.old input.new
+        (written W.contents W.has_failed W.has_stopped out.old out.new) (written E.contents E.has_failed E.has_stopped errors.old errors.new) in
+        MatchResult arguments
         (λ all. IsRun (HasFailedAt F.File.origin F.File.has_failed) scene (folder.new ≡ folder.old) (input.new ≡ input.old) (map string_bytes (drop 1 all.items)) result)
         (λ why. IsWordless scene.errors why result × (out.new ≡ out.old) × (folder.new ≡ folder.old) × (input.new ≡ input.old)) }
     ensures bound { result ≤ 3 }
@@ -95,7 +89,6 @@ pub fn status_of<
     match arguments {
         Ok(words) => run_tool(
             rt,
-            rt.alloc(),
             behind_name(words.as_slice()),
             folder,
             input,

@@ -5,9 +5,9 @@ ghost use Rattle.check_report.specs.declared.fault.CheckFault.TheVariants.{Wave,
 ghost use Rattle.check_tool.specs.declared.done.Done.{Done};
 ghost use Rattle.check_report.specs.declared.choice.Choice.{Choice as ChoiceValue};
 ghost use Rattle.check_report.specs.Best.{IsAllowed};
-ghost use Rattle.check_report.specs.Devices.{told_by};
+ghost use Rattle.check_report.specs.Devices.{told_by, told_of};
 ghost use Rattle.check_report.specs.Limits.{AreBeyond};
-ghost use Rattle.check_report.specs.Writing.{AppendsFront};
+ghost use Rattle.report_text.specs.Writing.{AppendsFront};
 ghost use Rattle.expand_work.specs.declared.fault.WaveFault.TheVariants.{Full};
 ghost use Rattle.net_order.specs.declared.order.Order.{Order};
 ghost use Rattle.check_tool.specs.Opening.{Extends, HasFailedAt, Try, opened};
@@ -18,7 +18,7 @@ use crate::fault::{Place, ToolFault};
 use crate::folder::{Folder, OpenFault};
 use crate::progress::{Meter, Progress};
 use crate::split::split_input;
-use check_report::{Choice, Settings, check, print_order};
+use check_report::{Choice, Context, Settings, check, print_order};
 use command_line::{Options, OrderChoice, Texts};
 use net_bench::device::{InMemory, Sink, Source, TextFault, read_text};
 use net_order::order::Order;
@@ -109,14 +109,13 @@ fn prepare<F: Folder>(
 
 /// Compares two texts, or prints the order of their variables. The condition's file is opened, and a file of the order read, before them.
 fn compare<
-    H: Eprint + Clock + Meter + Threads + Wait + Sync,
+    H: AllocGlobal + Eprint + Clock + Meter + Threads + Wait + Sync,
     F: Folder,
     R1: Source,
     R2: Source,
     W: Sink,
 >(
     rt: &H,
-    alloc: Global,
     options: &Options<'_>,
     folder: &mut F,
     first: &mut R1,
@@ -129,12 +128,13 @@ fn compare<
     ensures fault { IfErr result (λ fault. (tries : List Try) × Extends (F.tries folder.old) (F.tries folder.new) tries ×
         IsCompareFault (F.told folder.old) (HasFailedAt F.File.origin F.File.has_failed) (R1.remaining first.old) (R2.remaining second.old) (IsTrue (R1.has_failed first.new)) (IsTrue (R2.has_failed second.new)) options.now tries fault) }
     ensures full { result ≡ Err (ToolFault.Check (Wave Full)) → (given : Option (Option (List ℕ))) × (choice : ChoiceValue) × IsGivenOf (F.told folder.old) options.now.given given × IsOrderOf (F.told folder.old) options.now.order choice
-        × ((order : Order) → IsAllowed choice order → AreBeyond (R1.remaining first.old) (R2.remaining second.old) given options.now.matching order options.now.limit) }
+        × ((order : Order) → IsAllowed choice order → AreBeyond (told_of (R1.remaining first.old) (R2.remaining second.old) given) options.now.matching order options.now.limit) }
     ensures unwritten { result ≡ Err (ToolFault.Check Write) → (done : Done) × (bytes : List ℕ) × IsCompared (F.told folder.old) (R1.remaining first.old) (R2.remaining second.old) options.now done bytes × AppendsFront (W.contents out.old) (W.contents out.new) (W.has_failed out.new) (W.has_stopped out.new) bytes }
     ensures untouched { OnErr result (result ≢ Err (ToolFault.Check Write) → out.new ≡ out.old) }
     ensures written { OnOk result ((W.has_failed out.new ≡ W.has_failed out.old) × (W.has_stopped out.new ≡ W.has_stopped out.old)) }
     ensures origins { (R1.origin first.new ≡ R1.origin first.old) × (R2.origin second.new ≡ R2.origin second.old) }
 {
+    let alloc = rt.alloc();
     let (mut given, order) = prepare(alloc, folder, options)?;
     let settings = Settings {
         matching: options.matching,
@@ -145,17 +145,19 @@ fn compare<
         json: options.json,
     };
     let progress = Progress::new(rt, alloc, options.verbose);
+    let context = Context {
+        rt,
+        alloc,
+        settings: &settings,
+        gate: &progress,
+    };
     if options.print_order {
-        return match print_order(
-            rt, alloc, first, second, &mut given, &settings, &progress, out,
-        ) {
+        return match print_order(&context, first, second, &mut given, out) {
             Ok(tried) => Ok(Done::OrderPrinted(tried)),
             Err(fault) => Err(ToolFault::Check(fault)),
         };
     }
-    match check(
-        rt, alloc, first, second, &mut given, &settings, &progress, out,
-    ) {
+    match check(&context, first, second, &mut given, out) {
         Ok((outcome, tried)) => Ok(Done::Compared(outcome, tried)),
         Err(fault) => Err(ToolFault::Check(fault)),
     }
@@ -179,13 +181,12 @@ fn read_input<R: Source>(alloc: Global, input: &mut R) -> Result<Vec<u8>, ToolFa
 /// Compares what the options name: two files, a file and the input, or the two texts of the input. FIRST, SECOND, the condition's file
 /// and the order's are opened in this order; where the input is divided, the latter two are opened behind that.
 pub fn run_options<
-    H: Eprint + Clock + Meter + Threads + Wait + Sync,
+    H: AllocGlobal + Eprint + Clock + Meter + Threads + Wait + Sync,
     F: Folder,
     R: Source,
     W: Sink,
 >(
     rt: &H,
-    alloc: Global,
     options: &Options<'_>,
     folder: &mut F,
     input: &mut R,
@@ -217,24 +218,24 @@ pub fn run_options<
         Texts::Files(first, second) => {
             let mut first = open(folder, first, Place::First)?;
             let mut second = open(folder, second, Place::Second)?;
-            compare(rt, alloc, options, folder, &mut first, &mut second, out)
+            compare(rt, options, folder, &mut first, &mut second, out)
         }
         Texts::InputAndFile(path) => {
             let mut file = open(folder, path, Place::Second)?;
-            compare(rt, alloc, options, folder, input, &mut file, out)
+            compare(rt, options, folder, input, &mut file, out)
         }
         Texts::FileAndInput(path) => {
             let mut file = open(folder, path, Place::First)?;
-            compare(rt, alloc, options, folder, &mut file, input, out)
+            compare(rt, options, folder, &mut file, input, out)
         }
         Texts::Input => {
-            let text = read_input(alloc, input)?;
+            let text = read_input(rt.alloc(), input)?;
             let Some((one, two)) = split_input(text.as_slice()) else {
                 return Err(ToolFault::InputUndivided);
             };
             let mut first = InMemory::new(one);
             let mut second = InMemory::new(two);
-            compare(rt, alloc, options, folder, &mut first, &mut second, out)
+            compare(rt, options, folder, &mut first, &mut second, out)
         }
     }
 }

@@ -1,6 +1,6 @@
 //! A run of the program: its words, its folder and its devices to a status.
 ghost use Rattle.std.specs.Prelude.{◌≡◌, ◌≤◌, ◌⊎◌, ℕ, List, false, IfOk, map, string_bytes};
-ghost use Rattle.check_tool.specs.Ending.{Written, Says, IsSaid, MaySay, IsSaidOf, attempt_line, IsAttemptSaid, IsDoneSaid, AskForMore, asked_again, IsReportStatus, IsDoneStatus, Scene, IsRun, IsWordEnd};
+ghost use Rattle.check_tool.specs.Ending.{written, scene_of, Says, IsSaid, MaySay, IsSaidOf, attempt_line, IsAttemptSaid, IsDoneSaid, AskForMore, asked_again, IsReportStatus, IsDoneStatus, IsRun, IsWordEnd};
 ghost use Rattle.check_tool.specs.Helping.{IsHelp, refused_paths};
 ghost use Rattle.check_tool.specs.Opening.{AreTried, Extends, HasFailedAt, Try};
 
@@ -21,14 +21,14 @@ use std::thread::Threads;
 
 /// Writes a text as far as the device takes it. A failure is ignored.
 pub fn say<E: Sink>(errors: &mut E, text: &[u8])
-    ensures { Says (record { held = E.contents errors.old; holds = E.contents errors.new; has_failed = E.has_failed errors.new; has_stopped = E.has_stopped errors.new }) text.now }
+    ensures { Says (written E.contents E.has_failed E.has_stopped errors.old errors.new) text.now }
 {
     let _ = write_whole(errors, text);
 }
 
 /// Prints the line of a fault, and answers its status. Where there is no memory for the line, it is that of want of memory.
 pub fn refuse<E: Sink>(alloc: Global, fault: ToolFault, errors: &mut E) -> u8
-    ensures said { IsSaid (record { held = E.contents errors.old; holds = E.contents errors.new; has_failed = E.has_failed errors.new; has_stopped = E.has_stopped errors.new }) fault result }
+    ensures said { IsSaid (written E.contents E.has_failed E.has_stopped errors.old errors.new) fault result }
     ensures bound { result ≤ 3 }
 {
     match line_of(alloc, fault) {
@@ -68,7 +68,7 @@ fn help<F: Folder, E: Sink>(
     errors: &mut E,
 )
     ensures said { (line : List ℕ) × IsHelp (F.told folder.old) options.now fault line
-        × MaySay (record { held = E.contents errors.old; holds = E.contents errors.new; has_failed = E.has_failed errors.new; has_stopped = E.has_stopped errors.new }) line }
+        × MaySay (written E.contents E.has_failed E.has_stopped errors.old errors.new) line }
     ensures tried { (again : List Try) × Extends (F.tries folder.old) (F.tries folder.new) again × AreTried (refused_paths options.now fault) again }
 {
     if let Ok(line) = help_line(alloc, folder, options, fault) {
@@ -84,7 +84,7 @@ fn refuse_run<F: Folder, E: Sink>(
     fault: ToolFault,
     errors: &mut E,
 ) -> u8
-    ensures said { IsSaidOf options.now.verbose (F.told folder.old) options.now (record { held = E.contents errors.old; holds = E.contents errors.new; has_failed = E.has_failed errors.new; has_stopped = E.has_stopped errors.new }) fault result }
+    ensures said { IsSaidOf options.now.verbose (F.told folder.old) options.now (written E.contents E.has_failed E.has_stopped errors.old errors.new) fault result }
     ensures tried { (again : List Try) × Extends (F.tries folder.old) (F.tries folder.new) again × AreTried (asked_again options.now.verbose options.now fault) again }
     ensures bound { result ≤ 3 }
     ensures refused { 2 ≤ result }
@@ -107,7 +107,7 @@ fn line_of_attempt(alloc: Global, attempt: Attempt) -> Result<String, AllocError
 
 /// Says which attempt a run ended with, where there is one, and memory for its line.
 fn tell_attempt<E: Sink>(alloc: Global, tried: Option<Attempt>, errors: &mut E)
-    ensures { IsAttemptSaid tried (record { held = E.contents errors.old; holds = E.contents errors.new; has_failed = E.has_failed errors.new; has_stopped = E.has_stopped errors.new }) }
+    ensures { IsAttemptSaid tried (written E.contents E.has_failed E.has_stopped errors.old errors.new) }
 {
     let Some(attempt) = tried else {
         return;
@@ -119,7 +119,7 @@ fn tell_attempt<E: Sink>(alloc: Global, tried: Option<Attempt>, errors: &mut E)
 
 /// Says what a run has done, where more is asked for.
 fn tell<E: Sink>(alloc: Global, verbose: bool, done: Done, errors: &mut E)
-    ensures said { IsDoneSaid verbose done (record { held = E.contents errors.old; holds = E.contents errors.new; has_failed = E.has_failed errors.new; has_stopped = E.has_stopped errors.new }) }
+    ensures said { IsDoneSaid verbose done (written E.contents E.has_failed E.has_stopped errors.old errors.new) }
     ensures silent { verbose ≡ false → errors.new ≡ errors.old }
 {
     if !verbose {
@@ -138,8 +138,8 @@ fn refuse_words<W: Sink, E: Sink>(
     out: &mut W,
     errors: &mut E,
 ) -> u8
-    ensures ending { IsWordEnd (record { held = W.contents out.old; holds = W.contents out.new; has_failed = W.has_failed out.new; has_stopped = W.has_stopped out.new })
-        (record { held = E.contents errors.old; holds = E.contents errors.new; has_failed = E.has_failed errors.new; has_stopped = E.has_stopped errors.new }) refused.now result }
+    ensures ending { IsWordEnd (written W.contents W.has_failed W.has_stopped out.old out.new)
+        (written E.contents E.has_failed E.has_stopped errors.old errors.new) refused.now result }
     ensures bound { result ≤ 3 }
     ensures untouched { result ≡ 2 → out.new ≡ out.old }
     ensures silent { result ≤ 1 → errors.new ≡ errors.old }
@@ -183,42 +183,29 @@ fn status_of_done(done: Done) -> u8
 /// Runs the program on its words, and answers its status.
 #[tactic(auto, using(crate::proofs::Composing::keeps_own, crate::proofs::Composing::extends_none))]
 pub fn run_tool<
-    H: Eprint + Clock + Meter + Threads + Wait + Sync,
+    H: AllocGlobal + Eprint + Clock + Meter + Threads + Wait + Sync,
     F: Folder,
     R: Source,
     W: Sink,
     E: Sink,
->(
-    rt: &H,
-    alloc: Global,
-    words: &[String],
-    folder: &mut F,
-    input: &mut R,
-    out: &mut W,
-    errors: &mut E,
-) -> u8
+>(rt: &H, words: &[String], folder: &mut F, input: &mut R, out: &mut W, errors: &mut E) -> u8
     // The words ask for options, and then the run ends with their report, or their order, and status 0 or 1, or with the line and the status of a
     // fault that has its cause, behind which stands what helps where more is asked for, and the input is read only where a text stands on it; or they are refused for a cause, no file is
     // opened, nothing is read, and help, a mistake or want of memory is told.
-    ensures ending { let scene : Scene = record {
-      told = F.told folder.old;
-      tried = F.tries folder.old;
-      tries = F.tries folder.new;
-      input = R.remaining input.old;
-      input_failed = R.has_failed input.new;
-      output = record { held = W.contents out.old; holds = W.contents out.new; has_failed = W.has_failed out.new; has_stopped = W.has_stopped out.new };
-      errors = record { held = E.contents errors.old; holds = E.contents errors.new; has_failed = E.has_failed errors.new; has_stopped = E.has_stopped errors.new };
-    } in IsRun (HasFailedAt F.File.origin F.File.has_failed) scene (folder.new ≡ folder.old) (input.new ≡ input.old) (map string_bytes words.now) result }
+    ensures ending { let scene = scene_of F.told F.tries folder.old folder.new R.remaining R.has_failed input.old input.new
+        (written W.contents W.has_failed W.has_stopped out.old out.new) (written E.contents E.has_failed E.has_stopped errors.old errors.new) in
+        IsRun (HasFailedAt F.File.origin F.File.has_failed) scene (folder.new ≡ folder.old) (input.new ≡ input.old) (map string_bytes words.now) result }
     ensures bound { result ≤ 3 }
     // Status 2 says that nothing was written, statuses 0 and 1 that nothing was said, unless more is asked for.
     ensures untouched { result ≡ 2 → out.new ≡ out.old }
     ensures silent { AskForMore (map string_bytes words.now) ⊎ (result ≤ 1 → errors.new ≡ errors.old) }
 {
+    let alloc = rt.alloc();
     let options = match read_options(alloc, words) {
         Ok(options) => options,
         Err(refused) => return refuse_words(alloc, &refused, out, errors),
     };
-    match run_options(rt, alloc, &options, folder, input, out) {
+    match run_options(rt, &options, folder, input, out) {
         Ok(done) => {
             tell(alloc, options.verbose, done, errors);
             status_of_done(done)

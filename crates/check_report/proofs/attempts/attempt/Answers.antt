@@ -4,6 +4,6 @@ use Rattle.check_report.proofs.Widening.{wide_given}
 use Rattle.check_report.proofs.attempts.attempt.Goals as goal
 
 pub returns-clause-past : goal.returns-clause-past
-returns-clause-past g c = λ one two three ga refused.
-    wide_given one two three c.args.task.now.settings.now.matching c.args.order.now (circuit c.args.task.now.first.now) (circuit c.args.task.now.second.now) (condition c.args.task.now.given) c.in-Ok.pairing
+returns-clause-past g c = λ told ga refused.
+    wide_given told c.args.task.now.settings.now.matching c.args.order.now (circuit c.args.task.now.first.now) (circuit c.args.task.now.second.now) (condition c.args.task.now.given) c.in-Ok.pairing
     (record { netlists = ga; pairing = c.in-Ok.ensures.paired }) (g.G.Gate.bound c.args.gate.now) (c.compare.ensures.past refused)

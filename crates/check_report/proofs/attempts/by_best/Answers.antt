@@ -6,20 +6,20 @@ use Rattle.check_report.specs.Limits.{AreBeyond}
 use Rattle.check_report.proofs.attempts.by_best.Goals as goal
 
 pub returns-in-Ok-clause-chosen : goal.returns-in-Ok-clause-chosen
-returns-in-Ok-clause-chosen g c = λ one two three ga. (order_of c.in-Ok.found.order, c.in-Ok.ensures.judged one two three ga, c.in-Ok.ensures.chosen one two three ga)
+returns-in-Ok-clause-chosen g c = λ told ga. (order_of c.in-Ok.found.order, c.in-Ok.ensures.judged told ga, c.in-Ok.ensures.chosen told ga)
 
 pub returns-in-Err-clause-full : goal.returns-in-Err-clause-full
-returns-in-Err-clause-full g c = λ one two three ga e o allowed.
+returns-in-Err-clause-full g c = λ told ga e o allowed.
     let same : c.in-Err.fault ≡ Wave Full = cc in
-    subst (λ k. AreBeyond one two three c.args.task.now.settings.now.matching k c.args.task.now.settings.now.limit) (sym allowed.1) (c.in-Err.ensures.full one two three ga (ap Err same) allowed.0)
+    subst (λ k. AreBeyond told c.args.task.now.settings.now.matching k c.args.task.now.settings.now.limit) (sym allowed.1) (c.in-Err.ensures.full told ga (ap Err same) allowed.0)
 
 pub returns-in-Err-clause-fault : goal.returns-in-Err-clause-fault
-returns-in-Err-clause-fault g c = λ one two three ga.
-    let w = c.in-Err.ensures.fault one two three ga in
+returns-in-Err-clause-fault g c = λ told ga.
+    let w = c.in-Err.ensures.fault told ga in
     (order_of w.0, (w.0, refl), w.1)
 
 pub returns-in-Err-clause-past : goal.returns-in-Err-clause-past
-returns-in-Err-clause-past g c = λ one two three ga e.
+returns-in-Err-clause-past g c = λ told ga e.
     let same : c.in-Err.fault ≡ Wave TooManyRequests = cc in
-    let w = c.in-Err.ensures.past one two three ga (ap Err same) in
+    let w = c.in-Err.ensures.past told ga (ap Err same) in
     (order_of w.0, (w.0, refl), w.1)

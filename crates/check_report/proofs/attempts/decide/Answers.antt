@@ -1,19 +1,19 @@
 use Rattle.check_report.proofs.attempts.decide.Goals as goal
 
 pub returns-in-One-clause-chosen : goal.returns-in-One-clause-chosen
-returns-in-One-clause-chosen g c = λ one two three ga. rw c.in-One.is (c.by_order.ensures.chosen one two three ga)
+returns-in-One-clause-chosen g c = λ told ga. rw c.in-One.is (c.by_order.ensures.chosen told ga)
 
 pub returns-in-One-clause-fault : goal.returns-in-One-clause-fault
-returns-in-One-clause-fault g c = λ one two three ga. rw c.in-One.is (c.by_order.ensures.fault one two three ga)
+returns-in-One-clause-fault g c = λ told ga. rw c.in-One.is (c.by_order.ensures.fault told ga)
 
 pub returns-in-Best-clause-chosen : goal.returns-in-Best-clause-chosen
-returns-in-Best-clause-chosen g c = λ one two three ga. rw c.in-Best.is (c.by_best.ensures.chosen one two three ga)
+returns-in-Best-clause-chosen g c = λ told ga. rw c.in-Best.is (c.by_best.ensures.chosen told ga)
 
 pub returns-in-Best-clause-fault : goal.returns-in-Best-clause-fault
-returns-in-Best-clause-fault g c = λ one two three ga. rw c.in-Best.is (c.by_best.ensures.fault one two three ga)
+returns-in-Best-clause-fault g c = λ told ga. rw c.in-Best.is (c.by_best.ensures.fault told ga)
 
 pub returns-in-One-clause-past : goal.returns-in-One-clause-past
-returns-in-One-clause-past g c = λ one two three ga. rw c.in-One.is (c.by_order.ensures.past one two three ga)
+returns-in-One-clause-past g c = λ told ga. rw c.in-One.is (c.by_order.ensures.past told ga)
 
 pub returns-in-Best-clause-past : goal.returns-in-Best-clause-past
-returns-in-Best-clause-past g c = λ one two three ga. rw c.in-Best.is (c.by_best.ensures.past one two three ga)
+returns-in-Best-clause-past g c = λ told ga. rw c.in-Best.is (c.by_best.ensures.past told ga)

@@ -5,7 +5,7 @@ use Rattle.net_order.specs.Order.{condition}
 use Rattle.expand_work.specs.declared.fault.WaveFault.TheVariants.{Full, TooManyRequests}
 use Rattle.gate_plan.proofs.Needed.{lean_left}
 use Rattle.check_report.specs.declared.fault.CheckFault.TheVariants.{Wave}
-use Rattle.check_report.proofs.Limiting.{none_before, exceeds, fits, over}
+use Rattle.check_report.proofs.Limiting.{none_before, exceeds, fits, on_ok, over}
 use Rattle.check_report.proofs.Subjects.{all_signals}
 use Rattle.check_report.proofs.Widening.{wide_build, wide_compared}
 use Rattle.check_report.proofs.checking.compare.Goals as goal
@@ -51,16 +51,16 @@ returns-in-Err-shown_of-clause-full g c = λ e.
     (c.shown_of.ensures.keeps.levels ∙ levels ∙ c.len-levels.ensures.value ∙ ap length c.names.ensures.value) (c.shown_of.ensures.keeps.limit ∙ limit)
     (c.in-Err-shown_of.ensures.full (c.in-Ok-build.ensures.need none) (ap Err full))
 
-pub returns-in-Ok-verdicts_of-clause-within : goal.returns-in-Ok-verdicts_of-clause-within
-returns-in-Ok-verdicts_of-clause-within g c =
+pub returns-clause-within : goal.returns-clause-within
+returns-clause-within g c =
     let T : Nodes = c.build.new.store in
     let U : Nodes = c.shown_of.new.store in
     let levels : T.levels ≡ c.len-levels.result = c.build.ensures.keeps.levels ∙ ap (λ (S : Nodes). S.levels) c.in-Ok.ensures in
     let limit : T.limit ≡ c.args.limit = c.build.ensures.keeps.limit ∙ ap (λ (S : Nodes). S.limit) c.in-Ok.ensures in
     let none : count_of c.in-Ok.store ≡ 0 = ap count_of c.in-Ok.ensures ∙ none_before c.len-levels.result c.args.limit T c.build.ensures.sound levels limit in
-    fits c.args.limit (circuit c.args.task.now.first.now) (circuit c.args.task.now.second.now) (condition c.args.task.now.given) c.args.pairing U c.shown_of.ensures.sound
+    on_ok c.verdicts_in.result (fits c.args.limit (circuit c.args.task.now.first.now) (circuit c.args.task.now.second.now) (condition c.args.task.now.given) c.args.pairing U c.shown_of.ensures.sound
     (c.shown_of.ensures.keeps.levels ∙ levels ∙ c.len-levels.ensures.value ∙ ap length c.names.ensures.value) (c.shown_of.ensures.keeps.limit ∙ limit)
-    (c.in-Ok-shown_of.ensures.need (c.in-Ok-build.ensures.need none))
+    (c.in-Ok-shown_of.ensures.need (c.in-Ok-build.ensures.need none)))
 
 pub returns-in-Err-clause-past : goal.returns-in-Err-clause-past
 returns-in-Err-clause-past g c = λ e.

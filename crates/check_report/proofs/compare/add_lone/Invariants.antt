@@ -1,7 +1,7 @@
 use Rattle.std.proofs.Common.{◌≡◌, ◌++◌, drop, map}
 use Rattle.net_bench.specs.Circuit.{circuit}
 use Rattle.net_order.specs.Order.{names_of}
-use Rattle.check_report.specs.declared.verdict.Verdict.TheVariants.{Lone}
+use Rattle.report_text.specs.declared.verdict.Verdict.TheVariants.{Lone}
 use Rattle.check_report.proofs.compare.add_lone.Given as goal
 
 -- what is still to be added completes the list

@@ -2,9 +2,9 @@ use Rattle.std.proofs.Common.{◌≡◌, ◌<◌, length, sym, subst, Some}
 use Rattle.std.specs.Prelude.{slice_get}
 use Rattle.dd_store.specs.declared.reference.Reference.TheVariants.{False}
 use Rattle.gate_plan.specs.Building.{reference_of}
-use Rattle.check_report.specs.declared.outcome.Subject.{Subject}
+use Rattle.check_report.specs.declared.subject.Subject.{Subject}
 use Rattle.check_report.proofs.Subjects.{listed_more}
-use Rattle.check_report.proofs.Wording.{there}
+use Rattle.report_text.proofs.Wording.{there}
 use Rattle.check_report.proofs.compared.add_first.Goals as goal
 
 pub loop-i-preserved : goal.loop-i-preserved

@@ -1,6 +1,6 @@
 use Rattle.std.proofs.Common.{◌≡◌, ◌++◌, map, drop}
 use Rattle.gate_plan.specs.Building.{reference_of}
-use Rattle.check_report.specs.declared.outcome.Subject.{Subject}
+use Rattle.check_report.specs.declared.subject.Subject.{Subject}
 use Rattle.check_report.proofs.compared.add_second.Given as goal
 
 -- what is still to be added completes the list

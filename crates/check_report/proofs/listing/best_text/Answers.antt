@@ -9,33 +9,33 @@ use Rattle.check_report.proofs.Printing.{printed}
 use Rattle.check_report.proofs.listing.best_text.Goals as goal
 
 pub returns-in-Ok-text_of-clause-text : goal.returns-in-Ok-text_of-clause-text
-returns-in-Ok-text_of-clause-text g c = λ one two three ga. (
+returns-in-Ok-text_of-clause-text g c = λ told ga. (
   order_of c.in-Ok.found.order,
-  printed one two three c.args.task.now.settings.now.matching (order_of c.in-Ok.found.order) c.args.task.now.settings.now.sizes c.in-Ok.verdicts c.in-Ok-text_of.text.items (c.in-Ok.ensures.judged one two three ga)
+  printed told c.args.task.now.settings.now.matching (order_of c.in-Ok.found.order) c.args.task.now.settings.now.sizes c.in-Ok.verdicts c.in-Ok-text_of.text.items (c.in-Ok.ensures.judged told ga)
       (c.in-Ok-text_of.ensures.text ∙ ap order_text c.variables.ensures),
-  c.in-Ok.ensures.chosen one two three ga,
+  c.in-Ok.ensures.chosen told ga,
 )
 
 pub returns-in-Ok-clause-fault : goal.returns-in-Ok-clause-fault
-returns-in-Ok-clause-fault g c = λ one two three ga.
-    let j = c.in-Ok.ensures.judged one two three ga in (
+returns-in-Ok-clause-fault g c = λ told ga.
+    let j = c.in-Ok.ensures.judged told ga in (
       order_of c.in-Ok.found.order,
       (c.in-Ok.found.order, refl),
-      subst (IsCheckFault one two three ⊥ ⊥ ⊥ c.args.task.now.settings.now.matching (order_of c.in-Ok.found.order)) (sym c.in-Err-text_of.ensures.fault) (j.a, j.b, j.c, j.p, j.paired),
+      subst (IsCheckFault told ⊥ ⊥ ⊥ c.args.task.now.settings.now.matching (order_of c.in-Ok.found.order)) (sym c.in-Err-text_of.ensures.fault) (j.a, j.b, j.c, j.p, j.paired),
     )
 
 pub returns-clause-full : goal.returns-clause-full
-returns-clause-full g c = λ one two three ga e o allowed.
+returns-clause-full g c = λ told ga e o allowed.
     let same : c.in-Err.fault ≡ Wave Full = cc in
-    subst (λ k. AreBeyond one two three c.args.task.now.settings.now.matching k c.args.task.now.settings.now.limit) (sym allowed.1) (c.in-Err.ensures.full one two three ga (ap Err same) allowed.0)
+    subst (λ k. AreBeyond told c.args.task.now.settings.now.matching k c.args.task.now.settings.now.limit) (sym allowed.1) (c.in-Err.ensures.full told ga (ap Err same) allowed.0)
 
 pub returns-clause-fault : goal.returns-clause-fault
-returns-clause-fault g c = λ one two three ga.
-    let w = c.in-Err.ensures.fault one two three ga in
+returns-clause-fault g c = λ told ga.
+    let w = c.in-Err.ensures.fault told ga in
     (order_of w.0, (w.0, refl), w.1)
 
 pub returns-clause-past : goal.returns-clause-past
-returns-clause-past g c = λ one two three ga e.
+returns-clause-past g c = λ told ga e.
     let same : c.in-Err.fault ≡ Wave TooManyRequests = cc in
-    let w = c.in-Err.ensures.past one two three ga (ap Err same) in
+    let w = c.in-Err.ensures.past told ga (ap Err same) in
     (order_of w.0, (w.0, refl), w.1)

@@ -1,8 +1,0 @@
-use Rattle.std.proofs.Common.{◌≡◌, ◌++◌, drop}
-use Rattle.check_report.specs.Json.{assignment_tokens}
-use Rattle.check_report.proofs.as_json.add_assignment.Given as goal
-
--- what is still to be added completes the tokens
-abbrev pub invariant-loop-i : goal.invariant-loop-i
-invariant-loop-i l =
-    (l.out.before ≡ l.fn.out.before) × (l.out.tokens ++ assignment_tokens (drop l.i l.names) (drop l.i l.bits) ≡ l.fn.out.tokens ++ assignment_tokens l.names l.bits)

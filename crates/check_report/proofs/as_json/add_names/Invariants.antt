@@ -1,7 +1,0 @@
-use Rattle.std.proofs.Common.{◌≡◌, ◌++◌, drop}
-use Rattle.check_report.specs.Json.{names_tokens}
-use Rattle.check_report.proofs.as_json.add_names.Given as goal
-
--- what is still to be added completes the tokens
-abbrev pub invariant-loop-i : goal.invariant-loop-i
-invariant-loop-i l = (l.out.before ≡ l.fn.out.before) × (l.out.tokens ++ names_tokens (drop l.i l.names) ≡ l.fn.out.tokens ++ names_tokens l.names)

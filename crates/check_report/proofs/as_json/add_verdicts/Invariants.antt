@@ -1,8 +1,0 @@
-use Rattle.std.proofs.Common.{◌≡◌, ◌++◌, drop}
-use Rattle.check_report.specs.Json.{verdicts_tokens}
-use Rattle.check_report.proofs.as_json.add_verdicts.Given as goal
-
--- what is still to be added completes the tokens
-abbrev pub invariant-loop-verdict : goal.invariant-loop-verdict
-invariant-loop-verdict l =
-    (l.out.before ≡ l.fn.out.before) × (l.out.tokens ++ verdicts_tokens l.names (drop l.verdict-index l.verdicts) ≡ l.fn.out.tokens ++ verdicts_tokens l.names l.verdicts)

@@ -1,7 +1,0 @@
-use Rattle.std.proofs.Common.{◌≡◌, ◌++◌, drop}
-use Rattle.check_report.specs.Lines.{lines_text}
-use Rattle.check_report.proofs.report.report_of.Given as goal
-
--- what is still to be added completes the lines
-abbrev pub invariant-loop-verdict : goal.invariant-loop-verdict
-invariant-loop-verdict l = l.text.items ++ lines_text l.verdicts.variables (drop l.verdict-index l.verdict-items) ≡ lines_text l.verdicts.variables l.verdict-items

@@ -1,0 +1,182 @@
+//! From readers to a report.
+ghost use Rattle.std.specs.Prelude.{None, ◌≡◌, ◌≢◌, ◌<◌, ◌-◌, ◌^◌, ℕ, List, Option, IfOk, IfErr, IfSome, IsSomeAnd, OnOk, OnErr, IsTrue, Err};
+ghost use Rattle.std.specs.Io.KnownBytes.{Appends};
+ghost use Rattle.expand_work.specs.Bounds.{most_of};
+ghost use Rattle.net_order.specs.declared.order.Order.{Order as OrderValue};
+ghost use Rattle.report_text.specs.declared.outcome.Outcome.{Outcome};
+ghost use Rattle.report_text.specs.Writing.{AppendsFront};
+ghost use Rattle.check_report.specs.declared.choice.Attempt.{Attempt as AttemptValue};
+ghost use Rattle.check_report.specs.Best.{AreGivenUp, IsAllowed, IsChosen};
+ghost use Rattle.check_report.specs.Check.{IsChecked, IsJudged, IsCheckFault};
+ghost use Rattle.check_report.specs.Devices.{HasFailedIn, told_by, told_of};
+ghost use Rattle.check_report.specs.Limits.{AreBeyond};
+ghost use Rattle.check_report.specs.Widths.{AreTooWide};
+
+use crate::attempts::decide;
+use crate::choice::Attempt;
+use crate::fault::CheckFault;
+use crate::reading::{Netlists, read_netlists};
+use crate::report::text_of;
+use crate::task::{Context, Task};
+use expand_work::{Gate, WaveFault};
+use net_bench::device::{Sink, Source};
+use report_text::{Outcome, Verdicts, write_whole};
+use std::sync::Wait;
+use std::thread::Threads;
+
+/// Reads two netlists, and a condition where there is one, and compares their outputs and the next states of their registers where it
+/// holds, in the order that is asked for, or in the best; then it says which attempt that was. The gates' diagrams are built by as many
+/// threads as the settings have workers. The answer is never `CheckFault::Write`.
+pub fn judge<H: Threads + Wait + Sync, R1: Source, R2: Source, R3: Source, G: Gate>(
+    context: &Context<'_, H, G>,
+    first: &mut R1,
+    second: &mut R2,
+    given: &mut Option<R3>,
+) -> Result<(Verdicts, Option<Attempt>), CheckFault>
+    // The verdicts are those of what was read, in an order that the settings allow. In them two outputs, or the next states of two
+    // registers, are called equal exactly where their functions agree wherever the condition holds. The nodes that are needed in this
+    // order are within the limit, and within the budget of the attempt.
+    ensures verdicts { let told = told_of (R1.remaining first.old) (R2.remaining second.old) (told_by R3.remaining given.old) in
+        let s = context.now.settings.now in
+        IfOk result (λ r. (order : OrderValue) × IsJudged told s.matching order s.sizes r.0 × IsChosen told s.matching s.order s.limit r.1 order) }
+    // Where the gate sets no bound, each attempt before the one that is told was given up: it needs more nodes than its budget, or one wave
+    // of it reaches more requests than eight for each of them.
+    ensures passed { let told = told_of (R1.remaining first.old) (R2.remaining second.old) (told_by R3.remaining given.old) in
+        let s = context.now.settings.now in
+        G.bound context.now.gate.now ≡ None → IfOk result (λ r. IfSome r.1 (AreGivenUp told s.matching s.limit)) }
+    // Full comes only where they are not within the limit, in each order that the settings allow.
+    ensures full { let told = told_of (R1.remaining first.old) (R2.remaining second.old) (told_by R3.remaining given.old) in
+        let s = context.now.settings.now in
+        result ≡ Err (CheckFault.Wave WaveFault.Full) → (order : OrderValue) → IsAllowed s.order order → AreBeyond told s.matching order s.limit }
+    // TooManyRequests comes only where one wave reaches more than the gate allows, in an order that the settings allow.
+    ensures past { let told = told_of (R1.remaining first.old) (R2.remaining second.old) (told_by R3.remaining given.old) in
+        let s = context.now.settings.now in
+        result ≡ Err (CheckFault.Wave WaveFault.TooManyRequests) → (order : OrderValue) × IsAllowed s.order order × IsSomeAnd (G.bound context.now.gate.now) (AreTooWide told s.matching order) }
+    // Where the gate sets a bound, no worker is wanted.
+    ensures alone { most_of (G.bound context.now.gate.now) < 2 ^ 64 - 1 → result ≢ Err (CheckFault.Wave WaveFault.NoWorker) }
+    // A fault has its cause, and what comes before it was accepted.
+    ensures fault { let told = told_of (R1.remaining first.old) (R2.remaining second.old) (told_by R3.remaining given.old) in
+        let s = context.now.settings.now in
+        IfErr result (λ fault. (order : OrderValue) × IsAllowed s.order order × IsCheckFault told (IsTrue (R1.has_failed first.new)) (IsTrue (R2.has_failed second.new)) (HasFailedIn R3.has_failed given.new) s.matching order fault) }
+    ensures unwritten { result ≢ Err CheckFault.Write }
+    ensures origins { (R1.origin first.new ≡ R1.origin first.old) × (R2.origin second.new ≡ R2.origin second.old) × (told_by R3.origin given.new ≡ told_by R3.origin given.old) }
+{
+    let nets = match read_netlists(context.alloc, first, second, given) {
+        Ok(nets) => nets,
+        Err(fault) => return Err(fault),
+    };
+    let Netlists {
+        first: one,
+        second: two,
+        given: three,
+    } = nets;
+    let condition = three.as_ref();
+    let task = Task {
+        rt: context.rt,
+        alloc: context.alloc,
+        first: &one,
+        second: &two,
+        given: condition,
+        settings: context.settings,
+    };
+    decide(&task, context.gate)
+}
+
+/// The report of what is read, with its counts, and the attempt that it comes from.
+fn reported<H: Threads + Wait + Sync, R1: Source, R2: Source, R3: Source, G: Gate>(
+    context: &Context<'_, H, G>,
+    first: &mut R1,
+    second: &mut R2,
+    given: &mut Option<R3>,
+) -> Result<(Vec<u8>, Outcome, Option<Attempt>), CheckFault>
+    ensures report { let told = told_of (R1.remaining first.old) (R2.remaining second.old) (told_by R3.remaining given.old) in
+        let s = context.now.settings.now in
+        IfOk result (λ r. (order : OrderValue) × IsChecked s.json told s.matching order s.sizes r.1 r.0.items × IsChosen told s.matching s.order s.limit r.2 order) }
+    ensures passed { let told = told_of (R1.remaining first.old) (R2.remaining second.old) (told_by R3.remaining given.old) in
+        let s = context.now.settings.now in
+        G.bound context.now.gate.now ≡ None → IfOk result (λ r. IfSome r.2 (AreGivenUp told s.matching s.limit)) }
+    ensures full { let told = told_of (R1.remaining first.old) (R2.remaining second.old) (told_by R3.remaining given.old) in
+        let s = context.now.settings.now in
+        result ≡ Err (CheckFault.Wave WaveFault.Full) → (order : OrderValue) → IsAllowed s.order order → AreBeyond told s.matching order s.limit }
+    ensures past { let told = told_of (R1.remaining first.old) (R2.remaining second.old) (told_by R3.remaining given.old) in
+        let s = context.now.settings.now in
+        result ≡ Err (CheckFault.Wave WaveFault.TooManyRequests) → (order : OrderValue) × IsAllowed s.order order × IsSomeAnd (G.bound context.now.gate.now) (AreTooWide told s.matching order) }
+    ensures alone { most_of (G.bound context.now.gate.now) < 2 ^ 64 - 1 → result ≢ Err (CheckFault.Wave WaveFault.NoWorker) }
+    ensures fault { let told = told_of (R1.remaining first.old) (R2.remaining second.old) (told_by R3.remaining given.old) in
+        let s = context.now.settings.now in
+        IfErr result (λ fault. (order : OrderValue) × IsAllowed s.order order × IsCheckFault told (IsTrue (R1.has_failed first.new)) (IsTrue (R2.has_failed second.new)) (HasFailedIn R3.has_failed given.new) s.matching order fault) }
+    ensures unwritten { result ≢ Err CheckFault.Write }
+    ensures origins { (R1.origin first.new ≡ R1.origin first.old) × (R2.origin second.new ≡ R2.origin second.old) × (told_by R3.origin given.new ≡ told_by R3.origin given.old) }
+{
+    let conditional = given.is_some();
+    let (verdicts, tried) = match judge(context, first, second, given) {
+        Ok((verdicts, tried)) => (verdicts, tried),
+        Err(fault) => return Err(fault),
+    };
+    let Ok(text) = text_of(
+        context.alloc,
+        context.settings,
+        tried,
+        conditional,
+        &verdicts,
+    ) else {
+        return Err(CheckFault::OutOfMemory);
+    };
+    Ok((text, verdicts.outcome(), tried))
+}
+
+/// Compares two netlists as `judge` does, and writes the report. Nothing is written before the whole report stands.
+pub fn check<H: Threads + Wait + Sync, R1: Source, R2: Source, R3: Source, G: Gate, W: Sink>(
+    context: &Context<'_, H, G>,
+    first: &mut R1,
+    second: &mut R2,
+    given: &mut Option<R3>,
+    out: &mut W,
+) -> Result<(Outcome, Option<Attempt>), CheckFault>
+    // What was written is the report of what was read, in an order that the settings allow, and nothing else. In it two outputs, or the
+    // next states of two registers, are called equal exactly where their functions agree wherever the condition holds. The nodes that
+    // are needed in this order are within the limit, and within the budget of the attempt.
+    ensures report { let told = told_of (R1.remaining first.old) (R2.remaining second.old) (told_by R3.remaining given.old) in
+        let s = context.now.settings.now in
+        IfOk result (λ r. (order : OrderValue) × (bytes : List ℕ) × IsChecked s.json told s.matching order s.sizes r.0 bytes
+        × IsChosen told s.matching s.order s.limit r.1 order × Appends (W.contents out.old) (W.contents out.new) bytes) }
+    // Where the gate sets no bound, each attempt before the one that is told was given up: it needs more nodes than its budget, or one wave
+    // of it reaches more requests than eight for each of them.
+    ensures passed { let told = told_of (R1.remaining first.old) (R2.remaining second.old) (told_by R3.remaining given.old) in
+        let s = context.now.settings.now in
+        G.bound context.now.gate.now ≡ None → IfOk result (λ r. IfSome r.1 (AreGivenUp told s.matching s.limit)) }
+    // Full comes only where they are not within the limit, in each order that the settings allow.
+    ensures full { let told = told_of (R1.remaining first.old) (R2.remaining second.old) (told_by R3.remaining given.old) in
+        let s = context.now.settings.now in
+        result ≡ Err (CheckFault.Wave WaveFault.Full) → (order : OrderValue) → IsAllowed s.order order → AreBeyond told s.matching order s.limit }
+    // TooManyRequests comes only where one wave reaches more than the gate allows, in an order that the settings allow.
+    ensures past { let told = told_of (R1.remaining first.old) (R2.remaining second.old) (told_by R3.remaining given.old) in
+        let s = context.now.settings.now in
+        result ≡ Err (CheckFault.Wave WaveFault.TooManyRequests) → (order : OrderValue) × IsAllowed s.order order × IsSomeAnd (G.bound context.now.gate.now) (AreTooWide told s.matching order) }
+    // Where the gate sets a bound, no worker is wanted.
+    ensures alone { most_of (G.bound context.now.gate.now) < 2 ^ 64 - 1 → result ≢ Err (CheckFault.Wave WaveFault.NoWorker) }
+    // A fault has its cause, and what comes before it was accepted.
+    ensures fault { let told = told_of (R1.remaining first.old) (R2.remaining second.old) (told_by R3.remaining given.old) in
+        let s = context.now.settings.now in
+        IfErr result (λ fault. (order : OrderValue) × IsAllowed s.order order × IsCheckFault told (IsTrue (R1.has_failed first.new)) (IsTrue (R2.has_failed second.new)) (HasFailedIn R3.has_failed given.new) s.matching order fault) }
+    // Where the writing failed, a front part of the report was written, and the device has failed or taken nothing of the rest.
+    ensures unwritten { let told = told_of (R1.remaining first.old) (R2.remaining second.old) (told_by R3.remaining given.old) in
+        let s = context.now.settings.now in
+        result ≡ Err CheckFault.Write → (o : Outcome) × (tried : Option AttemptValue) × (order : OrderValue) × (bytes : List ℕ)
+        × IsChecked s.json told s.matching order s.sizes o bytes × IsChosen told s.matching s.order s.limit tried order
+        × AppendsFront (W.contents out.old) (W.contents out.new) (W.has_failed out.new) (W.has_stopped out.new) bytes }
+    // At any other fault nothing was written.
+    ensures untouched { OnErr result (result ≢ Err CheckFault.Write → out.new ≡ out.old) }
+    // A writer that took the report has not failed, and took some bytes at each write.
+    ensures written { OnOk result ((W.has_failed out.new ≡ W.has_failed out.old) × (W.has_stopped out.new ≡ W.has_stopped out.old)) }
+    ensures origins { (R1.origin first.new ≡ R1.origin first.old) × (R2.origin second.new ≡ R2.origin second.old) × (told_by R3.origin given.new ≡ told_by R3.origin given.old) }
+{
+    let (text, outcome, tried) = match reported(context, first, second, given) {
+        Ok((text, outcome, tried)) => (text, outcome, tried),
+        Err(fault) => return Err(fault),
+    };
+    match write_whole(out, text.as_slice()) {
+        Ok(()) => Ok((outcome, tried)),
+        Err(_) => Err(CheckFault::Write),
+    }
+}

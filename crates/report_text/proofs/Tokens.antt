@@ -1,0 +1,65 @@
+-- The tokens of a report as JSON, part by part.
+use Rattle.std.proofs.Common.{◌≡◌, ◌∙◌, ap, sym, append_assoc, Result, Ok, Err, true, refl, ℕ, zero, suc, ◌+◌, ◌<◌, ◌≤◌, min, arith, Bool, false, List, [], ◌∷◌, ◌++◌, length, get_or, drop, add-one, drop-cons, Some}
+use Rattle.std.specs.Prelude.{slice_get, if◌then◌else◌}
+use Rattle.std.specs.Str.{IsUtf8, is_utf8}
+use Rattle.std.proofs.lemmas.Str.{IsUtf8-from_is_utf8, is_utf8-from_IsUtf8}
+use Rattle.json.specs.Token.{Token, key, string}
+use Rattle.json.specs.Written.{Writes, Written}
+use Rattle.report_text.specs.Json.{Adds, assignment_tokens, bit_token, names_tokens, shown}
+use Rattle.report_text.proofs.Wording.{there}
+
+-- a variable with its bit, and then the rest
+pub assignment_next : (vs : List (List ℕ)) (bs : List Bool) (i : ℕ) (v n : List ℕ) → i < length vs → i < length bs → slice_get vs i ≡ Some v → n ≡ shown v →
+    assignment_tokens (drop i vs) (drop i bs) ≡ (key n ∷ bit_token (get_or bs i false) ∷ []) ++ assignment_tokens (drop (i + 1) vs) (drop (i + 1) bs)
+assignment_next vs bs i v n lv lb ev is = rw (is, add-one, drop-cons vs i v, drop-cons bs i false, there vs i v v ev) refl
+
+no_bits : (vs : List (List ℕ)) → assignment_tokens vs [] ≡ []
+no_bits [] = refl
+no_bits (v ∷ vs) = refl
+
+-- where the variables or the bits are over, nothing follows
+pub assignment_over : (vs : List (List ℕ)) (bs : List Bool) (i : ℕ) → min (length bs) (length vs) ≤ i → assignment_tokens (drop i vs) (drop i bs) ≡ []
+assignment_over [] bs zero le = refl
+assignment_over [] bs (suc i) le = refl
+assignment_over (v ∷ vs) [] zero le = refl
+assignment_over (v ∷ vs) [] (suc i) le = no_bits (drop i vs)
+assignment_over (v ∷ vs) (b ∷ bs) zero le = absurd (omega (arith, le))
+assignment_over (v ∷ vs) (b ∷ bs) (suc i) le = assignment_over vs bs i (omega (arith, le))
+
+-- a variable, and then the rest
+pub names_next : (vs : List (List ℕ)) (i : ℕ) (v n : List ℕ) → i < length vs → slice_get vs i ≡ Some v → n ≡ shown v → names_tokens (drop i vs) ≡ (string n ∷ []) ++ names_tokens (drop (i + 1) vs)
+names_next vs i v n lt e is = rw (is, add-one, drop-cons vs i v, there vs i v v e) refl
+
+-- nothing follows the last
+pub names_over : (vs : List (List ℕ)) (i : ℕ) → length vs ≤ i → names_tokens (drop i vs) ≡ []
+names_over [] zero le = refl
+names_over [] (suc i) le = refl
+names_over (v ∷ vs) zero le = absurd (omega (arith, le))
+names_over (v ∷ vs) (suc i) le = names_over vs i (omega (arith, le))
+
+-- a text is shown as it is
+pub shown_whole : (name : List ℕ) → IsUtf8 name → shown name ≡ name
+shown_whole name is = rw (is_utf8-from_IsUtf8 name is) refl
+
+-- and bytes that are no text as none
+pub shown_none : (name : List ℕ) → (IsUtf8 name → ⊥) → shown name ≡ []
+shown_none name not_one = by (is_utf8 name) (λ e. not_one (IsUtf8-from_is_utf8 name e))
+  where
+    by : (b : Bool) → (b ≡ true → ⊥) → if b then name else [] ≡ []
+    by true n = absurd (n refl)
+    by false n = refl
+
+-- some tokens, and then others
+pub both : (a b c : Written) (xs ys : List Token) → (b.before ≡ a.before) × (b.tokens ≡ a.tokens ++ xs) → (c.before ≡ b.before) × (c.tokens ≡ b.tokens ++ ys) → (c.before ≡ a.before) × (c.tokens ≡ a.tokens ++ (xs ++ ys))
+both a b c xs ys first second = (second.0 ∙ first.0, second.1 ∙ ap (λ z. z ++ ys) first.1 ∙ append_assoc a.tokens xs ys)
+
+pub adds_more : {E : Type 0} (r : Result (Unit {0}) E) (a b c : Written) (xs ys all : List Token) → all ≡ xs ++ ys → (b.before ≡ a.before) × (b.tokens ≡ a.tokens ++ xs) → Adds r b c ys → Adds r a c all
+adds_more (Ok u) a b c xs ys all whole first second =
+    let more = both a b c xs ys first second in
+    (more.0, more.1 ∙ ap (λ z. a.tokens ++ z) (sym whole))
+adds_more (Err e) a b c xs ys all whole first second = tt
+
+-- one token more
+pub written : {E : Type 0} (r : Result (Unit {0}) E) (a b : Written) (t : Token) → Writes r a b t → Adds r a b (t ∷ [])
+written (Ok u) a b t w = (w.room.0, w.ok)
+written (Err e) a b t w = tt

@@ -1,0 +1,124 @@
+-- What a comparison found as one JSON object: its tokens, and their text.
+use Rattle.std.specs.Prelude.{◌≡◌, ℕ, Bool, true, false, List, [], ◌∷◌, ◌++◌, Option, Some, None, Result, OnOk, codes, decimal, if◌then◌else◌}
+use Rattle.std.specs.Str.{is_utf8}
+use Rattle.json.specs.Print.{print}
+use Rattle.json.specs.Token.{Token, begin_object, end_object, begin_array, end_array, key, string, number, boolean}
+use Rattle.json.specs.Written.{Written}
+use Rattle.net_order.specs.declared.order.Match.{Match}
+use Rattle.net_order.specs.declared.order.Match.TheVariants.{Name, Position}
+use Rattle.net_order.specs.declared.order.Order.{Order}
+use Rattle.net_order.specs.declared.order.Order.TheVariants.{Declared, Depth, Interleave, Index, Force, Listed}
+use Rattle.report_text.specs.declared.outcome.Outcome.{Outcome}
+use Rattle.report_text.specs.declared.outcome.Role.{Role}
+use Rattle.report_text.specs.declared.outcome.Role.TheVariants.{Output, NextState}
+use Rattle.report_text.specs.declared.outcome.Side.{Side}
+use Rattle.report_text.specs.declared.outcome.Side.TheVariants.{First, Second}
+use Rattle.report_text.specs.declared.verdict.Verdict.{Verdict}
+use Rattle.report_text.specs.declared.verdict.Verdict.TheVariants.{Equal, Differs, Lone}
+use Rattle.report_text.specs.Lines.{Found, counted, report_text}
+
+-- how inputs, outputs and registers are paired
+abbrev pub match_kind : Match → List ℕ
+match_kind Name = codes "name"
+match_kind Position = codes "position"
+
+-- where the order of the variables comes from
+abbrev pub order_kind : Order → List ℕ
+order_kind Declared = codes "declared"
+order_kind Depth = codes "depth"
+order_kind Interleave = codes "interleave"
+order_kind Index = codes "index"
+order_kind Force = codes "force"
+order_kind (Listed names) = codes "file"
+
+-- A name as a text. The names of a netlist are ASCII, so each of them is its own text; bytes that are none have the empty one.
+abbrev pub shown : List ℕ → List ℕ
+shown name = if is_utf8 name then name else []
+
+-- a bit as a number
+abbrev pub bit_token : Bool → Token
+bit_token true = number (decimal 1)
+bit_token false = number (decimal 0)
+
+-- what is spoken of: an output, or the next state of a register
+abbrev pub role_text : Role → List ℕ
+role_text Output = codes "output"
+role_text NextState = codes "next state"
+
+abbrev pub side_word : Side → List ℕ
+side_word First = codes "first"
+side_word Second = codes "second"
+
+abbrev pub subject_tokens : Role → List ℕ → List Token
+subject_tokens role name = key (codes "of") ∷ string (role_text role) ∷ key (codes "name") ∷ string (shown name) ∷ []
+
+-- sizes where they are asked for
+abbrev pub size_tokens : Option ℕ → List Token
+size_tokens None = []
+size_tokens (Some n) = key (codes "size") ∷ number (decimal n) ∷ []
+
+abbrev pub sizes_tokens : Option (ℕ × ℕ) → List Token
+sizes_tokens None = []
+sizes_tokens (Some p) = key (codes "sizes") ∷ begin_array ∷ number (decimal p.0) ∷ number (decimal p.1) ∷ end_array ∷ []
+
+-- each variable with its bit
+abbrev pub assignment_tokens : List (List ℕ) → List Bool → List Token
+assignment_tokens (v ∷ vs) (b ∷ bs) = key (shown v) ∷ bit_token b ∷ assignment_tokens vs bs
+assignment_tokens vs bs = []
+
+-- the values of two functions
+abbrev pub values_tokens : (first second : Bool) → List Token
+values_tokens first second = key (codes "first") ∷ bit_token first ∷ key (codes "second") ∷ bit_token second ∷ []
+
+-- the members of a verdict; the variables stand by level
+abbrev pub verdict_members : List (List ℕ) → Verdict → List Token
+verdict_members variables (Equal role name size) = key (codes "verdict") ∷ string (codes "EQUAL") ∷ (subject_tokens role name ++ size_tokens size)
+verdict_members variables (Differs role name at first second sizes) =
+    key (codes "verdict") ∷ string (codes "DIFFER") ∷ (subject_tokens role name
+    ++ (key (codes "at") ∷ begin_object ∷ (assignment_tokens variables at ++ (end_object ∷ (values_tokens first second ++ sizes_tokens sizes)))))
+verdict_members variables (Lone side role name) = key (codes "verdict") ∷ string (codes "ONLY") ∷ key (codes "side") ∷ string (side_word side) ∷ subject_tokens role name
+
+-- an object for each verdict
+abbrev pub verdicts_tokens : List (List ℕ) → List Verdict → List Token
+verdicts_tokens variables [] = []
+verdicts_tokens variables (v ∷ vs) = (begin_object ∷ (verdict_members variables v ++ end_object ∷ [])) ++ verdicts_tokens variables vs
+
+-- the variables by level
+abbrev pub names_tokens : List (List ℕ) → List Token
+names_tokens [] = []
+names_tokens (v ∷ vs) = string (shown v) ∷ names_tokens vs
+
+abbrev pub settings_tokens : Match → Order → List Token
+settings_tokens how order = key (codes "match") ∷ string (match_kind how) ∷ key (codes "order") ∷ string (order_kind order) ∷ []
+
+abbrev pub counts_tokens : Outcome → List Token
+counts_tokens o =
+    key (codes "equal") ∷ number (decimal o.equal) ∷ key (codes "different") ∷ number (decimal o.different) ∷ key (codes "unmatched") ∷ number (decimal o.unmatched) ∷ []
+
+-- an array behind its key
+abbrev pub array_tokens : List ℕ → List Token → List Token
+array_tokens name items = key name ∷ begin_array ∷ (items ++ end_array ∷ [])
+
+-- that there was a condition, where there was one
+abbrev pub given_tokens : Bool → List Token
+given_tokens true = key (codes "given") ∷ boolean true ∷ []
+given_tokens false = []
+
+-- the whole object: the settings, the variables, the verdicts, the counts
+abbrev pub report_tokens : Match → Order → (given : Bool) → Found → List Token
+report_tokens how order given found =
+    begin_object ∷ (settings_tokens how order ++ (given_tokens given ++ (array_tokens (codes "variables") (names_tokens found.variables)
+    ++ (array_tokens (codes "verdicts") (verdicts_tokens found.variables found.verdicts) ++ (counts_tokens (counted found.verdicts) ++ end_object ∷ [])))))
+
+-- its text, on one line
+abbrev pub json_text : Match → Order → (given : Bool) → Found → List ℕ
+json_text how order given found = print (report_tokens how order given found) ++ 10 ∷ []
+
+-- the bytes of a report in the form that is asked for: as JSON, which tells of a condition, or as lines
+abbrev pub form_text : (json : Bool) → Match → Order → (given : Bool) → Found → List ℕ
+form_text true how order given = json_text how order given
+form_text false how order given = report_text
+
+-- a writer has taken these tokens, where it has taken all
+abbrev pub Adds : {E : Type 0} → Result (Unit {0}) E → (old new : Written) → List Token → Type 0
+Adds r old new ts = OnOk r ((new.before ≡ old.before) × (new.tokens ≡ old.tokens ++ ts))

@@ -1,0 +1,84 @@
+-- The verdicts of a comparison, and the bytes of their lines in a report. A name is a list of bytes.
+use Rattle.std.specs.Prelude.{ℕ, Bool, true, false, List, [], ◌∷◌, ◌++◌, Option, Some, None, codes, decimal, count_by}
+use Rattle.report_text.specs.declared.outcome.Outcome.{Outcome}
+use Rattle.report_text.specs.declared.outcome.Role.{Role}
+use Rattle.report_text.specs.declared.outcome.Role.TheVariants.{Output, NextState}
+use Rattle.report_text.specs.declared.outcome.Side.{Side}
+use Rattle.report_text.specs.declared.outcome.Side.TheVariants.{First, Second}
+use Rattle.report_text.specs.declared.verdict.Verdict.{Verdict}
+use Rattle.report_text.specs.declared.verdict.Verdict.TheVariants.{Equal, Differs, Lone}
+
+-- What a comparison found: the variables by level, and the verdicts in the order of the report.
+pub record Found : Type 0 where
+  pub variables : List (List ℕ)
+  pub verdicts : List Verdict
+
+-- the digit of a bit
+abbrev pub bit_text : Bool → List ℕ
+bit_text true = codes "1"
+bit_text false = codes "0"
+
+-- a size behind its word, where it is asked for
+abbrev pub size_text : Option ℕ → List ℕ
+size_text None = []
+size_text (Some n) = codes " size " ++ decimal n
+
+-- two sizes behind their word, where they are asked for
+abbrev pub sizes_text : Option (ℕ × ℕ) → List ℕ
+sizes_text None = []
+sizes_text (Some p) = codes " sizes " ++ (decimal p.0 ++ (codes " " ++ decimal p.1))
+
+-- each variable with its bit, a space before each
+abbrev pub assignment_text : List (List ℕ) → List Bool → List ℕ
+assignment_text (v ∷ vs) (b ∷ bs) = codes " " ++ (v ++ (codes "=" ++ (bit_text b ++ assignment_text vs bs)))
+assignment_text vs bs = []
+
+-- the word of a netlist
+abbrev pub side_text : Side → List ℕ
+side_text First = codes "FIRST"
+side_text Second = codes "SECOND"
+
+-- a name, that of a next state behind its word
+abbrev pub subject_text : Role → List ℕ → List ℕ
+subject_text Output name = name
+subject_text NextState name = codes "NEXT " ++ name
+
+-- the line of a verdict, without its end; the variables stand by level
+abbrev pub line_text : List (List ℕ) → Verdict → List ℕ
+line_text variables (Equal role name size) = codes "EQUAL " ++ (subject_text role name ++ size_text size)
+line_text variables (Differs role name at first second sizes) =
+    codes "DIFFER " ++ (subject_text role name ++ (codes " at" ++ (assignment_text variables at ++ (codes " first=" ++ (bit_text first ++ (codes " second=" ++ (bit_text second ++ sizes_text sizes)))))))
+line_text variables (Lone side role name) = codes "ONLY " ++ (side_text side ++ (codes " " ++ subject_text role name))
+
+-- lines, each with its end
+abbrev pub lines_text : List (List ℕ) → List Verdict → List ℕ
+lines_text variables [] = []
+lines_text variables (v ∷ vs) = line_text variables v ++ (10 ∷ lines_text variables vs)
+
+-- the kinds of verdicts
+abbrev pub is_equal : Verdict → Bool
+is_equal (Equal role name size) = true
+is_equal (Differs role name at first second sizes) = false
+is_equal (Lone side role name) = false
+
+abbrev pub is_different : Verdict → Bool
+is_different (Equal role name size) = false
+is_different (Differs role name at first second sizes) = true
+is_different (Lone side role name) = false
+
+abbrev pub is_lone : Verdict → Bool
+is_lone (Equal role name size) = false
+is_lone (Differs role name at first second sizes) = false
+is_lone (Lone side role name) = true
+
+-- how many verdicts of each kind there are
+abbrev pub counted : List Verdict → Outcome
+counted vs = record { equal = count_by is_equal vs; different = count_by is_different vs; unmatched = count_by is_lone vs }
+
+-- the last line, without its end
+abbrev pub counts_text : Outcome → List ℕ
+counts_text o = decimal o.equal ++ (codes " equal, " ++ (decimal o.different ++ (codes " different, " ++ (decimal o.unmatched ++ codes " unmatched"))))
+
+-- the bytes of the report of what a comparison found: its lines, and last their counts
+abbrev pub report_text : Found → List ℕ
+report_text found = lines_text found.variables found.verdicts ++ (counts_text (counted found.verdicts) ++ 10 ∷ [])

@@ -1,0 +1,17 @@
+//! What a comparison found, and its text: verdicts, their lines, one JSON object of them, and the writing of bytes to a device.
+#![tactic(auto)]
+
+mod as_json;
+mod lines;
+mod outcome;
+mod report;
+mod verdict;
+mod verdicts;
+mod write;
+
+pub use as_json::json_of;
+pub use outcome::{Outcome, Role, Side};
+pub use report::report_of;
+pub use verdict::{Bits, Name, Verdict};
+pub use verdicts::Verdicts;
+pub use write::write_whole;

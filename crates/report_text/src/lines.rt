@@ -1,0 +1,208 @@
+//! The lines of a report as bytes.
+ghost use Rattle.std.specs.Prelude.{◌≡◌, ◌++◌, ℕ, List, [], ◌∷◌, OnOk, codes};
+ghost use Rattle.report_text.specs.Lines.{line_text, assignment_text, bit_text, side_text, sizes_text, subject_text, counts_text};
+
+use crate::outcome::{Outcome, Role, Side};
+use crate::verdict::Verdict;
+use net_order::names::Names;
+use std::alloc::{AllocError, Global};
+
+/// What a line speaks of: as what, and by which name.
+#[derive(Clone, Copy, Drop)]
+struct Label<'a> {
+    role: Role,
+    name: &'a [u8],
+}
+
+/// The word of a bit.
+fn bit_word(bit: bool) -> &'static [u8]
+    ensures { result.now ≡ bit_text bit }
+{
+    if bit { b"1" } else { b"0" }
+}
+
+/// Adds a variable with its bit, behind a space.
+fn add_variable(text: &mut Vec<u8>, name: &[u8], bit: bool) -> Result<(), AllocError>
+    ensures { OnOk result (text.new.items ≡ text.old.items ++ (codes " " ++ (name.now ++ (codes "=" ++ bit_text bit)))) }
+{
+    text.extend_from_slice(b" ")?;
+    text.extend_from_slice(name)?;
+    text.extend_from_slice(b"=")?;
+    text.extend_from_slice(bit_word(bit))?;
+    Ok(())
+}
+
+/// Adds each variable with its bit.
+fn add_assignment(text: &mut Vec<u8>, names: &Names, bits: &[bool]) -> Result<(), AllocError>
+    ensures { OnOk result (text.new.items ≡ text.old.items ++ assignment_text names.now bits.now) }
+{
+    let count = bits.len().min(names.len());
+    for i in 0..count {
+        add_variable(text, names.at(i), bits[i])?;
+    }
+    Ok(())
+}
+
+/// Adds a name, that of a next state behind its word.
+fn add_label(text: &mut Vec<u8>, label: Label<'_>) -> Result<(), AllocError>
+    ensures { OnOk result (text.new.items ≡ text.old.items ++ subject_text label.entry.role label.entry.name.now) }
+{
+    match label.role {
+        Role::Output => {}
+        Role::NextState => text.extend_from_slice(b"NEXT ")?,
+    }
+    text.extend_from_slice(label.name)?;
+    Ok(())
+}
+
+/// Adds the line of two equal functions.
+fn add_equal(
+    alloc: Global,
+    text: &mut Vec<u8>,
+    label: Label<'_>,
+    size: Option<u64>,
+) -> Result<(), AllocError>
+    ensures { OnOk result (text.new.items ≡ text.old.items ++ (line_text [] (Verdict.Equal label.entry.role label.entry.name.now size) ++ 10 ∷ [])) }
+{
+    text.extend_from_slice(b"EQUAL ")?;
+    add_label(text, label)?;
+    if let Some(size) = size {
+        let shown = format!(in alloc; " size {size}")?;
+        text.extend_from_slice(shown.as_bytes())?;
+    }
+    text.extend_from_slice(b"\n")?;
+    Ok(())
+}
+
+/// Adds the values of two functions.
+fn add_values(text: &mut Vec<u8>, first: bool, second: bool) -> Result<(), AllocError>
+    ensures { OnOk result (text.new.items ≡ text.old.items ++ (codes " first=" ++ (bit_text first ++ (codes " second=" ++ bit_text second)))) }
+{
+    text.extend_from_slice(b" first=")?;
+    text.extend_from_slice(bit_word(first))?;
+    text.extend_from_slice(b" second=")?;
+    text.extend_from_slice(bit_word(second))?;
+    Ok(())
+}
+
+/// Adds two sizes, where they are asked for.
+fn add_sizes(alloc: Global, text: &mut Vec<u8>, sizes: Option<(u64, u64)>) -> Result<(), AllocError>
+    ensures { OnOk result (text.new.items ≡ text.old.items ++ sizes_text sizes) }
+{
+    if let Some((first, second)) = sizes {
+        let shown = format!(in alloc; " sizes {first} {second}")?;
+        text.extend_from_slice(shown.as_bytes())?;
+    }
+    Ok(())
+}
+
+/// Where two functions differ: an assignment by level, and the value of each there.
+#[derive(Clone, Copy, Drop)]
+struct Difference<'a> {
+    bits: &'a [bool],
+    first: bool,
+    second: bool,
+}
+
+/// Adds the line of two different functions.
+fn add_different(
+    alloc: Global,
+    text: &mut Vec<u8>,
+    names: &Names,
+    label: Label<'_>,
+    at: Difference<'_>,
+    sizes: Option<(u64, u64)>,
+) -> Result<(), AllocError>
+    ensures { OnOk result (text.new.items ≡ text.old.items ++ (line_text names.now (Verdict.Differs label.entry.role label.entry.name.now at.entry.bits.now at.entry.first at.entry.second sizes) ++ 10 ∷ [])) }
+{
+    text.extend_from_slice(b"DIFFER ")?;
+    add_label(text, label)?;
+    text.extend_from_slice(b" at")?;
+    add_assignment(text, names, at.bits)?;
+    add_values(text, at.first, at.second)?;
+    add_sizes(alloc, text, sizes)?;
+    text.extend_from_slice(b"\n")?;
+    Ok(())
+}
+
+/// The word of a netlist.
+fn side_word(side: Side) -> &'static [u8]
+    ensures { result.now ≡ side_text side }
+{
+    match side {
+        Side::First => b"FIRST",
+        Side::Second => b"SECOND",
+    }
+}
+
+/// Adds the line of an output or a register that has no partner.
+fn add_lone(text: &mut Vec<u8>, side: Side, label: Label<'_>) -> Result<(), AllocError>
+    ensures { OnOk result (text.new.items ≡ text.old.items ++ (line_text [] (Verdict.Lone side label.entry.role label.entry.name.now) ++ 10 ∷ [])) }
+{
+    text.extend_from_slice(b"ONLY ")?;
+    text.extend_from_slice(side_word(side))?;
+    text.extend_from_slice(b" ")?;
+    add_label(text, label)?;
+    text.extend_from_slice(b"\n")?;
+    Ok(())
+}
+
+/// Adds the line of a verdict.
+pub fn add_line(
+    alloc: Global,
+    text: &mut Vec<u8>,
+    names: &Names,
+    verdict: &Verdict,
+) -> Result<(), AllocError>
+    ensures { OnOk result (text.new.items ≡ text.old.items ++ (line_text names.now verdict.now ++ 10 ∷ [])) }
+{
+    match verdict {
+        Verdict::Equal { role, name, size } => {
+            let label = Label {
+                role: *role,
+                name: name.as_slice(),
+            };
+            add_equal(alloc, text, label, *size)
+        }
+        Verdict::Differs {
+            role,
+            name,
+            at,
+            first,
+            second,
+            sizes,
+        } => {
+            let label = Label {
+                role: *role,
+                name: name.as_slice(),
+            };
+            let at = Difference {
+                bits: at.as_slice(),
+                first: *first,
+                second: *second,
+            };
+            add_different(alloc, text, names, label, at, *sizes)
+        }
+        Verdict::Lone { side, role, name } => {
+            let label = Label {
+                role: *role,
+                name: name.as_slice(),
+            };
+            add_lone(text, *side, label)
+        }
+    }
+}
+
+/// Adds the last line.
+pub fn add_counts(alloc: Global, text: &mut Vec<u8>, outcome: Outcome) -> Result<(), AllocError>
+    ensures { OnOk result (text.new.items ≡ text.old.items ++ (counts_text outcome ++ 10 ∷ [])) }
+{
+    let Outcome {
+        equal,
+        different,
+        unmatched,
+    } = outcome;
+    let line = format!(in alloc; "{equal} equal, {different} different, {unmatched} unmatched\n")?;
+    text.extend_from_slice(line.as_bytes())?;
+    Ok(())
+}

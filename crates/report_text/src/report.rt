@@ -1,0 +1,19 @@
+//! What a comparison found as the lines of a report.
+ghost use Rattle.std.specs.Prelude.{◌≡◌, IfOk};
+ghost use Rattle.report_text.specs.Lines.{report_text};
+
+use crate::lines::{add_counts, add_line};
+use crate::verdicts::Verdicts;
+use std::alloc::{AllocError, Global};
+
+/// The report of what a comparison found: a line for each verdict, and last their counts.
+pub fn report_of(alloc: Global, verdicts: &Verdicts) -> Result<Vec<u8>, AllocError>
+    ensures { IfOk result (λ text. text.items ≡ report_text verdicts.now) }
+{
+    let mut text = Vec::new(alloc);
+    for verdict in verdicts.as_slice() {
+        add_line(alloc, &mut text, verdicts.variables(), verdict)?;
+    }
+    add_counts(alloc, &mut text, verdicts.outcome())?;
+    Ok(text)
+}

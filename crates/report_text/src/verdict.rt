@@ -1,0 +1,93 @@
+//! What a comparison says of one pair, or of what has no partner.
+ghost use Rattle.std.specs.Prelude.{◌≡◌, IfOk};
+
+use crate::outcome::{Role, Side};
+use std::alloc::{AllocError, Global};
+use std::marker::Model;
+
+/// The name of an output or a register.
+#[derive(Debug, Drop)]
+pub struct Name {
+    bytes: Vec<u8>,
+}
+
+impl Model for Name {
+    ghost use Rattle.std.specs.Prelude.{List, ℕ};
+
+    ghost Value = { List ℕ };
+
+    ghost view = { λ a. a.bytes.items };
+}
+
+impl Name {
+    /// A copy of these bytes as a name.
+    pub fn copied(alloc: Global, bytes: &[u8]) -> Result<Name, AllocError>
+        ensures { IfOk result (λ name. name ≡ bytes.now) }
+    {
+        let bytes = bytes.to_vec(alloc)?;
+        Ok(Name { bytes })
+    }
+
+    /// The bytes of the name.
+    pub fn as_slice(&self) -> &[u8]
+        ensures { result.now ≡ self.now }
+    {
+        self.bytes.as_slice()
+    }
+}
+
+/// An assignment: a bit for each variable, by level.
+#[derive(Debug, Drop)]
+pub struct Bits {
+    list: Vec<bool>,
+}
+
+impl Model for Bits {
+    ghost use Rattle.std.specs.Prelude.{List, Bool};
+
+    ghost Value = { List Bool };
+
+    ghost view = { λ a. a.list.items };
+}
+
+impl Bits {
+    /// This list as an assignment.
+    pub fn of(list: Vec<bool>) -> Bits
+        ensures { result ≡ list.items }
+    {
+        Bits { list }
+    }
+
+    /// The bits by level.
+    pub fn as_slice(&self) -> &[bool]
+        ensures { result.now ≡ self.now }
+    {
+        self.list.as_slice()
+    }
+}
+
+/// What a comparison says of one pair of functions, or of what has no partner.
+#[derive(Debug, Drop)]
+pub enum Verdict {
+    /// The two functions are equal. Their size is there where sizes are asked for.
+    Equal {
+        role: Role,
+        name: Name,
+        size: Option<u64>,
+    },
+    /// The two functions differ first at this assignment, where they have these values.
+    Differs {
+        role: Role,
+        name: Name,
+        at: Bits,
+        first: bool,
+        second: bool,
+        sizes: Option<(u64, u64)>,
+    },
+    /// An output or a register of one netlist has no partner in the other.
+    Lone {
+        side: Side,
+        role: Role,
+        name: Name,
+    },
+}

@@ -1,0 +1,73 @@
+//! All that a comparison found.
+ghost use Rattle.std.specs.Prelude.{◌≡◌, List};
+ghost use Rattle.report_text.specs.Lines.{counted};
+
+use crate::outcome::Outcome;
+use crate::verdict::Verdict;
+use net_order::names::Names;
+use net_order::pairing::Pairing;
+use std::marker::Model;
+
+/// What a comparison found: the variables by level, and a verdict for each line of its report, in their order.
+#[derive(Drop)]
+pub struct Verdicts {
+    pairing: Pairing,
+    list: Vec<Verdict>,
+}
+
+impl Model for Verdicts {
+    ghost use Rattle.report_text.specs.Lines.{Found};
+
+    ghost Value = { Found };
+
+    ghost view = { λ a. record { variables = a.pairing.names; verdicts = a.list.items } };
+}
+
+impl Verdicts {
+    /// These verdicts over the variables of a pairing.
+    pub fn of(pairing: Pairing, list: Vec<Verdict>) -> Verdicts
+        ensures { result ≡ record { variables = pairing.names; verdicts = list.items } }
+    {
+        Verdicts { pairing, list }
+    }
+
+    /// The variables by level.
+    pub fn variables(&self) -> &Names
+        ensures { result.now ≡ self.now.variables }
+    {
+        self.pairing.names()
+    }
+
+    /// The verdicts in the order of the report: outputs, next states, and then what has no partner.
+    pub fn as_slice(&self) -> &[Verdict]
+        ensures { result.now ≡ self.now.verdicts }
+    {
+        self.list.as_slice()
+    }
+
+    /// How many verdicts there are of each kind.
+    pub fn outcome(&self) -> Outcome
+        ensures { result ≡ counted self.now.verdicts }
+    {
+        outcome_of(self.list.as_slice())
+    }
+}
+
+/// How many there are of each kind.
+fn outcome_of(verdicts: &[Verdict]) -> Outcome
+    ensures { result ≡ counted verdicts.now }
+{
+    let mut outcome = Outcome {
+        equal: 0,
+        different: 0,
+        unmatched: 0,
+    };
+    for verdict in verdicts {
+        match verdict {
+            Verdict::Equal { .. } => outcome.equal += 1,
+            Verdict::Differs { .. } => outcome.different += 1,
+            Verdict::Lone { .. } => outcome.unmatched += 1,
+        }
+    }
+    outcome
+}
