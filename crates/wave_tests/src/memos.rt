@@ -8,12 +8,11 @@ ghost use Rattle.reduce_up.specs.Waves.{IsEntry};
 use crate::plans::{C17, read};
 use crate::waves::{Narrow, WAYS, Way};
 use dd_store::{Ref, Store};
-use expand_work::{Free, WaveFault};
+use expand_work::{Crew, Free, WaveFault, Workers};
 use gate_plan::build;
 use net_order::order::{Match, Order};
 use net_order::pairing::pair;
-use reduce_up::wave_one;
-use req_table::requests::{child_known, normal, short, split_known};
+use req_table::requests::{normal, short};
 use req_table::{Child, Key, Memo, Op};
 use std::alloc::Global;
 use std::process::Abort;
@@ -21,6 +20,7 @@ use std::sync::Wait;
 use std::sync::atomic::Ordering;
 use std::test::Fail;
 use std::thread::Threads;
+use wave_doors::{child_known, split_known, wave_one};
 use wave_engine::wave;
 
 /// The first two variables of a store.
@@ -49,8 +49,14 @@ fn ask<R: Threads + Wait + Sync>(
     ensures right { IsRight store.new memo.new }
     ensures known { IfOk result (Has store.new) }
 {
+    let crew = Crew {
+        rt,
+        alloc,
+        workers: Workers::new(2),
+        gate: &Free,
+    };
     let answers = match way {
-        Way::Alone(choices) => wave_one(rt, alloc, store, memo, &[entry], 2, choices)?,
+        Way::Alone(choices) => wave_one(&crew, store, memo, &[entry], choices)?,
         Way::Threads => wave(rt, alloc, store, memo, &[entry], 2, &Free)?,
         Way::Upto(most) => wave(rt, alloc, store, memo, &[entry], 2, &Narrow::new(most))?,
     };

@@ -8,19 +8,19 @@ ghost use Rattle.reduce_up.specs.Reducing.{HasAnswer};
 ghost use Rattle.reduce_up.specs.Waves.{IsEntry, IsClosureOf};
 
 use dd_store::{Ref, Store, Watch};
-use expand_work::{Free, Gate, WaveFault};
+use expand_work::{Crew, Free, Gate, WaveFault, Workers};
 use gate_plan::conjoin;
-use reduce_up::law::closures_are_records;
-use reduce_up::{Results, reduce, wave_one};
 use req_table::requests::{normal, short};
-use req_table::{Key, Memo, Op, Records};
+use req_table::{Key, Memo, Op};
 use std::alloc::Global;
 use std::process::Abort;
 use std::sync::Wait;
 use std::sync::atomic::{AtomicU32, Ordering};
 use std::test::Fail;
 use std::thread::Threads;
-use wave_core::Core;
+use wave_core::{Core, Records};
+use wave_doors::law::closures_are_records;
+use wave_doors::{Results, reduce, wave_one};
 use wave_engine::wave;
 
 // Operands are places in a list of known references: the constants, the variables by level, and the answers so far.
@@ -154,8 +154,14 @@ fn answers_of<R: Threads + Wait + Sync>(
     ensures known { IfOk result (λ answers. All (Has store.new) answers.items) }
 {
     let mut memo = Memo::new(alloc, 8)?;
+    let crew = Crew {
+        rt,
+        alloc,
+        workers: Workers::new(workers),
+        gate: &Free,
+    };
     match way {
-        Way::Alone(choices) => wave_one(rt, alloc, store, &mut memo, entries, workers, choices),
+        Way::Alone(choices) => wave_one(&crew, store, &mut memo, entries, choices),
         Way::Threads => wave(rt, alloc, store, &mut memo, entries, workers, &Free),
         Way::Upto(most) => {
             let gate = Narrow::new(most);
