@@ -1,4 +1,4 @@
--- From the lanes' new ports, and from the parts of all workers, to the expanded wave.
+-- From the lanes' new ports, and from the parts of all workers, to the settled wave.
 use Rattle.std.proofs.Common.{◌≡◌, ℕ, zero, suc, ◌+◌, ◌*◌, ◌<◌, true, false, cond, eqb, List, [], ◌∷◌, map, length, slice_index_or, slice_get, Some, All, Contains, AllPairs, refl, sym, ap, ◌∙◌, subst, arith}
 use Rattle.std.specs.List.{sum_by, AllZip}
 use Rattle.std.proofs.lemmas.List.Sums.{sum_by-cons}
@@ -26,8 +26,8 @@ use Rattle.expand_work.specs.declared.part.Part.{Part}
 use Rattle.expand_work.specs.Parts.{IsPart, sum_below, bundles_of, loads_of}
 use Rattle.expand_work.specs.Worked.{IsFresh, IsWorked}
 use Rattle.expand_work.specs.Team.{AreNew, AreWorked}
-use Rattle.expand_work.specs.Expanded.{IsSettledFor, AreByNumber, put_by, bundles_between, row_of}
-use Rattle.expand_work.specs.Gathered.{AreParts, noted_of}
+use Rattle.expand_work.specs.Expanded.{AreByNumber, put_by, bundles_between, row_of}
+use Rattle.expand_work.specs.Gathered.{AreParts, AreSettledBy, noted_of}
 use Rattle.expand_work.specs.Work.{at}
 use Rattle.expand_work.specs.Lean.{lean_row, records_of, recorded, AreLean}
 use Rattle.expand_work.specs.declared.space.Space.{Space}
@@ -86,17 +86,6 @@ count_at [] k d b = absurd (omega (arith, b))
 count_at (x ∷ xs) zero d b = refl
 count_at (x ∷ xs) (suc k) d b = count_at xs k d (omega (arith, b))
 
--- ---- records by level that are the same level by level
-module _ (w : Wave) (rows records : ℕ → List Record) (same : (v : ℕ) → v < w.levels → records v ≡ rows v) where
-  pub closure_same : (roots : List Key) → IsClosure w roots rows → IsClosure w roots records
-  closure_same roots c = record {
-    split = λ v vb. subst (All (IsSplit w)) (sym (same v vb)) (c.split v vb);
-    placed = λ v vb. subst (All (λ (r : Record). w.level r.key ≡ v)) (sym (same v vb)) (c.placed v vb);
-    reached = λ v vb. subst (All (λ (r : Record). IsReached w roots r.key)) (sym (same v vb)) (c.reached v vb);
-    recorded = λ x h. (let (b, k) = c.recorded x h in (b, subst (λ (rs : List Record). Contains (map key_of rs) x) (sym (same (w.level x) b)) k));
-    once = λ v vb. subst (AllPairs (λ (a b : Record). ¬ (a.key ≡ b.key))) (sym (same v vb)) (c.once v vb);
-  }
-
 -- the keys of a level's records
 level_keys : (S : Nodes) (tables : List (List Key)) (u : ℕ) → map key_of (row_at (recorded S tables) u) ≡ at tables u
 level_keys S tables u = ap (map key_of) (recorded-at S tables u) ∙ keys_of_records S (at tables u)
@@ -118,13 +107,6 @@ module _ (S : Nodes) (l : LanesView) (roots : List Key) (parts : List Part) (wor
         )),
   )
 
-  -- what all workers ended with, in what they filled
-  pub parts_spaces : (P : Space → Type 0) → ((k : ℕ) (p : Part) → IsWorked l S roots k p → P p.space) → (spaces : List Space) → spaces ≡ map (λ (p : Part). p.space) parts → All P spaces
-  parts_spaces P h spaces is = subst (All P) (sym is) (λ i d b.
-      let long : i < length parts = (let k = length-map parts (λ (p : Part). p.space) in omega (arith, b, k)) in
-      let e = first_of parts (omega (arith, long)) in
-      subst P (sym (get_or-map (λ (p : Part). p.space) parts i e d long)) (h i (slice_index_or parts i e) (worked.each i e (let k = worked.long in omega (arith, long, k)))))
-
 -- the records of a part
 abbrev pub part_records : Nodes → Part → List (List Record)
 part_records S p = records_in S p.space
@@ -136,15 +118,6 @@ records_as S parts spaces is = ap (map (records_in S)) is ∙ map-map (records_i
 -- and the places that they noted
 pub noted_as : (parts : List Part) (spaces : List Space) → spaces ≡ map (λ (p : Part). p.space) parts → map noted_in spaces ≡ map (λ (p : Part). p.space.noted) parts
 noted_as parts spaces is = ap (map noted_in) is ∙ map-map noted_in (λ (p : Part). p.space) parts
-
--- the merged records, told of the parts
-pub merged_as : (S : Nodes) (parts : List Part) (spaces : List Space) (records : List (List Record)) → spaces ≡ map (λ (p : Part). p.space) parts
-    → ((v : ℕ) → v < S.levels → row_at records v ≡ level_of_rows (length spaces) (row_of (map (records_in S) spaces)) v) → (v : ℕ) → v < S.levels
-    → row_at records v ≡ level_of_rows (length (map (part_records S) parts)) (row_of (map (part_records S) parts)) v
-merged_as S parts spaces records is h v b =
-    let same = records_as S parts spaces is in
-    let long : length spaces ≡ length (map (part_records S) parts) = sym (length-map spaces (records_in S)) ∙ ap (λ (rs : List (List (List Record))). length rs) same in
-    h v b ∙ (λ j. level_of_rows (long j) (row_of (same j)) v)
 
 -- two functions that are the same on the elements of a list
 map_same : {A B : Type 0} (f g : A → B) (xs : List A) → ((i : ℕ) (d : A) → i < length xs → f (slice_index_or xs i d) ≡ g (slice_index_or xs i d)) → map f xs ≡ map g xs
@@ -230,7 +203,7 @@ module _ (S : Nodes) (sound : IsSound S) (l : LanesView) (sizes : l.sizes ≡ si
       ∙ sum_add (length l.lanes) f (λ s. length l.lanes * S.levels)
       ∙ ap (λ n. sum_below (length l.lanes) f + n) (sum_const (length l.lanes) (length l.lanes * S.levels))
 
-  -- ---- without putting the records together
+  -- ---- the places that were noted
   abbrev notes : List (List (List ℕ))
   notes = map (λ (p : Part). p.space.noted) parts
 
@@ -257,16 +230,8 @@ module _ (S : Nodes) (sound : IsSound S) (l : LanesView) (sizes : l.sizes ≡ si
     places = places_at;
   })
 
-  module _ (records : List (List Record)) (merged : (v : ℕ) → v < S.levels → row_at records v ≡ level_of_rows (length rows) (row_of rows) v) where
-    same : (v : ℕ) → v < S.levels → row_at records v ≡ level_of_rows (length l.lanes) (row_of rows) v
-    same v b = merged v b ∙ ap (λ n. level_of_rows n (row_of rows) v) (length-map parts (part_records S) ∙ worked.long)
-
-    pub settled_for : (workers : ℕ) → length l.lanes ≡ workers → IsSettledFor (wave_of S workers) roots (record { records = records; ports = ports })
-    settled_for workers wide = subst (λ n. IsSettledFor (wave_of S n) roots (record { records = records; ports = ports })) wide (record { rows = row_of rows; settled = settles; merged = same })
-
-    pub closes : (workers : ℕ) → length l.lanes ≡ workers → IsClosure (wave_of S workers) roots (row_at records)
-    closes workers wide = subst (λ n. IsClosure (wave_of S n) roots (row_at records)) wide
-        (closure_same w (level_of_rows (length l.lanes) (row_of rows)) (row_at records) same roots (lanes_close S sound (length l.lanes) some roots ports left (row_of rows) laws part_in))
+  pub are_settled : (workers : ℕ) → length l.lanes ≡ workers → (rs : List (List (List Record))) (ns : List (List (List ℕ))) → rs ≡ map (part_records S) parts → AreSettledBy ports S workers roots (record { rows = rs; noted = ns })
+  are_settled workers wide rs ns rs-is = subst (λ (y : ℕ × List (List (List Record))). AreSettledBy ports S y.0 roots (record { rows = y.1; noted = ns })) (λ i. (wide i, sym rs-is i)) settles
 
   pub counts : (workers : ℕ) → length l.lanes ≡ workers → put_by ports ≡ bundles_between workers S.levels (sent_from ports) + workers * (workers * S.levels)
   counts workers wide = subst (λ n. put_by ports ≡ bundles_between n S.levels (sent_from ports) + n * (n * S.levels)) wide puts

@@ -49,13 +49,16 @@ row_more S n ps qs x r low high keys i xs ys zs l h x-is r-is stands g low-is hi
           ∙ ap (with_levels S) (asks_more (owned_by n k) rs r before refl ∙ ap (λ m. filter (owned_by n k) (asked_by m)) more)),
     )
 
--- one more worker's records of a level
-pub level_more : (S : Nodes) (spaces : List Space) (i v : ℕ) (own : Space) (rs qs : List Record) → i < length spaces → own ≡ get_or spaces i own → rs ≡ level_of_rows i (row_of (map (records_in S) spaces)) v
-    → qs ≡ rs ++ records_of S (at own.tables v) → qs ≡ level_of_rows (i + 1) (row_of (map (records_in S) spaces)) v
-level_more S spaces i v own rs qs l is e g =
-    let up : suc i ≡ i + 1 = omega arith in
-    let here : records_of S (at own.tables v) ≡ row_of (map (records_in S) spaces) i v = sym (recorded-at S own.tables v) ∙ ap (λ (r : List (List Record)). at r v) (ap (records_in S) is ∙ sym (get_or-map (records_in S) spaces i own [] l)) in
-    g ∙ (λ j. e j ++ here j) ∙ ap (λ n. level_of_rows n (row_of (map (records_in S) spaces)) v) up
+-- a worker's keys of a level, among the records of all workers
+pub keys_of_all : (S : Nodes) (rs : List (List (List Record))) (spaces : List Space) (k v : ℕ) (own : Space) → rs ≡ map (records_in S) spaces → k < length rs → v < length (get_or rs k []) → own ≡ get_or spaces k own
+    → (v < length own.tables) × (at own.tables v ≡ map key_of (row_of rs k v))
+keys_of_all S rs spaces k v own all kb vb is =
+    let long : length rs ≡ length spaces = ap (λ (ls : List (List (List Record))). length ls) all ∙ length-map spaces (records_in S) in
+    let here : get_or rs k [] ≡ recorded S own.tables =
+    ap (λ (ls : List (List (List Record))). get_or ls k []) all ∙ get_or-map (records_in S) spaces k own [] (omega (arith, kb, long)) ∙ ap (records_in S) (sym is) in (
+      (let e = ap (λ (r : List (List Record)). length r) here ∙ length-map own.tables (records_of S) in omega (arith, e, vb)),
+      sym (ap (λ (r : List (List Record)). map key_of (at r v)) here ∙ ap (map key_of) (recorded-at S own.tables v) ∙ keys_of_records S (at own.tables v)),
+    )
 
 -- a worker's children of a level, among those of all workers
 pub row_of_all : (rs : List (List (List Record))) (spaces : List Space) (k v : ℕ) (own : Space) → AreLean rs (map rows_in spaces) → k < length rs → v < length (get_or rs k []) → own ≡ get_or spaces k own

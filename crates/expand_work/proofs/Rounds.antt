@@ -80,8 +80,8 @@ module _ (l : LanesView) (s : Nodes) (roots : List Key) (v : ℕ) (w : Worker) (
   pub port_due : IsPortOf l p
   port_due = still_of l w.port p s1.port h.port
 
-  pub heard_due : IsHeard (lanes_scope l) p.taken w.clock w.tables
-  heard_due = subst (λ xs. IsHeard (lanes_scope l) xs w.clock w.tables) (sym s1.taken) h.heard
+  pub heard_due : IsHeard (lanes_scope l) p.taken w.senders.clock w.tables
+  heard_due = subst (λ xs. IsHeard (lanes_scope l) xs w.senders.clock w.tables) (sym s1.taken) h.heard
 
   pub own_may : MaySend l p p.number (at left p.number)
   own_may = subst (λ (y : ℕ × List (ℕ × Key)). MaySend l p y.0 y.1) (λ j. (sym own-is j, sym own_due j)) (may_still l w.port p w.port.number (at w.due w.port.number) own-is s1.taken own_same (due_may l s roots v w h w.port.number h.within))
@@ -195,7 +195,7 @@ module _ (l : LanesView) (s : Nodes) (roots : List Key) (v : ℕ) (w : Worker) (
           ∙ sym (loads-more (lanes_wave s (length l.lanes)) w.port.number k v (sent_to w.port k) (was k) (h.level.ended k kb) (h.level.none_in k kb))
           ∙ (λ j. loads_of (up j) (sym number_same j) k (sym (sends k kb) j))
 
-      pub level_next : (spare : Unit {0}) → IsWorking l s roots (v + 1) (record { port = p3; clock = clock; tables = tables; noted = noted; rows = rows; due = due; spare = spare })
+      pub level_next : (spare : Unit {0}) → IsWorking l s roots (v + 1) (record { port = p3; senders = record { clock = clock; noted = noted; spare = spare }; tables = tables; rows = rows; due = due })
       level_next spare =
           let some : 0 < length l.lanes = (let z = h.within in omega (arith, z)) in
           let next = advances (lanes_wave s (length l.lanes)) (lanes_laws s h.sound (length l.lanes) some) roots w.port.number v (sent_to w.port) w.port.taken was (at w.tables) (at (recorded s w.tables)) (sent_to p3) p3.taken now (at tables) (at (recorded s tables)) vb h.level done in

@@ -72,7 +72,7 @@ pub starts_working : (l : LanesView) (S : Nodes) (roots : List Key) (p : PortVie
     → IsPortOf l p → p.number < length l.lanes → IsFresh p → l.sizes ≡ sizes_of S → IsSound S → All (IsKey S) roots
     → clock ≡ record { levels = S.levels; ended = replicate (length l.lanes) 0 } → tables ≡ replicate S.levels [] → noted ≡ replicate (length l.lanes) [] → rows ≡ replicate S.levels [] → length due ≡ length l.lanes
     → ((k : ℕ) → k < length l.lanes → at due k ≡ with_levels S (filter (owned_by (length l.lanes) k) (dealt_from (length l.lanes) p.number 0 roots)))
-    → IsWorking l S roots 0 (record { port = p; clock = clock; tables = tables; noted = noted; rows = rows; due = due; spare = spare })
+    → IsWorking l S roots 0 (record { port = p; senders = record { clock = clock; noted = noted; spare = spare }; tables = tables; rows = rows; due = due })
 starts_working l S roots p clock tables noted rows due spare o b fresh sizes sound held clock-is tables-is noted-is rows-is many e = record {
   port = o;
   within = b;
@@ -91,7 +91,7 @@ starts_working l S roots p clock tables noted rows due spare o b fresh sizes sou
   put = λ k kb. fresh.2 k ∙ sym (loads-none p.number k (sent_to p k));
 }
 
-pub ends_worked : (l : LanesView) (S : Nodes) (roots : List Key) (n : ℕ) (w : Worker) (p : Part) → IsWorking l S roots S.levels w → length w.port.put ≡ length l.lanes → w.port.number ≡ n → p ≡ record { port = w.port; space = record { tables = w.tables; rows = w.rows; noted = w.noted; spare = w.spare } } → IsWorked l S roots n p
+pub ends_worked : (l : LanesView) (S : Nodes) (roots : List Key) (n : ℕ) (w : Worker) (p : Part) → IsWorking l S roots S.levels w → length w.port.put ≡ length l.lanes → w.port.number ≡ n → p ≡ record { port = w.port; space = record { tables = w.tables; rows = w.rows; noted = w.senders.noted; spare = w.senders.spare } } → IsWorked l S roots n p
 ends_worked l S roots n w p h lists num is =
     let some : 0 < length l.lanes = (let z = h.within in omega (arith, z)) in
     let many : length w.tables ≡ S.levels = h.heard.many ∙ ap (λ (c : Sizes). c.levels) h.sizes in
@@ -100,14 +100,14 @@ ends_worked l S roots n w p h lists num is =
       number = num;
       lists = lists;
       levels = many;
-      keys = λ u ub. keys_held l S u w.port.taken w.clock w.tables h.sizes ub h.heard;
+      keys = λ u ub. keys_held l S u w.port.taken w.senders.clock w.tables h.sizes ub h.heard;
       lean = leans S (length l.lanes) w.tables w.rows (h.many_rows ∙ sym many) (λ u ub. h.lean u (omega (arith, ub, many)));
       part = subst (λ m. IsPart (wave_of S (length l.lanes)) roots m (sent_to w.port) w.port.taken (row_at (recorded S w.tables))) num
           (part_in_wave S (length l.lanes) roots w.port.number (sent_to w.port) w.port.taken (row_at (recorded S w.tables))
           (ends_whole (lanes_wave S (length l.lanes)) (lanes_laws S h.sound (length l.lanes) some) roots w.port.number (sent_to w.port) w.port.taken (λ k. keys_in (at w.due k)) (at w.tables) (at (recorded S w.tables)) h.level));
       noted = record {
         long = h.noted.long;
-        each = λ t tb. fair_places (scope_of (length l.lanes) (sizes_of S)) 0 (sent_by t w.port.taken) (at w.tables) (at w.tables) (at w.noted t) (subst (λ (c : Sizes). IsFair (scope_of (length l.lanes) c) (sent_by t w.port.taken)) h.sizes (h.heard.fair t tb)) (λ u ub. refl) (h.noted.each t tb);
+        each = λ t tb. fair_places (scope_of (length l.lanes) (sizes_of S)) 0 (sent_by t w.port.taken) (at w.tables) (at w.tables) (at w.senders.noted t) (subst (λ (c : Sizes). IsFair (scope_of (length l.lanes) c) (sent_by t w.port.taken)) h.sizes (h.heard.fair t tb)) (λ u ub. refl) (h.noted.each t tb);
       };
       put = λ k kb. h.put k kb ∙ ap (λ m. loads_of S.levels m k (sent_to w.port k)) num;
     })

@@ -1,4 +1,4 @@
--- What contracts see of an expanded wave.
+-- What the ports of an expanded wave tell, and which records are whose.
 use Rattle.std.specs.Prelude.{◌≡◌, ℕ, ◌<◌, ◌==◌, cond, List, [], length, slice_index_or}
 use Rattle.std.specs.List.{sum_by}
 use Rattle.req_table.specs.declared.Key.{Key}
@@ -10,18 +10,6 @@ use Rattle.req_table.specs.declared.Item.{Item}
 use Rattle.lane_queue.specs.PortView.{PortView}
 use Rattle.expand_work.specs.Parts.{sum_below, bundles_of}
 use Rattle.lane_queue.specs.Joining.{sent_from, taken_by}
-
--- The records by level, and the workers' ports by number.
-pub record ExpandedView : Type 0 where
-  pub records : List (List Record)
-  pub ports : List PortView
-
--- What the ports sent and took is a settled wave with some rows of the workers, and the records of each level are these
--- rows', worker by worker.
-pub record IsSettledFor (w : Wave) (roots : List Key) (e : ExpandedView) : Type 0 where
-  pub rows : ℕ → ℕ → List Record
-  pub settled : IsSettled w roots (λ s k. sent_from e.ports k s) (taken_by e.ports) rows
-  pub merged : (v : ℕ) → v < w.levels → row_at e.records v ≡ level_of_rows w.workers rows v
 
 -- One port for each of so many workers, by number.
 pub record AreByNumber (workers : ℕ) (ports : List PortView) : Type 0 where

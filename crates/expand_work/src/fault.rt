@@ -4,6 +4,7 @@ ghost use Rattle.expand_work.specs.Fault.{wave_fault_text};
 ghost use Rattle.expand_work.specs.declared.fault.WaveFault.TheVariants.{OutOfMemory};
 ghost use Rattle.expand_work.specs.declared.fault.WorkFault.TheVariants as work_faults;
 
+use dd_store::StoreFault;
 use std::alloc::AllocError;
 use std::fmt;
 use thiserror::Error;
@@ -48,6 +49,20 @@ impl From<AllocError> for WorkFault {
 
     fn from(_fault: AllocError) -> WorkFault {
         WorkFault::OutOfMemory
+    }
+}
+
+impl From<StoreFault> for WaveFault {
+    ghost use Rattle.std.specs.Prelude.{◌≡◌};
+    ghost use Rattle.expand_work.specs.Fault.{wave_fault};
+
+    ghost from_gives = { λ refused fault. fault ≡ wave_fault refused };
+
+    fn from(refused: StoreFault) -> WaveFault {
+        match refused {
+            StoreFault::Full => WaveFault::Full,
+            StoreFault::OutOfMemory => WaveFault::OutOfMemory,
+        }
     }
 }
 

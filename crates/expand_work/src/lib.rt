@@ -4,12 +4,10 @@
 mod crew;
 mod due;
 mod expand;
-mod expanded;
 mod fault;
 mod gate;
 mod listen;
 mod lists;
-mod merge;
 mod part;
 mod parts;
 mod say;
@@ -21,12 +19,12 @@ mod team;
 mod worker;
 
 pub use crew::{Crew, Workers};
-pub use expanded::{Expanded, expand_all};
 pub use fault::{WaveFault, WorkFault};
 pub use gate::{Free, Gate};
 pub use lists::{Noted, Rows, Tables};
 pub use part::Part;
-pub use parts::{Parts, expand_parts};
+pub use parts::{Parts, expand_parts, expand_with_ports};
 pub use space::{Space, Spaces};
+pub use site::Site;
 pub use spare::Spare;
 pub use worker::work;

@@ -1,16 +1,18 @@
 //! All requests that the roots of a wave ask for, as the workers in threads recorded them: nothing is put together.
-ghost use Rattle.std.specs.Prelude.{◌≡◌, ◌≢◌, ◌<◌, length, slice_index_or, All, IfOk, IfErr, []};
+ghost use Rattle.std.specs.Prelude.{◌≡◌, ◌≢◌, ◌<◌, length, map, slice_index_or, All, IfOk, IfErr, []};
 ghost use Rattle.req_table.specs.Keys.{IsKey};
-ghost use Rattle.expand_work.specs.Expanded.{row_of};
-ghost use Rattle.expand_work.specs.Gathered.{AreParts, noted_of};
+ghost use Rattle.req_table.specs.Settled.{key_of};
+ghost use Rattle.expand_work.specs.declared.part.Part.{Part as PartValue};
+ghost use Rattle.expand_work.specs.Expanded.{AreByNumber, row_of};
+ghost use Rattle.expand_work.specs.Gathered.{AreParts, AreSettled, AreSettledBy, HavePut, noted_of};
 ghost use Rattle.expand_work.specs.Lean.{lean_row};
 
-use crate::merge::split_parts;
 use crate::team::{Wave, run_workers};
-use crate::{Crew, Gate, Space, Spaces, WaveFault};
+use crate::{Crew, Gate, Part, Space, Spaces, WaveFault};
 use dd_store::Store;
-use lane_queue::Lanes;
+use lane_queue::{Lanes, Port};
 use req_table::{Key, Placed};
+use std::alloc::{AllocError, Global};
 use std::marker::Model;
 use std::mem;
 use std::snapshot::Snapshot;
@@ -57,6 +59,15 @@ impl Parts {
         self.spaces[worker as usize].noted.list(sender)
     }
 
+    /// The keys of a worker's requests of a level, by place.
+    pub fn keys(&self, worker: u32, level: u16) -> &[Key]
+        requires worker { worker < length self.now.rows }
+        requires level { level < length (slice_index_or self.now.rows worker []) }
+        ensures { result.now ≡ map key_of (row_of self.now.rows worker level) }
+    {
+        self.spaces[worker as usize].tables.keys(level)
+    }
+
     /// How many requests there are, or as many as can be counted. It tells large waves from small ones, and no clause speaks of it.
     pub fn count(&self) -> usize {
         let mut total: usize = 0;
@@ -72,9 +83,28 @@ impl Parts {
     }
 }
 
-/// The same as `expand_all`, without putting the workers' records together. The request that a worker asked another for as its
-/// n-th is found again by this number. The workers work in the memory of an earlier wave as far as there is some; after a refusal it is
-/// given back.
+/// The ports of the parts, and what the workers filled.
+fn split_parts(alloc: Global, parts: Vec<Part>) -> Result<(Vec<Port>, Vec<Space>), AllocError>
+    ensures ports { IfOk result (λ r. r.0.items ≡ map (λ (p : PartValue). p.port) parts.items) }
+    ensures spaces { IfOk result (λ r. r.1.items ≡ map (λ (p : PartValue). p.space) parts.items) }
+{
+    let mut ports = Vec::new(alloc);
+    let mut spaces = Vec::new(alloc);
+    for part in parts {
+        let Part { port, space } = part;
+        ports.push(port)?;
+        spaces.push(space)?;
+    }
+    Ok((ports, spaces))
+}
+
+/// All requests that the roots ask for, directly or through children, each recorded once, by its owner. Each of the 1 to 16 workers is a
+/// thread of its own but the last, whose part the caller's thread does, and root i is sent by worker i modulo their number (Ochi, Yasuoka
+/// and Yajima 1993 for the levels, van Dijk 2016 for the workers). The request that a worker asked another for as its n-th is found again
+/// by this number. The workers work in the memory of an earlier wave as far as there is some; after a refusal it is given back.
+///
+/// NoWorker: a thread could not be started; then those that run are told to stop. OutOfMemory: a growth was refused, and
+/// every thread was started. All threads have ended before any answer is given.
 pub fn expand_parts<R: Threads + Wait + Sync, G: Gate>(
     crew: &Crew<'_, R, G>,
     store: &Store,
@@ -83,6 +113,26 @@ pub fn expand_parts<R: Threads + Wait + Sync, G: Gate>(
 ) -> Result<Parts, WaveFault>
     requires roots { All (IsKey store.now) roots.now }
     ensures parts { IfOk result (λ p. AreParts store.now crew.now.workers.count roots.now p) }
+    ensures settled { IfOk result (λ p. AreSettled store.now crew.now.workers.count roots.now p) }
+    ensures fault { IfErr result (λ f. f ≢ WaveFault.Full) }
+    ensures unbounded { IfErr result (λ f. f ≢ WaveFault.TooManyRequests) }
+{
+    let (parts, _) = expand_with_ports(crew, store, roots, spaces)?;
+    Ok(parts)
+}
+
+/// The same, and the ports by worker. They go with no lanes any more, and only tell what was sent and taken.
+pub fn expand_with_ports<R: Threads + Wait + Sync, G: Gate>(
+    crew: &Crew<'_, R, G>,
+    store: &Store,
+    roots: &[Key],
+    spaces: &mut Spaces,
+) -> Result<(Parts, Vec<Port>), WaveFault>
+    requires roots { All (IsKey store.now) roots.now }
+    ensures parts { IfOk result (λ r. AreParts store.now crew.now.workers.count roots.now r.0) }
+    ensures ports { IfOk result (λ r. AreByNumber crew.now.workers.count r.1.items) }
+    ensures settled { IfOk result (λ r. AreSettledBy r.1.items store.now crew.now.workers.count roots.now r.0) }
+    ensures put { IfOk result (λ r. HavePut r.1.items store.now crew.now.workers.count) }
     ensures fault { IfErr result (λ f. f ≢ WaveFault.Full) }
     ensures unbounded { IfErr result (λ f. f ≢ WaveFault.TooManyRequests) }
 {
@@ -99,9 +149,10 @@ pub fn expand_parts<R: Threads + Wait + Sync, G: Gate>(
     let used = mem::replace(spaces, Spaces::new(alloc));
     let parts = run_workers(crew.rt, wave, ports, used, crew.gate)?;
     let (ports, filled) = split_parts(alloc, parts)?;
-    let _ = lanes.settle(crew.rt, ports)?;
-    Ok(Parts {
+    let settled = lanes.settle(crew.rt, ports)?;
+    let parts = Parts {
         spaces: filled,
         store: Snapshot::of(store),
-    })
+    };
+    Ok((parts, settled.ports))
 }

@@ -9,7 +9,7 @@ ghost use Rattle.expand_work.specs.Worked.{IsFresh, IsWorked};
 ghost use Rattle.expand_work.specs.Team.{AreNew, AreStarted, AreWorked, AreJoined, IsPromised, WorksFor};
 
 use crate::site::Site;
-use crate::worker::work_in;
+use crate::worker::work;
 use crate::{Gate, Part, Space, Spaces, WaveFault, WorkFault};
 use dd_store::Store;
 use lane_queue::{Lanes, Port};
@@ -138,7 +138,7 @@ fn start<'s, E, R: Wait + Sync, G: Gate>(
             roots,
             stop,
         };
-        work_in(rt, site, port, space, gate)
+        work(rt, site, port, space, gate)
     };
     match scope.spawn_with(promise, work) {
         Ok(child) => Ok(child),
@@ -184,8 +184,40 @@ pub struct Wave<'a> {
     pub roots: &'a [Key],
 }
 
-/// The parts of all workers by number, once all threads were joined. The caller's thread does the last worker's part, and each other
-/// worker has a thread of its own: so there are no more threads than workers, and none is started for one worker.
+// The parts of all workers by number, once all threads were joined. The caller's thread does the last worker's part, and each other
+// worker has a thread of its own: so there are no more threads than workers, and none is started for one worker.
+fn work_all<'s, E, R: Threads + Wait + Sync, G: Gate>(
+    scope: &Scope<'s, E>,
+    rt: &'s R,
+    site: Site<'s>,
+    ports: Vec<Port>,
+    used: Spaces,
+    gate: &'s G,
+) -> Result<Vec<Part>, WaveFault>
+    requires ports { AreNew site.lanes.now ports.items }
+    requires sizes { site.lanes.now.sizes ≡ sizes_of site.store.now }
+    requires roots { All (IsKey site.store.now) site.roots.now }
+    ensures parts { IfOk result (λ v. AreWorked site.entry.lanes.now site.entry.store.now site.entry.roots.now v.items) }
+    ensures fault { IfErr result (λ f. f ≢ WaveFault.Full) }
+    ensures unbounded { IfErr result (λ f. f ≢ WaveFault.TooManyRequests) }
+{
+    let parts = Vec::with_capacity(site.alloc, ports.len())?;
+    let mut ports = ports;
+    let Some(own) = ports.pop() else {
+        return Ok(parts);
+    };
+    let mut used = used;
+    let space = used.take();
+    let count = ports.len();
+    let children = start_all(scope, rt, site, ports, used, gate)?;
+    let started = children.len() == count;
+    let last = work(rt, site, own, space, gate);
+    let others = join_all(rt, children, parts);
+    let joined = with_last(others, last);
+    judge(started, joined)
+}
+
+/// The parts of all workers by number, once all threads have ended.
 pub fn run_workers<R: Threads + Wait + Sync, G: Gate>(
     rt: &R,
     wave: Wave<'_>,
@@ -226,20 +258,7 @@ pub fn run_workers<R: Threads + Wait + Sync, G: Gate>(
                 roots,
                 stop,
             };
-            let parts = Vec::with_capacity(alloc, ports.len())?;
-            let mut ports = ports;
-            let Some(own) = ports.pop() else {
-                return Ok(parts);
-            };
-            let mut used = used;
-            let space = used.take();
-            let count = ports.len();
-            let children = start_all(scope, rt, site, ports, used, gate)?;
-            let started = children.len() == count;
-            let last = work_in(rt, site, own, space, gate);
-            let others = join_all(rt, children, parts);
-            let joined = with_last(others, last);
-            judge(started, joined)
+            work_all(scope, rt, site, ports, used, gate)
         },
     )
 }

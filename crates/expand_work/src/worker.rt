@@ -1,38 +1,101 @@
 //! One worker of a wave, level by level.
-ghost use Rattle.std.specs.Prelude.{◌≡◌, ◌+◌, ◌<◌, All, IfOk};
+ghost use Rattle.std.specs.Prelude.{◌≡◌, ◌+◌, ◌<◌, All, IfOk, OnOk};
 ghost use Rattle.req_table.specs.Keys.{IsKey};
 ghost use Rattle.req_table.specs.Sizes.{sizes_of};
 ghost use Rattle.lane_queue.specs.PortView.{IsPortOf};
-ghost use Rattle.expand_work.specs.Working.{IsWorking};
+ghost use Rattle.expand_work.specs.Working.{IsWorking, HasSpoken, IsClosing};
 ghost use Rattle.expand_work.specs.Worked.{IsFresh, IsWorked};
 
 use crate::due::Due;
 use crate::expand::{deal_roots, expand_row};
 use crate::listen::{Senders, keep_own, take_until_closed};
-use crate::lists::{Noted, Rows, Tables};
+use crate::lists::{Rows, Tables};
 use crate::say::{send_due, send_ends};
 use crate::site::Site;
-use crate::{Gate, Part, Space, Spare, WorkFault};
+use crate::{Gate, Part, Space, WorkFault};
 use dd_store::Store;
-use lane_queue::{Lanes, Port};
+use lane_queue::Port;
 use level_close::Clock;
-use req_table::Key;
 use std::alloc::{AllocError, Global};
 use std::sync::Wait;
-use std::sync::atomic::{AtomicBool, Ordering};
+use std::sync::atomic::Ordering;
 
-/// What a worker has between two levels: its port, how many levels each sender has ended, the keys that it was asked
-/// for, by level, and where it put them, by sender, the children of each, by level, what it has to ask for next, by owner, and the
-/// bundles that it has read.
+/// What a worker has between two levels: its port, what it knows by sender, the keys that it was asked for, by level, the children of
+/// each, and what it has to ask for next, by owner.
 #[derive(Drop)]
 pub struct Worker {
     pub port: Port,
-    pub clock: Clock,
+    pub senders: Senders,
     pub tables: Tables,
-    pub noted: Noted,
     pub rows: Rows,
     pub due: Due,
-    pub spare: Spare,
+}
+
+// Sends what is due, keeps what the worker owns itself, and ends the level on every lane.
+fn speak<R: Wait>(
+    rt: &R,
+    site: Site<'_>,
+    worker: &mut Worker,
+    level: u16,
+) -> Result<(), AllocError>
+    requires level { level < site.store.now.levels }
+    requires working { IsWorking site.lanes.now site.store.now site.roots.now level worker.old }
+    ensures { OnOk result (HasSpoken site.entry.lanes.now level worker.old worker.new) }
+{
+    let Worker {
+        port,
+        senders,
+        tables,
+        due,
+        ..
+    } = worker;
+    send_due(rt, site.lanes, port, due)?;
+    let _ = port.number();
+    keep_own(site.lanes, port, senders, tables, due)?;
+    send_ends(rt, site.lanes, port, level)
+}
+
+// Expands the level's keys, once it is closed and the gate is told.
+fn expand_level<G: Gate>(
+    site: Site<'_>,
+    worker: Worker,
+    level: u16,
+    gate: &G,
+) -> Result<Worker, AllocError>
+    requires level { level < site.store.now.levels }
+    requires closing { IsClosing site.lanes.now site.store.now site.roots.now level worker }
+    ensures working { IfOk result (IsWorking site.entry.lanes.now site.entry.store.now site.entry.roots.now (level + 1)) }
+    ensures number { IfOk result (λ w. w.port.number ≡ worker.port.number) }
+{
+    let Worker {
+        port,
+        senders,
+        tables,
+        mut rows,
+        due,
+    } = worker;
+    let Senders {
+        clock,
+        noted,
+        mut spare,
+    } = senders;
+    let workers = site.lanes.count();
+    let row = rows.take(site.alloc, level);
+    let keys = tables.keys(level);
+    gate.at_requests(keys.len());
+    let (row, due) = expand_row(site.store, keys, workers, row, due, &mut spare)?;
+    rows.put(level, row);
+    Ok(Worker {
+        port,
+        senders: Senders {
+            clock,
+            noted,
+            spare,
+        },
+        tables,
+        rows,
+        due,
+    })
 }
 
 // Sends what is due, keeps what it owns itself, and ends the level; takes until the level is closed, tells the gate, and
@@ -49,48 +112,17 @@ fn do_level<R: Wait, G: Gate>(
     ensures { IfOk result (λ w. IsWorking site.entry.lanes.now site.entry.store.now site.entry.roots.now (level + 1) w
         × (w.port.number ≡ worker.port.number)) }
 {
+    let mut worker = worker;
+    speak(rt, site, &mut worker, level)?;
     let Worker {
-        mut port,
-        clock,
-        mut tables,
-        noted,
-        mut rows,
-        mut due,
-        spare,
-    } = worker;
-    let mut senders = Senders {
-        clock,
-        noted,
-        spare,
-    };
-    send_due(rt, site.lanes, &mut port, &mut due)?;
-    let own = port.number();
-    keep_own(site.lanes, &mut port, &mut senders, &mut tables, &mut due)?;
-    send_ends(rt, site.lanes, &mut port, level)?;
-    take_until_closed(rt, site, &mut port, &mut senders, &mut tables, level)?;
-    gate.at_level(own, level);
-    let workers = site.lanes.count();
-    let row = rows.take(site.alloc, level);
-    let keys = tables.keys(level);
-    gate.at_requests(keys.len());
-    let Senders {
-        clock,
-        noted,
-        mut spare,
-    } = senders;
-    let Ok((row, due)) = expand_row(site.store, keys, workers, row, due, &mut spare) else {
-        return Err(WorkFault::OutOfMemory);
-    };
-    rows.put(level, row);
-    Ok(Worker {
         port,
-        clock,
+        senders,
         tables,
-        noted,
-        rows,
-        due,
-        spare,
-    })
+        ..
+    } = &mut worker;
+    take_until_closed(rt, site, port, senders, tables, level)?;
+    gate.at_level(worker.port.number(), level);
+    Ok(expand_level(site, worker, level, gate)?)
 }
 
 // A worker before its first level, which has to ask for its roots.
@@ -123,12 +155,14 @@ fn begin(site: Site<'_>, port: Port, used: Option<Space>) -> Result<Worker, Allo
     let due = deal_roots(store, roots, number, workers, due, &mut spare)?;
     Ok(Worker {
         port,
-        clock,
+        senders: Senders {
+            clock,
+            noted,
+            spare,
+        },
         tables,
-        noted,
         rows,
         due,
-        spare,
     })
 }
 
@@ -156,12 +190,12 @@ fn run_levels<R: Wait, G: Gate>(
     let own = worker.port.number();
     let Worker {
         port,
+        senders,
         tables,
-        noted,
         rows,
-        spare,
         ..
     } = worker;
+    let Senders { noted, spare, .. } = senders;
     Ok(Part {
         port,
         space: Space {
@@ -173,8 +207,15 @@ fn run_levels<R: Wait, G: Gate>(
     })
 }
 
-/// Does one worker's part of a wave, as `work` does, in the memory of an earlier wave where there is some, which is gone after a refusal.
-pub fn work_in<R: Wait, G: Gate>(
+/// Does one worker's part of a wave over the lanes' store. At each level it sends all that is due (its roots at level
+/// 0, the children of the level before at each other) to the other workers, in bundles of 64 and then one with the rest,
+/// and keeps what it owns itself; it ends the level on every lane, takes until every sender has ended it, tells the gate,
+/// and splits the distinct keys that it was asked for at that level.
+///
+/// The flag is read when a level begins and whenever the lane is empty; once it is set the answer is Stopped. A worker
+/// that meets want of memory sets it before it answers. What it fills stands in the memory of an earlier wave where there is some. After
+/// a refusal the port and this memory are gone.
+pub fn work<R: Wait, G: Gate>(
     rt: &R,
     site: Site<'_>,
     port: Port,
@@ -192,37 +233,4 @@ pub fn work_in<R: Wait, G: Gate>(
         site.stop.store(true, Ordering::SeqCst);
     }
     result
-}
-
-/// Does one worker's part of a wave over the lanes' store. At each level it sends all that is due (its roots at level
-/// 0, the children of the level before at each other) to the other workers, in bundles of 64 and then one with the rest,
-/// and keeps what it owns itself; it ends the level on every lane, takes until every sender has ended it, tells the gate,
-/// and splits the distinct keys that it was asked for at that level.
-///
-/// The flag is read when a level begins and whenever the lane is empty; once it is set the answer is Stopped. A worker
-/// that meets want of memory sets it before it answers. After a refusal the port is gone.
-pub fn work<R: Wait, G: Gate>(
-    rt: &R,
-    alloc: Global,
-    lanes: &Lanes,
-    port: Port,
-    store: &Store,
-    roots: &[Key],
-    gate: &G,
-    stop: &AtomicBool,
-) -> Result<Part, WorkFault>
-    requires port { IsPortOf lanes.now port }
-    requires fresh { IsFresh port }
-    requires sizes { lanes.now.sizes ≡ sizes_of store.now }
-    requires roots { All (IsKey store.now) roots.now }
-    ensures { IfOk result (λ p. IsWorked lanes.now store.now roots.now port.number p) }
-{
-    let site = Site {
-        alloc,
-        lanes,
-        store,
-        roots,
-        stop,
-    };
-    work_in(rt, site, port, None, gate)
 }

@@ -15,13 +15,6 @@ use Rattle.dd_store.proofs.View.{same_ref}
 use Rattle.reduce_up.specs.Sharing.{IsListed, AreDivided}
 use Rattle.reduce_up.proofs.Noting.{nothing}
 
--- no pairs, in empty lists
-pub none_divided : (lists : ℕ → List Pair) → ((s : ℕ) → length (lists s) ≡ 0) → AreDivided [] lists
-none_divided lists e = record {
-  all = λ p c n. absurd (nothing p c);
-  only = λ s p w. absurd (let lt = slice_get_within (lists s) w.0 p w.1 in let z = e s in omega arith);
-}
-
 module _ (old new : ℕ → List Pair) (p : Pair) (l : IsListed old p new) where
   -- what is in a list stays there
   stays : (s : ℕ) (q : Pair) → IsIn (old s) q → IsIn (new s) q

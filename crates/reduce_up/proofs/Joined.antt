@@ -282,17 +282,6 @@ picked_from parts refs k h starts each slice is (Ok answers) o = record {
 }
 picked_from parts refs k h starts each slice is (Err e) o = o
 
--- ---- what each worker read, side by side
-pub reads_none : (n : ℕ) (roots : List Key) (p : PartsView) (a : AnswersView) (v : ℕ) (parts : List (Vec (Vec Pair Global) Global)) (homes : List Homes) (lefts : List (Vec ℕ Global)) → parts ≡ [] → homes ≡ [] → lefts ≡ [] → AreDividedBy n roots p a v 0 parts homes lefts
-reads_none n roots p a v parts homes lefts x y z = record {
-  many_parts = ap (λ u. length u) x;
-  many_homes = ap (λ u. length u) y;
-  many_lefts = ap (λ u. length u) z;
-  sixteen = λ s d l. absurd (omega (arith, l));
-  divided = λ s d h l. absurd (omega (arith, l));
-  left = λ s d l. absurd (omega (arith, l));
-}
-
 at_seam : {X : Type 0} (xs xs' : List X) (x d : X) (m : ℕ) → length xs ≡ m → xs' ≡ xs ++ x ∷ [] → get_or xs' m d ≡ x
 at_seam xs xs' x d m e is = ap (λ z. get_or z m d) is ∙ ap (λ z. get_or (xs ++ x ∷ []) z d) (sym e) ∙ get_or-append_seam xs x [] d
 
@@ -340,10 +329,6 @@ read_one n roots p a v tasks done rest t d left h whole is =
     let long = ap (λ z. length z) at ∙ length-append done (t ∷ rest) in
     let all = h.long in
     subst (λ (z : Result (Divided × Vec ℕ Global) AllocError). IfOk z (λ q. IsPartRead n roots p a v (length done) q.0 q.1.items)) (ap (λ (z : List ReadTask). (get_or z (length done) t).read) at ∙ ap (λ (z : ReadTask). z.read) (get_or-append_seam done t rest t) ∙ is) (h.each (length done) t (omega (arith, long, all)))
-
--- ---- the answers of all parts
-pub picked_none : (parts : List (Vec (Vec Pair Global) Global)) (homes : List Homes) (refs : List (Vec Ref Global)) (answers : List (Vec Ref Global)) → answers ≡ [] → ArePicked parts homes refs 0 answers
-picked_none parts homes refs answers e = record { long = ap (λ z. length z) e; each = λ k d h l. absurd (omega (arith, l)) }
 
 pub picked_more : (parts : List (Vec (Vec Pair Global) Global)) (homes : List Homes) (refs : List (Vec Ref Global)) (m : ℕ) (answers answers' : List (Vec Ref Global)) (x : Vec Ref Global) → ArePicked parts homes refs m answers → ((h : Homes) → IsPickedOf parts refs m (get_or homes m h) x.items) → answers' ≡ answers ++ x ∷ [] → ArePicked parts homes refs (m + 1) answers'
 picked_more parts homes refs m answers answers' x o own is = record {

@@ -89,15 +89,6 @@ level_next start rows v s pairs u pairs' S R lt d so within = record {
 pub past_rows : (rows : List (List Record)) (w : ℕ) (r : Record) → length rows ≤ w → Contains (row_at rows w) r → ⊥
 past_rows rows w r le c = nothing r (subst (λ z. Contains z r) (get_or-eq_default rows [] le) c)
 
-pub none_reduced : (start : Nodes) (rows : List (List Record)) → IsSound start → AreRecords start rows → AreReducedFrom start rows start.levels start []
-none_reduced start rows S R = record {
-  held = S;
-  adds = adds_none start start (AskedInRows start rows) refl;
-  answers = λ k r c. absurd (nothing {X = Key × Ref} (k, r) c);
-  done = λ w r le lt c. absurd (omega arith);
-  within = inr (λ w r le c. past_rows rows w r (let e : length rows ≡ start.levels = R.levels in omega arith) c, refl);
-}
-
 pub all_reduced : (start : Nodes) (rows : List (List Record)) (s : Nodes) (pairs : List (Key × Ref)) → AreRecords start rows → AreReducedFrom start rows 0 s pairs → AreReduced rows s pairs
 all_reduced start rows s pairs R d = record { answers = d.answers; done = λ v r c. d.done v r (omega arith) (within v r c) c }
   where

@@ -11,8 +11,6 @@ pub mod Shared
 pub mod Below
 pub mod Rooted
 pub mod Waving
-pub mod Driven
-pub mod Splits
 pub mod Known
 pub mod Reading
 pub mod Teaming

@@ -47,23 +47,6 @@ joined_in [] i p c = absurd (nothing p c)
 joined_in (row ∷ rows) zero p c = in_left row (joined rows) p c
 joined_in (row ∷ rows) (suc i) p c = in_right row (joined rows) p (joined_in rows i p c)
 
--- an empty row more
-pub joined_more : (rows : List (List (Key × Ref))) → joined (rows ++ [] ∷ []) ≡ joined rows
-joined_more [] = refl
-joined_more (row ∷ rows) = ap (λ l. row ++ l) (joined_more rows)
-
-pub placed_more : (rows : List (List (Key × Ref))) → ArePlaced rows → ArePlaced (rows ++ [] ∷ [])
-placed_more rows h i k r c = h i k r (at rows i c)
-  where
-    at : (rows : List (List (Key × Ref))) (i : ℕ) → Contains {X = Key × Ref} (get_or (rows ++ [] ∷ []) i []) (k, r) → Contains {X = Key × Ref} (get_or rows i []) (k, r)
-    at [] zero c = c
-    at [] (suc i) c = c
-    at (row ∷ rows) zero c = c
-    at (row ∷ rows) (suc i) c = at rows i c
-
-pub placed_none : ArePlaced []
-placed_none i k r c = absurd (nothing {X = Key × Ref} (k, r) c)
-
 -- ---- one row of many is replaced
 module _ (rows : List (List (Key × Ref))) (i : ℕ) (new : List (Key × Ref)) (lt : i < length rows) where
   -- a pair of the rows after it, by the row that holds it
@@ -110,13 +93,6 @@ module _ (rows : List (List (Key × Ref))) (i : ℕ) (new : List (Key × Ref)) (
         | false ↦ λ t. (let apart : j ≡ i → ⊥ = λ e. (let z = sym t ∙ eq-eqb j i e in cc) in h j k r (subst (λ l. Contains {X = Key × Ref} l (k, r)) (rw get_or-set_other) c))
       ] refl
 
--- ---- keys with what stands beside them
-pub paired_more : (ks : List Key) (rs : List Ref) (k : Key) (r : Ref) → length ks ≡ length rs → paired (ks ++ k ∷ []) (rs ++ r ∷ []) ≡ paired ks rs ++ (k, r) ∷ []
-paired_more [] [] k r e = refl
-paired_more [] (s ∷ rs) k r e = absurd (omega (arith, e))
-paired_more (l ∷ ks) [] k r e = absurd (omega (arith, e))
-paired_more (l ∷ ks) (s ∷ rs) k r e = ap (λ z. (l, s) ∷ z) (paired_more ks rs k r (omega (arith, e)))
-
 pub paired_at : (ks : List Key) (rs : List Ref) (i : ℕ) (k : Key) (d : Ref) → length ks ≡ length rs → slice_get ks i ≡ Some k → (i < length rs) × Contains {X = Key × Ref} (paired ks rs) (k, get_or rs i d)
 paired_at [] rs i k d e f = absurd (cc)
 paired_at (l ∷ ks) [] i k d e f = absurd (omega (arith, e))
@@ -131,54 +107,6 @@ paired_place (l ∷ ks) (s ∷ rs) k r c = elim (in_cases {X = Key × Ref} (l, s
   | inl e ↦ (zero, omega arith, ap Some (ap (λ q. q.0) e), ap (λ q. q.1) e)
   | inr d ↦ let (i, lt, f, g) = paired_place ks rs k r d in (suc i, omega (arith, lt), f, g)
 ]
-
--- a key that stands nowhere has no answer
-pub none_paired : (ks : List Key) (rs : List Ref) (k : Key) → (IsIn ks k → ⊥) → HasAnswer (paired ks rs) k → ⊥
-none_paired ks rs k out h = let (i, lt, f, g) = paired_place ks rs k h.0 h.1 in out (i, f)
-
--- a key that is new is noted
-pub notes_last : (old : List (Key × Ref)) (k : Key) (r : Ref) → Notes old k r (old ++ (k, r) ∷ [])
-notes_last old k r = record {
-  noted = (r, in_right old ((k, r) ∷ []) (k, r) (head_in {X = Key × Ref} (k, r) []));
-  only = λ l a c. elim (in_either old ((k, r) ∷ []) (l, a) c) [
-    | inl o ↦ inl o
-    | inr n ↦ elim (in_cases {X = Key × Ref} (k, r) (l, a) [] n) [ inl e ↦ inr (ap (λ q. q.0) (sym e), ap (λ q. q.1) (sym e)) | inr x ↦ absurd (nothing {X = Key × Ref} (l, a) x) ]
-  ];
-  more = λ l h. (h.0, in_left old ((k, r) ∷ []) (l, h.0) h.1);
-}
-
--- one that has an answer has been noted
-pub notes_known : (old : List (Key × Ref)) (k : Key) (r : Ref) → HasAnswer old k → Notes old k r old
-notes_known old k r h = record { noted = h; only = λ l a c. inl c; more = λ l i. i }
-
--- a key that has an answer has it in the row of its place
-pub row_of_key : (rows : List (List (Key × Ref))) → ArePlaced rows → (k : Key) → HasAnswer (joined rows) k → (place_of k < length rows) × HasAnswer (get_or rows (place_of k) []) k
-row_of_key rows placed k h =
-    let (i, l, d) = in_joined rows (k, h.0) h.1 in
-    let e = placed i k h.0 d in
-    (subst (λ n. n < length rows) (sym e) l, (h.0, subst (λ n. Contains {X = Key × Ref} (get_or rows n []) (k, h.0)) (sym e) d))
-
-pub some_found : (found : Option Ref) (row : List (Key × Ref)) (k : Key) → HasAnswer row k → MatchOption found (HasAnswer row k → ⊥) (λ r. Contains {X = Key × Ref} row (k, r)) → IsSome found
-some_found None row k h m = absurd (m h)
-some_found (Some r) row k h m = refl
-
-pub found_in : (found : Option Ref) (row : List (Key × Ref)) (k : Key) (r : Ref) → found ≡ Some r → MatchOption found (HasAnswer row k → ⊥) (λ r. Contains {X = Key × Ref} row (k, r)) → Contains {X = Key × Ref} row (k, r)
-found_in found row k r e m = subst (λ o. MatchOption o (HasAnswer row k → ⊥) (λ r. Contains {X = Key × Ref} row (k, r))) e m
-
--- a row that was read is the one that stands there
-pub row_read : (rows : List (List (Key × Ref))) (i : ℕ) (row : List (Key × Ref)) → i < length rows → row ≡ get_or rows i row → get_or rows i [] ≡ row
-row_read rows i row lt e = get_or_default rows i [] row lt ∙ sym e
-
--- a row after an answer was noted in it, or refused
-module _ (rows : List (List (Key × Ref))) (i : ℕ) (old new : List (Key × Ref)) (k : Key) (r : Ref) (lt : i < length rows) (read : old ≡ get_or rows i old) where
-  pub noted_in : (result : Result (Unit {0}) AllocError) → OnOk result (Notes old k r new) → OnOk result (Notes (joined rows) k r (joined (set rows i new)))
-  noted_in (Ok u) n = notes_row rows i new lt k r (subst (λ l. Notes l k r new) (sym (row_read rows i old lt read)) n)
-  noted_in (Err e) n = n
-
-  pub placed_in : (result : Result (Unit {0}) AllocError) → OnOk result (Notes old k r new) → OnErr result (new ≡ old) → ArePlaced rows → place_of k ≡ i → ArePlaced (set rows i new)
-  placed_in (Ok u) n e h at = placed_set rows i new lt h
-      (λ l a c. elim (n.only l a c) [ inl o ↦ h i l a (subst (λ z. Contains {X = Key × Ref} z (l, a)) (sym (row_read rows i old lt read)) o) | inr s ↦ ap place_of s.0 ∙ at ])
-  placed_in (Err x) n e h at = subst ArePlaced (sym (ap (λ z. set rows i z) (e ∙ read) ∙ set-get_or rows i old)) h
 
 -- ---- a row of records takes an empty place
 module _ (rows : List (List (Key × Ref))) (i : ℕ) (row : List Record) (answers : List Ref) (keys : List Key) (lt : i < length rows) (empty : get_or rows i [] ≡ []) (long : length answers ≡ length row) (index : keys ≡ map key_of row) where
@@ -227,21 +155,3 @@ module _ (rows : List (List (Key × Ref))) (i : ℕ) (row : List Record) (answer
       let dr : Record = record { key = k; low = Done r; high = Done r } in
       let e = keys_long in
       ap place_of (sym (key_place j k dr f')) ∙ own j dr (omega (arith, l, e))))
-
--- the level of a key of the store is that of its operands alone
-tops : (n v : ℕ) (f g : Ref) → n ≤ 4096 → v < n → min (top n f) (top n g) ≡ v → min (top 4096 f) (top 4096 g) ≡ v
-tops n v False False s l e = absurd (omega (arith, l, e))
-tops n v False True s l e = absurd (omega (arith, l, e))
-tops n v False (Node b bm) s l e = omega (arith, s, l, e)
-tops n v True False s l e = absurd (omega (arith, l, e))
-tops n v True True s l e = absurd (omega (arith, l, e))
-tops n v True (Node b bm) s l e = omega (arith, s, l, e)
-tops n v (Node a am) False s l e = omega (arith, s, l, e)
-tops n v (Node a am) True s l e = omega (arith, s, l, e)
-tops n v (Node a am) (Node b bm) s l e = e
-
-pub place_at : (S : Nodes) (v : ℕ) (k : Key) → S.levels ≤ 4096 → IsKeyAt S v k → place_of k ≡ v
-place_at S v k small at = tops S.levels v k.f k.g small at.bounded at.level
-
-pub row_at_place : (S : Nodes) (before : List (Key × Ref)) (v : ℕ) (row : List Record) → IsSound S → IsRow S before v row → All (λ r. place_of r.key ≡ v) row
-row_at_place S before v row o h j d l = place_at S v (get_or row j d).key o.few_levels (h.records (get_or row j d) (Contains-get_or row j d l)).key

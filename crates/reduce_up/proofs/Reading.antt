@@ -408,16 +408,6 @@ next_root R (x ∷ xs) i pairs new q l is z h = next_pair R (x ∷ xs) i (get_or
 pub no_pairs : {A B : Type 0} (R : A → B → Type 0) (row : List A) (pairs : List B) → pairs ≡ [] → AllZip R (drop (length row) row) (reverse pairs)
 no_pairs R row pairs is = subst (λ ys. AllZip R (drop (length row) row) (reverse ys)) (sym is) (subst (λ xs. AllZip R xs []) (sym (drop-length row)) tt)
 
--- ---- what is left
-pub lefts_more : (n : ℕ) (roots : List Key) (p : PartsView) (v m : ℕ) (ls ls' : List (Vec ℕ Global)) (x : Vec ℕ Global) → length ls ≡ m → ((s : ℕ) (d : Vec ℕ Global) → s < m → AreLeft n (asked_above n roots p s v) (get_or ls s d).items) → AreLeft n (asked_above n roots p m v) x.items → ls' ≡ ls ++ x ∷ []
-    → (length ls' ≡ m + 1) × ((s : ℕ) (d : Vec ℕ Global) → s < m + 1 → AreLeft n (asked_above n roots p s v) (get_or ls' s d).items)
-lefts_more n roots p v m ls ls' x long each own is = (
-  ap (λ z. length z) is ∙ length-append ls (x ∷ []) ∙ ap (λ z. z + 1) long,
-  λ s d l. dite (ℕ_discrete s m)
-      (λ e. subst (λ (z : Vec ℕ Global). AreLeft n (asked_above n roots p s v) z.items) (sym (ap (λ z. get_or z s d) is ∙ ap (λ z. get_or (ls ++ x ∷ []) z d) (e ∙ sym long) ∙ get_or-append_seam ls x [] d)) (subst (λ z. AreLeft n (asked_above n roots p z v) x.items) (sym e) own))
-      (λ o. let lt : s < m = grind (arith, l, o) in subst (λ (z : Vec ℕ Global). AreLeft n (asked_above n roots p s v) z.items) (sym (ap (λ z. get_or z s d) is ∙ get_or_append_left ls (x ∷ []) d s (omega (arith, lt, long)))) (each s d lt)),
-)
-
 -- what was noted of a sender are all its requests
 pub noted_count : (S : Nodes) (n : ℕ) (roots : List Key) (p : PartsView) → AreParts S n roots p → (s k : ℕ) → s < n → k < n → length (noted_of p.noted k s) ≡ length (filter (owned_by n k) (asked_above n roots p s S.levels))
 noted_count S n roots p a s k sb kb = sym (zip_long (λ x m. slice_get (map key_of (row_of p.rows k (level_of S x))) m ≡ Some x) (filter (owned_by n k) (asked_above n roots p s S.levels)) (noted_of p.noted k s) (a.places s k sb kb))

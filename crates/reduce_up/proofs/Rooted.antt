@@ -17,12 +17,6 @@ use Rattle.req_table.proofs.Waved.{is_key, is_value, meaning_normal}
 use Rattle.reduce_up.specs.Waves.{Entry, entry_value, entry_for, entries_for, IsEntry, request_of, requests_of, IsTakenFrom}
 use Rattle.reduce_up.proofs.Noting.{nothing, head_in, tail_in, in_cases}
 
--- one more entry
-requests_on : (es : List Entry) (e : Entry) → requests_of (es ++ e ∷ []) ≡ requests_of es ++ request_of (short_of e.0 e.1 e.2) e
-requests_on [] e = append-nil (request_of (short_of e.0 e.1 e.2) e)
-requests_on (d ∷ es) e =
-    ap (λ z. request_of (short_of d.0 d.1 d.2) d ++ z) (requests_on es e) ∙ sym (append_assoc (request_of (short_of d.0 d.1 d.2) d) (requests_of es) (request_of (short_of e.0 e.1 e.2) e))
-
 -- a request is that of an entry
 pub of_entry : (es : List Entry) (k : Key) → Contains (requests_of es) k → (e : Entry) × Contains es e × (short_of e.0 e.1 e.2 ≡ None) × (k ≡ (normal_of e.0 e.1 e.2).0)
 of_entry [] k c = absurd (nothing k c)
@@ -79,20 +73,6 @@ item_at xs i x lt is = (i, lt, sym is)
 -- the part of the list that was read goes on with it
 pub item_next : {X : Type 0} (xs : List X) (i : ℕ) (x : X) → i < length xs → x ≡ get_or xs i x → take (i + 1) xs ≡ take i xs ++ x ∷ []
 item_next xs i x lt is = take_more xs i x lt ∙ ap (λ z. take i xs ++ z ∷ []) (sym is)
-
--- one more entry's request, or none
-pub request_none : (o : Option Ref) (b : Bool) (e : Entry) → is_some o ≡ not b → b ≡ true → request_of o e ≡ (normal_of e.0 e.1 e.2).0 ∷ []
-request_none None b e s t = refl
-request_none (Some r) b e s t = absurd (true≢false (s ∙ ap not t))
-
-pub request_some : (o : Option Ref) (b : Bool) (e : Entry) → is_some o ≡ not b → b ≡ false → request_of o e ≡ []
-request_some None b e s t = absurd (true≢false (sym (s ∙ ap not t)))
-request_some (Some r) b e s t = refl
-
-pub requests_next : (es : List Entry) (i : ℕ) (e : Entry) (before new after : List Key) → i < length es → e ≡ get_or es i e → before ≡ requests_of (take i es) →
-    request_of (short_of e.0 e.1 e.2) e ≡ new → after ≡ before ++ new → after ≡ requests_of (take (i + 1) es)
-requests_next es i e before new after lt is b n a =
-    a ∙ ap (λ z. z ++ new) b ∙ ap (λ z. requests_of (take i es) ++ z) (sym n) ∙ sym (ap requests_of (item_next es i e lt is) ∙ requests_on (take i es) e)
 
 -- ---- requests as entries
 pub entries_good : (S : Nodes) (ks : List Key) → All (IsKey S) ks → All (IsEntry S) (entries_for ks)

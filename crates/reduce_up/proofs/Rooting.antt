@@ -14,10 +14,15 @@ use Rattle.req_table.specs.Keys.{IsKey, level_of, normal_of, wave_of}
 use Rattle.req_table.specs.Short.{short_of}
 use Rattle.req_table.specs.Reached.{root}
 use Rattle.req_table.specs.Settled.{IsClosure, asked_below, dealt_from}
+use Rattle.std.proofs.Common.{map, Contains}
+use Rattle.std.specs.Prelude.{AllPairs}
+use Rattle.req_table.specs.Wave.{Wave}
+use Rattle.req_table.specs.Settled.{IsSplit, key_of}
+use Rattle.req_table.specs.Reached.{IsReached}
+use Rattle.req_table.specs.declared.Record.{Record}
 use Rattle.req_table.specs.Tables.{row_at}
 use Rattle.expand_work.specs.Expanded.{row_of}
 use Rattle.expand_work.specs.Gathered.{PartsView, AreParts}
-use Rattle.expand_work.proofs.Expanding.{closure_same}
 use Rattle.expand_work.proofs.Owing.{dealt-append}
 use Rattle.reduce_up.specs.Waves.{Entry, request_of, requests_of, IsClosureOf}
 use Rattle.reduce_up.specs.Team.{AnswersView, team_row, gathered, told, AreLeft, AreAllLeft, AreRootsLeft, AreFewer, IsLast, IsFound, IsHalfway}
@@ -101,6 +106,17 @@ roots_left n roots p lefts l = record {
   each = λ s d b. subst (λ z. AreLeft n z (get_or lefts s d).items) (append-nil (dealt_from n s 0 roots) ∙ ap (dealt_from n s 0) (sym (take_all (length roots) roots (omega arith)))) (l.each s d b);
 }
 
+-- ---- records by level that are the same level by level
+module _ (w : Wave) (rows records : ℕ → List Record) (same : (v : ℕ) → v < w.levels → records v ≡ rows v) where
+  pub closure_same : (roots : List Key) → IsClosure w roots rows → IsClosure w roots records
+  closure_same roots c = record {
+    split = λ v vb. subst (All (IsSplit w)) (sym (same v vb)) (c.split v vb);
+    placed = λ v vb. subst (All (λ (r : Record). w.level r.key ≡ v)) (sym (same v vb)) (c.placed v vb);
+    reached = λ v vb. subst (All (λ (r : Record). IsReached w roots r.key)) (sym (same v vb)) (c.reached v vb);
+    recorded = λ x h. (let (b, k) = c.recorded x h in (b, subst (λ (rs : List Record). Contains (map key_of rs) x) (sym (same (w.level x) b)) k));
+    once = λ v vb. subst (AllPairs (λ (a b : Record). ¬ (a.key ≡ b.key))) (sym (same v vb)) (c.once v vb);
+  }
+
 -- ---- a wave before it is reduced
 module _ (S : Nodes) (sound : IsSound S) (n : ℕ) (some : 0 < n) (roots : List Key) (good : All (IsKey S) roots) (p : PartsView) (parts : AreParts S n roots p) where
   pub closed : IsClosure (wave_of S n) roots (row_at (gathered S.levels (team_row n p)))
@@ -126,32 +142,3 @@ module _ (S : Nodes) (sound : IsSound S) (n : ℕ) (some : 0 < n) (roots : List 
     levels = gathered-long S.levels (team_row n p);
     closure = subst (λ z. IsClosure (wave_of S n) z (row_at (gathered S.levels (team_row n p)))) e closed;
   }
-
--- ---- entries and their requests
-requests-append : (xs ys : List Entry) → requests_of (xs ++ ys) ≡ requests_of xs ++ requests_of ys
-requests-append [] ys = refl
-requests-append (e ∷ es) ys = ap (λ z. request_of (short_of e.0 e.1 e.2) e ++ z) (requests-append es ys) ∙ sym (append_assoc (request_of (short_of e.0 e.1 e.2) e) (requests_of es) (requests_of ys))
-
-module _ (entries : List Entry) (roots : List Key) (roots-is : roots ≡ requests_of entries) (j : ℕ) (e : Entry) (jb : j < length entries) (e-is : e ≡ get_or entries j e) where
-  all-e : roots ≡ requests_of (take j entries) ++ (request_of (short_of e.0 e.1 e.2) e ++ requests_of (drop (j + 1) entries))
-  all-e = roots-is ∙ ap requests_of (sym (take-append-drop j entries) ∙ ap (λ z. take j entries ++ z) (drop_more entries j e jb ∙ ap (λ y. y ∷ drop (j + 1) entries) (sym e-is))) ∙ requests-append (take j entries) (e ∷ drop (j + 1) entries)
-
-  next-e : requests_of (take (j + 1) entries) ≡ requests_of (take j entries) ++ request_of (short_of e.0 e.1 e.2) e
-  next-e = ap requests_of (item_next entries j e jb e-is) ∙ requests-append (take j entries) (e ∷ []) ∙ ap (λ z. requests_of (take j entries) ++ z) (append-nil (request_of (short_of e.0 e.1 e.2) e))
-
-  -- an entry with a short answer has no root
-  pub root_same : (r : Ref) → short_of e.0 e.1 e.2 ≡ Some r → length (requests_of (take (j + 1) entries)) ≡ length (requests_of (take j entries))
-  root_same r s = ap (λ z. length z) (next-e ∙ ap (λ o. requests_of (take j entries) ++ request_of o e) s ∙ append-nil (requests_of (take j entries)))
-
-  module _ (s : short_of e.0 e.1 e.2 ≡ None) where
-    pub root_some : length (requests_of (take (j + 1) entries)) ≡ length (requests_of (take j entries)) + 1
-    root_some = ap (λ z. length z) (next-e ∙ ap (λ o. requests_of (take j entries) ++ request_of o e) s) ∙ length-append (requests_of (take j entries)) ((normal_of e.0 e.1 e.2).0 ∷ [])
-
-    all-s : roots ≡ requests_of (take j entries) ++ ((normal_of e.0 e.1 e.2).0 ∷ requests_of (drop (j + 1) entries))
-    all-s = all-e ∙ ap (λ o. requests_of (take j entries) ++ (request_of o e ++ requests_of (drop (j + 1) entries))) s
-
-    pub root_room : length (requests_of (take j entries)) < length roots
-    root_room = let a = ap (λ z. length z) all-s in let b = length-append (requests_of (take j entries)) ((normal_of e.0 e.1 e.2).0 ∷ requests_of (drop (j + 1) entries)) in omega (arith, a, b)
-
-    pub root_is : (d : Key) → get_or roots (length (requests_of (take j entries))) d ≡ (normal_of e.0 e.1 e.2).0
-    root_is d = ap (λ z. get_or z (length (requests_of (take j entries))) d) all-s ∙ get_or-append_seam (requests_of (take j entries)) (normal_of e.0 e.1 e.2).0 (requests_of (drop (j + 1) entries)) d

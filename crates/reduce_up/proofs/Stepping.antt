@@ -58,13 +58,3 @@ module _ (s : Sources) where
       let kb : k < m = (let e = o.long in omega (arith, e, l, long)) in
       let is = o.each k d kb in
       subst (λ (z : Sources × ℕ). IsPickedFrom z.0 z.1 (get_or done k d)) (λ i. (is.0 i, is.1 i)) (zip_at IsPickTask tasks done k d d zip (omega (arith, l, long)))
-
--- what a job carries, done
-pub read_done : (a : ReadTask) (t u : Job) (b : ReadTask) → t ≡ Read a → u ≡ Read b → IsRun t u → IsRead a b
-read_done a t u b t-is u-is r = subst (λ (z : Job × Job). IsRun z.0 z.1) (λ i. (t-is i, u-is i)) r
-
-pub make_done : (a : ShardTask) (t u : Job) (b : ShardTask) → t ≡ Make a → u ≡ Make b → IsRun t u → AreShardsMade a b
-make_done a t u b t-is u-is r = subst (λ (z : Job × Job). IsRun z.0 z.1) (λ i. (t-is i, u-is i)) r
-
-pub pick_done : (a : PickTask) (t u : Job) (b : PickTask) → t ≡ Pick a → u ≡ Pick b → IsRun t u → IsPickTask a b
-pick_done a t u b t-is u-is r = subst (λ (z : Job × Job). IsRun z.0 z.1) (λ i. (t-is i, u-is i)) r

@@ -25,16 +25,6 @@ pub record AreRecords (s : Nodes) (rows : List (List Record)) : Type 0 where
   pub low_asked : (v : ℕ) (r : Record) → v < s.levels → Contains (row_at rows v) r → IsAsked rows r.low
   pub high_asked : (v : ℕ) (r : Record) → v < s.levels → Contains (row_at rows v) r → IsAsked rows r.high
 
--- a row for each level, of keys of the store at their level with the children that requests have, whose requests are recorded
-pub record AreSplits (s : Nodes) (rows : List (List Record)) : Type 0 where
-  pub levels : length rows ≡ s.levels
-  pub keys : (v : ℕ) → v < s.levels → All (λ r. IsKey s r.key) (row_at rows v)
-  pub placed : (v : ℕ) → v < s.levels → All (λ r. level_of s r.key ≡ v) (row_at rows v)
-  pub low : (v : ℕ) → v < s.levels → All (λ r. r.low ≡ child_of s r.key false) (row_at rows v)
-  pub high : (v : ℕ) → v < s.levels → All (λ r. r.high ≡ child_of s r.key true) (row_at rows v)
-  pub low_asked : (v : ℕ) → v < s.levels → All (λ r. IsAsked rows r.low) (row_at rows v)
-  pub high_asked : (v : ℕ) → v < s.levels → All (λ r. IsAsked rows r.high) (row_at rows v)
-
 -- the functions that the records of a level ask for
 abbrev pub AskedInRows : Nodes → List (List Record) → ℕ → (List Bool → Bool) → Type 0
 AskedInRows s rows v f = (r : Record) × Contains (row_at rows v) r × Agree s.levels f (meaning s r.key)

@@ -24,7 +24,3 @@ joined (row ∷ rows) = row ++ joined rows
 -- each key stands at its level
 abbrev pub ArePlaced : List (List (Key × Ref)) → Type 0
 ArePlaced rows = (i : ℕ) (k : Key) (r : Ref) → Contains (slice_index_or rows i []) (k, r) → place_of k ≡ i
-
--- keys that are as many as the records are theirs, in order
-abbrev pub IsIndexOf : List Record → List Key → Type 0
-IsIndexOf row keys = length keys ≡ length row → keys ≡ map key_of row

@@ -10,6 +10,7 @@ use Rattle.dd_store.specs.declared.StoreFault.{StoreFault}
 use Rattle.dd_store.specs.declared.StoreFault.TheVariants as store_faults
 use Rattle.expand_work.specs.declared.fault.WaveFault.{WaveFault}
 use Rattle.expand_work.specs.declared.fault.WaveFault.TheVariants as wave_faults
+pub use Rattle.expand_work.specs.Fault.{wave_fault}
 use Rattle.dd_store.specs.Functions.{Agree, DependsOn, OfEither}
 use Rattle.dd_store.specs.Marks.{mark_by, turned}
 use Rattle.req_table.specs.Keys.{meaning}
@@ -119,16 +120,6 @@ IsRowFault s v row wave_faults.Full =
 -- the store `new` is within its limit, or the row is empty and the store is as it was
 abbrev pub IsRowWithin : Nodes → List Record → Nodes → Type 0
 IsRowWithin old row new = (count_of new ≤ new.limit) ⊎ ((row ≡ []) × (new ≡ old))
-
--- what a wave answers where its store refuses a node
-abbrev pub wave_fault : StoreFault → WaveFault
-wave_fault store_faults.Full = wave_faults.Full
-wave_fault store_faults.OutOfMemory = wave_faults.OutOfMemory
-
--- what a wave answers where its store answers so
-abbrev pub wave_result : Result (Unit {0}) StoreFault → Result (Unit {0}) WaveFault
-wave_result (Ok u) = Ok u
-wave_result (Err e) = Err (wave_fault e)
 
 -- a row of level v may be reduced: the store is sound, the pairs are answers in it, and what the records' children ask for has one
 pub record MayReduceRow (s : Nodes) (pairs : List (Key × Ref)) (v : ℕ) (records : List Record) : Type 0 where

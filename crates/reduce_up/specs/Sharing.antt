@@ -43,11 +43,6 @@ pub record AreDivided (pairs : List Pair) (lists : ℕ → List Pair) : Type 0 w
 abbrev pub IsOfPair : Nodes → ℕ → Pair → Ref → Type 0
 IsOfPair s v p m = (r : Ref) × IsNode s v p.0 p.1 r × IsOneNode s m r
 
--- new keeps what old has, and each other node of new is one of level v for a pair of different children, or the complement of one
-pub record AddsPairs (old new : Nodes) (v : ℕ) (pairs : List Pair) : Type 0 where
-  pub keeps : Keeps old new
-  pub only : (m : Ref) → Has new m → Has old m ⊎ ((p : Pair) × Contains pairs p × (p.0 ≢ p.1) × IsOfPair new v p m)
-
 -- the pairs of all records of a row can stand at level v
 abbrev pub RowCanStand : List (Key × Ref) → Nodes → ℕ → List Record → Type 0
 RowCanStand results s v row = (d : Record) (p : Pair) → Contains row d → IsPairOf results d p → CanStand s v p
@@ -62,15 +57,6 @@ pub record AddsRow (results : List (Key × Ref)) (old new : Nodes) (v : ℕ) (ro
 abbrev pub IsRowRefused : List (Key × Ref) → Nodes → ℕ → List Record → StoreFault → Type 0
 IsRowRefused results s v row OutOfMemory = Unit {0}
 IsRowRefused results s v row Full = (d : Record) × (p : Pair) × Contains row d × IsPairOf results d p × IsFull s v p.0 p.1 Full
-
--- a reference stands for the pair: the child, where both are equal, or the node of level v
-abbrev pub HasPair : Nodes → ℕ → Pair → Type 0
-HasPair s v p = (r : Ref) × IsThere s v p.0 p.1 r
-
--- why pairs have no reference: Full only where the store has as many nodes as its limit and lacks a pair's node
-abbrev pub IsPairsFault : Nodes → ℕ → List Pair → StoreFault → Type 0
-IsPairsFault s v pairs OutOfMemory = Unit {0}
-IsPairsFault s v pairs Full = (p : Pair) × Contains pairs p × IsFull s v p.0 p.1 Full
 
 -- of a row and the answers of its records, in order, the first i are noted in `new`, whose other answers are those of old; a
 -- key that has an answer keeps one

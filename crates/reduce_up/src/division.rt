@@ -3,7 +3,7 @@ ghost use Rattle.std.specs.Prelude.{◌≡◌, ℕ, [], length, IfOk, OnOk};
 ghost use Rattle.dd_store.specs.Levels.{list_at};
 ghost use Rattle.reduce_up.specs.Division.{IsPut};
 
-use crate::parallel::{emptied_lists, empty_lists};
+use crate::lists::emptied_lists;
 use dd_store::{Ref, SHARDS, shard_of};
 use std::alloc::{AllocError, Global};
 

@@ -1,16 +1,13 @@
-//! From the requests of a wave to their diagrams: reduction from the last level up, and waves over it.
+//! From the requests of a wave to their diagrams: reduction from the last level up, of what workers in threads recorded.
 #![tactic(auto)]
 
 mod answers;
 mod division;
 mod jobs;
-pub mod law;
-mod levels;
+mod lists;
 mod narrow;
-mod parallel;
 mod picking;
 mod reads;
-mod results;
 mod roots;
 mod seeking;
 mod spare;
@@ -18,7 +15,6 @@ mod team;
 mod waves;
 mod wide;
 
-pub use levels::reduce;
-pub use results::Results;
+pub use lists::empty_lists;
 pub use seeking::Sought;
-pub use waves::{Rooms, shared_wave, wave_one};
+pub use waves::{Rooms, shared_wave};

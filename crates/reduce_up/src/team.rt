@@ -15,7 +15,6 @@ ghost use Rattle.reduce_up.specs.Team.{IsReducedTo, MayReduceLevel, AnswersLevel
 
 use crate::answers::Answers;
 use crate::jobs::JobPool;
-use crate::levels::wave_fault;
 use crate::narrow::make_level;
 use crate::spare::Spare;
 use crate::wide::share_level;
@@ -217,7 +216,7 @@ fn reduce_team_level<'a, R: Wait, H: Watch>(
     } = progress;
     let answers = match level_answers(pool, store, field, known, level, rest) {
         Ok(answers) => answers,
-        Err(fault) => return Err(wave_fault(fault)),
+        Err(fault) => return Err(WaveFault::from(fault)),
     };
     let Ok(()) = put_level(known, level, answers) else {
         return Err(WaveFault::OutOfMemory);

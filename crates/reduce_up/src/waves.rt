@@ -1,184 +1,22 @@
-//! Waves: the diagrams of a list of operations (Ochi, Yasuoka and Yajima 1993).
-ghost use Rattle.std.specs.Prelude.{◌≡◌, ◌≢◌, ℕ, ◌<◌, ◌≤◌, All, IfOk, IfErr, OnErr, None};
-ghost use Rattle.std.specs.List.{AllZip};
-ghost use Rattle.req_table.specs.Short.{short_of};
-ghost use Rattle.req_table.specs.Keys.{normal_of, IsKey};
-ghost use Rattle.req_table.specs.Memos.{IsRight};
+//! Waves by threads: the diagrams of a list of requests (Ochi, Yasuoka and Yajima 1993).
+ghost use Rattle.std.specs.Prelude.{◌≡◌, ◌≢◌, ◌<◌, All, IfErr};
+ghost use Rattle.req_table.specs.Keys.{IsKey};
 ghost use Rattle.expand_work.specs.Gathered.{AreParts};
-ghost use Rattle.reduce_up.specs.Known.{unknown, IsKeptWave};
-ghost use Rattle.reduce_up.specs.Reducing.{HasAnswer};
-ghost use Rattle.reduce_up.specs.Waves.{IsEntry, AnswersWave, IsClosureOf, entries_for, requests_of, IsTakenFrom};
+ghost use Rattle.reduce_up.specs.Waves.{AnswersWave, entries_for};
 
-use crate::jobs::JobPool;
-use crate::levels::reduce;
-use crate::results::Results;
+use crate::jobs::{Job, JobPool};
 use crate::roots::root_answers;
-use crate::seeking::Sought;
 use crate::spare::Spare;
 use crate::team::{Field, Progress, begin, reduce_team};
 use dd_store::{Pool, Ref, Store, Watch};
-use expand_work::{Crew, Free, Gate, Parts, Spaces, WaveFault, expand_parts};
-use req_table::requests::{normal, short};
-use req_table::{Key, Memo, Op, Records};
-use std::alloc::{AllocError, Global};
+use expand_work::{Crew, Gate, Parts, Spaces, WaveFault, expand_parts};
+use req_table::Key;
+use std::alloc::Global;
 use std::marker::Model;
 use std::sync::{Arc, Wait};
 use std::thread::Threads;
 use std::{mem, thread};
-use task_pool::start_all;
-use wave_core::Core;
-
-/// The requests of the entries that have no short answer.
-pub(crate) fn requests_of(alloc: Global, entries: &[(Op, Ref, Ref)]) -> Result<Vec<Key>, AllocError>
-    ensures { IfOk result (λ keys. keys.items ≡ requests_of entries.now) }
-{
-    let mut keys = Vec::new(alloc);
-    for entry in entries {
-        let (op, f, g) = *entry;
-        if short(op, f, g).is_none() {
-            let (key, _) = normal(op, f, g);
-            keys.push(key)?;
-        }
-    }
-    Ok(keys)
-}
-
-/// The diagram of an entry: its short answer, or that of its request.
-fn answer_of(op: Op, f: Ref, g: Ref, results: &Results) -> Ref
-    requires { short_of op f g ≡ None → HasAnswer results.now (normal_of op f g).0 }
-    ensures { IsTakenFrom results.now (short_of op f g) (op, f, g) result }
-{
-    match short(op, f, g) {
-        Some(answer) => answer,
-        None => {
-            let (key, mark) = normal(op, f, g);
-            results.get(&key).marked(mark)
-        }
-    }
-}
-
-/// The diagrams of the entries.
-fn answers_of(
-    alloc: Global,
-    entries: &[(Op, Ref, Ref)],
-    results: &Results,
-) -> Result<Vec<Ref>, AllocError>
-    requires { All (HasAnswer results.now) (requests_of entries.now) }
-    ensures { IfOk result (λ answers. AllZip (λ e r. IsTakenFrom results.now (short_of e.0 e.1 e.2) e r) entries.now answers.items) }
-{
-    let mut answers = Vec::new(alloc);
-    for entry in entries {
-        let (op, f, g) = *entry;
-        answers.push(answer_of(op, f, g, results))?;
-    }
-    Ok(answers)
-}
-
-/// The records of all requests that the roots ask for, by the state machine of the workers, which the choices drive.
-pub(crate) fn closure_of(
-    alloc: Global,
-    store: &Store,
-    workers: u32,
-    roots: &[Key],
-    choices: &[u8],
-) -> Result<Records, AllocError>
-    requires workers { (0 < workers) × (workers ≤ 16) }
-    requires roots { All (IsKey store.now) roots.now }
-    ensures { IfOk result (λ records. IsClosureOf store.now workers roots.now records) }
-{
-    let mut core = Core::new(alloc, store, workers, roots)?;
-    if core.drive(choices).is_err() {
-        return Err(AllocError);
-    }
-    core.into_records()
-}
-
-/// The diagram of each operation, by reduction of the records of all requests that they ask for.
-fn answer_closure<R: Threads + Sync, H: Watch + Sync>(
-    rt: &R,
-    alloc: Global,
-    store: &mut Store,
-    entries: &[(Op, Ref, Ref)],
-    records: &Records,
-    watch: &H,
-) -> Result<Vec<Ref>, WaveFault>
-    requires operands { All (IsEntry store.old) entries.now }
-    requires closure { (workers : ℕ) × (0 < workers) × IsClosureOf store.old workers (requests_of entries.now) records.now }
-    ensures wave { AnswersWave store.old entries.now entries.now result store.new }
-    ensures served { IfErr result (λ e. e ≢ WaveFault.NoWorker) }
-    ensures unbounded { IfErr result (λ e. e ≢ WaveFault.TooManyRequests) }
-{
-    let _ = store.levels();
-    let results = match reduce(rt, alloc, store, records, watch) {
-        Ok(results) => results,
-        Err(fault) => return Err(fault),
-    };
-    match answers_of(alloc, entries, &results) {
-        Ok(answers) => Ok(answers),
-        Err(_) => Err(WaveFault::OutOfMemory),
-    }
-}
-
-/// The diagram of each operation on its two operands, of which nothing is known.
-fn wave_alone<R: Threads + Sync>(
-    rt: &R,
-    alloc: Global,
-    store: &mut Store,
-    entries: &[(Op, Ref, Ref)],
-    workers: u32,
-    choices: &[u8],
-) -> Result<Vec<Ref>, WaveFault>
-    requires operands { All (IsEntry store.old) entries.now }
-    requires workers { (0 < workers) × (workers ≤ 16) }
-    ensures wave { AnswersWave store.old entries.now entries.now result store.new }
-    ensures served { IfErr result (λ e. e ≢ WaveFault.NoWorker) }
-    ensures unbounded { IfErr result (λ e. e ≢ WaveFault.TooManyRequests) }
-{
-    let _ = store.levels();
-    let Ok(roots) = requests_of(alloc, entries) else {
-        return Err(WaveFault::OutOfMemory);
-    };
-    let Ok(records) = closure_of(alloc, store, workers, roots.as_slice(), choices) else {
-        return Err(WaveFault::OutOfMemory);
-    };
-    answer_closure(rt, alloc, store, entries, &records, &Free)
-}
-
-/// The diagram of each operation on its two operands.
-///
-/// What has a short answer or is held in the memo is answered at once. The requests of all other operations together are expanded
-/// by the state machine of the workers on the caller's thread, which the choices drive, and reduced from the last level up. The
-/// memo then keeps them with their answers.
-pub fn wave_one<R: Threads + Sync>(
-    rt: &R,
-    alloc: Global,
-    store: &mut Store,
-    memo: &mut Memo,
-    entries: &[(Op, Ref, Ref)],
-    workers: u32,
-    choices: &[u8],
-) -> Result<Vec<Ref>, WaveFault>
-    requires operands { All (IsEntry store.old) entries.now }
-    requires workers { (0 < workers) × (workers ≤ 16) }
-    requires right { IsRight store.old memo.old }
-    ensures wave { AnswersWave store.old entries.now (unknown memo.old entries.now) result store.new }
-    ensures served { IfErr result (λ e. e ≢ WaveFault.NoWorker) }
-    ensures unbounded { IfErr result (λ e. e ≢ WaveFault.TooManyRequests) }
-    ensures kept { IfOk result (λ answers. IsKeptWave memo.old entries.now answers.items memo.new) }
-    ensures refused { OnErr result (memo.new ≡ memo.old) }
-    ensures right { IsRight store.new memo.new }
-{
-    let _ = store.levels();
-    let mut sought = Sought::new(alloc);
-    let Ok(_) = sought.seek(memo, entries) else {
-        return Err(WaveFault::OutOfMemory);
-    };
-    let found = wave_alone(rt, alloc, store, sought.requests(), workers, choices)?;
-    match sought.settle(alloc, memo, found.as_slice()) {
-        Ok(answers) => Ok(answers),
-        Err(_) => Err(WaveFault::OutOfMemory),
-    }
-}
+use task_pool::{Line, start_all};
 
 /// The diagram of each root, by reduction of what the workers recorded, each for itself.
 fn answer_team<'a, R: Wait, H: Watch>(
@@ -217,6 +55,27 @@ fn answer_team<'a, R: Wait, H: Watch>(
 /// So many threads at least share the shards of a level, however few workers there are. The caller's is one of them.
 const FEWEST_MAKERS: u32 = 4;
 
+/// The diagram of each root, by the caller's thread and those that these lines go to; and the store and the memory again.
+fn answer_in<'a, R: Wait, H: Watch>(
+    rt: &R,
+    watch: &H,
+    lines: Vec<Line<H, Job<'a>>>,
+    field: Field<'a>,
+    own: Store,
+    used: Spare,
+) -> (Store, Spare, Result<Vec<Ref>, WaveFault>)
+    requires some { 0 < field.workers }
+    requires roots { All (IsKey own) field.roots.now }
+    requires parts { AreParts own field.workers field.roots.now field.parts.now }
+    ensures wave { AnswersWave own (entries_for field.entry.roots.now) (entries_for field.entry.roots.now) result.2 result.0 }
+    ensures unbounded { IfErr result.2 (λ e. e ≢ WaveFault.TooManyRequests) }
+{
+    let mut pool = Pool { rt, watch, lines };
+    let (mut store, mut spare) = (own, used);
+    let answers = answer_team(&mut pool, &mut store, field, &mut spare);
+    (store, spare, answers)
+}
+
 /// The diagram of each root, by the caller's thread and threads that live as long as the reduction.
 fn answer_by_team<R: Threads + Wait + Sync, G: Gate>(
     crew: &Crew<'_, R, G>,
@@ -231,9 +90,8 @@ fn answer_by_team<R: Threads + Wait + Sync, G: Gate>(
     ensures unbounded { IfErr result (λ e. e ≢ WaveFault.TooManyRequests) }
 {
     let _ = store.levels();
-    let alloc = crew.alloc;
+    let (rt, alloc, gate) = (crew.rt, crew.alloc, crew.gate);
     let workers = crew.workers.count();
-    let (rt, gate) = (crew.rt, crew.gate);
     let Ok(blank) = Store::new(alloc, 0, 0) else {
         return Err(WaveFault::OutOfMemory);
     };
@@ -256,14 +114,7 @@ fn answer_by_team<R: Threads + Wait + Sync, G: Gate>(
                 workers,
             };
             let lines = start_all(scope, rt, gate, alloc, workers.max(FEWEST_MAKERS) - 1);
-            let mut pool = Pool {
-                rt,
-                watch: gate,
-                lines,
-            };
-            let (mut store, mut spare) = (own, used);
-            let answers = answer_team(&mut pool, &mut store, field, &mut spare);
-            (store, spare, answers)
+            answer_in(rt, gate, lines, field, own, used)
         },
     );
     *store = own;

@@ -16,8 +16,3 @@ key_laws = laws-law
 
 pub key_decides : (x y : Key) → Decides (eq-value.it x y) (x ≡ y)
 key_decides x y = (key_same x y, λ e. ap (eq-value.it x) (sym e) ∙ key_laws.refl x)
-
--- what a look-up finds is contained
-pub found_contains : (ks : List Key) (k : Key) (r : Option ℕ) (b : Bool) → MatchOption r (IsIn ks k → ⊥) (λ i. slice_get ks i ≡ Some k) → b ≡ is_some r → (IsTrue b → Contains ks k) × (Contains ks k → IsTrue b)
-found_contains ks k None b m e = ((λ t. absurd (true≢false (sym t ∙ e))), (λ c. absurd (m (c.0, slice_get-get_or ks c.0 k c.1 ∙ ap (λ z. Some z) c.2))))
-found_contains ks k (Some i) b m e = ((λ t. (i, slice_get_within ks i k m, get_or_from_slice_get ks i k k m)), (λ c. e))

@@ -10,7 +10,7 @@ use Rattle.dd_store.specs.declared.reference.Ref.{Ref}
 use Rattle.req_table.specs.declared.Key.{Key}
 use Rattle.req_table.specs.contracts.KeyPartialEq.TheImpl.{eq-value}
 use Rattle.req_table.specs.Equal.{key_same}
-use Rattle.req_table.specs.Memos.{Held, held, rest, with_first, Keeps, IsAnswerOf, IsRight, IsValueOf, or_held, known_of, child_known, child_known_of, IsHalfOf}
+use Rattle.req_table.specs.Memos.{Held, held, rest, with_first, Keeps, IsAnswerOf, IsRight, IsValueOf, or_held, known_of}
 use Rattle.req_table.specs.declared.Op.{Op}
 use Rattle.req_table.specs.declared.Child.{Child}
 use Rattle.req_table.specs.Short.{form_of, in_order, short_at, short_of, op_value}
@@ -106,23 +106,6 @@ module _ (S : Nodes) (m : Held) (right : IsRight S m) (op : Op) (f g : Ref) (hf 
       short_has : OnAnswer (Has S) (Some r) → Has S r
       short_has h = h
 
-  child_value_known : (t : Option Ref) → IfSome t (IsValueOf S op f g) → (x : List Bool) → length x ≡ S.levels → child_value S (answer_of S op f g t) x ≡ op_value op (den S f x) (den S g x)
-  child_value_known None a x hx = meaning_normal S op f g x
-  child_value_known (Some r) a x hx = a.1 x hx
-
-  -- what an operation comes to has its value at each assignment
-  pub child_known_value : (x : List Bool) → length x ≡ S.levels → child_value S (child_known S m op f g) x ≡ op_value op (den S f x) (den S g x)
-  child_known_value = child_value_known (known_of m op f g) (known_value (short_of op f g) refl)
-
-  child_in_known : (t u : Option Ref) → short_of op f g ≡ t → u ≡ or_held m (normal_of op f g) t → IfSome u (IsValueOf S op f g) → IsChildIn S (answer_of S op f g u)
-  child_in_known t (Some r) e h a = a.0
-  child_in_known None None e h a = (is_key S op f g hf hg e, refl)
-  child_in_known (Some r) None e h a = absurd (cc)
-
-  -- and is of the store
-  pub child_known_in : IsChildIn S (child_known S m op f g)
-  child_known_in = child_in_known (short_of op f g) (known_of m op f g) refl refl (known_value (short_of op f g) refl)
-
 -- what is held of an operation's form is known of the operation
 pub made_known : (m : Held) (op : Op) (f g : Ref) {n : Key × Bool} {k : Key} {p r : Option Ref} → n ≡ form_of op f g → k ≡ in_order n.0 → p ≡ held m k → r ≡ option_map (mark_by n.1) p
     → short_of op f g ≡ None → r ≡ known_of m op f g
@@ -141,15 +124,3 @@ not_known m k (Some r) e = absurd (cc)
 -- a cofactor at equal operands and levels
 pub cofactor_at : (S : Nodes) (b : Bool) {f g r : Ref} {u v : ℕ} → f ≡ g → u ≡ v → r ≡ cofactor_of S f u b → r ≡ cofactor_of S g v b
 cofactor_at S b {f} {g} {r} {u} {v} e l h = h ∙ ap (λ z. cofactor_of S z u b) e ∙ ap (λ w. cofactor_of S g w b) l
-
--- the operation on the cofactors, where what is held is done, is the key's child
-pub known_cofactors : (S : Nodes) (m : Held) (k : Key) (b : Bool) {op : Op} {low high : Ref} {c : Child} → op ≡ k.op → low ≡ cofactor_of S k.f (level_of S k) b → high ≡ cofactor_of S k.g (level_of S k) b → c ≡ child_known S m op low high → c ≡ child_known_of S m k b
-known_cofactors S m k b {op} {low} {high} {c} eo el eh e =
-    e ∙ ap (λ o. child_known S m o low high) eo ∙ ap (λ r. child_known S m k.op r high) el ∙ ap (λ r. child_known S m k.op (cofactor_of S k.f (level_of S k) b) r) eh
-
--- a child of a key is its half
-pub known_half : (S : Nodes) → IsSound S → (m : Held) → IsRight S m → (k : Key) → IsKey S k → (b : Bool) (c : Child) → c ≡ child_known_of S m k b → IsHalfOf S k b c
-known_half S w m right k i b c e x hx at =
-    ap (λ z. child_value S z x) e
-    ∙ child_known_value S m right k.op (cofactor_of S k.f (level_of S k) b) (cofactor_of S k.g (level_of S k) b) (first_of S w k i b).0 (second_of S w k i b).0 x hx
-    ∙ cofactors S w k i b x at

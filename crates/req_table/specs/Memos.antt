@@ -59,19 +59,3 @@ or_held m n None = option_map (mark_by n.1) (held m n.0)
 -- the answer of an operation that is no request, or is held
 abbrev pub known_of : Held → Op → Ref → Ref → Option Ref
 known_of m op f g = or_held m (normal_of op f g) (short_of op f g)
-
--- what an operation comes to where what is held is done
-abbrev pub child_known : Nodes → Held → Op → Ref → Ref → Child
-child_known S m op f g = answer_of S op f g (known_of m op f g)
-
--- the child of a key for the bit of its level, in the same way
-abbrev pub child_known_of : Nodes → Held → Key → Bool → Child
-child_known_of S m k b = child_known S m k.op (cofactor_of S k.f (level_of S k) b) (cofactor_of S k.g (level_of S k) b)
-
--- a key with these children
-abbrev pub record_known_of : Nodes → Held → Key → Record
-record_known_of S m k = record { key = k; low = child_known_of S m k false; high = child_known_of S m k true }
-
--- a child has the value that the key has where the bit of the key's level is b, at each assignment
-abbrev pub IsHalfOf : Nodes → Key → Bool → Child → Type 0
-IsHalfOf S k b c = (x : List Bool) → length x ≡ S.levels → bit x (level_of S k) ≡ b → child_value S c x ≡ meaning S k x

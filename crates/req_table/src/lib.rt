@@ -8,20 +8,16 @@ ghost use Rattle.req_table.specs.Words.{op_of};
 
 mod memo;
 mod placed;
-mod records;
 pub mod requests;
-mod table;
 
 use dd_store::Ref;
 pub use memo::Memo;
 pub use placed::{Placed, PlacedChild};
-pub use records::Records;
 use slot_table::{Spread, mix};
 use std::collections::LinkedList;
 use std::fmt;
 use std::hash::{Hash, Hasher};
 use std::marker::Model;
-pub use table::Table;
 
 /// A Boolean operation on two operands.
 #[derive(Clone, Copy, Debug, PartialEq, Eq, PartialOrd, Ord, Hash)]

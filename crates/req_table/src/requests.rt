@@ -7,7 +7,7 @@ ghost use Rattle.dd_store.specs.Marks.{is_marked, mark_by, turned};
 ghost use Rattle.req_table.specs.Operation.{IsRequest};
 ghost use Rattle.req_table.specs.Short.{key, short_of, short_at, short_and, short_xor, form_of, in_order, plain_of, op_value, owner_of};
 ghost use Rattle.req_table.specs.Keys.{normal_of, level_of, child as child_at, record_of, meaning, child_value, Denotes, IsKey, IsChildIn, IsDeeper, IsHalf};
-ghost use Rattle.req_table.specs.Memos.{IsRight, IsValueOf, IsHalfOf, known_of, child_known as child_known_at, record_known_of};
+ghost use Rattle.req_table.specs.Memos.{IsRight, IsValueOf, known_of};
 
 use crate::{Child, Key, Memo, Op, Record, number};
 use dd_store::{Ref, Store, code};
@@ -205,41 +205,5 @@ pub fn known(memo: &Memo, op: Op, f: Ref, g: Ref) -> Option<Ref>
     match short_at(op, f, g) {
         Some(answer) => Some(answer.marked(mark)),
         None => marked(memo.peek(&request(op, f, g)), mark),
-    }
-}
-
-/// What an operation comes to where what the memo holds is done: its answer, or else its request.
-pub fn child_known(store: &Store, memo: &Memo, op: Op, f: Ref, g: Ref) -> Child
-    requires first { Has store.now f }
-    requires second { Has store.now g }
-    requires right { IsRight store.now memo.now }
-    ensures value { result ≡ child_known_at store.now memo.now op f g }
-    ensures stands { IsChildIn store.now result }
-    ensures means { (x : List Bool) → length x ≡ store.now.levels → child_value store.now result x ≡ op_value op (den store.now f x) (den store.now g x) }
-{
-    match known(memo, op, f, g) {
-        Some(answer) => Child::Done(answer),
-        None => child(store, op, f, g),
-    }
-}
-
-/// The record of a request where what the memo holds is done.
-pub fn split_known(store: &Store, memo: &Memo, key: Key) -> Record
-    requires key { IsKey store.now key }
-    requires right { IsRight store.now memo.now }
-    ensures value { result ≡ record_known_of store.now memo.now key }
-    ensures stands { IsChildIn store.now result.low × IsChildIn store.now result.high }
-    ensures low { IsHalfOf store.now key false result.low }
-    ensures high { IsHalfOf store.now key true result.high }
-{
-    let level = level_of(store, key);
-    let _ = store.levels();
-    let op = key.op();
-    let first = store.cofactors(key.f(), level);
-    let second = store.cofactors(key.g(), level);
-    Record {
-        key,
-        low: child_known(store, memo, op, first.0, second.0),
-        high: child_known(store, memo, op, first.1, second.1),
     }
 }

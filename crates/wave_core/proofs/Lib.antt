@@ -22,3 +22,6 @@ pub mod Starts
 pub mod Cores
 pub mod Drives
 pub mod Stepped
+pub mod Admits
+pub mod Fair
+pub mod Keyed

@@ -12,7 +12,8 @@ use Rattle.req_table.specs.Lanes.{sent_by, IsFair, IsClosed, asks_at}
 use Rattle.req_table.specs.Settled.{IsDistinctOf, key_of, asked, asked_by, is_owned}
 use Rattle.req_table.specs.Keys.{record_of, wave_at}
 use Rattle.req_table.proofs.Lists.{Has, has_of, contains_of, all_of, Has-append_right}
-use Rattle.req_table.proofs.Admits.{next_of, Admits-admitted}
+use Rattle.req_table.proofs.Admits.{Admits-admitted}
+use Rattle.wave_core.proofs.Admits.{next_of}
 use Rattle.req_table.proofs.Fair.{counted_of_closed, closed_of_counted}
 use Rattle.req_table.proofs.Closure.{map-append_lem}
 use Rattle.wave_core.specs.declared.Event.TheVariants.{Expand}

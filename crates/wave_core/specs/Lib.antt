@@ -6,3 +6,4 @@ pub mod View
 pub mod Counting
 pub mod Cores
 pub mod Fall
+pub mod Tables

@@ -13,9 +13,10 @@ use crate::lists::{
     Items, Keys, Lane, Row, append, count_items, count_levels, count_records, put_both,
 };
 use crate::start::{deal, tables};
+use crate::{Records, Table};
 use dd_store::Store;
 use req_table::requests::{level_of, owner, split};
-use req_table::{Child, Item, Key, Record, Records, Table};
+use req_table::{Child, Item, Key, Record};
 use std::alloc::{AllocError, Global};
 use std::marker::Model;
 
@@ -369,11 +370,7 @@ impl Machine {
         };
         self.taken[lane].put(&item)?;
         match item {
-            Item::Ask {
-                from: _,
-                level,
-                key,
-            } => {
+            Item::Ask { level, key, .. } => {
                 if level >= self.levels {
                     self.waiting[lane].pop();
                     return Ok(true);
@@ -390,7 +387,7 @@ impl Machine {
                     }
                 }
             }
-            Item::End { from, level: _ } => {
+            Item::End { from, .. } => {
                 if from >= self.workers {
                     self.waiting[lane].pop();
                     return Ok(true);

@@ -2,9 +2,10 @@
 ghost use Rattle.std.specs.Prelude.{◌≡◌, ◌*◌, ◌<◌, ◌≤◌, [], length, replicate, IfOk};
 ghost use Rattle.wave_core.specs.View.{AreDealt};
 
+use crate::Table;
 use crate::lists::Keys;
 use req_table::requests::owner;
-use req_table::{Key, Table};
+use req_table::Key;
 use std::alloc::{AllocError, Global};
 
 /// So many empty tables.

@@ -13,9 +13,9 @@ ghost use Rattle.wave_core.specs.Fall.{core_measure};
 
 use crate::events::all_events;
 use crate::machine::Machine;
-use crate::{CoreFault, Event};
+use crate::{CoreFault, Event, Records};
 use dd_store::Store;
-use req_table::{Item, Key, Record, Records};
+use req_table::{Item, Key, Record};
 use std::alloc::{AllocError, Global};
 use std::marker::Model;
 

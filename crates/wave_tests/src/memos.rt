@@ -12,8 +12,7 @@ use expand_work::{Free, WaveFault};
 use gate_plan::{Circuits, build};
 use net_order::order::{Match, Order};
 use net_order::pairing::pair;
-use reduce_up::wave_one;
-use req_table::requests::{child_known, normal, short, split_known};
+use req_table::requests::{normal, short};
 use req_table::{Child, Key, Memo, Op};
 use std::alloc::Global;
 use std::process::Abort;
@@ -21,6 +20,7 @@ use std::sync::Wait;
 use std::sync::atomic::Ordering;
 use std::test::Fail;
 use std::thread::Threads;
+use wave_doors::{child_known, split_known, wave_one};
 use wave_engine::wave;
 
 /// The first two variables of a store.
@@ -50,7 +50,10 @@ fn ask<R: Threads + Wait + Sync>(
     ensures known { IfOk result (Has store.new) }
 {
     let answers = match way {
-        Way::Alone(choices) => wave_one(rt, alloc, store, memo, &[entry], 2, choices)?,
+        Way::Alone(choices) => {
+            let crew = crew_of(rt, alloc, 2, &Free);
+            wave_one(&crew, store, memo, &[entry], choices)?
+        }
         Way::Threads => {
             let crew = crew_of(rt, alloc, 2, &Free);
             wave(&crew, store, memo, &[entry])?

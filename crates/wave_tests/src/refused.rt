@@ -7,16 +7,16 @@ ghost use Rattle.reduce_up.specs.Waves.{IsClosureOf};
 use crate::waves::{WAYS, Way, known_at, node, only, request, run, start};
 use counter_walk::value;
 use dd_store::{Ref, Store};
-use expand_work::{Free, WaveFault, expand_all};
-use reduce_up::law::closures_are_records;
-use reduce_up::reduce;
-use req_table::{Key, Op, Record, Records};
+use expand_work::{Free, WaveFault};
+use req_table::{Key, Op, Record};
 use std::alloc::Global;
 use std::process::Abort;
 use std::sync::Wait;
 use std::test::Fail;
 use std::thread::Threads;
-use wave_core::Core;
+use wave_core::{Core, Records};
+use wave_doors::law::closures_are_records;
+use wave_doors::{expand_all, reduce};
 
 // Places in the list of known references: the constants, the variables by level, and the answers.
 const A: usize = 2;

@@ -10,17 +10,17 @@ ghost use Rattle.reduce_up.specs.Waves.{IsEntry, IsClosureOf};
 use dd_store::{Ref, Store, Watch};
 use expand_work::{Crew, Free, Gate, WaveFault, Workers};
 use gate_plan::conjoin;
-use reduce_up::law::closures_are_records;
-use reduce_up::{Results, reduce, wave_one};
 use req_table::requests::{normal, short};
-use req_table::{Key, Memo, Op, Records};
+use req_table::{Key, Memo, Op};
 use std::alloc::Global;
 use std::process::Abort;
 use std::sync::Wait;
 use std::sync::atomic::{AtomicU32, Ordering};
 use std::test::Fail;
 use std::thread::Threads;
-use wave_core::Core;
+use wave_core::{Core, Records};
+use wave_doors::law::closures_are_records;
+use wave_doors::{Results, reduce, wave_one};
 use wave_engine::wave;
 
 // Operands are places in a list of known references: the constants, the variables by level, and the answers so far.
@@ -172,7 +172,10 @@ fn answers_of<R: Threads + Wait + Sync>(
 {
     let mut memo = Memo::new(alloc, 8)?;
     match way {
-        Way::Alone(choices) => wave_one(rt, alloc, store, &mut memo, entries, workers, choices),
+        Way::Alone(choices) => {
+            let crew = crew_of(rt, alloc, workers, &Free);
+            wave_one(&crew, store, &mut memo, entries, choices)
+        }
         Way::Threads => {
             let crew = crew_of(rt, alloc, workers, &Free);
             wave(&crew, store, &mut memo, entries)

@@ -6,7 +6,7 @@ ghost use Rattle.req_table.specs.Keys.{IsKey};
 use crate::meeting::{Meeting, TURNS, wait_for};
 use crate::requests::{REACHED, five_roots, keys_of, request, store_of, store_of_six, variable};
 use dd_store::{Ref, Store, Watch};
-use expand_work::{Crew, Free, Gate, Parts, Spaces, Workers, expand_all, expand_parts};
+use expand_work::{Crew, Free, Gate, Parts, Spaces, Workers, expand_parts};
 use lane_queue::Port;
 use reduce_up::{Rooms, shared_wave};
 use req_table::requests::owner;
@@ -15,6 +15,7 @@ use std::alloc::Global;
 use std::process::Abort;
 use std::sync::atomic::{AtomicBool, Ordering};
 use std::test::Fail;
+use wave_doors::expand_all;
 use wave_engine::wave;
 
 /// How many loads the ports put together.

@@ -5,10 +5,11 @@ ghost use Rattle.req_table.specs.Keys.{IsKey};
 
 use dd_store::{Ref, Store};
 use req_table::requests::{child, level_of, normal, owner, short, split};
-use req_table::{Child, Key, Op, Operation, Record, Records, Table};
+use req_table::{Child, Key, Op, Operation, Record};
 use std::alloc::Global;
 use std::process::Abort;
 use std::test::Fail;
+use wave_core::{Records, Table};
 
 /// A store of so many levels that has all its variables.
 pub fn store_of(rt: &impl Abort, alloc: Global, levels: u16) -> Store

@@ -9,7 +9,7 @@ ghost use Rattle.expand_work.specs.Worked.{IsFresh, IsWorked};
 use crate::lanes::end;
 use crate::meeting::{TURNS, wait_for};
 use dd_store::{Ref, Store, Watch};
-use expand_work::{Free, Gate, Part, Space, WorkFault, work};
+use expand_work::{Free, Gate, Part, Site, Space, WorkFault, work};
 use lane_queue::{Lanes, Port};
 use req_table::requests::{normal, short};
 use req_table::{Key, Op, Placed, PlacedChild};
@@ -149,7 +149,14 @@ fn work_alone<R: Wait + Abort, G: Gate>(
 {
     let (lanes, mut ports) = open(alloc, store, 1)?;
     let port = ports.pop().expect(rt, "no port");
-    work(rt, alloc, &lanes, port, store, &[root], gate, stop)
+    let site = Site {
+        alloc,
+        lanes: &lanes,
+        store,
+        roots: &[root],
+        stop,
+    };
+    work(rt, site, port, None, gate)
 }
 
 /// Whether a level has this one request with these children.
@@ -239,7 +246,14 @@ fn work_until_told<R: Wait>(
     requires fresh { IsFresh port }
     requires sizes { lanes.now.sizes ≡ sizes_of store.now }
 {
-    let fault = work(rt, alloc, lanes, port, store, &[], &Free, stop).err();
+    let site = Site {
+        alloc,
+        lanes,
+        store,
+        roots: &[],
+        stop,
+    };
+    let fault = work(rt, site, port, None, &Free).err();
     ended.store(true, Ordering::SeqCst);
     fault
 }

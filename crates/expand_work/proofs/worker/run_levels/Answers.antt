@@ -10,4 +10,4 @@ pub returns : goal.returns
 returns g c =
     let w = c.loop-level.worker in
     let over : c.loop-level.level ≡ c.args.site.store.now.levels = (let a = c.loop-level.auto.level-end in let b = c.loop-level-test.false in let n = c.levels-level-end.ensures.value in omega (arith, a, b, n)) in
-    ends_worked c.args.site.lanes.now c.args.site.store.now c.args.site.roots.now c.args.port.number w (record { port = w.port; space = record { tables = w.tables; rows = w.rows; noted = w.noted; spare = w.spare } }) (subst (λ n. IsWorking c.args.site.lanes.now c.args.site.store.now c.args.site.roots.now n w) over c.loop-level.invariant.0) (c.number-own.ensures.lists ∙ width c.args.site.lanes.now w.port c.loop-level.invariant.0.port) (c.loop-level.invariant.1 ∙ c.in_ok-worker.ensures.1) refl
+    ends_worked c.args.site.lanes.now c.args.site.store.now c.args.site.roots.now c.args.port.number w (record { port = w.port; space = record { tables = w.tables; rows = w.rows; noted = w.senders.noted; spare = w.senders.spare } }) (subst (λ n. IsWorking c.args.site.lanes.now c.args.site.store.now c.args.site.roots.now n w) over c.loop-level.invariant.0) (c.number-own.ensures.lists ∙ width c.args.site.lanes.now w.port c.loop-level.invariant.0.port) (c.loop-level.invariant.1 ∙ c.in_ok-worker.ensures.1) refl

@@ -39,9 +39,9 @@ pub returns-in-Err-clause-row : goal.returns-in-Err-clause-row
 returns-in-Err-clause-row g c =
     let n = c.args.field.workers in let p = c.args.field.parts.now in let a = arc_value c.args.progress.now.answers in
     let T = told n p a in let row = team_row n p c.args.level in
-    row_given_up c.args.store.now T c.args.level row 0 c.level_answers.new.store T c.wave_fault.result
+    row_given_up c.args.store.now T c.args.level row 0 c.level_answers.new.store T c.from.result
     (added c.args.store.now T c.args.level row c.requires.ready.held c.requires.ready.answers c.requires.ready.row c.level_answers.new.store c.level_answers.ensures.sound c.level_answers.ensures.adds)
-    (subst (IsRowFault c.level_answers.new.store c.args.level row) (sym c.wave_fault.ensures)
+    (subst (IsRowFault c.level_answers.new.store c.args.level row) (sym c.from.ensures)
     (refused c.args.store.now T c.args.level row c.requires.ready.held c.requires.ready.answers c.requires.ready.row c.level_answers.new.store c.level_answers.ensures.sound c.level_answers.ensures.adds c.in-Err.fault c.in-Err.ensures.fault))
 
 pub returns-in_default-clause-row : goal.returns-in_default-clause-row

@@ -1,0 +1,36 @@
+use Rattle.std.proofs.Common.{rules, ◌≡◌, ◌≤◌, ◌++◌, ◌∷◌, [], length, sym, ◌∙◌, ap, subst, arith, eqb-true, length-append}
+use Rattle.std.proofs.lemmas.Result.{IfOk-weaker}
+use Rattle.std.specs.Prelude.{IfOk}
+use Rattle.std.specs.List.{AllZip}
+use Rattle.expand_work.specs.Team.{IsPromised}
+use Rattle.expand_work.specs.Worked.{IsWorked}
+use Rattle.expand_work.proofs.Teams.{all_worked, no_more_threads, each_has_its, judged}
+use Rattle.expand_work.proofs.team.work_all.Goals as goal
+
+pub join_all-others-requires : goal.join_all-others-requires
+join_all-others-requires g c =
+    let rest = c.pop.new.self.items in
+    let few = no_more_threads c.args.site.lanes.now c.args.site.store.now c.args.site.roots.now c.in_ok-children.children.items rest c.in_ok-children.ensures in
+    let n = ap (λ z. length z) c.in-Some.ensures.items in
+    let m = length-append rest (c.in-Some.own ∷ []) in
+    let k = c.in_ok-parts.ensures.capacity in
+    let e = c.len.ensures in
+    record { empty = c.in_ok-parts.ensures.items; room = omega (arith, few, n, m, k, e) }
+
+pub returns : goal.returns
+returns g c =
+    let l = c.args.site.lanes.now in
+    let s = c.args.site.store.now in
+    let r = c.args.site.roots.now in
+    let children = c.in_ok-children.children.items in
+    let ports = c.args.ports.items in
+    let rest = c.pop.new.self.items in
+    let own = c.in-Some.own in
+    let parts = judged _ _ c.with_last-joined.result c.judge.result c.judge.ensures (λ t.
+    let e = eqb-true c.len-2.result c.len-count.result t in
+    let works = each_has_its l s r children rest c.in_ok-children.ensures (let p = c.len-2.ensures in let m = c.len-count.ensures in search rules) in
+    IfOk-weaker c.with_last-joined.result _ _ (λ v j.
+    all_worked l ports rest own c.requires.ports c.in-Some.ensures.items s r children j.before.items v.items j.part works
+    (subst (λ z. IfOk z (λ w. AllZip IsPromised children w.items)) j.others_are c.join_all-others.ensures.parts)
+    (subst (λ z. IfOk z (λ p. IsWorked l s r own.number p)) j.last_is c.work-last.ensures) j.all) c.with_last-joined.ensures.parts) in
+    record { parts = parts; fault = search rules; unbounded = search rules }

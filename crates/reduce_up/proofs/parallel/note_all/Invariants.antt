@@ -1,6 +1,0 @@
-use Rattle.std.proofs.Common.{length}
-use Rattle.reduce_up.specs.Sharing.{NotesFirst}
-use Rattle.reduce_up.proofs.parallel.note_all.Given as goal
-
-abbrev pub invariant-loop-entry : goal.invariant-loop-entry
-invariant-loop-entry l = NotesFirst l.fn.results l.row l.answers (length l.yielded) l.results

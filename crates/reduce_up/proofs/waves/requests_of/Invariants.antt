@@ -1,6 +1,0 @@
-use Rattle.std.proofs.Common.{◌≡◌, take}
-use Rattle.reduce_up.specs.Waves.{requests_of}
-use Rattle.reduce_up.proofs.waves.requests_of.Given as goal
-
-abbrev pub invariant-loop-entry : goal.invariant-loop-entry
-invariant-loop-entry l = l.keys.items ≡ requests_of (take l.entry-index l.entries)

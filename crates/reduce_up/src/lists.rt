@@ -1,0 +1,48 @@
+//! A list of pairs of children for each shard of a level.
+ghost use Rattle.std.specs.Prelude.{◌≡◌, ℕ, length, IfOk, OnOk};
+ghost use Rattle.dd_store.specs.Levels.{list_at};
+
+use dd_store::{Ref, SHARDS};
+use std::alloc::{AllocError, Global};
+
+/// A list for each shard, without pairs and with room for some.
+pub fn empty_lists(alloc: Global, room: usize) -> Result<Vec<Vec<(Ref, Ref)>>, AllocError>
+    ensures sixteen { IfOk result (λ lists. length lists.items ≡ 16) }
+    ensures empty { IfOk result (λ lists. (s : ℕ) → length (list_at lists.items s) ≡ 0) }
+{
+    let mut lists = Vec::with_capacity(alloc, SHARDS)?;
+    for _ in 0..SHARDS {
+        lists.push(Vec::with_capacity(alloc, room)?)?;
+    }
+    Ok(lists)
+}
+
+/// Removes all pairs of each list, and makes room for some.
+fn clear_lists(lists: &mut Vec<Vec<(Ref, Ref)>>, room: usize) -> Result<(), AllocError>
+    ensures same { length lists.new.items ≡ length lists.old.items }
+    ensures empty { OnOk result ((s : ℕ) → length (list_at lists.new.items s) ≡ 0) }
+{
+    for place in 0..lists.len() {
+        let list = &mut lists[place];
+        list.clear();
+        list.reserve_exact(room)?;
+    }
+    Ok(())
+}
+
+/// A list for each shard, without pairs and with room for some, in the memory of other lists where these are as many.
+pub(crate) fn emptied_lists(
+    alloc: Global,
+    used: Vec<Vec<(Ref, Ref)>>,
+    room: usize,
+) -> Result<Vec<Vec<(Ref, Ref)>>, AllocError>
+    ensures sixteen { IfOk result (λ lists. length lists.items ≡ 16) }
+    ensures empty { IfOk result (λ lists. (s : ℕ) → length (list_at lists.items s) ≡ 0) }
+{
+    let mut lists = used;
+    if lists.len() != SHARDS {
+        return empty_lists(alloc, room);
+    }
+    clear_lists(&mut lists, room)?;
+    Ok(lists)
+}

@@ -1,0 +1,9 @@
+pub mod Dividing
+pub mod Driven
+pub mod Placing
+pub mod Reduction
+pub mod Rooted
+pub mod Shared
+pub mod Splits
+pub mod Memos
+pub mod Merging

@@ -1,0 +1,25 @@
+-- Records by level, and their reduction from the last level up.
+use Rattle.std.specs.Prelude.{◌≡◌, ℕ, ◌<◌, ◌≤◌, ◌⊎◌, Bool, true, false, List, length, All, Contains}
+use Rattle.dd_store.specs.declared.reference.Ref.{Ref}
+use Rattle.req_table.specs.declared.Key.{Key}
+use Rattle.req_table.specs.declared.Child.{Child}
+use Rattle.req_table.specs.declared.Child.TheVariants.{Done, Ask}
+use Rattle.req_table.specs.declared.Record.{Record}
+use Rattle.expand_work.specs.declared.fault.WaveFault.{WaveFault}
+use Rattle.expand_work.specs.declared.fault.WaveFault.TheVariants as wave_faults
+use Rattle.dd_store.specs.Functions.{Agree}
+use Rattle.dd_store.specs.Nodes.{Nodes, IsSound, count_of}
+use Rattle.reduce_up.specs.Reducing.{IsRecordAt, AreAnswers, HasAnswer, AddsDescribed, LacksAnswer}
+use Rattle.req_table.specs.Keys.{IsKey, level_of, child_of, meaning}
+use Rattle.req_table.specs.Tables.{row_at}
+use Rattle.reduce_up.specs.Levels.{IsAsked}
+
+-- a row for each level, of keys of the store at their level with the children that requests have, whose requests are recorded
+pub record AreSplits (s : Nodes) (rows : List (List Record)) : Type 0 where
+  pub levels : length rows ≡ s.levels
+  pub keys : (v : ℕ) → v < s.levels → All (λ r. IsKey s r.key) (row_at rows v)
+  pub placed : (v : ℕ) → v < s.levels → All (λ r. level_of s r.key ≡ v) (row_at rows v)
+  pub low : (v : ℕ) → v < s.levels → All (λ r. r.low ≡ child_of s r.key false) (row_at rows v)
+  pub high : (v : ℕ) → v < s.levels → All (λ r. r.high ≡ child_of s r.key true) (row_at rows v)
+  pub low_asked : (v : ℕ) → v < s.levels → All (λ r. IsAsked rows r.low) (row_at rows v)
+  pub high_asked : (v : ℕ) → v < s.levels → All (λ r. IsAsked rows r.high) (row_at rows v)

@@ -1,0 +1,227 @@
+//! The diagrams of a wave's requests, by level.
+ghost use Rattle.std.specs.Prelude.{◌≡◌, ◌<◌, ◌≤◌, OnOk, OnErr, IfOk, MatchOption, IsTrue, Contains, All, [], length};
+ghost use Rattle.dd_store.specs.Graph.{top};
+ghost use Rattle.req_table.specs.declared.Key.{Key as KeyValue};
+ghost use Rattle.reduce_up.specs.Reducing.{HasAnswer, IsReady, IsResolved, Notes};
+ghost use Rattle.reduce_up.specs.Sharing.{NotesFirst};
+ghost use Rattle.reduce_up.specs.Placed.{place_of, paired, joined, ArePlaced};
+ghost use Rattle.wave_doors.specs.Placed.{IsIndexOf};
+
+use crate::parallel::note_all;
+use dd_store::{Ref, Reference};
+use req_table::{Child, Key, Record};
+use slot_table::{Placed, SlotTable};
+use std::alloc::{AllocError, Global};
+use std::marker::Model;
+
+/// The level of a terminal: past all levels that a store can have.
+const PAST: usize = 4096;
+
+/// The level of what a reference refers to.
+fn depth(reference: Ref) -> usize
+    ensures { result ≡ top 4096 reference }
+{
+    match reference.view() {
+        Reference::Node { id, .. } => id.level as usize,
+        _ => PAST,
+    }
+}
+
+/// The level of a request.
+fn place_of(key: Key) -> usize
+    ensures { result ≡ place_of key }
+{
+    let first = depth(key.f());
+    let second = depth(key.g());
+    if first < second { first } else { second }
+}
+
+/// The diagrams of some requests, by the places of their keys.
+#[derive(Drop)]
+struct Answered {
+    keys: SlotTable<Key>,
+    answers: Vec<Ref>,
+}
+
+impl Model for Answered {
+    ghost use Rattle.std.specs.Prelude.{◌≡◌, List, length};
+    ghost use Rattle.req_table.specs.declared.Key.{Key};
+    ghost use Rattle.dd_store.specs.declared.reference.Ref.{Ref};
+    ghost use Rattle.reduce_up.specs.Placed.{paired};
+
+    ghost Value = { List (Key × Ref) };
+
+    ghost view = { λ a. paired a.keys a.answers.items };
+
+    ghost invariant = { λ a. length a.keys ≡ length a.answers.items };
+}
+
+impl Answered {
+    /// None.
+    fn new(alloc: Global) -> Answered
+        ensures { result ≡ [] }
+    {
+        Answered {
+            keys: SlotTable::new(alloc),
+            answers: Vec::new(alloc),
+        }
+    }
+
+    /// Those of keys, in their order.
+    fn of(keys: SlotTable<Key>, answers: Vec<Ref>) -> Answered
+        requires { length keys ≡ length answers.items }
+        ensures { result ≡ paired keys answers.items }
+    {
+        Answered { keys, answers }
+    }
+
+    /// Whether there is none.
+    fn is_empty(&self) -> bool
+        ensures { IsTrue result → self.now ≡ [] }
+    {
+        self.keys.len() == 0
+    }
+
+    /// The diagram of a request.
+    fn find(&self, key: Key) -> Option<Ref>
+        ensures { MatchOption result (HasAnswer self.now key → ⊥) (λ r. Contains self.now (key, r)) }
+    {
+        match self.keys.find(key) {
+            Some(place) => Some(self.answers[place as usize]),
+            None => None,
+        }
+    }
+
+    /// Notes the diagram of a request that has none.
+    fn note(&mut self, key: Key, answer: Ref) -> Result<(), AllocError>
+        ensures noted { OnOk result (Notes self.old key answer self.new) }
+        ensures refused { OnErr result (self.new ≡ self.old) }
+    {
+        self.answers.reserve(1)?;
+        let room = (u32::MAX as u64).saturating_sub(self.keys.len() as u64);
+        match self.keys.find_or_add(key, room) {
+            Ok(Placed::Added(_)) => {
+                self.answers.push_reserved(answer);
+                Ok(())
+            }
+            Ok(Placed::Found(_)) => Ok(()),
+            Err(_) => Err(AllocError),
+        }
+    }
+}
+
+/// The keys of a row, each once, in order, with slots by which they are found.
+pub(crate) fn index_of(alloc: Global, row: &[Record]) -> Result<SlotTable<Key>, AllocError>
+    ensures { IfOk result (λ keys. IsIndexOf row.now keys) }
+{
+    let mut keys = SlotTable::new(alloc);
+    for entry in row {
+        let room = (u32::MAX as u64).saturating_sub(keys.len() as u64);
+        if keys.find_or_add(entry.key, room).is_err() {
+            return Err(AllocError);
+        }
+    }
+    Ok(keys)
+}
+
+/// Makes a row for each level up to this one.
+fn grow(rows: &mut Vec<Answered>, place: usize) -> Result<(), AllocError>
+    requires { ArePlaced rows.old.items }
+    ensures same { joined rows.new.items ≡ joined rows.old.items }
+    ensures placed { ArePlaced rows.new.items }
+    ensures long { OnOk result (place < length rows.new.items) }
+{
+    let alloc = *rows.allocator();
+    while rows.len() <= place {
+        rows.push(Answered::new(alloc))?;
+    }
+    Ok(())
+}
+
+/// The diagram of each request.
+#[derive(Drop)]
+pub struct Results {
+    rows: Vec<Answered>,
+}
+
+impl Model for Results {
+    ghost use Rattle.std.specs.Prelude.{List};
+    ghost use Rattle.req_table.specs.declared.Key.{Key};
+    ghost use Rattle.dd_store.specs.declared.reference.Ref.{Ref};
+    ghost use Rattle.reduce_up.specs.Placed.{joined, ArePlaced};
+
+    ghost Value = { List (Key × Ref) };
+
+    ghost view = { λ r. joined r.rows.items };
+
+    ghost invariant = { λ r. ArePlaced r.rows.items };
+}
+
+impl Results {
+    /// No diagrams.
+    pub(crate) fn new(alloc: Global) -> Results
+        ensures { result ≡ [] }
+    {
+        Results {
+            rows: Vec::new(alloc),
+        }
+    }
+
+    /// The allocator of the diagrams.
+    pub(crate) fn alloc(&self) -> Global {
+        *self.rows.allocator()
+    }
+
+    /// Notes the diagram of a request, if it has none.
+    pub(crate) fn note(&mut self, key: Key, answer: Ref) -> Result<(), AllocError>
+        ensures noted { OnOk result (Notes self.old key answer self.new) }
+        ensures refused { OnErr result (self.new ≡ self.old) }
+    {
+        let place = place_of(key);
+        grow(&mut self.rows, place)?;
+        self.rows[place].note(key, answer)
+    }
+
+    /// Notes the diagrams of a row of records of a level, whose keys these are where they are as many.
+    pub(crate) fn put_row(
+        &mut self,
+        level: u16,
+        row: &[Record],
+        keys: SlotTable<Key>,
+        answers: Vec<Ref>,
+    ) -> Result<(), AllocError>
+        requires long { length answers.items ≡ length row.now }
+        requires index { IsIndexOf row.now keys }
+        requires placed { All (λ r. place_of r.key ≡ level) row.now }
+        ensures left { NotesFirst self.old row.now answers.items 0 self.new }
+        ensures whole { OnOk result (NotesFirst self.old row.now answers.items (length row.now) self.new) }
+    {
+        let place = level as usize;
+        grow(&mut self.rows, place)?;
+        if keys.len() == row.len() && self.rows[place].is_empty() {
+            self.rows[place] = Answered::of(keys, answers);
+            return Ok(());
+        }
+        note_all(self, row, answers.as_slice())
+    }
+
+    /// The diagram of a request.
+    pub fn get(&self, key: &Key) -> Ref
+        requires { HasAnswer self.now key.now }
+        ensures { Contains self.now (key.now, result) }
+    {
+        let place = place_of(*key);
+        self.rows[place].find(*key).unwrap()
+    }
+
+    /// The diagram of a child.
+    pub(crate) fn resolve(&self, child: Child) -> Ref
+        requires { IsReady self.now child }
+        ensures { IsResolved self.now child result }
+    {
+        match child {
+            Child::Done(answer) => answer,
+            Child::Ask { key, mark, .. } => self.get(&key).marked(mark),
+        }
+    }
+}

@@ -1,0 +1,168 @@
+//! Waves on the caller's thread: the diagrams of a list of operations by the state machine of the workers.
+ghost use Rattle.std.specs.Prelude.{◌≡◌, ◌≢◌, ℕ, ◌<◌, ◌≤◌, All, IfOk, IfErr, OnErr, None};
+ghost use Rattle.std.specs.List.{AllZip};
+ghost use Rattle.req_table.specs.Short.{short_of};
+ghost use Rattle.req_table.specs.Keys.{normal_of, IsKey};
+ghost use Rattle.req_table.specs.Memos.{IsRight};
+ghost use Rattle.reduce_up.specs.Known.{unknown, IsKeptWave};
+ghost use Rattle.reduce_up.specs.Reducing.{HasAnswer};
+ghost use Rattle.reduce_up.specs.Waves.{IsEntry, AnswersWave, IsClosureOf, requests_of, IsTakenFrom};
+
+use crate::levels::reduce;
+use crate::results::Results;
+use dd_store::{Ref, Store, Watch};
+use expand_work::{Crew, Gate, WaveFault};
+use reduce_up::Sought;
+use req_table::requests::{normal, short};
+use req_table::{Key, Memo, Op};
+use std::alloc::{AllocError, Global};
+use std::thread::Threads;
+use wave_core::{Core, Records};
+
+/// The requests of the entries that have no short answer.
+fn requests_of(alloc: Global, entries: &[(Op, Ref, Ref)]) -> Result<Vec<Key>, AllocError>
+    ensures { IfOk result (λ keys. keys.items ≡ requests_of entries.now) }
+{
+    let mut keys = Vec::new(alloc);
+    for entry in entries {
+        let (op, f, g) = *entry;
+        if short(op, f, g).is_none() {
+            let (key, _) = normal(op, f, g);
+            keys.push(key)?;
+        }
+    }
+    Ok(keys)
+}
+
+/// The diagram of an entry: its short answer, or that of its request.
+fn answer_of(op: Op, f: Ref, g: Ref, results: &Results) -> Ref
+    requires { short_of op f g ≡ None → HasAnswer results.now (normal_of op f g).0 }
+    ensures { IsTakenFrom results.now (short_of op f g) (op, f, g) result }
+{
+    match short(op, f, g) {
+        Some(answer) => answer,
+        None => {
+            let (key, mark) = normal(op, f, g);
+            results.get(&key).marked(mark)
+        }
+    }
+}
+
+/// The diagrams of the entries.
+fn answers_of(
+    alloc: Global,
+    entries: &[(Op, Ref, Ref)],
+    results: &Results,
+) -> Result<Vec<Ref>, AllocError>
+    requires { All (HasAnswer results.now) (requests_of entries.now) }
+    ensures { IfOk result (λ answers. AllZip (λ e r. IsTakenFrom results.now (short_of e.0 e.1 e.2) e r) entries.now answers.items) }
+{
+    let mut answers = Vec::new(alloc);
+    for entry in entries {
+        let (op, f, g) = *entry;
+        answers.push(answer_of(op, f, g, results))?;
+    }
+    Ok(answers)
+}
+
+/// The records of all requests that the roots ask for, by the state machine of the workers, which the choices drive.
+fn closure_of(
+    alloc: Global,
+    store: &Store,
+    workers: u32,
+    roots: &[Key],
+    choices: &[u8],
+) -> Result<Records, AllocError>
+    requires workers { (0 < workers) × (workers ≤ 16) }
+    requires roots { All (IsKey store.now) roots.now }
+    ensures { IfOk result (λ records. IsClosureOf store.now workers roots.now records) }
+{
+    let mut core = Core::new(alloc, store, workers, roots)?;
+    if core.drive(choices).is_err() {
+        return Err(AllocError);
+    }
+    core.into_records()
+}
+
+/// The diagram of each operation, by reduction of the records of all requests that they ask for.
+fn answer_closure<R: Threads + Sync, H: Watch + Sync>(
+    rt: &R,
+    alloc: Global,
+    store: &mut Store,
+    entries: &[(Op, Ref, Ref)],
+    records: &Records,
+    watch: &H,
+) -> Result<Vec<Ref>, WaveFault>
+    requires operands { All (IsEntry store.old) entries.now }
+    requires closure { (workers : ℕ) × (0 < workers) × IsClosureOf store.old workers (requests_of entries.now) records.now }
+    ensures wave { AnswersWave store.old entries.now entries.now result store.new }
+    ensures served { IfErr result (λ e. e ≢ WaveFault.NoWorker) }
+    ensures unbounded { IfErr result (λ e. e ≢ WaveFault.TooManyRequests) }
+{
+    let _ = store.levels();
+    let results = match reduce(rt, alloc, store, records, watch) {
+        Ok(results) => results,
+        Err(fault) => return Err(fault),
+    };
+    match answers_of(alloc, entries, &results) {
+        Ok(answers) => Ok(answers),
+        Err(_) => Err(WaveFault::OutOfMemory),
+    }
+}
+
+/// The diagram of each operation on its two operands, of which nothing is known.
+fn wave_alone<R: Threads + Sync, G: Gate>(
+    crew: &Crew<'_, R, G>,
+    store: &mut Store,
+    entries: &[(Op, Ref, Ref)],
+    choices: &[u8],
+) -> Result<Vec<Ref>, WaveFault>
+    requires operands { All (IsEntry store.old) entries.now }
+    ensures wave { AnswersWave store.old entries.now entries.now result store.new }
+    ensures served { IfErr result (λ e. e ≢ WaveFault.NoWorker) }
+    ensures unbounded { IfErr result (λ e. e ≢ WaveFault.TooManyRequests) }
+{
+    let _ = store.levels();
+    let (rt, alloc, gate) = (crew.rt, crew.alloc, crew.gate);
+    let workers = crew.workers.count();
+    let Ok(roots) = requests_of(alloc, entries) else {
+        return Err(WaveFault::OutOfMemory);
+    };
+    let Ok(records) = closure_of(alloc, store, workers, roots.as_slice(), choices) else {
+        return Err(WaveFault::OutOfMemory);
+    };
+    answer_closure(rt, alloc, store, entries, &records, gate)
+}
+
+/// The diagram of each operation on its two operands.
+///
+/// What has a short answer or is held in the memo is answered at once. The requests of all other operations together are expanded
+/// by the state machine of the workers on the caller's thread, which the choices drive, and reduced from the last level up. The
+/// memo then keeps them with their answers. The gate is told of shared levels alone.
+pub fn wave_one<R: Threads + Sync, G: Gate>(
+    crew: &Crew<'_, R, G>,
+    store: &mut Store,
+    memo: &mut Memo,
+    entries: &[(Op, Ref, Ref)],
+    choices: &[u8],
+) -> Result<Vec<Ref>, WaveFault>
+    requires operands { All (IsEntry store.old) entries.now }
+    requires right { IsRight store.old memo.old }
+    ensures wave { AnswersWave store.old entries.now (unknown memo.old entries.now) result store.new }
+    ensures served { IfErr result (λ e. e ≢ WaveFault.NoWorker) }
+    ensures unbounded { IfErr result (λ e. e ≢ WaveFault.TooManyRequests) }
+    ensures kept { IfOk result (λ answers. IsKeptWave memo.old entries.now answers.items memo.new) }
+    ensures refused { OnErr result (memo.new ≡ memo.old) }
+    ensures right { IsRight store.new memo.new }
+{
+    let _ = store.levels();
+    let mut sought = Sought::new(crew.alloc);
+    let Ok(_) = sought.seek(memo, entries) else {
+        return Err(WaveFault::OutOfMemory);
+    };
+    let found = wave_alone(crew, store, sought.requests(), choices)?;
+    match sought.settle(crew.alloc, memo, found.as_slice()) {
+        Ok(answers) => Ok(answers),
+        Err(_) => Err(WaveFault::OutOfMemory),
+    }
+}
