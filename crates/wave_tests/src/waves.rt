@@ -304,10 +304,10 @@ fn conjoined(rt: HostRuntime) -> Result<(), Fail> {
 fn reduced_within<R: Threads + Wait + Abort + Sync>(
     rt: &R,
     alloc: Global,
-    limit: u64,
+    limit: u32,
     choices: &[u8],
 ) -> Result<(), WaveFault> {
-    let mut store = Store::new(alloc, 4, limit)?;
+    let mut store = Store::new(alloc, 4, limit as u64)?;
     let known = start(rt, alloc, &mut store);
     let c = known_at(rt, &store, known.as_slice(), C);
     let d = known_at(rt, &store, known.as_slice(), D);

@@ -54,10 +54,10 @@ pub(crate) fn sums<R: Abort>(rt: &R, alloc: Global) -> Vec<Step> {
 fn sums_within<R: Threads + Wait + Abort + Sync>(
     rt: &R,
     alloc: Global,
-    limit: u64,
+    limit: u32,
     way: Way,
 ) -> Result<(), WaveFault> {
-    let mut store = Store::new(alloc, 66, limit)?;
+    let mut store = Store::new(alloc, 66, limit as u64)?;
     let mut known = start(rt, alloc, &mut store);
     let factors = products(rt, alloc, 66);
     run(
