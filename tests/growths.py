@@ -21,7 +21,7 @@ from refusals import compiled
 # Crates, and their tests by name.
 TESTS = [
     # `expand_all`: one request by four threads, and two requests by two.
-    ("worker_tests", "expanded::merged_roots"),
+    ("wave_tests", "expanded::merged_roots"),
     ("wave_tests", "refused::refused_expansion"),
     # `reduce` over one request that two roots ask for.
     ("wave_tests", "refused::refused_reduction"),

@@ -80,6 +80,3 @@ pub fn least_difference(
     }
     Ok(Some(bits))
 }
-
-#[cfg(test)]
-mod tests;

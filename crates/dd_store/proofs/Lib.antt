@@ -2,7 +2,6 @@ pub mod Adding
 pub mod AddingAll
 pub mod Canonical
 pub mod Dividing
-pub mod FourParts
 pub mod Growing
 pub mod Lacking
 pub mod Laws

@@ -55,8 +55,3 @@ impl fmt::Display for StoreFault {
         })
     }
 }
-
-#[cfg(test)]
-mod same_store;
-#[cfg(test)]
-mod tests;

@@ -1,9 +1,6 @@
 //! Level clocks: a worker counts, for each sender, the levels that the sender has ended, and so knows which levels are closed.
 #![tactic(auto)]
 
-#[cfg(test)]
-mod tests;
-
 ghost use Rattle.std.specs.Prelude.{◌≡◌, ℕ, ◌+◌, ◌<◌, ◌≤◌, List, length, slice_index, slice_set, All, IfOk, IsTrue, ◌↔◌, replicate};
 ghost use Rattle.level_close.specs.Counts.{Counts, AreAbove, AreAll};
 

@@ -9,11 +9,13 @@ use std::alloc::Global;
 pub struct Dripping {
     left: &'static [u8],
     reads_left: usize,
-    failed: bool,
+    pub(crate) failed: bool,
 }
 
 /// A reader at the beginning of a text, which fails behind so many reads.
-pub fn drip(text: &'static str, good_reads: usize) -> Dripping {
+pub fn drip(text: &'static str, good_reads: usize) -> Dripping
+    ensures { result.failed ≡ false }
+{
     Dripping {
         left: text.as_bytes(),
         reads_left: good_reads,

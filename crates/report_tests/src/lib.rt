@@ -1,15 +1,17 @@
-//! Tests of a whole check, with a condition, by attempts, and over devices that fail, and of the program's runs. They stand apart, since a crate with tests is
-//! proved twice.
+//! Tests of a whole check and of the program's runs, over devices that fail, with threads that meet, and of what is told meanwhile. They stand
+//! apart, since a crate with tests is proved twice. What the built program can show stands in tests/.
 #![tactic(auto)]
 
-#[cfg(test)]
-mod attempts;
-#[cfg(test)]
-mod conditions;
 #[cfg(test)]
 mod devices;
 #[cfg(test)]
 mod failing;
+#[cfg(test)]
+mod meetings;
+#[cfg(test)]
+mod progress;
+#[cfg(test)]
+mod quotes;
 #[cfg(test)]
 mod runs;
 #[cfg(test)]

@@ -1,13 +1,268 @@
-//! Runs of the program over a folder and devices in memory.
-mod dashes;
-mod devices;
-mod fault_lines;
-mod meetings;
-pub mod netlists;
-mod objects;
-mod orders;
-mod processes;
-mod progress;
-mod quotes;
-mod refusals;
-mod reports;
+//! Runs of the program over a folder and devices in memory, which fail where they are told to.
+ghost use Rattle.std.specs.Prelude.{◌≡◌, None, false};
+
+use crate::devices::{Dripping, End, Page, drip, new_page};
+use crate::failing::{AMPLE, C17, C17B, REPORT};
+use check_report::CheckFault;
+use check_tool::fault::{ToolFault, line_of, status_of_fault};
+use check_tool::folder::{Folder, Obstacle, OpenFault};
+use check_tool::process::{NoWords, status_of};
+use check_tool::progress::Meter;
+use check_tool::tool::run_tool;
+use expand_work::WaveFault;
+use std::alloc::{AllocError, Global};
+use std::rt::Clock;
+use std::sync::Wait;
+use std::test::Fail;
+use std::thread::Threads;
+
+/// What becomes of the files of a folder once they were opened.
+#[derive(Clone, Copy, Drop, PartialEq, Eq)]
+pub(crate) enum Later {
+    Stays,
+    /// Each file is opened once, and then gone.
+    Gone,
+    /// No file is a plain one.
+    NoFile,
+}
+
+/// A folder with the files `first`, `second` and `list`, one of which may fail at its end, and `forbidden`, which memory is wanting for. It
+/// notes the paths that it is asked for.
+#[derive(Drop)]
+pub(crate) struct Shelf {
+    pub(crate) second: &'static str,
+    pub(crate) list: &'static str,
+    pub(crate) failing: &'static str,
+    pub(crate) later: Later,
+    pub(crate) asked: Vec<u8>,
+}
+
+impl Shelf {
+    /// C17, C17 with another gate, and a list of their inputs.
+    pub(crate) fn new(alloc: Global) -> Shelf {
+        Shelf {
+            second: C17B,
+            list: "1 2 3 6 7",
+            failing: "",
+            later: Later::Stays,
+            asked: Vec::new(alloc),
+        }
+    }
+
+    /// Whether a path was asked for before.
+    fn was_asked(&self, path: &str) -> bool {
+        self.asked
+            .as_slice()
+            .split(|byte| *byte == b' ')
+            .any(|asked| asked == path.as_bytes())
+    }
+
+    /// A file of this text.
+    fn file(&self, path: &str, text: &'static str) -> Dripping
+        ensures { result.failed ≡ false }
+    {
+        if path == self.failing {
+            drip(text, text.len())
+        } else {
+            drip(text, AMPLE)
+        }
+    }
+}
+
+impl Folder for Shelf {
+    type File = Dripping;
+
+    ghost tries = { λ _. None };
+
+    ghost told = { λ _ _. None };
+
+    fn open(&mut self, path: &str) -> Result<Dripping, OpenFault> {
+        let gone = self.later == Later::Gone && self.was_asked(path);
+        let noted = self.asked.extend_from_slice(path.as_bytes()).is_ok()
+            && self.asked.push(b' ').is_ok();
+        if !noted {
+            return Err(OpenFault::OutOfMemory);
+        }
+        if gone {
+            return Err(OpenFault::Refused(Obstacle::Missing));
+        }
+        match path {
+            "first" => Ok(self.file(path, C17)),
+            "second" => Ok(self.file(path, self.second)),
+            "list" => Ok(self.file(path, self.list)),
+            "forbidden" => Err(OpenFault::OutOfMemory),
+            _ => Err(OpenFault::Refused(Obstacle::Missing)),
+        }
+    }
+
+    fn is_plain(&self, _path: &str) -> bool {
+        self.later != Later::NoFile
+    }
+}
+
+/// The words of a line.
+fn words_of(alloc: Global, line: &str) -> Result<Vec<String>, AllocError> {
+    let mut words = Vec::new(alloc);
+    for word in line.split_ascii_whitespace() {
+        words.push(String::from_str(alloc, word)?)?;
+    }
+    Ok(words)
+}
+
+/// The status of a run on the words of a line.
+pub(crate) fn ran<R: AllocGlobal + Eprint + Clock + Meter + Threads + Wait + Sync>(
+    rt: &R,
+    line: &str,
+    folder: &mut Shelf,
+    input: &mut Dripping,
+    out: &mut Page,
+    errors: &mut Page,
+) -> Result<u8, AllocError> {
+    let words = words_of(rt.alloc(), line)?;
+    Ok(run_tool(rt, rt.alloc(), words.as_slice(), folder, input, out, errors))
+}
+
+/// Words, the file that fails, the input, which fails too, the status, and the line behind the program's name.
+type Row = (&'static str, &'static str, &'static str, u8, &'static str);
+
+fn rows() -> [Row; 8] {
+    [
+        ("forbidden second", "", "", 3, "out of memory"),
+        ("first forbidden", "", "", 3, "out of memory"),
+        (
+            "--order-file forbidden first second",
+            "",
+            "",
+            3,
+            "out of memory",
+        ),
+        ("first second", "first", "", 2, "first: cannot be read"),
+        ("first second", "second", "", 2, "second: cannot be read"),
+        (
+            "--order-file list first second",
+            "list",
+            "",
+            2,
+            "order: cannot be read",
+        ),
+        ("", "", "%%\n", 2, "standard input: cannot be read"),
+        ("first -", "", C17, 2, "second: cannot be read"),
+    ]
+}
+
+#[test]
+fn files_that_fail(rt: HostRuntime) -> Result<(), Fail> {
+    for (line, failing, input, status, fault) in rows() {
+        let mut folder = Shelf::new(rt.alloc());
+        folder.failing = failing;
+        let mut input = drip(input, input.len());
+        let mut out = new_page(rt.alloc(), AMPLE, End::Fails, true);
+        let mut errors = new_page(rt.alloc(), AMPLE, End::Fails, true);
+        let ended = ran(&rt, line, &mut folder, &mut input, &mut out, &mut errors)?;
+        let want = format!(in rt.alloc(); "bddcheck: {fault}\n")?;
+        assert!(rt; errors.held.as_slice() == want.as_bytes(), "{line}");
+        assert!(rt; ended == status && out.held.is_empty(), "{line}");
+    }
+    Ok(())
+}
+
+/// The status of a run on words, over an output of so much room; and what is said on errors of so much room.
+fn ended_on<R: AllocGlobal + Eprint + Clock + Meter + Threads + Wait + Sync>(
+    rt: &R,
+    line: &str,
+    mut out: Page,
+    room: usize,
+) -> Result<(u8, Vec<u8>), AllocError> {
+    let mut folder = Shelf::new(rt.alloc());
+    let mut errors = new_page(rt.alloc(), room, End::Fails, true);
+    let status = ran(
+        rt,
+        line,
+        &mut folder,
+        &mut drip("", 1),
+        &mut out,
+        &mut errors,
+    )?;
+    Ok((status, errors.held))
+}
+
+#[test]
+fn outputs_that_fail(rt: HostRuntime) -> Result<(), Fail> {
+    let unwritten = b"bddcheck: report: cannot be written\n".as_slice();
+    for (room, end, flushes) in [
+        (0, End::Fails, true),
+        (5, End::Fails, true),
+        (5, End::TakesNone, true),
+        (AMPLE, End::Fails, false),
+    ] {
+        let out = new_page(rt.alloc(), room, end, flushes);
+        let (status, said) = ended_on(&rt, "first second", out, AMPLE)?;
+        assert!(rt; status == 3 && said.as_slice() == unwritten, "{room}");
+    }
+    let help = new_page(rt.alloc(), 5, End::Fails, true);
+    let (status, _) = ended_on(&rt, "--help", help, AMPLE)?;
+    assert!(rt; status == 3);
+    Ok(())
+}
+
+// The status is the same where nothing can be said.
+#[test]
+fn errors_that_fail(rt: HostRuntime) -> Result<(), Fail> {
+    for (line, want) in [
+        ("first second", 1),
+        ("first", 2),
+        ("--limit x", 2),
+        ("--limit 12 first second", 3),
+    ] {
+        let out = new_page(rt.alloc(), AMPLE, End::Fails, true);
+        let (status, said) = ended_on(&rt, line, out, 0)?;
+        assert!(rt; status == want && said.is_empty(), "{line}");
+    }
+    Ok(())
+}
+
+#[test]
+fn no_words(rt: HostRuntime) -> Result<(), Fail> {
+    let mut out = new_page(rt.alloc(), AMPLE, End::Fails, true);
+    let mut errors = new_page(rt.alloc(), AMPLE, End::Fails, true);
+    let status = status_of(
+        &rt,
+        Err(NoWords::OutOfMemory),
+        &mut Shelf::new(rt.alloc()),
+        &mut drip("", 1),
+        &mut out,
+        &mut errors,
+    );
+    assert!(rt; errors.held.as_slice() == b"bddcheck: out of memory\n".as_slice());
+    assert!(rt; status == 3 && out.held.is_empty());
+    Ok(())
+}
+
+// No run of the program has a gate that bounds its requests.
+#[test]
+fn line_of_a_bound(rt: HostRuntime) -> Result<(), Fail> {
+    let fault = ToolFault::Check(CheckFault::Wave(WaveFault::TooManyRequests));
+    let line = line_of(rt.alloc(), fault)?;
+    assert!(rt; line.as_str() == "bddcheck: build: more requests than the gate allows\n");
+    assert!(rt; status_of_fault(fault) == 3);
+    Ok(())
+}
+
+#[test]
+fn plain_run(rt: HostRuntime) -> Result<(), Fail> {
+    let mut folder = Shelf::new(rt.alloc());
+    let mut out = new_page(rt.alloc(), AMPLE, End::Fails, true);
+    let mut errors = new_page(rt.alloc(), AMPLE, End::Fails, true);
+    let words = "--order-file list first -";
+    let status = ran(
+        &rt,
+        words,
+        &mut folder,
+        &mut drip(C17B, AMPLE),
+        &mut out,
+        &mut errors,
+    )?;
+    assert!(rt; status == 1 && errors.held.is_empty());
+    assert!(rt; out.held.as_slice() == REPORT.as_bytes());
+    Ok(())
+}

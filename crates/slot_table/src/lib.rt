@@ -333,6 +333,3 @@ impl<T: Spread> SlotTable<T> {
         self.slots.clear();
     }
 }
-
-#[cfg(test)]
-mod tests;

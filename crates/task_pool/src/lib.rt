@@ -10,8 +10,6 @@ mod mail;
 mod pool;
 mod start;
 mod task;
-#[cfg(test)]
-mod tests;
 mod threads;
 
 pub use lane::{Line, Seat, open};

@@ -1,1 +1,2 @@
+pub mod FourParts
 pub mod Known

@@ -86,13 +86,12 @@ fn within<R: Threads + Wait + Abort + Sync>(
 #[test]
 fn bound_of_a_wave(rt: HostRuntime) -> Result<(), Fail> {
     let done = within(&rt, rt.alloc(), 7)?;
-    assert_eq!(rt; done.fault, None);
-    assert_eq!(rt; (done.told, done.workers), (7, 0));
+    assert!(rt; done.fault.is_none() && done.told == 7 && done.workers == 0);
     assert!(rt; done.added > 0);
     for most in [0, 1, 2, 3, 6] {
         let refused = within(&rt, rt.alloc(), most)?;
-        assert_eq!(rt; refused.fault, Some(WaveFault::TooManyRequests));
-        assert_eq!(rt; (refused.told, refused.workers, refused.added), (0, 0, 0));
+        assert!(rt; refused.fault == Some(WaveFault::TooManyRequests));
+        assert!(rt; refused.told == 0 && refused.workers == 0 && refused.added == 0);
     }
     Ok(())
 }

@@ -87,11 +87,8 @@ fn call_in<R: Threads + Wait + Abort + Sync>(
         let steps = pairs(rt, alloc, Op::Xor, SUMS + *behind as usize, *count);
         let made = run_engine(rt, &mut engine, &mut store, &mut known, steps.as_slice());
         assert!(rt; made.is_ok());
-        assert_eq!(rt;
-            gate.called.load(Ordering::SeqCst),
-            *called,
-            "{behind} {count}"
-        );
+        let heard = gate.called.load(Ordering::SeqCst);
+        assert!(rt; heard == *called, "{behind} {count}");
     }
     Ok(())
 }

@@ -1,18 +1,38 @@
-//! Tests of reduction, of waves and of plans, by their public calls alone.
+//! Tests of the store, of workers, of waves and of plans, by their public calls alone.
 #![tactic(auto)]
 
 #[cfg(test)]
 mod bounds;
 #[cfg(test)]
+mod clocks;
+#[cfg(test)]
+mod cores;
+#[cfg(test)]
 mod earlier;
 #[cfg(test)]
-mod marks;
+mod expanded;
+#[cfg(test)]
+mod lanes;
+#[cfg(test)]
+mod meeting;
 #[cfg(test)]
 mod memos;
 #[cfg(test)]
 mod plans;
 #[cfg(test)]
+mod pools;
+#[cfg(test)]
 mod refused;
+#[cfg(test)]
+mod requests;
+#[cfg(test)]
+mod same_store;
+#[cfg(test)]
+mod stores;
+#[cfg(test)]
+mod tables;
+#[cfg(test)]
+mod walks;
 #[cfg(test)]
 mod waves;
 #[cfg(test)]
@@ -21,3 +41,5 @@ mod ways;
 mod wide;
 #[cfg(test)]
 mod widths;
+#[cfg(test)]
+mod workers;

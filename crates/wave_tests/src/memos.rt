@@ -1,26 +1,24 @@
 //! Waves that know of earlier ones by a memo.
 ghost use Rattle.std.specs.Prelude.{◌≡◌, ◌≤◌, IfOk};
 ghost use Rattle.dd_store.specs.View.{Has, Keeps};
-ghost use Rattle.req_table.specs.Keys.{IsKey};
 ghost use Rattle.req_table.specs.Memos.{IsRight};
 ghost use Rattle.reduce_up.specs.Waves.{IsEntry};
 
-use crate::plans::{C17, read};
+use crate::plans::{C17, built, read};
+use crate::requests::request_for;
 use crate::waves::{Narrow, WAYS, Way, crew_of};
 use dd_store::{Ref, Store};
 use expand_work::{Free, WaveFault};
-use gate_plan::{Circuits, build};
 use net_order::order::{Match, Order};
 use net_order::pairing::pair;
-use req_table::requests::{normal, short};
-use req_table::{Child, Key, Memo, Op};
+use req_table::{Child, Memo, Op};
 use std::alloc::Global;
 use std::process::Abort;
 use std::sync::Wait;
 use std::sync::atomic::Ordering;
 use std::test::Fail;
 use std::thread::Threads;
-use wave_doors::{child_known, split_known, wave_one};
+use wave_doors::{child_known, wave_one};
 use wave_engine::wave;
 
 /// The first two variables of a store.
@@ -67,31 +65,16 @@ fn ask<R: Threads + Wait + Sync>(
     Ok(answers[0])
 }
 
-/// The request of an operation without a short answer.
-fn request<R: Abort>(rt: &R, store: &Store, op: Op, f: Ref, g: Ref) -> Key
-    requires first { Has store.now f }
-    requires second { Has store.now g }
-    ensures { IsKey store.now result }
-{
-    assert!(rt; short(op, f, g).is_none());
-    normal(op, f, g).0
-}
-
-/// The answer of a child that is done.
-fn answer_of(child: Child) -> Option<Ref> {
-    match child {
-        Child::Done(answer) => Some(answer),
-        Child::Ask { .. } => None,
-    }
-}
-
-/// The answer that is held of an operation, as its child has it.
-fn done<R: Abort>(rt: &R, store: &Store, memo: &Memo, op: Op, f: Ref, g: Ref) -> Ref
+/// Whether this answer is held of an operation, as its child has it.
+fn is_known(store: &Store, memo: &Memo, op: Op, f: Ref, g: Ref, wanted: Ref) -> bool
     requires first { Has store.now f }
     requires second { Has store.now g }
     requires right { IsRight store.now memo.now }
 {
-    answer_of(child_known(store, memo, op, f, g)).expect(rt, "is asked for")
+    match child_known(store, memo, op, f, g) {
+        Child::Done(answer) => answer == wanted,
+        Child::Ask { .. } => false,
+    }
 }
 
 /// Asks twice for one operation, with the operands both ways round.
@@ -100,15 +83,11 @@ fn twice<R: Abort + Threads + Wait + Sync>(rt: &R, alloc: Global, way: Way) -> R
     let mut memo = Memo::new(alloc, 8)?;
     let (a, b) = variables(rt, &mut store);
     let answer = ask(rt, alloc, &mut store, &mut memo, (Op::And, a, b), way)?;
-    assert_eq!(rt;
-        memo.peek(&request(rt, &store, Op::And, b, a)),
-        Some(answer)
-    );
-    assert_eq!(rt; done(rt, &store, &memo, Op::And, b, a), answer);
+    let key = request_for(rt, &store, Op::And, b, a);
+    assert!(rt; memo.peek(&key) == Some(answer));
+    assert!(rt; is_known(&store, &memo, Op::And, b, a, answer));
     let again = ask(rt, alloc, &mut store, &mut memo, (Op::And, b, a), way)?;
-    assert_eq!(rt; again, answer);
-    assert_eq!(rt; memo.peek(&request(rt, &store, Op::Or, a, b)), None);
-    assert_eq!(rt; store.count(), 3);
+    assert!(rt; again == answer && store.count() == 3);
     Ok(())
 }
 
@@ -117,89 +96,6 @@ fn memo_in_wave(rt: HostRuntime) -> Result<(), Fail> {
     for way in WAYS {
         twice(&rt, rt.alloc(), way)?;
     }
-    Ok(())
-}
-
-/// Forgets an operation, which is then asked for again.
-fn forgotten<R: Abort + Threads + Wait + Sync>(
-    rt: &R,
-    alloc: Global,
-    way: Way,
-) -> Result<(), Fail> {
-    let mut store = Store::new(alloc, 2, 100)?;
-    let mut memo = Memo::new(alloc, 1)?;
-    let (a, b) = variables(rt, &mut store);
-    let both = ask(rt, alloc, &mut store, &mut memo, (Op::And, a, b), way)?;
-    let some = ask(rt, alloc, &mut store, &mut memo, (Op::Or, a, b), way)?;
-    let neither = request(rt, &store, Op::Nor, a, b);
-    assert_eq!(rt; memo.peek(&neither), Some(some.negate()));
-    assert_eq!(rt; done(rt, &store, &memo, Op::Or, a, b), some);
-    assert_eq!(rt; memo.peek(&request(rt, &store, Op::And, a, b)), None);
-    let again = ask(rt, alloc, &mut store, &mut memo, (Op::And, a, b), way)?;
-    assert_eq!(rt; again, both);
-    assert_eq!(rt; store.count(), 4);
-    Ok(())
-}
-
-#[test]
-fn memo_forgets(rt: HostRuntime) -> Result<(), Fail> {
-    for way in WAYS {
-        forgotten(&rt, rt.alloc(), way)?;
-    }
-    Ok(())
-}
-
-/// Asks for an operation that has no room, and then for one that was answered before.
-fn refused<R: Abort + Threads + Wait + Sync>(rt: &R, alloc: Global, way: Way) -> Result<(), Fail> {
-    let mut store = Store::new(alloc, 2, 3)?;
-    let mut memo = Memo::new(alloc, 8)?;
-    let (a, b) = variables(rt, &mut store);
-    let both = ask(rt, alloc, &mut store, &mut memo, (Op::And, a, b), way)?;
-    let full = ask(rt, alloc, &mut store, &mut memo, (Op::Or, a, b), way);
-    assert_eq!(rt; full.err(), Some(WaveFault::Full));
-    assert_eq!(rt; memo.peek(&request(rt, &store, Op::Or, a, b)), None);
-    let again = ask(rt, alloc, &mut store, &mut memo, (Op::And, b, a), way)?;
-    assert_eq!(rt; again, both);
-    Ok(())
-}
-
-// A wave that was refused is not kept. What is held is answered in a full store too.
-#[test]
-fn memo_after_a_refused_wave(rt: HostRuntime) -> Result<(), Fail> {
-    for way in WAYS {
-        refused(&rt, rt.alloc(), way)?;
-    }
-    Ok(())
-}
-
-/// The three variables of a store.
-fn three_variables<R: Abort>(rt: &R, store: &mut Store) -> (Ref, Ref, Ref)
-    requires { 3 ≤ store.old.levels }
-    ensures first { Has store.new result.0 }
-    ensures second { Has store.new result.1 }
-    ensures third { Has store.new result.2 }
-{
-    let c = store.variable(2).expect(rt, "a variable");
-    let b = store.variable(1).expect(rt, "a variable");
-    let a = store.variable(0).expect(rt, "a variable");
-    (a, b, c)
-}
-
-// Where a is 0, both of (a or else b) and c are both of b and c, which is held; where a is 1 they are both of not b and c, which is not.
-// What is held answers its complement too.
-#[test]
-fn known_children(rt: HostRuntime) -> Result<(), Fail> {
-    let alloc = rt.alloc();
-    let mut store = Store::new(alloc, 3, 100)?;
-    let mut memo = Memo::new(alloc, 8)?;
-    let (a, b, c) = three_variables(&rt, &mut store);
-    let way = Way::Alone(&[]);
-    let differ = ask(&rt, alloc, &mut store, &mut memo, (Op::Xor, a, b), way)?;
-    let both = ask(&rt, alloc, &mut store, &mut memo, (Op::And, b, c), way)?;
-    let record = split_known(&store, &memo, request(&rt, &store, Op::And, differ, c));
-    assert_eq!(rt; answer_of(record.low), Some(both));
-    assert_eq!(rt; answer_of(record.high), None);
-    assert_eq!(rt; done(&rt, &store, &memo, Op::Nand, b, c), both.negate());
     Ok(())
 }
 
@@ -219,15 +115,8 @@ fn told<R: Abort + Threads + Wait + Sync>(
     let pairing = pair(alloc, &first, &second, None, Match::Name, &Order::Declared)?;
     let mut store = Store::new(alloc, pairing.names().len() as u16, 100)?;
     let gate = Narrow::new(0);
-    let crew = crew_of(rt, alloc, 2, &gate);
-    let circuits = Circuits {
-        first: &first,
-        second: &second,
-        given: None,
-        pairing: &pairing,
-    };
-    build(&crew, &mut store, &circuits)?;
-    assert_eq!(rt; store.count(), 13);
+    built(rt, alloc, &mut store, &first, &second, &pairing, 2, &gate)?;
+    assert!(rt; store.count() == 13);
     Ok(gate.told.load(Ordering::SeqCst))
 }
 
@@ -236,7 +125,7 @@ fn told<R: Abort + Threads + Wait + Sync>(
 fn other_ranks(rt: HostRuntime) -> Result<(), Fail> {
     let same = told(&rt, rt.alloc(), C17, C17)?;
     assert!(rt; same > 0);
-    assert_eq!(rt; told(&rt, rt.alloc(), C17, BUFFERED)?, same);
-    assert_eq!(rt; told(&rt, rt.alloc(), BUFFERED, C17)?, same);
+    assert!(rt; told(&rt, rt.alloc(), C17, BUFFERED)? == same);
+    assert!(rt; told(&rt, rt.alloc(), BUFFERED, C17)? == same);
     Ok(())
 }

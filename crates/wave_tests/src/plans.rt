@@ -1,12 +1,12 @@
 //! Plans of netlists, and the building of two netlists' diagrams.
-ghost use Rattle.std.specs.Prelude.{◌≡◌, ◌<◌, ◌≤◌, length};
+ghost use Rattle.std.specs.Prelude.{◌≡◌, ◌<◌, ◌≤◌, length, None, IfOk};
 ghost use Rattle.net_bench.specs.Circuit.{circuit};
-ghost use Rattle.gate_plan.specs.Building.{AreDiagrams};
+ghost use Rattle.gate_plan.specs.Building.{AreDiagrams, IsPaired};
 ghost use Rattle.net_order.specs.Order.{first_level, second_level};
 
 use crate::waves::crew_of;
 use dd_store::{Ref, Store};
-use expand_work::{Free, WaveFault};
+use expand_work::{Free, Gate, WaveFault};
 use gate_plan::{Built, Circuits, Plan, build};
 use net_bench::netlist::Signal;
 use net_bench::reader::{Netlist, parse_bench};
@@ -26,14 +26,6 @@ pub(crate) static C17: &str =
 static C17B: &str =
     "INPUT(1)\nINPUT(2)\nINPUT(3)\nINPUT(6)\nINPUT(7)\nOUTPUT(22)\nOUTPUT(23)\n10 = NAND(1, 3)\n11 = NAND(3, 6)\n16 = NAND(2, 11)\n19 = NAND(11, 6)\n22 = NAND(10, 16)\n23 = NAND(16, 19)\n";
 
-/// Each kind of gate, with one operand or more.
-static KINDS: &str =
-    "INPUT(a)\nINPUT(b)\nINPUT(c)\nOUTPUT(z)\np = NAND(a, b, c)\nq = XNOR(c, a)\nr = OR(b, c)\nx = BUFF(p)\ny = NOT(q)\nw = NOR(r)\nv = XOR(r)\nu = NAND(p)\nt = XNOR(q)\nz = NOR(x, y, w, v)\n";
-
-/// A step as it is named in a table: the gate, the operation, and the names of its operands, the first None where it is the
-/// gate's value so far.
-type Named = (&'static str, Op, Option<&'static str>, &'static str);
-
 pub(crate) fn read<R: Abort>(rt: &R, alloc: Global, text: &str) -> Netlist {
     parse_bench(alloc, text.as_bytes()).expect(rt, "a netlist")
 }
@@ -46,52 +38,27 @@ fn signal<R: Abort>(rt: &R, netlist: &Netlist, name: &str) -> Signal
     signal
 }
 
-/// Compares the steps of a rank and a fold number with those of a table.
-fn compare_steps<R: Abort>(
+/// Sees that the only steps of a rank are these two, by Nand: each with its output and its operands.
+fn are_nands<R: Abort>(
     rt: &R,
     netlist: &Netlist,
     plan: &Plan,
     rank: usize,
-    fold: usize,
-    named: &[Named],
+    named: &[(&'static str, &'static str, &'static str)],
 ) {
     assert!(rt; 1 <= rank && rank <= plan.ranks());
-    assert!(rt; fold < plan.folds(rank));
-    let steps = plan.steps(rank, fold);
-    assert_eq!(rt; steps.len(), named.len());
-    for i in 0..steps.len().min(named.len()) {
+    assert!(rt; plan.folds(rank) == 1);
+    let steps = plan.steps(rank, 0);
+    assert!(rt; steps.len() == 2 && named.len() == 2);
+    for i in 0..2 {
         let step = steps[i];
-        let (out, op, first, second) = named[i];
-        assert_eq!(rt; step.out, signal(rt, netlist, out), "{out}");
-        assert_eq!(rt; step.op, op, "{out}");
-        let expected = match first {
-            Some(name) => Some(signal(rt, netlist, name)),
-            None => None,
-        };
-        assert_eq!(rt; step.first, expected, "{out}");
-        assert_eq!(rt; step.second, signal(rt, netlist, second), "{out}");
-    }
-}
-
-/// Compares the number of folds of a rank, and its copies with those of a table: the gate, its operand, and whether it is the
-/// complement.
-fn compare_copies<R: Abort>(
-    rt: &R,
-    netlist: &Netlist,
-    plan: &Plan,
-    rank: usize,
-    folds: usize,
-    named: &[(&'static str, &'static str, bool)],
-) {
-    assert!(rt; 1 <= rank && rank <= plan.ranks());
-    assert_eq!(rt; plan.folds(rank), folds);
-    let copies = plan.copies(rank);
-    assert_eq!(rt; copies.len(), named.len());
-    for i in 0..copies.len().min(named.len()) {
-        let (out, of, mark) = named[i];
-        assert_eq!(rt; copies[i].out, signal(rt, netlist, out), "{out}");
-        assert_eq!(rt; copies[i].of, signal(rt, netlist, of), "{out}");
-        assert_eq!(rt; copies[i].mark, mark, "{out}");
+        let (out, first, second) = named[i];
+        assert!(rt;
+            step.op == Op::Nand && step.out == signal(rt, netlist, out),
+            "{out}"
+        );
+        assert!(rt; step.first == Some(signal(rt, netlist, first)), "{out}");
+        assert!(rt; step.second == signal(rt, netlist, second), "{out}");
     }
 }
 
@@ -99,55 +66,56 @@ fn compare_copies<R: Abort>(
 fn plan_of_c17(rt: HostRuntime) -> Result<(), Fail> {
     let netlist = read(&rt, rt.alloc(), C17);
     let plan = Plan::new(rt.alloc(), &netlist)?;
-    assert_eq!(rt; plan.ranks(), 3);
-    let first = [
-        ("10", Op::Nand, Some("1"), "3"),
-        ("11", Op::Nand, Some("3"), "6"),
-    ];
-    let second = [
-        ("16", Op::Nand, Some("2"), "11"),
-        ("19", Op::Nand, Some("11"), "7"),
-    ];
-    let third = [
-        ("22", Op::Nand, Some("10"), "16"),
-        ("23", Op::Nand, Some("16"), "19"),
-    ];
-    compare_steps(&rt, &netlist, &plan, 1, 0, &first);
-    compare_steps(&rt, &netlist, &plan, 2, 0, &second);
-    compare_steps(&rt, &netlist, &plan, 3, 0, &third);
-    for rank in 1..=3 {
-        compare_copies(&rt, &netlist, &plan, rank, 1, &[]);
-    }
+    assert!(rt; plan.ranks() == 3);
+    are_nands(
+        &rt,
+        &netlist,
+        &plan,
+        1,
+        &[("10", "1", "3"), ("11", "3", "6")],
+    );
+    are_nands(
+        &rt,
+        &netlist,
+        &plan,
+        2,
+        &[("16", "2", "11"), ("19", "11", "7")],
+    );
+    are_nands(
+        &rt,
+        &netlist,
+        &plan,
+        3,
+        &[("22", "10", "16"), ("23", "16", "19")],
+    );
     Ok(())
 }
 
-#[test]
-fn plan_of_kinds(rt: HostRuntime) -> Result<(), Fail> {
-    let netlist = read(&rt, rt.alloc(), KINDS);
-    let plan = Plan::new(rt.alloc(), &netlist)?;
-    assert_eq!(rt; plan.ranks(), 3);
-    let first = [
-        ("p", Op::And, Some("a"), "b"),
-        ("q", Op::Xnor, Some("c"), "a"),
-        ("r", Op::Or, Some("b"), "c"),
-    ];
-    let second = [
-        ("x", "p", false),
-        ("y", "q", true),
-        ("w", "r", true),
-        ("v", "r", false),
-        ("u", "p", true),
-        ("t", "q", true),
-    ];
-    compare_steps(&rt, &netlist, &plan, 1, 0, &first);
-    compare_steps(&rt, &netlist, &plan, 1, 1, &[("p", Op::Nand, None, "c")]);
-    compare_steps(&rt, &netlist, &plan, 3, 0, &[("z", Op::Or, Some("x"), "y")]);
-    compare_steps(&rt, &netlist, &plan, 3, 1, &[("z", Op::Or, None, "w")]);
-    compare_steps(&rt, &netlist, &plan, 3, 2, &[("z", Op::Nor, None, "v")]);
-    compare_copies(&rt, &netlist, &plan, 1, 2, &[]);
-    compare_copies(&rt, &netlist, &plan, 2, 0, &second);
-    compare_copies(&rt, &netlist, &plan, 3, 3, &[]);
-    Ok(())
+/// Builds two netlists without a condition.
+pub(crate) fn built<R: Threads + Wait + Sync, G: Gate>(
+    rt: &R,
+    alloc: Global,
+    store: &mut Store,
+    first: &Netlist,
+    second: &Netlist,
+    pairing: &Pairing,
+    workers: u32,
+    gate: &G,
+) -> Result<Built, WaveFault>
+    requires paired { IsPaired (circuit first.now) (circuit second.now) None pairing.now }
+    requires levels { store.old.levels ≡ length pairing.now.names }
+    requires workers { (1 ≤ workers) × (workers ≤ 16) }
+    ensures first { IfOk result (λ b. AreDiagrams (circuit first.now) (first_level pairing.now) store.new b.first) }
+    ensures second { IfOk result (λ b. AreDiagrams (circuit second.now) (second_level pairing.now) store.new b.second) }
+{
+    let crew = crew_of(rt, alloc, workers, gate);
+    let circuits = Circuits {
+        first,
+        second,
+        given: None,
+        pairing,
+    };
+    build(&crew, store, &circuits)
 }
 
 /// The diagrams of a signal of both netlists.
@@ -186,22 +154,19 @@ fn compare_builds<R: Abort + Threads + Wait + Sync>(
     let pairing = pair(alloc, first, second, None, Match::Name, &Order::Declared)?;
     let levels = pairing.names().len() as u16;
     let mut store = Store::new(alloc, levels, need)?;
-    let crew = crew_of(rt, alloc, workers, &Free);
-    let circuits = Circuits {
-        first,
-        second,
-        given: None,
-        pairing: &pairing,
-    };
-    let built = build(&crew, &mut store, &circuits)?;
-    assert_eq!(rt; store.count(), need);
-    let equal = diagrams(rt, &store, first, second, &pairing, &built, "22");
-    assert_eq!(rt; equal.0, equal.1);
-    let other = diagrams(rt, &store, first, second, &pairing, &built, "23");
-    assert_eq!(rt; other.0 == other.1, same);
+    let both = built(
+        rt, alloc, &mut store, first, second, &pairing, workers, &Free,
+    )?;
+    assert!(rt; store.count() == need);
+    let equal = diagrams(rt, &store, first, second, &pairing, &both, "22");
+    assert!(rt; equal.0 == equal.1);
+    let other = diagrams(rt, &store, first, second, &pairing, &both, "23");
+    assert!(rt; (other.0 == other.1) == same);
     let mut small = Store::new(alloc, levels, need - 1)?;
-    let refused = build(&crew, &mut small, &circuits);
-    assert_eq!(rt; refused.err(), Some(WaveFault::Full));
+    let refused = built(
+        rt, alloc, &mut small, first, second, &pairing, workers, &Free,
+    );
+    assert!(rt; refused.err() == Some(WaveFault::Full));
     Ok(())
 }
 
@@ -214,51 +179,6 @@ fn built_netlists(rt: HostRuntime) -> Result<(), Fail> {
         let workers = workers.clamp(1, 16);
         compare_builds(&rt, rt.alloc(), &first, &first, 13, true, workers)?;
         compare_builds(&rt, rt.alloc(), &first, &second, 15, false, workers)?;
-    }
-    Ok(())
-}
-
-/// Gates of one operand, by twos: a gate and one whose value is the complement.
-static COPIES: &str =
-    "INPUT(a)\nOUTPUT(a)\nb = NOT(a)\nc = BUFF(b)\nd = NAND(b)\ne = AND(d)\nf = NOR(e)\ng = OR(f)\nh = XNOR(g)\ni = XOR(h)\nj = NOT(i)\n";
-
-// A gate of one operand has its operand's diagram, or that with a mark: no node is made for any of them.
-#[test]
-fn copies_with_marks(rt: HostRuntime) -> Result<(), Fail> {
-    let alloc = rt.alloc();
-    let netlist = read(&rt, alloc, COPIES);
-    let pairing = pair(
-        alloc,
-        &netlist,
-        &netlist,
-        None,
-        Match::Name,
-        &Order::Declared,
-    )?;
-    let mut store = Store::new(alloc, pairing.names().len() as u16, 1)?;
-    let crew = crew_of(&rt, alloc, 2, &Free);
-    let circuits = Circuits {
-        first: &netlist,
-        second: &netlist,
-        given: None,
-        pairing: &pairing,
-    };
-    let built = build(&crew, &mut store, &circuits)?;
-    assert_eq!(rt; store.count(), 1);
-    let (a, _) = diagrams(&rt, &store, &netlist, &netlist, &pairing, &built, "a");
-    for (name, mark) in [
-        ("b", true),
-        ("c", true),
-        ("d", false),
-        ("e", false),
-        ("f", true),
-        ("g", true),
-        ("h", false),
-        ("i", false),
-        ("j", true),
-    ] {
-        let both = diagrams(&rt, &store, &netlist, &netlist, &pairing, &built, name);
-        assert_eq!(rt; both, (a.marked(mark), a.marked(mark)), "{name}");
     }
     Ok(())
 }

@@ -36,8 +36,8 @@ fn two_have_their_values<R: Abort>(rt: &R, store: &Store, a: Ref, b: Ref)
 {
     assert!(rt; store.levels() == 2);
     for (of_a, of_b) in [(false, false), (false, true), (true, false), (true, true)] {
-        assert_eq!(rt; value(store, a, &[of_a, of_b]), of_a);
-        assert_eq!(rt; value(store, b, &[of_a, of_b]), of_b);
+        assert!(rt; value(store, a, &[of_a, of_b]) == of_a);
+        assert!(rt; value(store, b, &[of_a, of_b]) == of_b);
     }
 }
 
@@ -53,8 +53,7 @@ fn full_then_old<R: Abort + Threads + Wait + Sync>(
     let a = known_at(rt, &store, known.as_slice(), A);
     let b = known_at(rt, &store, known.as_slice(), B);
     let answer = run(rt, alloc, &mut store, &mut known, &steps, 2, way);
-    assert!(rt; answer == Err(WaveFault::Full));
-    assert!(rt; store.levels() == 2);
+    assert!(rt; answer == Err(WaveFault::Full) && store.levels() == 2);
     assert!(rt; store.variable(0) == Ok(a));
     two_have_their_values(rt, &store, a, b);
     Ok(())
@@ -69,7 +68,7 @@ fn limit_then_old(rt: HostRuntime) -> Result<(), Fail> {
 }
 
 /// The assignments of three variables.
-pub(crate) const ASSIGNMENTS: [[bool; 3]; 8] = [
+const ASSIGNMENTS: [[bool; 3]; 8] = [
     [false, false, false],
     [false, false, true],
     [false, true, false],
@@ -87,9 +86,9 @@ fn three_have_their_values<R: Abort>(rt: &R, store: &Store, known: &[Ref])
     assert!(rt; store.levels() == 3);
     for bits in ASSIGNMENTS {
         let [of_a, of_b, of_c] = bits;
-        assert_eq!(rt; value(store, known_at(rt, store, known, A), &bits), of_a);
-        assert_eq!(rt; value(store, known_at(rt, store, known, B), &bits), of_b);
-        assert_eq!(rt; value(store, known_at(rt, store, known, C), &bits), of_c);
+        assert!(rt; value(store, known_at(rt, store, known, A), &bits) == of_a);
+        assert!(rt; value(store, known_at(rt, store, known, B), &bits) == of_b);
+        assert!(rt; value(store, known_at(rt, store, known, C), &bits) == of_c);
     }
 }
 
@@ -103,9 +102,9 @@ fn answers_are_right<R: Abort>(rt: &R, store: &Store, known: &[Ref])
     let difference = known_at(rt, store, known, FIRST_ANSWER + 2);
     for bits in ASSIGNMENTS {
         let [of_a, of_b, of_c] = bits;
-        assert_eq!(rt; value(store, product, &bits), of_a && of_b);
-        assert_eq!(rt; value(store, sum, &bits), of_b || of_c);
-        assert_eq!(rt; value(store, difference, &bits), of_a != of_c);
+        assert!(rt; value(store, product, &bits) == (of_a && of_b));
+        assert!(rt; value(store, sum, &bits) == (of_b || of_c));
+        assert!(rt; value(store, difference, &bits) == (of_a != of_c));
     }
 }
 
@@ -152,7 +151,7 @@ fn refused_expansion(rt: HostRuntime) -> Result<(), Fail> {
     ];
     let expanded = expand_all(&rt, rt.alloc(), &store, &roots, 2, &Free)?;
     let records = expanded.records();
-    assert_eq!(rt; records.levels(), 4);
+    assert!(rt; records.levels() == 4);
     let [first, last] = roots;
     assert!(rt; is_of(records.level(0), first));
     assert!(rt; is_of(records.level(2), last));
@@ -186,6 +185,6 @@ fn refused_reduction(rt: HostRuntime) -> Result<(), Fail> {
     two_have_their_values(&rt, &store, a, b);
     let results = reduced?;
     let both = node(&rt, &store, 0, Ref::FALSE, b);
-    assert_eq!(rt; only(&rt, &records, &results, 0, roots[0]), both);
+    assert!(rt; only(&rt, &records, &results, 0, roots[0]) == both);
     Ok(())
 }

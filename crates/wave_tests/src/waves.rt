@@ -15,7 +15,7 @@ use req_table::{Key, Memo, Op};
 use std::alloc::Global;
 use std::process::Abort;
 use std::sync::Wait;
-use std::sync::atomic::{AtomicU32, Ordering};
+use std::sync::atomic::{AtomicU32, AtomicUsize, Ordering};
 use std::test::Fail;
 use std::thread::Threads;
 use wave_core::{Core, Records};
@@ -25,8 +25,6 @@ use wave_engine::wave;
 
 // Operands are places in a list of known references: the constants, the variables by level, and the answers so far.
 const ZERO: usize = 0;
-
-const ONE: usize = 1;
 
 const A: usize = 2;
 
@@ -51,14 +49,14 @@ pub(crate) enum Way {
 /// Lets the caller's thread have so many requests of a level, and counts how often a worker comes to a level.
 #[derive(Drop)]
 pub(crate) struct Narrow {
-    pub(crate) most: usize,
+    pub(crate) most: AtomicUsize,
     pub(crate) told: AtomicU32,
 }
 
 impl Narrow {
     pub(crate) fn new(most: usize) -> Narrow {
         Narrow {
-            most,
+            most: AtomicUsize::new(most),
             told: AtomicU32::new(0),
         }
     }
@@ -74,7 +72,7 @@ impl Gate for Narrow {
     }
 
     fn most_alone(&self, _workers: u32, _expected: usize) -> usize {
-        self.most
+        self.most.load(Ordering::SeqCst)
     }
 
     fn most_requests(&self) -> usize {
@@ -139,7 +137,7 @@ pub(crate) fn entries_of<R: Abort>(
     entries
 }
 
-/// A crew of so many workers.
+/// Who does a wave: so many workers at most, watched by a gate.
 pub(crate) fn crew_of<'a, R, G>(
     rt: &'a R,
     alloc: Global,
@@ -251,9 +249,9 @@ pub(crate) fn only<R: Abort>(
 {
     assert!(rt; (level as usize) < records.levels());
     let row = records.level(level);
-    assert_eq!(rt; row.len(), 1);
+    assert!(rt; row.len() == 1);
     let record = row[0];
-    assert_eq!(rt; record.key, key);
+    assert!(rt; record.key == key);
     results.get(&record.key)
 }
 
@@ -276,7 +274,6 @@ fn wave_entries(rt: HostRuntime) -> Result<(), Fail> {
         for way in WAYS {
             let mut store = Store::new(rt.alloc(), 2, 4)?;
             let mut known = start(&rt, rt.alloc(), &mut store);
-            let a = known_at(&rt, &store, known.as_slice(), A);
             let b = known_at(&rt, &store, known.as_slice(), B);
             let answer = run(
                 &rt,
@@ -287,23 +284,31 @@ fn wave_entries(rt: HostRuntime) -> Result<(), Fail> {
                 workers,
                 way,
             );
-            assert!(rt; answer.is_ok());
+            assert!(rt; answer.is_ok() && store.count() == 3);
             let both = node(&rt, &store, 0, Ref::FALSE, b);
-            let wanted = [
-                Ref::FALSE,
-                Ref::TRUE,
-                a,
-                b,
-                both,
-                both,
-                Ref::FALSE,
-                Ref::FALSE,
-            ];
-            assert_eq!(rt; known.as_slice(), wanted.as_slice());
-            assert_eq!(rt; store.count(), 3);
+            let wanted = [both, both, Ref::FALSE, Ref::FALSE];
+            assert!(rt; known.get(4..) == Some(wanted.as_slice()));
         }
     }
     Ok(())
+}
+
+/// Each reference together with one more.
+fn with_all<R: Threads + Wait + Sync>(
+    rt: &R,
+    alloc: Global,
+    store: &mut Store,
+    known: &[Ref],
+    given: Ref,
+    workers: u32,
+) -> Result<Vec<Ref>, WaveFault>
+    requires known { All (Has store.old) known.now }
+    requires given { Has store.old given }
+    requires workers { (0 < workers) × (workers ≤ 16) }
+    ensures keeps { Keeps store.old store.new }
+{
+    let crew = crew_of(rt, alloc, workers, &Free);
+    conjoin(&crew, store, known, given)
 }
 
 // Each reference is taken together with b, by one wave.
@@ -313,144 +318,46 @@ fn conjoined(rt: HostRuntime) -> Result<(), Fail> {
         let mut store = Store::new(rt.alloc(), 2, 4)?;
         let known = start(&rt, rt.alloc(), &mut store);
         let b = known_at(&rt, &store, known.as_slice(), B);
-        let crew = crew_of(&rt, rt.alloc(), workers, &Free);
-        let answers = conjoin(&crew, &mut store, known.as_slice(), b)?;
+        let answers = with_all(&rt, rt.alloc(), &mut store, known.as_slice(), b, workers)?;
         let both = node(&rt, &store, 0, Ref::FALSE, b);
-        assert_eq!(rt; answers.as_slice(), [Ref::FALSE, b, both, b].as_slice());
+        assert!(rt; answers.as_slice() == [Ref::FALSE, b, both, b].as_slice());
     }
     Ok(())
 }
 
-// Each operation on two variables. A function and its complement share their node, so five are just enough.
-#[test]
-fn limit_of_a_wave(rt: HostRuntime) -> Result<(), Fail> {
-    let steps = [
-        (Op::And, A, B),
-        (Op::Or, A, B),
-        (Op::Xor, A, B),
-        (Op::Nand, A, B),
-        (Op::Nor, A, B),
-        (Op::Xnor, A, B),
+/// Reduces the records of a driven core in a store of so many nodes: at the first and at the third level a node.
+fn reduced_within<R: Threads + Wait + Abort + Sync>(
+    rt: &R,
+    alloc: Global,
+    limit: u32,
+    choices: &[u8],
+) -> Result<(), WaveFault> {
+    let mut store = Store::new(alloc, 4, limit as u64)?;
+    let known = start(rt, alloc, &mut store);
+    let c = known_at(rt, &store, known.as_slice(), C);
+    let d = known_at(rt, &store, known.as_slice(), D);
+    let roots = [
+        request(rt, &store, known.as_slice(), (Op::And, A, C)),
+        request(rt, &store, known.as_slice(), (Op::And, C, D)),
     ];
-    for (limit, fits) in [(5, true), (4, false), (3, false), (2, false)] {
-        for way in WAYS {
-            let mut store = Store::new(rt.alloc(), 2, limit)?;
-            let mut known = start(&rt, rt.alloc(), &mut store);
-            let b = known_at(&rt, &store, known.as_slice(), B);
-            let answer = run(&rt, rt.alloc(), &mut store, &mut known, &steps, 2, way);
-            if fits {
-                assert!(rt; answer.is_ok());
-                let and = node(&rt, &store, 0, Ref::FALSE, b);
-                let or = node(&rt, &store, 0, b, Ref::TRUE);
-                let xor = node(&rt, &store, 0, b, b.negate());
-                let wanted = [and, or, xor, and.negate(), or.negate(), xor.negate()];
-                assert_eq!(rt; known.get(6 - 2..), Some(wanted.as_slice()));
-                assert_eq!(rt; store.count(), 5);
-            } else {
-                assert!(rt; answer == Err(WaveFault::Full));
-                assert!(rt; store.count() <= limit);
-                assert!(rt; store.levels() == 2);
-                assert!(rt; store.variable(1) == Ok(b));
-            }
-        }
-    }
+    let records = closure_of(rt, alloc, &store, &roots, choices);
+    closures_are_records(&store, &roots, &records);
+    assert!(rt; store.count() == 4);
+    let results = reduce(rt, alloc, &mut store, &records, &Free)?;
+    let first = node(rt, &store, 0, Ref::FALSE, c);
+    let last = node(rt, &store, 2, Ref::FALSE, d);
+    assert!(rt; only(rt, &records, &results, 0, roots[0]) == first);
+    assert!(rt; only(rt, &records, &results, 2, roots[1]) == last);
+    assert!(rt; store.count() == 6);
     Ok(())
 }
 
-// On a full store a wave is Ok as long as no node is missing, also where there are requests. A complement misses none.
-#[test]
-fn full_store(rt: HostRuntime) -> Result<(), Fail> {
-    let mut store = Store::new(rt.alloc(), 2, 3)?;
-    let mut known = start(&rt, rt.alloc(), &mut store);
-    for (step, fits) in [
-        ((Op::And, A, B), true),
-        ((Op::Or, A, ONE), true),
-        ((Op::And, B, A), true),
-        ((Op::Or, A, B), false),
-        ((Op::Nand, A, B), true),
-        ((Op::Nand, A, A), true),
-        ((Op::Xor, A, B), false),
-    ] {
-        let answer = run(
-            &rt,
-            rt.alloc(),
-            &mut store,
-            &mut known,
-            &[step],
-            2,
-            Way::Threads,
-        );
-        assert!(rt; answer.is_ok() == fits);
-        assert_eq!(rt; store.count(), 3);
-    }
-    let a = known_at(&rt, &store, known.as_slice(), A);
-    let b = known_at(&rt, &store, known.as_slice(), B);
-    let both = node(&rt, &store, 0, Ref::FALSE, b);
-    let wanted = [both, Ref::TRUE, both, both.negate(), a.negate()];
-    assert_eq!(rt; known.get(4..), Some(wanted.as_slice()));
-    Ok(())
-}
-
-// (a + b)(a + c) = a + bc, in a second wave whose request asks for another one.
-#[test]
-fn second_wave(rt: HostRuntime) -> Result<(), Fail> {
-    for workers in [1, 2, 3, 16] {
-        for way in WAYS {
-            let mut store = Store::new(rt.alloc(), 3, 100)?;
-            let mut known = start(&rt, rt.alloc(), &mut store);
-            let alloc = rt.alloc();
-            let sums = [(Op::Or, A, B), (Op::Or, A, C)];
-            assert!(rt; run(&rt, alloc, &mut store, &mut known, &sums, workers, way).is_ok());
-            assert_eq!(rt; store.count(), 5);
-            let product = [(Op::And, 5, 6)];
-            assert!(rt; run(&rt, alloc, &mut store, &mut known, &product, workers, way).is_ok());
-            let c = known_at(&rt, &store, known.as_slice(), C);
-            let both = node(&rt, &store, 1, Ref::FALSE, c);
-            assert_eq!(rt;
-                known.get(7).copied(),
-                Some(node(&rt, &store, 0, both, Ref::TRUE))
-            );
-            assert_eq!(rt; store.count(), 7);
-        }
-    }
-    Ok(())
-}
-
-// The records of a driven core, reduced: at the first and at the third level a node, and six nodes are just enough.
+// Six nodes are just enough.
 #[test]
 fn core_reduced(rt: HostRuntime) -> Result<(), Fail> {
-    let alloc = rt.alloc();
-    for (limit, fits) in [(6, true), (5, false)] {
-        for way in WAYS {
-            let Way::Alone(choices) = way else {
-                continue;
-            };
-            let mut store = Store::new(alloc, 4, limit)?;
-            let known = start(&rt, alloc, &mut store);
-            let c = known_at(&rt, &store, known.as_slice(), C);
-            let d = known_at(&rt, &store, known.as_slice(), D);
-            let roots = [
-                request(&rt, &store, known.as_slice(), (Op::And, A, C)),
-                request(&rt, &store, known.as_slice(), (Op::And, C, D)),
-            ];
-            let records = closure_of(&rt, alloc, &store, &roots, choices);
-            closures_are_records(&store, &roots, &records);
-            assert_eq!(rt; store.count(), 4);
-            match reduce(&rt, alloc, &mut store, &records, &Free) {
-                Ok(results) => {
-                    assert!(rt; fits);
-                    let first = node(&rt, &store, 0, Ref::FALSE, c);
-                    let last = node(&rt, &store, 2, Ref::FALSE, d);
-                    assert_eq!(rt; only(&rt, &records, &results, 0, roots[0]), first);
-                    assert_eq!(rt; only(&rt, &records, &results, 2, roots[1]), last);
-                    assert_eq!(rt; store.count(), 6);
-                }
-                Err(fault) => {
-                    assert!(rt; !fits);
-                    assert_eq!(rt; fault, WaveFault::Full);
-                }
-            }
-        }
+    for choices in [[].as_slice(), [0, 1, 2].as_slice(), [255; 200].as_slice()] {
+        reduced_within(&rt, rt.alloc(), 6, choices)?;
+        assert!(rt; reduced_within(&rt, rt.alloc(), 5, choices) == Err(WaveFault::Full));
     }
     Ok(())
 }

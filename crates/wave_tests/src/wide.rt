@@ -1,16 +1,17 @@
 //! A level with so many records that several threads share it.
-ghost use Rattle.std.specs.Prelude.{◌≤◌};
+ghost use Rattle.std.specs.Prelude.{◌<◌, ◌≤◌, All};
+ghost use Rattle.reduce_up.specs.Waves.{IsEntry};
 
-use crate::waves::{Step, Way, crew_of, entries_of, node, run, start};
+use crate::meeting::Meeting;
+use crate::waves::{Step, Way, crew_of, entries_of, run, start};
 use dd_store::{Ref, Store, Watch};
 use expand_work::{Gate, WaveFault};
 use req_table::{Memo, Op};
 use std::alloc::Global;
 use std::process::Abort;
 use std::sync::Wait;
-use std::sync::atomic::{AtomicBool, AtomicU32, AtomicU64, Ordering};
+use std::sync::atomic::{AtomicBool, AtomicU64, Ordering};
 use std::test::Fail;
-use std::thread;
 use std::thread::Threads;
 use wave_engine::wave;
 
@@ -48,70 +49,98 @@ pub(crate) fn sums<R: Abort>(rt: &R, alloc: Global) -> Vec<Step> {
     pairs(rt, alloc, Op::Or, FACTOR + 66, 65)
 }
 
-/// The diagrams of the sums, found by their children.
-fn found<R: Abort>(rt: &R, alloc: Global, store: &Store, variables: u16) -> Vec<Ref> {
-    let mut answers = Vec::new(alloc);
-    for second in 1..variables {
-        for other in second..variables {
-            if other > second {
-                let last = node(rt, store, other, Ref::FALSE, Ref::TRUE);
-                let both = node(rt, store, second, last, Ref::TRUE);
-                answers
-                    .push(node(rt, store, 0, Ref::FALSE, both))
-                    .expect(rt, "memory");
-            }
-        }
-    }
-    answers
+/// Does the sums in a store that has the products and room for so many nodes. The store is then as large as they need, and a second wave,
+/// by a core, adds nothing and answers the same.
+fn sums_within<R: Threads + Wait + Abort + Sync>(
+    rt: &R,
+    alloc: Global,
+    limit: u32,
+    way: Way,
+) -> Result<(), WaveFault> {
+    let mut store = Store::new(alloc, 66, limit as u64)?;
+    let mut known = start(rt, alloc, &mut store);
+    let factors = products(rt, alloc, 66);
+    run(
+        rt,
+        alloc,
+        &mut store,
+        &mut known,
+        factors.as_slice(),
+        3,
+        way,
+    )?;
+    assert!(rt; store.count() == 131);
+    let steps = sums(rt, alloc);
+    let summed = run(rt, alloc, &mut store, &mut known, steps.as_slice(), 3, way);
+    assert!(rt; store.count() == 4_291);
+    summed?;
+    run(
+        rt,
+        alloc,
+        &mut store,
+        &mut known,
+        steps.as_slice(),
+        2,
+        Way::Alone(&[1]),
+    )?;
+    assert!(rt; store.count() == 4_291 && known.len() == 4_293);
+    assert!(rt; known.get(133..2_213) == known.get(2_213..));
+    Ok(())
 }
 
 // 2,080 records at the first level, and as many nodes there and below it: with 66 variables and 65 products 4,291 nodes are just
-// enough, and where one less is allowed the whole level is there before it is refused. A second wave adds nothing.
+// enough, and where one less is allowed the whole level is there before it is refused.
 #[test]
 fn wide_level(rt: HostRuntime) -> Result<(), Fail> {
-    let alloc = rt.alloc();
-    for (limit, fits) in [(4_291, true), (4_290, false)] {
-        for way in [Way::Upto(0), Way::Alone(&[])] {
-            let mut store = Store::new(alloc, 66, limit)?;
-            let mut known = start(&rt, alloc, &mut store);
-            let factors = products(&rt, alloc, 66);
-            let steps = sums(&rt, alloc);
-            assert_eq!(rt; steps.len(), 2_080);
-            let made = run(
-                &rt,
-                alloc,
-                &mut store,
-                &mut known,
-                factors.as_slice(),
-                3,
-                way,
-            );
-            assert!(rt; made.is_ok());
-            assert_eq!(rt; store.count(), 131);
-            let answer = run(&rt, alloc, &mut store, &mut known, steps.as_slice(), 3, way);
-            assert_eq!(rt; store.count(), 4_291);
-            if fits {
-                assert!(rt; answer.is_ok());
-                let again = run(
-                    &rt,
-                    alloc,
-                    &mut store,
-                    &mut known,
-                    steps.as_slice(),
-                    2,
-                    Way::Alone(&[1]),
-                );
-                assert!(rt; again.is_ok());
-                assert_eq!(rt; store.count(), 4_291);
-                let answers = found(&rt, alloc, &store, 66);
-                assert_eq!(rt; known.get(133..2_213), Some(answers.as_slice()));
-                assert_eq!(rt; known.get(2_213..), Some(answers.as_slice()));
-            } else {
-                assert!(rt; answer == Err(WaveFault::Full));
-                assert_eq!(rt; known.len(), 133);
-            }
-        }
+    for way in [Way::Upto(0), Way::Alone(&[])] {
+        sums_within(&rt, rt.alloc(), 4_291, way)?;
+        let refused = sums_within(&rt, rt.alloc(), 4_290, way);
+        assert!(rt; refused == Err(WaveFault::Full));
     }
+    Ok(())
+}
+
+/// The entries of so many sums in a store that gets the products.
+fn sums_of<R: Threads + Wait + Abort + Sync>(
+    rt: &R,
+    alloc: Global,
+    store: &mut Store,
+    count: usize,
+) -> Vec<(Op, Ref, Ref)>
+    ensures { All (IsEntry store.new) result.items }
+{
+    let mut known = start(rt, alloc, store);
+    let factors = products(rt, alloc, 66);
+    let made = run(
+        rt,
+        alloc,
+        store,
+        &mut known,
+        factors.as_slice(),
+        2,
+        Way::Upto(0),
+    );
+    assert!(rt; made.is_ok());
+    let steps = sums(rt, alloc);
+    let steps = steps.get(..count).expect(rt, "fewer products");
+    entries_of(rt, alloc, store, known.as_slice(), steps)
+}
+
+/// A wave of these entries by so many workers, of which nothing is known before.
+fn summed<R: Threads + Wait + Sync, G: Gate>(
+    rt: &R,
+    alloc: Global,
+    store: &mut Store,
+    entries: &[(Op, Ref, Ref)],
+    workers: u32,
+    gate: &G,
+) -> Result<(), WaveFault>
+    requires entries { All (IsEntry store.old) entries.now }
+    requires workers { (0 < workers) × (workers ≤ 16) }
+{
+    let mut memo = Memo::new(alloc, 1)?;
+    let crew = crew_of(rt, alloc, workers, gate);
+    wave(&crew, store, &mut memo, entries)?;
     Ok(())
 }
 
@@ -147,29 +176,12 @@ fn told_shards<R: Threads + Wait + Abort + Sync>(
     records: usize,
 ) -> Result<(u64, bool), Fail> {
     let mut store = Store::new(alloc, 66, 10_000)?;
-    let mut known = start(rt, alloc, &mut store);
-    let factors = products(rt, alloc, 66);
-    let steps = sums(rt, alloc);
-    let made = run(
-        rt,
-        alloc,
-        &mut store,
-        &mut known,
-        factors.as_slice(),
-        2,
-        Way::Upto(0),
-    );
-    assert!(rt; made.is_ok());
-    let steps = steps.get(..records).expect(rt, "fewer products");
-    let entries = entries_of(rt, alloc, &store, known.as_slice(), steps);
+    let entries = sums_of(rt, alloc, &mut store, records);
     let gate = Shards {
         counts: AtomicU64::new(0),
         elsewhere: AtomicBool::new(false),
     };
-    let mut memo = Memo::new(alloc, 1)?;
-    let crew = crew_of(rt, alloc, 2, &gate);
-    let answers = wave(&crew, &mut store, &mut memo, entries.as_slice());
-    assert!(rt; answers.is_ok());
+    summed(rt, alloc, &mut store, entries.as_slice(), 2, &gate)?;
     Ok((
         gate.counts.load(Ordering::SeqCst),
         gate.elsewhere.load(Ordering::SeqCst),
@@ -180,38 +192,23 @@ fn told_shards<R: Threads + Wait + Abort + Sync>(
 #[test]
 fn shards_of_a_wide_level(rt: HostRuntime) -> Result<(), Fail> {
     let few = told_shards(&rt, rt.alloc(), 1_023)?;
-    assert_eq!(rt; few, (0, false));
+    assert!(rt; few == (0, false));
     let many = told_shards(&rt, rt.alloc(), 1_024)?;
-    assert_eq!(rt; many, (0x1111_1111_1111_1111, false));
+    assert!(rt; many == (0x1111_1111_1111_1111, false));
     Ok(())
 }
 
-/// Threads who wait at the shards of a level until four are there at once, or one has waited in vain.
+/// Four threads meet where they come to shards.
 #[derive(Drop)]
-struct Four {
-    present: AtomicU32,
-    met: AtomicBool,
-    missed: AtomicBool,
-}
+struct AtShards(Meeting);
 
-impl Watch for Four {
+impl Watch for AtShards {
     fn at_shard(&self, _shard: u8, _level: u16) {
-        let others = self.present.fetch_add(1, Ordering::SeqCst);
-        if others >= 3 {
-            self.met.store(true, Ordering::SeqCst);
-        }
-        for _ in 0..10_000_000 {
-            if self.met.load(Ordering::SeqCst) || self.missed.load(Ordering::SeqCst) {
-                break;
-            }
-            thread::yield_now();
-        }
-        self.missed.store(true, Ordering::SeqCst);
-        self.present.fetch_sub(1, Ordering::SeqCst);
+        self.0.come();
     }
 }
 
-impl Gate for Four {
+impl Gate for AtShards {
     fn at_level(&self, _worker: u32, _level: u16) {}
 
     fn most_requests(&self) -> usize {
@@ -222,31 +219,10 @@ impl Gate for Four {
 // Four threads are at once in the shards of a level, however few workers there are.
 #[test]
 fn four_at_shards(rt: HostRuntime) -> Result<(), Fail> {
-    let alloc = rt.alloc();
-    let mut store = Store::new(alloc, 66, 10_000)?;
-    let mut known = start(&rt, alloc, &mut store);
-    let factors = products(&rt, alloc, 66);
-    let steps = sums(&rt, alloc);
-    let made = run(
-        &rt,
-        alloc,
-        &mut store,
-        &mut known,
-        factors.as_slice(),
-        1,
-        Way::Upto(0),
-    );
-    assert!(rt; made.is_ok());
-    let entries = entries_of(&rt, alloc, &store, known.as_slice(), steps.as_slice());
-    let gate = Four {
-        present: AtomicU32::new(0),
-        met: AtomicBool::new(false),
-        missed: AtomicBool::new(false),
-    };
-    let mut memo = Memo::new(alloc, 1)?;
-    let crew = crew_of(&rt, alloc, 1, &gate);
-    let answers = wave(&crew, &mut store, &mut memo, entries.as_slice());
-    assert!(rt; answers.is_ok());
-    assert!(rt; gate.met.load(Ordering::SeqCst));
+    let mut store = Store::new(rt.alloc(), 66, 10_000)?;
+    let entries = sums_of(&rt, rt.alloc(), &mut store, 2_080);
+    let gate = AtShards(Meeting::of(4));
+    summed(&rt, rt.alloc(), &mut store, entries.as_slice(), 1, &gate)?;
+    assert!(rt; gate.0.met());
     Ok(())
 }

@@ -4,45 +4,17 @@ ghost use Rattle.dd_store.specs.View.{Has, Keeps};
 ghost use Rattle.req_table.specs.Memos.{IsRight};
 ghost use Rattle.reduce_up.specs.Waves.{IsEntry};
 
-use crate::waves::{Step, Way, crew_of, entries_of, run, start};
-use dd_store::{Ref, Store, Watch};
+use crate::waves::{Narrow, Step, Way, crew_of, entries_of, run, start};
+use dd_store::{Ref, Store};
 use expand_work::{Gate, WaveFault};
 use req_table::Op;
 use std::alloc::Global;
 use std::process::Abort;
 use std::sync::Wait;
-use std::sync::atomic::{AtomicU32, Ordering};
+use std::sync::atomic::Ordering;
 use std::test::Fail;
 use std::thread::Threads;
 use wave_engine::Engine;
-
-/// No level has more requests.
-const NEVER: u32 = u32::MAX;
-
-/// Lets the caller's thread have so many requests of a level, and counts how often a worker comes to a level.
-#[derive(Drop)]
-struct Width {
-    most: AtomicU32,
-    told: AtomicU32,
-}
-
-impl Watch for Width {
-    fn at_shard(&self, _shard: u8, _level: u16) {}
-}
-
-impl Gate for Width {
-    fn at_level(&self, _worker: u32, _level: u16) {
-        self.told.fetch_add(1, Ordering::SeqCst);
-    }
-
-    fn most_alone(&self, _workers: u32, _expected: usize) -> usize {
-        self.most.load(Ordering::SeqCst) as usize
-    }
-
-    fn most_requests(&self) -> usize {
-        usize::MAX
-    }
-}
 
 /// Numbers that look random, from a seed.
 #[derive(Drop)]
@@ -123,7 +95,7 @@ pub(crate) fn run_engine<R: Abort + Threads + Wait + Sync, G: Gate>(
 /// whether a wave was refused.
 fn waves_of<R: Abort + Threads + Wait + Sync>(
     rt: &R,
-    engine: &mut Engine<'_, R, Width>,
+    engine: &mut Engine<'_, R, Narrow>,
     seed: u64,
     limit: u32,
 ) -> (u64, bool) {
@@ -147,9 +119,8 @@ fn waves_of<R: Abort + Threads + Wait + Sync>(
             2,
             Way::Alone(&[3, 1, 2]),
         );
-        assert!(rt; again == answer);
-        assert_eq!(rt; store.count(), count);
-        assert_eq!(rt; known.get(before..between), known.get(between..));
+        assert!(rt; again == answer && store.count() == count);
+        assert!(rt; known.get(before..between) == known.get(between..));
         if answer.is_err() {
             assert!(rt; answer == Err(WaveFault::Full));
             return (count, true);
@@ -158,33 +129,40 @@ fn waves_of<R: Abort + Threads + Wait + Sync>(
     (store.count(), false)
 }
 
+/// Does waves of seeds by one engine, on the caller's thread and by workers who are called in at each width. Whether some were refused.
+fn at_each_width<R: Abort + Threads + Wait + Sync>(
+    rt: &R,
+    engine: &mut Engine<'_, R, Narrow>,
+    gate: &Narrow,
+    seed: u64,
+) -> bool {
+    let mut refused = false;
+    for limit in [10_000, 40] {
+        gate.most.store(usize::MAX, Ordering::SeqCst);
+        let told = gate.told.load(Ordering::SeqCst);
+        let wanted = waves_of(rt, engine, seed, limit);
+        refused = refused || wanted.1;
+        assert!(rt; gate.told.load(Ordering::SeqCst) == told);
+        for width in 0..6 {
+            gate.most.store(width, Ordering::SeqCst);
+            assert!(rt; waves_of(rt, engine, seed, limit) == wanted);
+        }
+    }
+    refused
+}
+
 // One engine after the other width, and after each refused wave, as if it were new: what the workers on one thread answer, it answers.
 #[test]
 fn widths(rt: HostRuntime) -> Result<(), Fail> {
     for workers in [1, 2, 3] {
-        let gate = Width {
-            most: AtomicU32::new(0),
-            told: AtomicU32::new(0),
-        };
+        let gate = Narrow::new(0);
         let crew = crew_of(&rt, rt.alloc(), workers, &gate);
         let mut engine = Engine::new(&crew)?;
         let mut refused = false;
         for seed in 0..12 {
-            for limit in [10_000, 40] {
-                gate.most.store(NEVER, Ordering::SeqCst);
-                let told = gate.told.load(Ordering::SeqCst);
-                let wanted = waves_of(&rt, &mut engine, seed, limit);
-                refused = refused || wanted.1;
-                assert_eq!(rt; gate.told.load(Ordering::SeqCst), told);
-                for width in 0..6 {
-                    gate.most.store(width, Ordering::SeqCst);
-                    let ended = waves_of(&rt, &mut engine, seed, limit);
-                    assert_eq!(rt; ended, wanted);
-                }
-            }
+            refused = at_each_width(&rt, &mut engine, &gate, seed) || refused;
         }
-        assert!(rt; refused);
-        assert!(rt; gate.told.load(Ordering::SeqCst) > 0);
+        assert!(rt; refused && gate.told.load(Ordering::SeqCst) > 0);
     }
     Ok(())
 }

@@ -1,0 +1,79 @@
+//! The line of a file that was refused, behind what helps.
+use crate::devices::{End, drip, new_page};
+use crate::failing::{AMPLE, C17};
+use crate::runs::{Later, Shelf, ran};
+use check_tool::quote::quotation;
+use std::test::Fail;
+
+#[test]
+fn lines_of_texts(rt: HostRuntime) -> Result<(), Fail> {
+    let three: &[u8] = b"one\ntwo\r\n\xff\x00 ~three";
+    for (line, want) in [(1, "one"), (2, "two "), (3, "?? ~three"), (4, "")] {
+        let seen = quotation(rt.alloc(), three, line)?;
+        assert!(rt; seen.as_str() == want, "{line}");
+    }
+    let wide = quotation(rt.alloc(), &[b'x'; 101], 1)?;
+    assert!(rt; wide.as_bytes().len() == 109 && wide.as_bytes().ends_with(b"x... (cut)"));
+    Ok(())
+}
+
+static C17_CUT: &str =
+    "INPUT(1)\nINPUT(2)\nINPUT(3)\nINPUT(6)\nINPUT(7)\nOUTPUT(22)\nOUTPUT(23)\n10 = NAND(1,";
+
+static BROKEN: &str =
+    "bddcheck: second: line 8: broken statement\nbddcheck: second:8: a statement is INPUT(a), OUTPUT(a) or a = GATE(b, c)";
+
+static BAD_NAME: &str =
+    "bddcheck: order: line 2: not a signal name\nbddcheck: list:2: a list has names and blanks alone, as --print-order writes it";
+
+/// Words, the second text, what becomes of the folder, what is said, what is shown behind it, and the paths that are asked for.
+type Row = (
+    &'static str,
+    &'static str,
+    Later,
+    &'static str,
+    &'static str,
+    &'static str,
+);
+
+/// The list has a name and then none.
+fn rows() -> [Row; 6] {
+    let files = "--verbose first second";
+    let listed = "--verbose --order-file list first second";
+    let thrice = "first second second ";
+    let twice = "first second list list ";
+    let (stays, gone, no_file) = (Later::Stays, Later::Gone, Later::NoFile);
+    [
+        (files, C17_CUT, stays, BROKEN, ": 10 = NAND(1,", thrice),
+        (files, C17_CUT, gone, BROKEN, "", thrice),
+        (files, C17_CUT, no_file, BROKEN, "", "first second "),
+        (listed, C17, stays, BAD_NAME, ": x2 (", twice),
+        (listed, C17, gone, BAD_NAME, "", twice),
+        (listed, C17, no_file, BAD_NAME, "", "first second list "),
+    ]
+}
+
+#[test]
+fn refused_lines(rt: HostRuntime) -> Result<(), Fail> {
+    for (line, second, later, said, shown, asked) in rows() {
+        let mut folder = Shelf::new(rt.alloc());
+        folder.second = second;
+        folder.list = "1\nx2 (";
+        folder.later = later;
+        let mut out = new_page(rt.alloc(), AMPLE, End::Fails, true);
+        let mut errors = new_page(rt.alloc(), AMPLE, End::Fails, true);
+        let status = ran(
+            &rt,
+            line,
+            &mut folder,
+            &mut drip("", 1),
+            &mut out,
+            &mut errors,
+        )?;
+        let want = format!(in rt.alloc(); "{said}{shown}\n")?;
+        assert!(rt; errors.held.as_slice() == want.as_bytes(), "{line}");
+        assert!(rt; folder.asked.as_slice() == asked.as_bytes(), "{line}");
+        assert!(rt; status == 2 && out.held.is_empty(), "{line}");
+    }
+    Ok(())
+}

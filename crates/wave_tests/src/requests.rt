@@ -1,0 +1,183 @@
+//! Requests and their owners, the table of admitted keys, and a memo.
+ghost use Rattle.std.specs.Prelude.{◌≡◌, ◌≤◌, ◌<◌, All};
+ghost use Rattle.dd_store.specs.View.{Has};
+ghost use Rattle.req_table.specs.Keys.{IsKey};
+ghost use Rattle.req_table.specs.Sizes.{sizes_of, IsKeyOf};
+
+use dd_store::{Ref, Store};
+use req_table::requests::{level_of, normal, owner, short};
+use req_table::{Key, Memo, Op};
+use std::alloc::Global;
+use std::process::Abort;
+use std::test::Fail;
+use wave_core::Table;
+
+/// A store of so many levels that has all its variables.
+pub fn store_of(rt: &impl Abort, alloc: Global, levels: u16) -> Store
+    requires { levels ≤ 4 }
+    ensures { result.levels ≡ levels }
+{
+    let mut store = Store::new(alloc, levels, 100).expect(rt, "out of memory");
+    for level in 0..levels {
+        store.variable(level).expect(rt, "a variable is refused");
+    }
+    store
+}
+
+/// The variable of a level.
+pub fn variable(rt: &impl Abort, store: &Store, level: u16) -> Ref
+    requires { level < store.now.levels }
+    ensures { Has store.now result }
+{
+    store
+        .find(level, Ref::FALSE, Ref::TRUE)
+        .expect(rt, "no such variable")
+}
+
+/// The request for an operation on two references, which has no short answer.
+pub fn request_for(rt: &impl Abort, store: &Store, op: Op, f: Ref, g: Ref) -> Key
+    requires first { Has store.now f }
+    requires second { Has store.now g }
+    ensures key { IsKey store.now result }
+    ensures sized { IsKeyOf (sizes_of store.now) result }
+{
+    assert!(rt; short(op, f, g).is_none());
+    normal(op, f, g).0
+}
+
+/// The request for an operation on the variables of two levels.
+pub fn request(rt: &impl Abort, store: &Store, op: Op, first: u16, second: u16) -> Key
+    requires first { first < store.now.levels }
+    requires second { second < store.now.levels }
+    ensures key { IsKey store.now result }
+    ensures sized { IsKeyOf (sizes_of store.now) result }
+{
+    let f = variable(rt, store, first);
+    let g = variable(rt, store, second);
+    request_for(rt, store, op, f, g)
+}
+
+/// A store of four levels that has all its variables, and the disjunctions of the first one with the third and with the fourth.
+pub fn store_of_six(rt: &impl Abort, alloc: Global) -> Store
+    ensures { result.levels ≡ 4 }
+{
+    let mut store = store_of(rt, alloc, 4);
+    make_either(rt, &mut store, 2);
+    make_either(rt, &mut store, 3);
+    store
+}
+
+/// Makes the disjunction of the first variable and that of another level.
+pub fn make_either(rt: &impl Abort, store: &mut Store, level: u16)
+    requires { level < store.old.levels }
+    ensures { store.new.levels ≡ store.old.levels }
+{
+    let other = variable(rt, store, level);
+    assert!(rt; store.top(other) > 0);
+    store
+        .make(0, other, Ref::TRUE)
+        .expect(rt, "a node is refused");
+}
+
+/// That disjunction.
+pub fn either(rt: &impl Abort, store: &Store, level: u16) -> Ref
+    requires { level < store.now.levels }
+    ensures { Has store.now result }
+{
+    let other = variable(rt, store, level);
+    store.find(0, other, Ref::TRUE).expect(rt, "no such node")
+}
+
+/// The request for both disjunctions, which asks for both of the other variables.
+fn both_eithers(rt: &impl Abort, store: &Store) -> Key
+    requires { store.now.levels ≡ 4 }
+    ensures { IsKey store.now result }
+{
+    let third = either(rt, store, 2);
+    let fourth = either(rt, store, 3);
+    request_for(rt, store, Op::And, third, fourth)
+}
+
+/// The request for neither the first disjunction nor the second variable, which asks for a further one.
+fn neither(rt: &impl Abort, store: &Store) -> Key
+    requires { store.now.levels ≡ 4 }
+    ensures { IsKey store.now result }
+{
+    let third = either(rt, store, 2);
+    let second = variable(rt, store, 1);
+    request_for(rt, store, Op::Nor, third, second)
+}
+
+/// Five roots. Two are one request, two ask for a further one each, and one of those is the last root.
+pub fn five_roots(rt: &impl Abort, store: &Store) -> [Key; 5]
+    requires { store.now.levels ≡ 4 }
+    ensures { All (IsKey store.now) result }
+{
+    [
+        both_eithers(rt, store),
+        request(rt, store, Op::Xor, 0, 1),
+        request(rt, store, Op::Xnor, 1, 0),
+        neither(rt, store),
+        request(rt, store, Op::And, 2, 3),
+    ]
+}
+
+/// How many requests they ask for at each level.
+pub const REACHED: [usize; 4] = [3, 1, 1, 0];
+
+// Not both of a variable and itself is its complement, at once.
+#[test]
+fn short_nand(rt: HostRuntime) {
+    let store = store_of(&rt, rt.alloc(), 1);
+    let a = variable(&rt, &store, 0);
+    assert!(rt; short(Op::Nand, a, a) == Some(a.negate()));
+}
+
+/// Sees who owns the conjunction of two variables, whichever stands first.
+fn owned(rt: &impl Abort, store: &Store, first: u16, second: u16, workers: u32, wanted: u32)
+    requires first { first < store.now.levels }
+    requires second { second < store.now.levels }
+    requires workers { 0 < workers }
+{
+    let key = request(rt, store, Op::And, first, second);
+    assert!(rt; request(rt, store, Op::And, second, first) == key);
+    assert!(rt; level_of(store, key) == first && owner(key, workers) == wanted);
+}
+
+// The owners of three requests, by hand from the codes of the variables.
+#[test]
+fn owners(rt: HostRuntime) {
+    let store = store_of(&rt, rt.alloc(), 4);
+    owned(&rt, &store, 0, 1, 4, 1);
+    owned(&rt, &store, 0, 2, 2, 0);
+    owned(&rt, &store, 2, 3, 2, 1);
+}
+
+// A key is admitted once; the table has the keys in the order of admission.
+#[test]
+fn table_admits_once(rt: HostRuntime) -> Result<(), Fail> {
+    let store = store_of(&rt, rt.alloc(), 2);
+    let first = request(&rt, &store, Op::And, 0, 1);
+    let second = request(&rt, &store, Op::Nor, 0, 1);
+    let mut table = Table::new(rt.alloc())?;
+    assert!(rt; table.admit(first)?);
+    assert!(rt; !table.admit(first)?);
+    assert!(rt; table.len() == 1);
+    assert!(rt; table.admit(second)?);
+    assert!(rt; table.keys() == [first, second].as_slice());
+    Ok(())
+}
+
+// The second pair takes the place of the first.
+#[test]
+fn memo_of_one(rt: HostRuntime) -> Result<(), Fail> {
+    let store = store_of(&rt, rt.alloc(), 2);
+    let both = request(&rt, &store, Op::And, 0, 1);
+    let neither = request(&rt, &store, Op::Nor, 0, 1);
+    let mut memo = Memo::new(rt.alloc(), 1)?;
+    memo.keep(both, Ref::FALSE);
+    assert!(rt; memo.peek(&both) == Some(Ref::FALSE));
+    memo.keep(neither, Ref::TRUE);
+    assert!(rt; memo.peek(&both).is_none() && memo.peek(&neither) == Some(Ref::TRUE));
+    Ok(())
+}

@@ -1,0 +1,294 @@
+//! The limit and the slots of a store, and threads that share the shards of a level.
+ghost use Rattle.std.specs.Prelude.{◌≡◌, ◌<◌, ◌⊎◌, ℕ, Bool, length, Ok, IfOk, All};
+ghost use Rattle.dd_store.specs.Codes.{shard_of_pair};
+ghost use Rattle.dd_store.specs.Graph.{Pair, IsRef, top};
+ghost use Rattle.dd_store.specs.Growing.{IsIn};
+ghost use Rattle.dd_store.specs.Levels.{list_at, all_at};
+ghost use Rattle.dd_store.specs.Marks.{mark_both, negate_of};
+ghost use Rattle.dd_store.specs.Nodes.{node};
+ghost use Rattle.dd_store.specs.View.{Has};
+
+use crate::meeting::Meeting;
+use dd_store::{Pool, Ref, Reference, SHARDS, ShardTask, Store, StoreFault, Watch, shard_of};
+use std::alloc::{AllocError, Global};
+use std::process::Abort;
+use std::sync::atomic::{AtomicBool, AtomicU64, Ordering};
+use std::sync::{Arc, Wait};
+use std::test::Fail;
+use std::thread;
+use std::thread::Threads;
+use task_pool::start_all;
+
+/// The reference that a store has answered.
+pub(crate) fn ok(rt: &impl Abort, answer: Result<Ref, StoreFault>) -> Ref
+    ensures { answer ≡ Ok result }
+{
+    answer.expect(rt, "refused")
+}
+
+/// The complement of a reference of a store.
+fn negated(store: &Store, reference: Ref) -> Ref
+    requires { Has store.now reference }
+    ensures value { result ≡ negate_of reference }
+    ensures here { Has store.now result }
+    ensures top { top store.now.levels result ≡ top store.now.levels reference }
+{
+    let _ = store;
+    reference.negate()
+}
+
+#[test]
+fn limit_of_three(rt: HostRuntime) -> Result<(), Fail> {
+    let mut store = Store::new(rt.alloc(), 2, 3)?;
+    let a = ok(&rt, store.variable(0));
+    let b = ok(&rt, store.variable(1));
+    let same = ok(&rt, store.make(0, b, b));
+    assert!(rt; a != b && same == b);
+    let r = ok(&rt, store.make(0, Ref::FALSE, b));
+    let again = ok(&rt, store.make(0, Ref::FALSE, b));
+    assert!(rt; again == r);
+    let size = store.size(r)?;
+    assert!(rt; store.count() == 3 && size == 2);
+    let not_b = negated(&store, b);
+    let turned = ok(&rt, store.make(0, Ref::TRUE, not_b));
+    assert!(rt; turned == r.negate());
+    let full = store.make(0, b, Ref::TRUE);
+    assert!(rt; full == Err(StoreFault::Full));
+    assert!(rt; store.find(0, b, Ref::TRUE).is_none() && store.count() == 3);
+    Ok(())
+}
+
+#[test]
+fn slots_of_shards(rt: HostRuntime) -> Result<(), Fail> {
+    let mut store = Store::new(rt.alloc(), 2, 3)?;
+    ok(&rt, store.variable(0));
+    let b = ok(&rt, store.variable(1));
+    ok(&rt, store.make(0, Ref::FALSE, b));
+    assert!(rt; store.levels() == 2);
+    assert!(rt; store.slots(0, 2) == 8 && store.slots(0, 3) == 8);
+    assert!(rt; store.slots(1, 3) == 8 && store.slots(0, 0) == 0);
+    Ok(())
+}
+
+/// Sixteen lists, of which one has a pair and then that of the complements, and the others have nothing.
+fn twice_in_one(
+    alloc: Global,
+    shard: usize,
+    pair: (Ref, Ref),
+) -> Result<Vec<Vec<(Ref, Ref)>>, AllocError>
+    ensures count { IfOk result (λ lists. length lists.items ≡ 16) }
+    ensures only { IfOk result (λ lists. (s : ℕ) (p : Pair) → IsIn (list_at lists.items s) p → (s ≡ shard) × (b : Bool) × (p ≡ mark_both b pair)) }
+{
+    let (lo, hi) = pair;
+    let mut lists = Vec::new(alloc);
+    for s in 0..16 {
+        let mut list = Vec::new(alloc);
+        if s == shard {
+            list.push((lo, hi))?;
+            list.push((lo.negate(), hi.negate()))?;
+        }
+        lists.push(list)?;
+    }
+    Ok(lists)
+}
+
+/// Two threads meet where they come to the shards 0 and 15 of a level. Another level is one that they miss.
+#[derive(Drop)]
+struct AtEnds {
+    level: u16,
+    meeting: Meeting,
+    elsewhere: AtomicBool,
+}
+
+impl AtEnds {
+    fn of(level: u16) -> AtEnds {
+        AtEnds {
+            level,
+            meeting: Meeting::of(2),
+            elsewhere: AtomicBool::new(false),
+        }
+    }
+
+    fn met(&self) -> bool {
+        self.meeting.met() && !self.elsewhere.load(Ordering::SeqCst)
+    }
+}
+
+impl Watch for AtEnds {
+    fn at_shard(&self, shard: u8, level: u16) {
+        if level != self.level {
+            self.elsewhere.store(true, Ordering::SeqCst);
+        }
+        if shard == 0 || shard == 15 {
+            self.meeting.come();
+        }
+    }
+}
+
+#[test]
+fn two_at_shards(rt: HostRuntime) -> Result<(), Fail> {
+    let mut store = Store::new(rt.alloc(), 3, 4)?;
+    let _a = ok(&rt, store.variable(0));
+    let b = ok(&rt, store.variable(2));
+    assert!(rt; store.top(b) == 2);
+    let shard = shard_of(Ref::FALSE, b) as usize;
+    let lists = twice_in_one(rt.alloc(), shard, (Ref::FALSE, b))?;
+    let watch = AtEnds::of(1);
+    assert!(rt; store.add_all(&rt, 1, lists.as_slice(), &watch) == Ok(()));
+    assert!(rt; store.count() == 3 && store.find(1, Ref::FALSE, b).is_some());
+    assert!(rt; watch.met());
+    Ok(())
+}
+
+/// Parts that have a pair and that of its complements, the same of another pair, nothing, and the same of the first pair again.
+fn four_parts(
+    alloc: Global,
+    shard: usize,
+    first: (Ref, Ref),
+    second: (Ref, Ref),
+) -> Result<Vec<Vec<Vec<(Ref, Ref)>>>, AllocError>
+    ensures count { IfOk result (λ parts. All (λ part. length part.items ≡ 16) parts.items) }
+    ensures only { IfOk result (λ parts. (s : ℕ) (p : Pair) → IsIn (all_at parts.items s) p → (s < 16 → s ≡ shard) × (b : Bool) × ((p ≡ mark_both b first) ⊎ (p ≡ mark_both b second))) }
+{
+    let (lo, hi) = first;
+    let one = twice_in_one(alloc, shard, (lo, hi))?;
+    let two = twice_in_one(alloc, shard, second)?;
+    let none = twice_in_one(alloc, SHARDS, (lo, hi))?;
+    let last = twice_in_one(alloc, shard, (lo, hi))?;
+    let mut parts = Vec::new(alloc);
+    parts.push(one)?;
+    parts.push(two)?;
+    parts.push(none)?;
+    parts.push(last)?;
+    Ok(parts)
+}
+
+/// Whether these are the references of the four parts: all in the list of one shard, in the order of their pairs.
+fn are_four(refs: &[Vec<Ref>], old: Ref, new: Ref) -> bool {
+    let wanted = [old, old.negate(), new.negate(), new, old, old.negate()];
+    let mut right = refs.len() == SHARDS;
+    for (shard, list) in refs.iter().enumerate() {
+        let here = if shard == 3 {
+            list.as_slice() == wanted.as_slice()
+        } else {
+            list.is_empty()
+        };
+        right = right && here;
+    }
+    right
+}
+
+/// Counts how often threads come to shards of level 0.
+#[derive(Drop)]
+struct Visits {
+    count: AtomicU64,
+}
+
+impl Watch for Visits {
+    fn at_shard(&self, shard: u8, level: u16) {
+        if level == 0 && shard < 16 {
+            self.count.fetch_add(1, Ordering::SeqCst);
+        }
+    }
+}
+
+/// What a pool makes, by tasks that carry themselves, of four parts with two pairs of one shard and their complements: of True and the
+/// variable of level 1, and of the terminals.
+fn make_four<R: Wait, H: Watch>(
+    alloc: Global,
+    pool: &mut Pool<'_, R, H, ShardTask>,
+    store: &mut Store,
+    b: Ref,
+) -> Result<Result<Vec<Vec<Ref>>, StoreFault>, AllocError>
+    requires levels { store.old.levels ≡ 2 }
+    requires here { IsRef (node store.old) b }
+    requires top { top store.old.levels b ≡ 1 }
+    requires shard { shard_of_pair Reference.True b ≡ 3 }
+    ensures levels { store.new.levels ≡ 2 }
+    ensures here { IsRef (node store.new) b }
+    ensures sixteen { IfOk result (λ made. IfOk made (λ refs. length refs.items ≡ 16)) }
+{
+    let first = (Ref::TRUE, b);
+    let second = (Ref::TRUE, Ref::FALSE);
+    let parts = four_parts(alloc, 3, first, second)?;
+    let parts = Arc::new(alloc, parts)?;
+    let made = store.make_by(pool, 0, &parts);
+    Ok(made)
+}
+
+/// Has a pool make the four parts twice: the nodes that are missing are made once, and found where they are asked for again.
+fn made_on<R: Wait + Abort, H: Watch>(
+    rt: &R,
+    alloc: Global,
+    pool: &mut Pool<'_, R, H, ShardTask>,
+) -> Result<(), AllocError> {
+    let mut store = Store::new(alloc, 2, 3)?;
+    let b = ok(rt, store.variable(1));
+    let old = ok(rt, store.make(0, Ref::TRUE, b));
+    assert!(rt; store.top(b) == 1);
+    assert!(rt; shard_of(Ref::TRUE, b) == 3);
+    let refs = make_four(alloc, pool, &mut store, b)?.expect(rt, "refused");
+    assert!(rt; store.count() == 3);
+    let new = store.find(0, Ref::FALSE, Ref::TRUE).expect(rt, "no node");
+    assert!(rt; are_four(refs.as_slice(), old, new));
+    let again = make_four(alloc, pool, &mut store, b)?.expect(rt, "refused");
+    assert!(rt; store.count() == 3);
+    assert!(rt; are_four(again.as_slice(), old, new));
+    Ok(())
+}
+
+/// Has a pool make the four parts in a store whose limit is one node for a shard: that of the first pair stands after the refusal.
+fn full_on<R: Wait + Abort, H: Watch>(
+    rt: &R,
+    alloc: Global,
+    pool: &mut Pool<'_, R, H, ShardTask>,
+) -> Result<(), AllocError> {
+    let mut store = Store::new(alloc, 2, 1)?;
+    let b = ok(rt, store.variable(1));
+    assert!(rt; store.top(b) == 1);
+    assert!(rt; shard_of(Ref::TRUE, b) == 3);
+    let made = make_four(alloc, pool, &mut store, b)?;
+    assert!(rt; made.err() == Some(StoreFault::Full));
+    assert!(rt; store.count() == 2);
+    assert!(rt; store.find(0, Ref::TRUE, b).is_some());
+    assert!(rt; store.find(0, Ref::FALSE, Ref::TRUE).is_none());
+    Ok(())
+}
+
+/// Both on a pool of so many threads.
+fn made_by_threads<R: Threads + Wait + Sync + Abort, H: Watch + Sync>(
+    rt: &R,
+    alloc: Global,
+    watch: &H,
+    threads: u32,
+) -> Result<(), AllocError> {
+    thread::scope(thread::scope_env(), rt, |scope| -> Result<(), AllocError> {
+        let lines = start_all(scope, rt, watch, alloc, threads);
+        assert!(rt; lines.len() == threads as usize);
+        let mut pool = Pool { rt, watch, lines };
+        made_on(rt, alloc, &mut pool)?;
+        full_on(rt, alloc, &mut pool)
+    })
+}
+
+#[test]
+fn made_by_a_pool(rt: HostRuntime) -> Result<(), Fail> {
+    for threads in [0, 1, 3, 15, 20] {
+        let watch = Visits {
+            count: AtomicU64::new(0),
+        };
+        made_by_threads(&rt, rt.alloc(), &watch, threads)?;
+        assert!(rt; watch.count.load(Ordering::SeqCst) == 48);
+    }
+    Ok(())
+}
+
+#[test]
+fn two_at_tasks(rt: HostRuntime) -> Result<(), Fail> {
+    for threads in [1, 3] {
+        let watch = AtEnds::of(0);
+        made_by_threads(&rt, rt.alloc(), &watch, threads)?;
+        assert!(rt; watch.met());
+    }
+    Ok(())
+}

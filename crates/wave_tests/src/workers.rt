@@ -1,0 +1,271 @@
+//! One worker of a wave: its records, what it put, when it tells its gate, and where it stops.
+ghost use Rattle.std.specs.Prelude.{◌≡◌, ◌≤◌, ◌<◌, All, IfOk, length};
+ghost use Rattle.req_table.specs.Sizes.{sizes_of};
+ghost use Rattle.req_table.specs.Keys.{IsKey};
+ghost use Rattle.lane_queue.specs.PortView.{IsPortOf};
+ghost use Rattle.expand_work.specs.Worked.{IsFresh, IsWorked};
+
+use crate::lanes::{end, open};
+use crate::meeting::{TURNS, wait_for};
+use crate::requests::{either, make_either, request, request_for, store_of, variable};
+use dd_store::{Ref, Store, Watch};
+use expand_work::{Free, Gate, Part, Site, Space, WorkFault, work};
+use lane_queue::{Lanes, Port};
+use req_table::{Key, Op, Placed, PlacedChild};
+use std::alloc::Global;
+use std::process::Abort;
+use std::sync::Wait;
+use std::sync::atomic::{AtomicBool, AtomicU64, Ordering};
+use std::test::Fail;
+use std::thread;
+use std::thread::Threads;
+
+/// A gate that sets the flag at one level, and remembers who told it what: of each call two digits, the worker's number
+/// and one more than the level.
+#[derive(Drop)]
+struct Watcher<'a> {
+    seen: AtomicU64,
+    stop: &'a AtomicBool,
+    last: u16,
+}
+
+impl<'a> Watch for Watcher<'a> {
+    fn at_shard(&self, _shard: u8, _level: u16) {}
+}
+
+impl<'a> Gate for Watcher<'a> {
+    fn at_level(&self, worker: u32, level: u16) {
+        let seen = self.seen.load(Ordering::SeqCst);
+        let call = worker as u64 * 10 + level as u64 + 1;
+        self.seen.store(seen.wrapping_mul(100).wrapping_add(call), Ordering::SeqCst);
+        if level == self.last {
+            self.stop.store(true, Ordering::SeqCst);
+        }
+    }
+
+    fn most_requests(&self) -> usize {
+        usize::MAX
+    }
+}
+
+/// What a child says, to be compared: its answer, or its level and owner, and whether it is the complement of what is asked for.
+fn tell(child: Placed) -> Result<Ref, (u16, u32, bool)> {
+    match child.view() {
+        PlacedChild::Done(answer) => Ok(answer),
+        PlacedChild::Ask { level, place, mark } => Err((level, place, mark)),
+    }
+}
+
+/// A store of the variables a, b, c at the levels 0, 1, 2 and the functions `a or b` and `a or c`.
+fn row_store(rt: &impl Abort, alloc: Global) -> Store
+    ensures { result.levels ≡ 3 }
+{
+    let mut store = store_of(rt, alloc, 3);
+    make_either(rt, &mut store, 1);
+    make_either(rt, &mut store, 2);
+    store
+}
+
+/// The request for the conjunction of `a or b` and `a or c`.
+fn root_of(rt: &impl Abort, store: &Store) -> Key
+    requires { store.now.levels ≡ 3 }
+    ensures { IsKey store.now result }
+{
+    let first = either(rt, store, 1);
+    let second = either(rt, store, 2);
+    request_for(rt, store, Op::And, first, second)
+}
+
+/// Runs the worker of the first of so many ports alone, on one root.
+fn work_alone<R: Wait + Abort, G: Gate>(
+    rt: &R,
+    alloc: Global,
+    store: &Store,
+    root: Key,
+    gate: &G,
+    stop: &AtomicBool,
+) -> Result<Part, WorkFault>
+    requires { IsKey store.now root }
+    ensures tables { IfOk result (λ p. length p.space.tables ≡ store.now.levels) }
+    ensures rows { IfOk result (λ p. length p.space.rows ≡ store.now.levels) }
+{
+    let (lanes, mut ports) = open(alloc, store, 1)?;
+    let port = ports.pop().expect(rt, "no port");
+    let site = Site {
+        alloc,
+        lanes: &lanes,
+        store,
+        roots: &[root],
+        stop,
+    };
+    work(rt, site, port, None, gate)
+}
+
+/// Whether a level has this one request with these children.
+fn is_row(
+    keys: &[Key],
+    row: &[(Placed, Placed)],
+    key: Key,
+    low: Result<Ref, (u16, u32, bool)>,
+    high: Result<Ref, (u16, u32, bool)>,
+) -> bool {
+    keys.len() == 1
+        && keys[0] == key
+        && row.len() == 1
+        && tell(row[0].0) == low
+        && tell(row[0].1) == high
+}
+
+#[test]
+fn one_worker_records_what_it_is_asked_for(rt: HostRuntime) -> Result<(), Fail> {
+    let store = row_store(&rt, rt.alloc());
+    let root = root_of(&rt, &store);
+    let stop = AtomicBool::new(false);
+    let Ok(part) = work_alone(&rt, rt.alloc(), &store, root, &Free, &stop) else {
+        return Err(Fail::from("no part"));
+    };
+    let c = variable(&rt, &store, 2);
+    let child = request(&rt, &store, Op::And, 1, 2);
+    let Part { port, space } = part;
+    let Space { tables, rows, .. } = space;
+    assert!(rt;
+        is_row(
+            tables.keys(0),
+            rows.row(0),
+            root,
+            Err((1, 0, false)),
+            Ok(Ref::TRUE)
+        )
+    );
+    assert!(rt; is_row(tables.keys(1), rows.row(1), child, Ok(Ref::FALSE), Ok(c)));
+    assert!(rt; tables.keys(2).is_empty() && rows.row(2).is_empty());
+    assert!(rt; port.number() == 0 && port.put() == 3);
+    assert!(rt; !stop.load(Ordering::SeqCst));
+    Ok(())
+}
+
+/// Where the flag is set, what the gate is told, and whether the worker comes to its end.
+const STOPS: [(bool, u16, u64, bool); 5] = [
+    (true, 9, 0, false),
+    (false, 0, 1, false),
+    (false, 1, 102, false),
+    (false, 2, 10203, true),
+    (false, 9, 10203, true),
+];
+
+#[test]
+fn a_flag_is_read_where_a_level_begins(rt: HostRuntime) -> Result<(), Fail> {
+    let store = row_store(&rt, rt.alloc());
+    let root = root_of(&rt, &store);
+    for (before, last, told, ends) in STOPS {
+        let stop = AtomicBool::new(before);
+        let gate = Watcher {
+            seen: AtomicU64::new(0),
+            stop: &stop,
+            last,
+        };
+        let fault = work_alone(&rt, rt.alloc(), &store, root, &gate, &stop).err();
+        let want = if ends { None } else { Some(WorkFault::Stopped) };
+        assert!(rt; fault == want && gate.seen.load(Ordering::SeqCst) == told);
+    }
+    Ok(())
+}
+
+/// Works on no roots, and says how that ended once it has.
+fn work_until_told<R: Wait>(
+    rt: &R,
+    alloc: Global,
+    lanes: &Lanes,
+    port: Port,
+    store: &Store,
+    stop: &AtomicBool,
+    ended: &AtomicBool,
+) -> Option<WorkFault>
+    requires port { IsPortOf lanes.now port }
+    requires fresh { IsFresh port }
+    requires sizes { lanes.now.sizes ≡ sizes_of store.now }
+{
+    let site = Site {
+        alloc,
+        lanes,
+        store,
+        roots: &[],
+        stop,
+    };
+    let fault = work(rt, site, port, None, &Free).err();
+    ended.store(true, Ordering::SeqCst);
+    fault
+}
+
+/// Waits until an item comes, for so many turns at most.
+fn wait_for_item<R: Wait>(rt: &R, lanes: &Lanes, port: &mut Port)
+    requires { IsPortOf lanes.now port.old }
+    ensures { IsPortOf lanes.now port.new }
+{
+    for _ in 0..TURNS {
+        if lanes.take(rt, port).is_some() {
+            return;
+        }
+        thread::yield_now();
+    }
+}
+
+/// Sets the flag once the other worker has ended its level, and so waits for this one's End. Where it goes on waiting, it
+/// gets that End, and so comes to the end of its last level.
+fn stop_in_a_wait<R: Wait + Abort>(
+    rt: &R,
+    lanes: &Lanes,
+    mut port: Port,
+    store: &Store,
+    stop: &AtomicBool,
+    ended: &AtomicBool,
+)
+    requires port { IsPortOf lanes.now port }
+    requires sizes { lanes.now.sizes ≡ sizes_of store.now }
+{
+    wait_for_item(rt, lanes, &mut port);
+    stop.store(true, Ordering::SeqCst);
+    if !wait_for(ended, TURNS) {
+        end(rt, store, lanes, &mut port, 0);
+    }
+}
+
+/// Runs the first worker of two in a thread of its own, while another plays the second. How the first ended.
+fn stop_one_of_two<R: Threads + Wait + Abort + Sync>(
+    rt: &R,
+    alloc: Global,
+    lanes: &Lanes,
+    first: Port,
+    second: Port,
+    store: &Store,
+) -> Option<WorkFault>
+    requires first { IsPortOf lanes.now first × IsFresh first }
+    requires second { IsPortOf lanes.now second }
+    requires sizes { lanes.now.sizes ≡ sizes_of store.now }
+{
+    let stop = AtomicBool::new(false);
+    let ended = AtomicBool::new(false);
+    let (stop, ended) = (&stop, &ended);
+    let (fault, _) = thread::join(
+        rt,
+        move || -> Option<WorkFault>
+            requires { IsPortOf lanes.now first × IsFresh first × (lanes.now.sizes ≡ sizes_of store.now) }
+        { work_until_told(rt, alloc, lanes, first, store, stop, ended) },
+        move || -> ()
+            requires { IsPortOf lanes.now second × (lanes.now.sizes ≡ sizes_of store.now) }
+        { stop_in_a_wait(rt, lanes, second, store, stop, ended) },
+    );
+    fault
+}
+
+// A worker that waits for an End reads the flag, and is told to stop though the End never comes.
+#[test]
+fn a_flag_is_read_in_a_wait(rt: HostRuntime) -> Result<(), Fail> {
+    let store = Store::new(rt.alloc(), 1, 1)?;
+    let (lanes, mut ports) = open(rt.alloc(), &store, 2)?;
+    let second = ports.pop().expect(&rt, "no second port");
+    let first = ports.pop().expect(&rt, "no first port");
+    let fault = stop_one_of_two(&rt, rt.alloc(), &lanes, first, second, &store);
+    assert!(rt; fault == Some(WorkFault::Stopped));
+    Ok(())
+}

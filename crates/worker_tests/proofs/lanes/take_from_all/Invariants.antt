@@ -1,9 +1,0 @@
-use Rattle.std.proofs.Common.{All}
-use Rattle.lane_queue.specs.PortView.{IsPortOf}
-use Rattle.worker_tests.proofs.lanes.take_from_all.Given as goal
-
-abbrev pub invariant-loop : goal.invariant-loop
-invariant-loop g l = All (λ p. IsPortOf l.lanes p) l.ports.items × All (λ p. IsPortOf l.lanes p) l.done.items
-
-abbrev pub invariant-loop-from : goal.invariant-loop-from
-invariant-loop-from g l = All (λ p. IsPortOf l.lanes p) l.ports.items × All (λ p. IsPortOf l.lanes p) l.done.items × IsPortOf l.lanes l.port
