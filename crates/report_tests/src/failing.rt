@@ -1,6 +1,6 @@
 //! Checks over devices that fail at each place.
 use crate::devices::{Dripping, End, Endless, Page, drip, new_page};
-use check_report::{CheckFault, Choice, Settings, check};
+use check_report::{CheckFault, Choice, Context, Settings, check};
 use expand_work::{Free, Gate};
 use net_bench::device::Source;
 use net_bench::netlist::BenchFault;
@@ -42,7 +42,13 @@ pub(crate) fn checked<R: AllocGlobal + Threads + Wait + Sync, R1: Source, R2: So
         sizes: false,
         json: false,
     };
-    check(rt, rt.alloc(), first, second, given, &settings, gate, out).err()
+    let context = Context {
+        rt,
+        alloc: rt.alloc(),
+        settings: &settings,
+        gate,
+    };
+    check(&context, first, second, given, out).err()
 }
 
 /// The fault of a check of two texts without a condition.

@@ -119,7 +119,7 @@ pub(crate) fn ran<R: AllocGlobal + Eprint + Clock + Meter + Threads + Wait + Syn
     errors: &mut Page,
 ) -> Result<u8, AllocError> {
     let words = words_of(rt.alloc(), line)?;
-    Ok(run_tool(rt, rt.alloc(), words.as_slice(), folder, input, out, errors))
+    Ok(run_tool(rt, words.as_slice(), folder, input, out, errors))
 }
 
 /// Words, the file that fails, the input, which fails too, the status, and the line behind the program's name.

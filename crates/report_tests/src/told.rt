@@ -1,6 +1,6 @@
 //! What a gate is told of a comparison, in one order and in the best.
 use crate::failing::C17;
-use check_report::{CheckFault, Choice, Settings, judge};
+use check_report::{CheckFault, Choice, Context, Settings, judge};
 use dd_store::Watch;
 use expand_work::Gate;
 use net_bench::device::Through;
@@ -84,15 +84,13 @@ fn told_of<R: Threads + Wait + Sync>(
     let mut first = Through::new(text.as_bytes());
     let mut second = Through::new(text.as_bytes());
     let mut nothing: Option<Through<&[u8]>> = None;
-    judge(
+    let context = Context {
         rt,
         alloc,
-        &mut first,
-        &mut second,
-        &mut nothing,
-        &settings,
-        &gate,
-    )?;
+        settings: &settings,
+        gate: &gate,
+    };
+    judge(&context, &mut first, &mut second, &mut nothing)?;
     Ok(Told {
         times: gate.times.load(Ordering::SeqCst),
         ranks: gate.ranks.load(Ordering::SeqCst),
