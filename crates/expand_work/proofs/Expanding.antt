@@ -1,5 +1,5 @@
 -- From the lanes' new ports, and from the parts of all workers, to the settled wave.
-use Rattle.std.proofs.Common.{◌≡◌, ℕ, zero, suc, ◌+◌, ◌*◌, ◌<◌, true, false, cond, eqb, List, [], ◌∷◌, map, length, slice_index_or, slice_get, Some, All, Contains, AllPairs, refl, sym, ap, ◌∙◌, subst, arith}
+use Rattle.std.proofs.Common.{◌≡◌, ℕ, zero, suc, ◌+◌, ◌*◌, ◌<◌, true, false, cond, eqb, List, [], ◌∷◌, map, length, slice_index_or, slice_get, Some, refl, sym, ap, ◌∙◌, subst, arith}
 use Rattle.std.specs.List.{sum_by, AllZip}
 use Rattle.std.proofs.lemmas.List.Sums.{sum_by-cons}
 use Rattle.std.proofs.lemmas.List.{get_or-map, length-map}
@@ -15,8 +15,7 @@ use Rattle.req_table.specs.Wave.{Wave}
 use Rattle.req_table.specs.Keys.{level_of, wave_of}
 use Rattle.req_table.specs.Lanes.{sent_by, asks}
 use Rattle.req_table.specs.Sizes.{sizes_of}
-use Rattle.req_table.specs.Reached.{IsReached}
-use Rattle.req_table.specs.Settled.{IsSettled, IsSplit, IsClosure, level_of_rows, key_of, owed}
+use Rattle.req_table.specs.Settled.{IsSettled, key_of, owed}
 use Rattle.req_table.specs.Tables.{row_at}
 use Rattle.req_table.proofs.Sized.{fair_in_wave, law_in_wave}
 use Rattle.lane_queue.specs.PortView.{LanesView, PortView, sent_to, put_to}

@@ -1,5 +1,5 @@
 -- The records of keys, told by the keys alone.
-use Rattle.std.proofs.Common.{◌≡◌, ℕ, suc, ◌+◌, ◌<◌, List, [], ◌∷◌, ◌++◌, length, get_or, map, take, filter, All, refl, sym, ap, ◌∙◌, arith}
+use Rattle.std.proofs.Common.{◌≡◌, ℕ, ◌+◌, ◌<◌, List, [], ◌∷◌, ◌++◌, length, get_or, map, take, filter, All, refl, sym, ap, ◌∙◌, arith}
 use Rattle.std.proofs.lemmas.List.{map_more, map_push, get_or-map, length-map}
 use Rattle.std.proofs.lemmas.List.Elements.{All-nil, All-cons}
 use Rattle.std.proofs.Math.ListN as listn
@@ -8,7 +8,7 @@ use Rattle.req_table.specs.declared.Key.{Key}
 use Rattle.req_table.specs.declared.Record.{Record}
 use Rattle.req_table.specs.declared.placed.Placed.{Placed}
 use Rattle.req_table.specs.Keys.{record_of, wave_of, IsChildIn}
-use Rattle.req_table.specs.Settled.{IsSplit, key_of, asked, asked_by, level_of_rows}
+use Rattle.req_table.specs.Settled.{IsSplit, key_of, asked, asked_by}
 use Rattle.expand_work.specs.Due.{asked_of, due_by}
 use Rattle.expand_work.specs.Work.{at, owned_by, with_levels}
 use Rattle.expand_work.specs.Lean.{lean, lean_row, records_of, recorded, AreLean}

@@ -1,15 +1,11 @@
 -- What the ports of an expanded wave tell, and which records are whose.
 use Rattle.std.specs.Prelude.{◌≡◌, ℕ, ◌<◌, ◌==◌, cond, List, [], length, slice_index_or}
 use Rattle.std.specs.List.{sum_by}
-use Rattle.req_table.specs.declared.Key.{Key}
 use Rattle.req_table.specs.declared.Record.{Record}
-use Rattle.req_table.specs.Wave.{Wave}
-use Rattle.req_table.specs.Settled.{IsSettled, level_of_rows}
 use Rattle.req_table.specs.Tables.{row_at}
 use Rattle.req_table.specs.declared.Item.{Item}
 use Rattle.lane_queue.specs.PortView.{PortView}
 use Rattle.expand_work.specs.Parts.{sum_below, bundles_of}
-use Rattle.lane_queue.specs.Joining.{sent_from, taken_by}
 
 -- One port for each of so many workers, by number.
 pub record AreByNumber (workers : ℕ) (ports : List PortView) : Type 0 where

@@ -32,12 +32,7 @@ pub struct Worker {
 }
 
 // Sends what is due, keeps what the worker owns itself, and ends the level on every lane.
-fn speak<R: Wait>(
-    rt: &R,
-    site: Site<'_>,
-    worker: &mut Worker,
-    level: u16,
-) -> Result<(), AllocError>
+fn speak<R: Wait>(rt: &R, site: Site<'_>, worker: &mut Worker, level: u16) -> Result<(), AllocError>
     requires level { level < site.store.now.levels }
     requires working { IsWorking site.lanes.now site.store.now site.roots.now level worker.old }
     ensures { OnOk result (HasSpoken site.entry.lanes.now level worker.old worker.new) }

@@ -4,8 +4,8 @@ ghost use Rattle.wave_core.specs.View.{AreDealt};
 
 use crate::Table;
 use crate::lists::Keys;
-use req_table::requests::owner;
 use req_table::Key;
+use req_table::requests::owner;
 use std::alloc::{AllocError, Global};
 
 /// So many empty tables.

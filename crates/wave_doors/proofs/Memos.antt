@@ -3,9 +3,6 @@ use Rattle.std.proofs.Common.{◌≡◌, ◌-◌, ℕ, Bool, List, [], ◌∷◌
 use Rattle.std.specs.Option.{option_map, option_map_or}
 use Rattle.std.specs.Map.{lookup, lookup_entry, remove_entry}
 use Rattle.std.proofs.lemmas.Map.Views.{Contains-from_lookup}
-use Rattle.lru.specs.LruCache.{LruCache, lru_cache, put_entries}
-use Rattle.lru.proofs.CallerLemmas.{Contains-lookup_entry}
-use Rattle.lru.proofs.Pairs.{lookup-lookup_entry}
 use Rattle.dd_store.specs.declared.reference.Ref.{Ref}
 use Rattle.req_table.specs.declared.Key.{Key}
 use Rattle.req_table.specs.contracts.KeyPartialEq.TheImpl.{eq-value}
@@ -24,8 +21,6 @@ use Rattle.dd_store.specs.View.{Keeps as KeepsNodes}
 use Rattle.dd_store.specs.Marks.{mark_by, turned}
 use Rattle.dd_store.proofs.Marks.{den-mark_by}
 use Rattle.dd_store.proofs.View.{kept_den, has-negate}
-use Rattle.lru.proofs.Splits.{Contains-cons, Contains-nil}
-use Rattle.lru.proofs.CallerLemmas.{Contains-take, Contains-remove_entry}
 use Rattle.req_table.proofs.Memos.{known_value}
 
 module _ (S : Nodes) (m : Held) (right : IsRight S m) (op : Op) (f g : Ref) (hf : Has S f) (hg : Has S g) where

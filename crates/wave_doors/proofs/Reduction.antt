@@ -20,7 +20,8 @@ use Rattle.dd_store.proofs.Marks.{top-mark_by, IsRef-mark_by, den-mark_by}
 use Rattle.dd_store.specs.Parts.Part.{node}
 use Rattle.dd_store.specs.Nodes.{Nodes, den, IsSound, IsDiagram, count_of}
 use Rattle.dd_store.specs.View.{part, Has, top, Keeps, IsOneNode, IsMade}
-use Rattle.reduce_up.specs.Reducing.{IsKeyAt, IsAnswer, IsAnswerAt, IsChild, IsRecordAt, AreAnswers, HasAnswer, IsReady, IsResolved, AddsDescribed, AskedBy, IsRow, IsRowReduced, Notes, IsRecordFault, IsRowFault, ReducesRow, wave_fault}
+use Rattle.expand_work.specs.Fault.{wave_fault}
+use Rattle.reduce_up.specs.Reducing.{IsKeyAt, IsAnswer, IsAnswerAt, IsChild, IsRecordAt, AreAnswers, HasAnswer, IsReady, IsResolved, AddsDescribed, AskedBy, IsRow, IsRowReduced, Notes, IsRecordFault, IsRowFault, ReducesRow}
 use Rattle.req_table.specs.Keys.{meaning}
 use Rattle.req_table.specs.Short.{op_value}
 use Rattle.std.specs.Prelude.{slice_index_or}

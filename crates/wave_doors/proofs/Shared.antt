@@ -22,7 +22,8 @@ use Rattle.dd_store.proofs.Storing.{small_shard, shard-le-count}
 use Rattle.dd_store.proofs.AddingAll.{Extends-grown, added_there, lacking_absent}
 use Rattle.dd_store.proofs.View.{keeps, same_ref, absent}
 use Rattle.expand_work.proofs.Zips.{zip_at}
-use Rattle.reduce_up.specs.Reducing.{IsKeyAt, IsAnswer, IsAnswerAt, IsRecordAt, AreAnswers, HasAnswer, AddsDescribed, AskedBy, IsRow, IsRowReduced, IsRowFault, Notes, wave_fault}
+use Rattle.expand_work.specs.Fault.{wave_fault}
+use Rattle.reduce_up.specs.Reducing.{IsKeyAt, IsAnswer, IsAnswerAt, IsRecordAt, AreAnswers, HasAnswer, AddsDescribed, AskedBy, IsRow, IsRowReduced, IsRowFault, Notes}
 use Rattle.reduce_up.specs.Sharing.{IsPairOf, IsAnswered, CanStand, RowCanStand, AreDivided, IsOfPair, AddsRow, IsRowRefused, NotesFirst}
 use Rattle.wave_doors.specs.Sharing.{AddsPairs, HasPair, IsPairsFault}
 use Rattle.reduce_up.proofs.Naming.{there_part, grown_of_pair}

@@ -23,7 +23,8 @@ use Rattle.req_table.specs.declared.Record.{Record}
 use Rattle.req_table.specs.Keys.{child_of, record_of, meaning, wave_of}
 use Rattle.req_table.proofs.AsksFor.{AsksFor, asks_for}
 use Rattle.req_table.proofs.Waved.{is_wave, are_requests}
-use Rattle.reduce_up.specs.Reducing.{IsKeyAt, IsAnswer, IsAnswerAt, IsChild, IsRecordAt, AreAnswers, AskedBy, AddsDescribed, IsRecordFault, wave_fault}
+use Rattle.expand_work.specs.Fault.{wave_fault}
+use Rattle.reduce_up.specs.Reducing.{IsKeyAt, IsAnswer, IsAnswerAt, IsChild, IsRecordAt, AreAnswers, AskedBy, AddsDescribed, IsRecordFault}
 use Rattle.reduce_up.specs.Waves.{Entry, IsEntry, HasRequest, IsWaveFault, requests_of}
 use Rattle.reduce_up.proofs.Reduction.{resolved, record_kept, kept_meaning, answer_kept, adds_none}
 use Rattle.reduce_up.proofs.Noting.{nothing, in_cases}

@@ -2,7 +2,8 @@
 ghost use Rattle.std.specs.Prelude.{◌≡◌, ◌≢◌, ◌<◌, ◌≤◌, ℕ, length, All, IfErr, OnOk};
 ghost use Rattle.dd_store.specs.declared.reference.Ref.{Ref as RefValue};
 ghost use Rattle.dd_store.specs.Nodes.{IsSound};
-ghost use Rattle.reduce_up.specs.Reducing.{AddsDescribed, wave_fault as wave_fault_of};
+ghost use Rattle.expand_work.specs.Fault.{wave_fault as wave_fault_of};
+ghost use Rattle.reduce_up.specs.Reducing.{AddsDescribed};
 ghost use Rattle.reduce_up.specs.Waves.{IsWanted, IsWaveFault, IsEntry};
 ghost use Rattle.wave_engine.specs.Down.{AreExpanded};
 ghost use Rattle.wave_engine.specs.Up.{ComesTo, IsReadyAt, AskedAt, IsLevelReduced, IsLevelFault, AreReducedBelow};

@@ -1,4 +1,4 @@
-use Rattle.std.proofs.Common.{◌≡◌, length, set, subst, sym, ap, ◌∙◌, [], refl}
+use Rattle.std.proofs.Common.{length, set, subst, sym, ap, ◌∙◌, [], refl}
 use Rattle.std.proofs.lemmas.Result.{on_ok_weaker}
 use Rattle.expand_work.specs.Noted.{IsNoted}
 use Rattle.expand_work.specs.Work.{IsHeard}

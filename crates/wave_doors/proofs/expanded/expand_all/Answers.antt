@@ -8,7 +8,7 @@ use Rattle.reduce_up.proofs.Rooting.{closure_same}
 use Rattle.wave_doors.proofs.expanded.expand_all.Goals as goal
 
 pub merge_rows-requires-clause-parts : goal.merge_rows-requires-clause-parts
-merge_rows-requires-clause-parts g c κs within = subst (λ n. AreParts c.args.store.now n c.args.roots.now c.in_ok-parts.parts) c.new.ensures c.in_ok-parts.ensures.parts
+merge_rows-requires-clause-parts g c = subst (λ n. AreParts c.args.store.now n c.args.roots.now c.in_ok-parts.parts) c.new.ensures c.in_ok-parts.ensures.parts
 
 pub returns-clause-ports : goal.returns-clause-ports
 returns-clause-ports g c = subst (λ n. AreByNumber n c.in_ok-parts.ports.items) c.new.ensures c.in_ok-parts.ensures.ports

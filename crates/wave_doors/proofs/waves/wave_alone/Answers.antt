@@ -1,4 +1,4 @@
-use Rattle.std.proofs.Common.{◌≡◌, ◌∙◌, All, sym, subst}
+use Rattle.std.proofs.Common.{◌≡◌, ◌∙◌, All, sym, subst, arith}
 use Rattle.req_table.specs.Keys.{IsKey}
 use Rattle.reduce_up.specs.Waves.{requests_of, IsClosureOf}
 use Rattle.reduce_up.proofs.Rooted.{requests_good}
@@ -12,4 +12,4 @@ closure_of-requires-clause-roots g c =
 pub answer_closure-requires-clause-closure : goal.answer_closure-requires-clause-closure
 answer_closure-requires-clause-closure g c κs within =
     let roots : c.as_slice.result.now ≡ requests_of c.args.entries.now = c.as_slice.ensures.value ∙ c.in-Ok.ensures in
-    (c.args.workers, c.requires.workers.0, subst (λ z. IsClosureOf c.args.store.now c.args.workers z c.in-Ok-closure_of.records) roots c.in-Ok-closure_of.ensures)
+    (c.count-workers.result, (let e = c.count-workers.ensures.some in omega (arith, e)), subst (λ z. IsClosureOf c.args.store.now c.count-workers.result z c.in-Ok-closure_of.records) roots c.in-Ok-closure_of.ensures)

@@ -1,5 +1,5 @@
 use Rattle.std.proofs.Common.{◌↔◌, List, Contains, IsTrue, subst}
-use Rattle.req_table.specs.Operation.{Operation}
+use Rattle.req_table.specs.declared.Operation.{Operation}
 use Rattle.wave_core.proofs.Keyed.{found_contains}
 use Rattle.wave_core.proofs.table.Table.contains.Goals as goal
 
