@@ -1,10 +1,11 @@
 // The parts of a netlist, a statement at a time, by the numbers of its signals.
-ghost use Rattle.std.specs.Prelude.{◌≡◌, ◌++◌, map, filter, IfOk, OnOk, option_to_list};
+ghost use Rattle.std.specs.Prelude.{◌≡◌, ◌++◌, length, map, filter, IfOk, OnOk, option_to_list};
 ghost use Rattle.net_bench.specs.Said.{statement_of};
 ghost use Rattle.net_bench.specs.Circuit.{is_gate, is_register};
 ghost use Rattle.net_bench.specs.Symbols.{driven_role, inputs_with, line_with, outputs_with, symbol_after, uses_with};
 
 use crate::kinds::kind_of;
+use crate::name_table::narrow;
 use crate::netlist::{GateLine, Kind, Operands, Role, Signal};
 use crate::symbols::{Symbol, Use};
 use crate::syntax::Said;
@@ -75,7 +76,7 @@ fn operands_of(alloc: Global, uses: &[Use]) -> Result<Operands, AllocError>
 }
 
 /// The gate or register of a statement, where it has one.
-pub fn line_of(
+fn line_of(
     alloc: Global,
     said: &Said<'_>,
     first: Use,
@@ -99,7 +100,7 @@ pub fn line_of(
 }
 
 /// Puts a gate at the end of the gates, and a register at the end of the registers.
-pub fn add_line(
+fn add_line(
     gates: &mut Vec<GateLine>,
     registers: &mut Vec<GateLine>,
     line: Option<GateLine>,
@@ -118,6 +119,22 @@ pub fn add_line(
     Ok(())
 }
 
+/// Puts the gate or register of a statement at the end of its list, where it has one.
+pub fn add_driven(
+    alloc: Global,
+    gates: &mut Vec<GateLine>,
+    registers: &mut Vec<GateLine>,
+    said: &Said<'_>,
+    first: Use,
+    operands: &[Use],
+) -> Result<(), AllocError>
+    ensures gates { OnOk result (gates.new.items ≡ gates.old.items ++ filter is_gate (option_to_list (line_with (statement_of said.now) first operands.now))) }
+    ensures registers { OnOk result (registers.new.items ≡ registers.old.items ++ filter is_register (option_to_list (line_with (statement_of said.now) first operands.now))) }
+{
+    let line = line_of(alloc, said, first, operands)?;
+    add_line(gates, registers, line)
+}
+
 /// The role that the word of a gate or register gives, which goes to one of these places.
 fn driven_role(kind: Option<Kind>, gate: u32, register: u32) -> Role
     ensures { result ≡ driven_role kind gate register }
@@ -129,7 +146,7 @@ fn driven_role(kind: Option<Kind>, gate: u32, register: u32) -> Role
 }
 
 /// The symbol of a statement's signal behind it, where a gate or register goes to one of these places.
-pub fn symbol_after(said: &Said<'_>, symbol: Symbol, gate: u32, register: u32) -> Symbol
+fn symbol_after(said: &Said<'_>, symbol: Symbol, gate: u32, register: u32) -> Symbol
     ensures { result ≡ symbol_after (statement_of said.now) symbol gate register }
 {
     match said {
@@ -146,6 +163,20 @@ pub fn symbol_after(said: &Said<'_>, symbol: Symbol, gate: u32, register: u32) -
             is_output: symbol.is_output,
         },
     }
+}
+
+/// The symbol of a statement's signal behind it, where its gate or register comes to the end of its list.
+pub fn next_symbol(
+    said: &Said<'_>,
+    symbol: Symbol,
+    gates: &[GateLine],
+    registers: &[GateLine],
+) -> Result<Symbol, AllocError>
+    ensures { IfOk result (λ s. s ≡ symbol_after (statement_of said.now) symbol (length gates.now) (length registers.now)) }
+{
+    let gate = narrow(gates.len())?;
+    let register = narrow(registers.len())?;
+    Ok(symbol_after(said, symbol, gate, register))
 }
 
 /// The inputs, then the registers' signals.

@@ -59,10 +59,8 @@ fn close(alloc: Global, symbols: &mut SymbolTable, said: Said<'_>) -> Result<(),
     if let Some(fault) = symbols.fault_of(&said) {
         return Err(fault);
     }
-    match symbols.define(alloc, &said) {
-        Ok(()) => Ok(()),
-        Err(_) => Err(BenchFault::OutOfMemory),
-    }
+    symbols.define(alloc, &said)?;
+    Ok(())
 }
 
 /// Takes one more token, which is not the end, and answers the part of a statement that it leads to.
@@ -81,24 +79,18 @@ fn take_token<'a>(
     if let Some(fault) = token_fault(line, token) {
         return Err(fault);
     }
-    let next = match next_part(alloc, part, line, token) {
-        Ok(next) => next,
-        Err(fault) => return Err(fault),
-    };
-    match next {
+    match next_part(alloc, part, line, token)? {
         Next::More(part) => {
             if let Some(fault) = word_fault(&part) {
                 return Err(fault);
             }
-            match symbols.count(alloc, &part, line, token) {
-                Ok(()) => Ok(part),
-                Err(fault) => Err(fault),
-            }
+            symbols.count(alloc, &part, line, token)?;
+            Ok(part)
         }
-        Next::Whole(said) => match close(alloc, symbols, said) {
-            Ok(()) => Ok(Part::Nothing),
-            Err(fault) => Err(fault),
-        },
+        Next::Whole(said) => {
+            close(alloc, symbols, said)?;
+            Ok(Part::Nothing)
+        }
     }
 }
 
@@ -121,9 +113,6 @@ pub fn judge_text(alloc: Global, text: &[u8]) -> Result<SymbolTable, BenchFault>
             };
             return Ok(symbols);
         }
-        part = match take_token(alloc, &mut symbols, part, line, token) {
-            Ok(part) => part,
-            Err(fault) => return Err(fault),
-        };
+        part = take_token(alloc, &mut symbols, part, line, token)?;
     }
 }

@@ -135,6 +135,34 @@ fn grow_slots(bytes: &[u8], spans: &[Span], slots: &mut Vec<u32>) -> Result<(), 
     Ok(())
 }
 
+/// Where a name lies that is put behind these bytes.
+fn span_behind(bytes: &[u8], name: &[u8]) -> Result<Span, AllocError>
+    ensures start { IfOk result (λ span. span.start ≡ length bytes.now) }
+    ensures len { IfOk result (λ span. span.len ≡ length name.now) }
+{
+    let start = narrow(bytes.len())?;
+    let len = narrow(name.len())?;
+    Ok(Span { start, len })
+}
+
+/// Puts a name and its span at the end. After an error both lists are as before.
+fn put(
+    bytes: &mut Vec<u8>,
+    spans: &mut Vec<Span>,
+    name: &[u8],
+    span: Span,
+) -> Result<(), AllocError>
+    ensures bytes { OnOk result (bytes.new.items ≡ bytes.old.items ++ name.now) }
+    ensures spans { OnOk result (spans.new.items ≡ spans.old.items ++ span ∷ []) }
+    ensures bytes_stay { OnErr result (bytes.new.items ≡ bytes.old.items) }
+    ensures spans_stay { OnErr result (spans.new.items ≡ spans.old.items) }
+{
+    spans.reserve(1)?;
+    bytes.extend_from_slice(name)?;
+    spans.push_reserved(span);
+    Ok(())
+}
+
 /// Whether two names are the same.
 fn is_same(left: &[u8], right: &[u8]) -> bool
     ensures { result ≡ bytes_eq left.now right.now }
@@ -203,8 +231,7 @@ impl NameTable {
     {
         let _ = alloc;
         let held = narrow(self.spans.len() + 1)?;
-        let start = narrow(self.bytes.len())?;
-        let len = narrow(name.len())?;
+        let span = span_behind(self.bytes.as_slice(), name)?;
         grow_slots(
             self.bytes.as_slice(),
             self.spans.as_slice(),
@@ -218,10 +245,8 @@ impl NameTable {
         ) {
             Sought::Number(number) => Ok(number),
             Sought::Slot(slot) => {
-                self.spans.reserve(1)?;
-                self.bytes.extend_from_slice(name)?;
+                put(&mut self.bytes, &mut self.spans, name, span)?;
                 self.slots[slot] = held;
-                let _ = self.spans.push(Span { start, len });
                 Ok(held - 1)
             }
         }

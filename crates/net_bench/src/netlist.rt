@@ -2,7 +2,9 @@
 ghost use Rattle.std.specs.Prelude.{◌≡◌, Some};
 ghost use Rattle.net_bench.specs.Circuit.{is_register_kind};
 ghost use Rattle.net_bench.specs.FaultText.{fault_text};
+ghost use Rattle.net_bench.specs.declared.netlist.BenchFault.TheVariants.{OutOfMemory};
 
+use std::alloc::AllocError;
 use std::fmt;
 use std::marker::Model;
 use thiserror::Error;
@@ -80,6 +82,14 @@ impl fmt::Display for BenchFault {
             BenchFault::Read => write!(f, "cannot be read"),
             BenchFault::OutOfMemory => write!(f, "out of memory"),
         }
+    }
+}
+
+impl From<AllocError> for BenchFault {
+    ghost from_gives = { λ _ fault. fault ≡ OutOfMemory };
+
+    fn from(_fault: AllocError) -> BenchFault {
+        BenchFault::OutOfMemory
     }
 }
 

@@ -1,5 +1,5 @@
 //! The netlist of a text.
-ghost use Rattle.std.specs.Prelude.{◌≡◌, ◌+◌, ◌<◌, ◌⊎◌, ℕ, length, Contains, IfOk, IfErr, IfSome, IsTrue, slice_index, slice_get, Some, Err};
+ghost use Rattle.std.specs.Prelude.{◌≡◌, ◌+◌, ◌<◌, ◌⊎◌, ℕ, length, Contains, IfOk, IfErr, IfSome, OnOk, IsTrue, slice_index, slice_get, Some, Err};
 ghost use Rattle.net_bench.specs.Circuit.{circuit, circuit_of, find, variables_of, HasRole, gate_by, gate_of, IsNet, AreRanks};
 ghost use Rattle.net_bench.specs.Fault.{IsRefused, MakesNetlist, max_text};
 ghost use Rattle.net_bench.specs.Devices.{TakesAtMost};
@@ -176,22 +176,30 @@ fn ranks_for(
     ensures refused { IfErr result (IsLate (statements_in text.now)) }
 {
     let _ = text;
-    match ranks_of(alloc, symbols, variables, gates) {
-        Ok(ranks) => Ok(ranks),
-        Err(fault) => Err(fault),
+    ranks_of(alloc, symbols, variables, gates)
+}
+
+/// Refuses a text that uses a signal without definition.
+fn check_defined(text: &[u8], symbols: &SymbolTable) -> Result<(), BenchFault>
+    requires told { IsTold (statements_in text.now) (Between (statements_in text.now)) symbols.now }
+    ensures defined { OnOk result (AreDefined (statements_in text.now)) }
+    ensures refused { IfErr result (IsLate (statements_in text.now)) }
+{
+    let _ = text;
+    match first_undefined(symbols.symbols.as_slice(), symbols.uses.as_slice()) {
+        Some(line) => Err(BenchFault::Undefined { line }),
+        None => Ok(()),
     }
 }
 
-/// The netlist of a text whose statements are sound one by one.
+/// The netlist of a text whose statements are sound one by one, and use no signal without definition.
 fn netlist_of(alloc: Global, text: &[u8], symbols: SymbolTable) -> Result<Netlist, BenchFault>
     requires sound { IsSound (statements_in text.now) }
+    requires defined { AreDefined (statements_in text.now) }
     requires told { IsTold (statements_in text.now) (Between (statements_in text.now)) symbols }
-    ensures accepted { IfOk result (λ net. (circuit net ≡ circuit_of (statements_in text.now)) × AreDefined (statements_in text.now) × IsNet net) }
+    ensures accepted { IfOk result (λ net. (circuit net ≡ circuit_of (statements_in text.now)) × IsNet net) }
     ensures refused { IfErr result (IsLate (statements_in text.now)) }
 {
-    if let Some(line) = first_undefined(symbols.symbols.as_slice(), symbols.uses.as_slice()) {
-        return Err(BenchFault::Undefined { line });
-    }
     let SymbolTable {
         names,
         symbols,
@@ -201,28 +209,24 @@ fn netlist_of(alloc: Global, text: &[u8], symbols: SymbolTable) -> Result<Netlis
         registers,
         ..
     } = symbols;
-    let Ok(variables) = variables_of(alloc, inputs.as_slice(), registers.as_slice()) else {
-        return Err(BenchFault::OutOfMemory);
-    };
-    match ranks_for(
+    let variables = variables_of(alloc, inputs.as_slice(), registers.as_slice())?;
+    let ranks = ranks_for(
         alloc,
         text,
         symbols.as_slice(),
         variables.as_slice(),
         gates.as_slice(),
-    ) {
-        Ok(ranks) => Ok(Netlist {
-            names,
-            symbols,
-            inputs,
-            outputs,
-            gates,
-            registers,
-            variables,
-            ranks,
-        }),
-        Err(fault) => Err(fault),
-    }
+    )?;
+    Ok(Netlist {
+        names,
+        symbols,
+        inputs,
+        outputs,
+        gates,
+        registers,
+        variables,
+        ranks,
+    })
 }
 
 /// The netlist of a text in the bench format: INPUT, OUTPUT, gates and registers, as ISCAS 1985 and 1989 benchmarks are distributed.
@@ -236,14 +240,9 @@ pub fn parse_bench(alloc: Global, text: &[u8]) -> Result<Netlist, BenchFault>
     if text.len() > MAX_TEXT {
         return Err(BenchFault::TooLong);
     }
-    let symbols = match judge_text(alloc, text) {
-        Ok(symbols) => symbols,
-        Err(fault) => return Err(fault),
-    };
-    match netlist_of(alloc, text, symbols) {
-        Ok(netlist) => Ok(netlist),
-        Err(fault) => Err(fault),
-    }
+    let symbols = judge_text(alloc, text)?;
+    check_defined(text, &symbols)?;
+    netlist_of(alloc, text, symbols)
 }
 
 /// The netlist of the text that the device gives. A failed read is `Read`; a read of 0 bytes is the end.

@@ -7,9 +7,9 @@ ghost use Rattle.net_bench.specs.Scan.{seen};
 ghost use Rattle.net_bench.specs.Statement.{Statement, kind_of};
 ghost use Rattle.net_bench.specs.Symbols.{CountsMore, IsClosed, IsCrowding, IsSymbol, KeepsParts, KnowsSubject, blank, is_defined_role, is_driven_role, known_symbol, newest, newest_operands, statement_fault, subject, undefined_use};
 
-use crate::build::{add_input, add_line, add_output, add_uses, line_of, symbol_after};
+use crate::build::{add_driven, add_input, add_output, add_uses, next_symbol};
 use crate::kinds::kind_of;
-use crate::name_table::{NameTable, narrow};
+use crate::name_table::NameTable;
 use crate::netlist::{BenchFault, GateLine, Kind, Role, Signal};
 use crate::scan::Token;
 use crate::syntax::{Part, Said, Word};
@@ -150,14 +150,24 @@ impl SymbolTable {
         };
         let first = *first;
         let symbol = symbol_of(self.symbols.as_slice(), first.signal);
-        let gate = narrow(self.gates.len())?;
-        let register = narrow(self.registers.len())?;
+        let after = next_symbol(
+            said,
+            symbol,
+            self.gates.as_slice(),
+            self.registers.as_slice(),
+        )?;
         add_input(&mut self.inputs, said, first, symbol)?;
         add_output(&mut self.outputs, said, first, symbol)?;
         add_uses(&mut self.uses, said, first, operands)?;
-        let line = line_of(alloc, said, first, operands)?;
-        add_line(&mut self.gates, &mut self.registers, line)?;
-        self.symbols[first.signal.number() as usize] = symbol_after(said, symbol, gate, register);
+        add_driven(
+            alloc,
+            &mut self.gates,
+            &mut self.registers,
+            said,
+            first,
+            operands,
+        )?;
+        self.symbols[first.signal.number() as usize] = after;
         self.begun.clear();
         Ok(())
     }
@@ -189,16 +199,12 @@ impl SymbolTable {
         ensures ok { OnOk result (CountsMore self.old self.new (word_of name.entry ∷ []) 0) }
         ensures err { IfErr result (IsCrowding line self.old (word_of name.entry ∷ []) 0) }
     {
-        let Ok(number) = self.names.count(alloc, name.text) else {
-            return Err(BenchFault::OutOfMemory);
-        };
+        let number = self.names.count(alloc, name.text)?;
         if self.names.len() > MAX_SIGNALS {
             return Err(BenchFault::TooMany { line });
         }
-        match self.note(Signal::of(number), name.line) {
-            Ok(()) => Ok(()),
-            Err(_) => Err(BenchFault::OutOfMemory),
-        }
+        self.note(Signal::of(number), name.line)?;
+        Ok(())
     }
 
     /// Counts an operand, and its signal.
@@ -211,13 +217,9 @@ impl SymbolTable {
         if self.operands >= MAX_OPERANDS {
             return Err(BenchFault::TooMany { line });
         }
-        match self.count_name(alloc, line, name) {
-            Ok(()) => {
-                self.operands += 1;
-                Ok(())
-            }
-            Err(fault) => Err(fault),
-        }
+        self.count_name(alloc, line, name)?;
+        self.operands += 1;
+        Ok(())
     }
 
     /// Counts what a token counts that leads to this part of a statement.

@@ -129,10 +129,7 @@ fn next_name<'a>(alloc: Global, part: Part<'a>, name: Word<'a>) -> Result<Part<'
             first: name,
             others: Vec::new(alloc),
         })),
-        Part::AfterComma(gate) => match with_operand(gate, name) {
-            Ok(gate) => Ok(Part::AfterOperand(gate)),
-            Err(_) => Err(BenchFault::OutOfMemory),
-        },
+        Part::AfterComma(gate) => Ok(Part::AfterOperand(with_operand(gate, name)?)),
         _ => Err(BenchFault::BadStatement { line: name.line }),
     }
 }
@@ -151,10 +148,10 @@ pub fn next_part<'a>(
         ((e ≡ BadStatement line) × ((done : List Statement) → step (state_of done part.entry) (seen line token.entry) ≡ Failed))) }
 {
     match (part, token) {
-        (part, Token::Name(text)) => match next_name(alloc, part, Word { line, text }) {
-            Ok(part) => Ok(Next::More(part)),
-            Err(fault) => Err(fault),
-        },
+        (part, Token::Name(text)) => {
+            let part = next_name(alloc, part, Word { line, text })?;
+            Ok(Next::More(part))
+        }
         (Part::First { word }, Token::Equals) => Ok(Next::More(Part::Defining { out: word })),
         (Part::First { word }, Token::Open) if is_input(word) || is_output(word) => Ok(Next::More(
             Part::Opened { word },

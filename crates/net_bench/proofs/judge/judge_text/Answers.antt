@@ -1,4 +1,5 @@
 use Rattle.std.proofs.Common.{◌≡◌, [], inl, inr, ap, subst}
+use Rattle.std.proofs.lemmas.Result.{err_from_is_err_and}
 use Rattle.net_bench.specs.Pieces.{tokens_at}
 use Rattle.net_bench.specs.Machine.{Between, tokens_of}
 use Rattle.net_bench.specs.Scan.{seen}
@@ -46,21 +47,23 @@ returns-in_default-part c = record {
 pub take_token-requires-clause-told : goal.take_token-requires-clause-told
 take_token-requires-clause-told c = (c.tokens.invariant.0, c.tokens.invariant.2)
 
-pub returns-in-Err : goal.returns-in-Err
-returns-in-Err c = record {
-  ok = tt;
-  told = tt;
-  fault = stops (tokens_at 1 c.args.text.now) (state_of c.tokens.invariant.0 c.tokens.part) c.next-line.result.0 (seen c.next-line.result.0 c.next-line.result.1)
-      c.next-line.new.self c.tokens.scanner c.in-Err.fault
-      (one_taken c.tokens.scanner c.next-line.new.self c.next-line.result.0 c.next-line.result.1 c.in_default.not-End c.next-line.ensures)
-      c.tokens.invariant.1 (elim c.in-Err.ensures.fault [ inl e ↦ inl e | inr h ↦ inr (h c.tokens.invariant.0 c.tokens.invariant.2) ]);
-}
+pub returns-in_err-part : goal.returns-in_err-part
+returns-in_err-part c =
+    let p = err_from_is_err_and c.from_residual.result c.from_residual.ensures.1 in
+    rw (p.1, p.2) (record {
+      ok = tt;
+      told = tt;
+      fault = stops (tokens_at 1 c.args.text.now) (state_of c.tokens.invariant.0 c.tokens.part) c.next-line.result.0 (seen c.next-line.result.0 c.next-line.result.1)
+          c.next-line.new.self c.tokens.scanner _
+          (one_taken c.tokens.scanner c.next-line.new.self c.next-line.result.0 c.next-line.result.1 c.in_default.not-End c.next-line.ensures)
+          c.tokens.invariant.1 (elim c.in_err-part.ensures.fault [ inl e ↦ inl e | inr h ↦ inr (h c.tokens.invariant.0 c.tokens.invariant.2) ]);
+    })
 
 pub tokens-preserved : goal.tokens-preserved
 tokens-preserved c =
-    let on = c.in-Ok.ensures.goes c.tokens.invariant.0 c.tokens.invariant.2 in (
+    let on = c.in_ok-part.ensures.goes c.tokens.invariant.0 c.tokens.invariant.2 in (
       on.1.0,
-      goes_to (tokens_at 1 c.args.text.now) c.tokens.invariant.0 (state_of c.tokens.invariant.0 c.tokens.part) (state_of on.1.0 c.in-Ok.part) c.next-line.result.0
+      goes_to (tokens_at 1 c.args.text.now) c.tokens.invariant.0 (state_of c.tokens.invariant.0 c.tokens.part) (state_of on.1.0 c.in_ok-part.part) c.next-line.result.0
           (seen c.next-line.result.0 c.next-line.result.1) c.next-line.new.self c.tokens.scanner c.tokens.symbols
           (one_taken c.tokens.scanner c.next-line.new.self c.next-line.result.0 c.next-line.result.1 c.in_default.not-End c.next-line.ensures)
           c.tokens.invariant.1 c.tokens.invariant.2 on.0 on.1.1,
