@@ -4,7 +4,6 @@ use Rattle.std.proofs.lemmas.Bool.{cases_eq, cases_lt}
 use Rattle.std.proofs.Math.ListN.{get_or-eq_default}
 use Rattle.std.proofs.lemmas.List.{map-set, length-map}
 use Rattle.std.proofs.lemmas.List.Elements.{Contains-push, Contains-push_cases, Contains-append_left}
-use Rattle.std.proofs.lemmas.Option.{slice_get_within}
 use Rattle.dd_store.specs.Graph.{Pair}
 use Rattle.dd_store.specs.Codes.{shard_of_pair}
 use Rattle.dd_store.specs.Growing.{IsIn}
@@ -13,7 +12,6 @@ use Rattle.dd_store.proofs.Places.{slice_get-push, slice_get-append, slice_get_c
 use Rattle.dd_store.proofs.Storing.{small_shard}
 use Rattle.dd_store.proofs.View.{same_ref}
 use Rattle.reduce_up.specs.Sharing.{IsListed, AreDivided}
-use Rattle.reduce_up.proofs.Noting.{nothing}
 
 module _ (old new : ℕ → List Pair) (p : Pair) (l : IsListed old p new) where
   -- what is in a list stays there

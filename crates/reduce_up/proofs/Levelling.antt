@@ -1,5 +1,5 @@
 -- One level after the other, from the last.
-use Rattle.std.proofs.Common.{◌≡◌, ℕ, ◌+◌, ◌<◌, ◌≤◌, ◌⊎◌, inl, inr, Bool, List, [], length, ap, refl, sym, ◌∙◌, subst, arith, Contains}
+use Rattle.std.proofs.Common.{◌≡◌, ℕ, ◌+◌, ◌<◌, ◌≤◌, ◌⊎◌, inl, inr, Bool, List, [], length, ap, sym, ◌∙◌, subst, arith, Contains}
 use Rattle.std.proofs.Math.Nat.{eq-or-lt_of_le}
 use Rattle.std.proofs.Math.ListN.{get_or-eq_default}
 use Rattle.std.proofs.lemmas.Bool.{cases_lt}
@@ -17,7 +17,7 @@ use Rattle.dd_store.specs.View.{part, Has, Keeps}
 use Rattle.reduce_up.specs.Reducing.{IsRecordAt, IsChild, HasAnswer, IsReady, AddsDescribed, AskedBy, IsRow, IsRowReduced, IsRowWithin, IsRowFault}
 use Rattle.req_table.specs.Tables.{row_at}
 use Rattle.reduce_up.specs.Levels.{IsAsked, AreRecords, AskedInRows, AreReducedFrom, AreReduced, IsWithinFrom, IsReduceFault}
-use Rattle.reduce_up.proofs.Reduction.{record_kept, kept_meaning, adds_none}
+use Rattle.reduce_up.proofs.Reduction.{record_kept, kept_meaning}
 use Rattle.reduce_up.proofs.Noting.{nothing}
 use Rattle.reduce_up.proofs.Opposite.{either_more, either_kept}
 use Rattle.dd_store.proofs.View.{keeps-trans}

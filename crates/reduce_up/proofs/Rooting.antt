@@ -1,17 +1,14 @@
 -- The roots of a team's wave, which the workers ask for in turn, and its entries.
-use Rattle.std.proofs.Common.{◌≡◌, ◌≢◌, ℕ, ◌+◌, ◌%◌, ◌<◌, true, false, cond, eqb, List, [], ◌∷◌, ◌++◌, length, take, drop, get_or, set, replicate, Some, None, refl, sym, ap, ◌∙◌, subst, arith, append_assoc, append-nil, eq-eqb, eqb-true, length-append, get_or-set_same, get_or-set_other, All}
+use Rattle.std.proofs.Common.{◌≡◌, ◌≢◌, ℕ, ◌+◌, ◌%◌, ◌<◌, true, false, cond, eqb, List, [], ◌∷◌, ◌++◌, length, take, drop, get_or, set, replicate, refl, sym, ap, ◌∙◌, subst, arith, append_assoc, append-nil, eq-eqb, eqb-true, get_or-set_same, get_or-set_other, All}
 use Rattle.std.specs.declared.vec.Vec.{Vec}
 use Rattle.std.specs.declared.alloc.Global.{Global}
-use Rattle.std.proofs.lemmas.List.{take_more, take_all, drop_more, take-append-drop, length-take, length-set, length-replicate, get_or-replicate}
-use Rattle.std.proofs.Math.Seq.{get_or-append_seam}
+use Rattle.std.proofs.lemmas.List.{take_more, take_all, take-append-drop, length-take, length-set, length-replicate, get_or-replicate}
 use mathlib.Core.Logic.{dite}
 use native.Mathlib.Decide.{ℕ_discrete}
-use Rattle.dd_store.specs.declared.reference.Ref.{Ref}
 use Rattle.dd_store.specs.Nodes.{Nodes, IsSound}
 use Rattle.req_table.specs.declared.Key.{Key}
 use Rattle.req_table.specs.declared.Child.TheVariants.{Ask}
-use Rattle.req_table.specs.Keys.{IsKey, level_of, normal_of, wave_of}
-use Rattle.req_table.specs.Short.{short_of}
+use Rattle.req_table.specs.Keys.{IsKey, level_of, wave_of}
 use Rattle.req_table.specs.Reached.{root}
 use Rattle.req_table.specs.Settled.{IsClosure, asked_below, dealt_from}
 use Rattle.std.proofs.Common.{map, Contains}
@@ -24,9 +21,8 @@ use Rattle.req_table.specs.Tables.{row_at}
 use Rattle.expand_work.specs.Expanded.{row_of}
 use Rattle.expand_work.specs.Gathered.{PartsView, AreParts}
 use Rattle.expand_work.proofs.Owing.{dealt-append}
-use Rattle.reduce_up.specs.Waves.{Entry, request_of, requests_of, IsClosureOf}
+use Rattle.reduce_up.specs.Waves.{Entry, requests_of, IsClosureOf}
 use Rattle.reduce_up.specs.Team.{AnswersView, team_row, gathered, told, AreLeft, AreAllLeft, AreRootsLeft, AreFewer, IsLast, IsFound, IsHalfway}
-use Rattle.reduce_up.proofs.Rooted.{item_next}
 use Rattle.reduce_up.proofs.Closed.{records_of_closure}
 use Rattle.reduce_up.proofs.Reading.{reads, owned_within, left_fewer, gathered_at, gathered-long, told_none}
 

@@ -1,20 +1,16 @@
 -- The tasks of a level's steps: each may be run, and what comes back is what they give.
-use Rattle.std.proofs.Common.{◌≡◌, ℕ, ◌+◌, ◌<◌, List, [], ◌∷◌, ◌++◌, length, get_or, All, sym, ap, ◌∙◌, subst, arith}
+use Rattle.std.proofs.Common.{◌≡◌, ℕ, ◌+◌, ◌<◌, List, [], ◌∷◌, ◌++◌, length, get_or, All, sym, ◌∙◌, subst, arith}
 use Rattle.std.specs.Prelude.{IfOk}
 use Rattle.std.specs.List.{AllZip}
 use Rattle.std.specs.Arc.{arc_value}
 use Rattle.req_table.specs.declared.Key.{Key}
-use Rattle.dd_store.specs.declared.tasks.ShardTask.{ShardTask}
-use Rattle.dd_store.specs.Tasks.{AreShardsMade}
 use Rattle.expand_work.specs.Gathered.{PartsView}
 use Rattle.expand_work.proofs.Zips.{zip_at, zip_long}
 use Rattle.reduce_up.specs.declared.reads.ReadTask.{ReadTask}
 use Rattle.reduce_up.specs.declared.picking.PickTask.{PickTask}
 use Rattle.reduce_up.specs.declared.picking.Sources.{Sources}
-use Rattle.reduce_up.specs.declared.jobs.Job.{Job}
-use Rattle.reduce_up.specs.declared.jobs.Job.TheVariants.{Read, Make, Pick}
 use Rattle.reduce_up.specs.Team.{AnswersView, MayReadPart, IsPartRead}
-use Rattle.reduce_up.specs.Steps.{MayRead, IsRead, IsReadTask, AreReadTasks, AreRead, MayPickFrom, IsPickedFrom, MayPickTask, IsPickTask, ArePickTasks, AllArePicked, MayRun, IsRun}
+use Rattle.reduce_up.specs.Steps.{MayRead, IsRead, IsReadTask, AreReadTasks, AreRead, MayPickFrom, IsPickedFrom, MayPickTask, IsPickTask, ArePickTasks, AllArePicked}
 use Rattle.reduce_up.proofs.Joined.{each_more}
 
 module _ (n : ℕ) (roots : List Key) (p : PartsView) (a : AnswersView) (v : ℕ) where

@@ -1,5 +1,5 @@
 -- Records by level, and their reduction from the last level up.
-use Rattle.std.specs.Prelude.{◌≡◌, ℕ, ◌<◌, ◌≤◌, ◌⊎◌, Bool, true, false, List, length, All, Contains}
+use Rattle.std.specs.Prelude.{◌≡◌, ℕ, ◌<◌, ◌≤◌, ◌⊎◌, Bool, List, length, Contains}
 use Rattle.dd_store.specs.declared.reference.Ref.{Ref}
 use Rattle.req_table.specs.declared.Key.{Key}
 use Rattle.req_table.specs.declared.Child.{Child}
@@ -10,7 +10,7 @@ use Rattle.expand_work.specs.declared.fault.WaveFault.TheVariants as wave_faults
 use Rattle.dd_store.specs.Functions.{Agree}
 use Rattle.dd_store.specs.Nodes.{Nodes, IsSound, count_of}
 use Rattle.reduce_up.specs.Reducing.{IsRecordAt, AreAnswers, HasAnswer, AddsDescribed, LacksAnswer}
-use Rattle.req_table.specs.Keys.{IsKey, level_of, child_of, meaning}
+use Rattle.req_table.specs.Keys.{meaning}
 use Rattle.req_table.specs.Tables.{row_at}
 
 -- a child that asks is a key of its level

@@ -1,10 +1,8 @@
 -- Diagrams by level: at which level a request's diagram stands, and what the levels hold together.
-use Rattle.std.specs.Prelude.{◌≡◌, ℕ, List, [], ◌∷◌, ◌++◌, length, map, Contains, slice_index_or}
+use Rattle.std.specs.Prelude.{◌≡◌, ℕ, List, [], ◌∷◌, ◌++◌, Contains, slice_index_or}
 use Rattle.dd_store.specs.declared.reference.Ref.{Ref}
 use Rattle.req_table.specs.declared.Key.{Key}
-use Rattle.req_table.specs.declared.Record.{Record}
 use Rattle.req_table.specs.Keys.{level_at}
-use Rattle.req_table.specs.Settled.{key_of}
 
 -- the level of a request, told by its operands alone: that of the first node of the two, or else past all levels
 abbrev pub place_of : Key → ℕ

@@ -1,6 +1,5 @@
-use Rattle.std.proofs.Common.{◌≡◌, ◌++◌, ◌∷◌, [], rules, refl, Err}
+use Rattle.std.proofs.Common.{refl}
 use Rattle.std.specs.Arc.{arc_value}
-use Rattle.reduce_up.specs.declared.picking.PickTask.{PickTask}
 use Rattle.reduce_up.proofs.Stepping.{pick_tasks_more}
 use Rattle.reduce_up.proofs.picking.pick_tasks.Goals as goal
 

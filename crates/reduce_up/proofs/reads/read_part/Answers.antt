@@ -1,11 +1,11 @@
-use Rattle.std.proofs.Common.{◌≡◌, ℕ, ◌+◌, ◌-◌, ◌<◌, ◌++◌, length, drop, sym, ap, ◌∙◌, subst, arith}
+use Rattle.std.proofs.Common.{◌≡◌, ℕ, ◌+◌, ◌-◌, ◌<◌, length, drop, sym, ap, ◌∙◌, subst, arith}
 use mathlib.Core.List.{reverse}
 use Rattle.std.proofs.Math.Seq.{drop-length}
 use Rattle.dd_store.specs.Graph.{Pair}
 use Rattle.req_table.specs.declared.Record.{Record}
 use Rattle.expand_work.specs.Expanded.{row_of}
 use Rattle.reduce_up.specs.Sharing.{IsPairOf}
-use Rattle.reduce_up.specs.Team.{AreLeft, IsNext, asked_above, told}
+use Rattle.reduce_up.specs.Team.{AreLeft, IsNext, told}
 use Rattle.reduce_up.proofs.Reading.{before, before_none, before_whole, lean-long, row_read, high_last, high_found, after_high, low_last, low_found, after_low}
 use Rattle.dd_store.specs.Levels.{list_at}
 use Rattle.reduce_up.specs.Division.{IsDivided}
