@@ -9,7 +9,7 @@ ghost use Rattle.dd_store.specs.contracts.reference.ReferencePartialEq.TheImpl.{
 ghost use Rattle.dd_store.specs.Functions.{Agree};
 ghost use Rattle.dd_store.specs.Nodes.{den};
 ghost use Rattle.dd_store.specs.View.{Has};
-ghost use Rattle.counter_walk.specs.Arranged.{IsOrder, IsLeastTrue, IsLeastDeclared, IsExclusiveOr, nowhere};
+ghost use Rattle.counter_walk.specs.Arranged.{IsOrder, arranged, IsLeastTrue, IsLeastDeclared, IsExclusiveOr, nowhere};
 ghost use Rattle.counter_walk.specs.Lines.{Stands, IsTable, AreInOrder, AreOf, AreAble, AreRead, line_can};
 
 use crate::same;
@@ -171,4 +171,16 @@ pub fn least_true(
         }
     }
     Ok(Some(bits))
+}
+
+/// An assignment as declared as one by level, for `value`.
+pub fn by_level(alloc: Global, bits: &[bool], order: &[u16]) -> Result<Vec<bool>, AllocError>
+    requires { IsOrder (length bits.now) order.now }
+    ensures { IfOk result (λ levels. levels.items ≡ arranged order.now bits.now) }
+{
+    let mut levels = Vec::new(alloc);
+    for level in 0..order.len() {
+        levels.push(bits[order[level] as usize])?;
+    }
+    Ok(levels)
 }
