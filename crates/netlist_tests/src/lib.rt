@@ -6,4 +6,6 @@ mod devices;
 #[cfg(test)]
 mod netlists;
 #[cfg(test)]
+mod orders_by_names;
+#[cfg(test)]
 mod pairings;
