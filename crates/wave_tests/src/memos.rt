@@ -1,9 +1,10 @@
 //! Waves that know of earlier ones by a memo.
-ghost use Rattle.std.specs.Prelude.{◌≡◌, ◌≤◌, IfOk};
+ghost use Rattle.std.specs.Prelude.{◌≡◌, ◌<◌, ◌≤◌, IfOk};
 ghost use Rattle.dd_store.specs.View.{Has, Keeps};
 ghost use Rattle.req_table.specs.Keys.{IsKey};
 ghost use Rattle.req_table.specs.Memos.{IsRight};
 ghost use Rattle.reduce_up.specs.Waves.{IsEntry};
+ghost use Rattle.gate_plan.specs.Building.{IsPaired, circuits_of};
 
 use crate::plans::{C17, read};
 use crate::waves::{Narrow, WAYS, Way, crew_of};
@@ -204,36 +205,76 @@ fn known_children(rt: HostRuntime) -> Result<(), Fail> {
 static BUFFERED: &str =
     "INPUT(1)\nINPUT(2)\nINPUT(3)\nINPUT(6)\nINPUT(7)\nOUTPUT(22)\nOUTPUT(23)\na = BUFF(1)\nb = BUFF(2)\nc = BUFF(3)\nf = BUFF(6)\ng = BUFF(7)\n10 = NAND(a, c)\n11 = NAND(c, f)\n16 = NAND(b, 11)\n19 = NAND(11, g)\n22 = NAND(10, 16)\n23 = NAND(16, 19)\n";
 
-/// How often a worker comes to a level in the building of two netlists, each request of which is the workers'.
-fn told<R: Abort + Threads + Wait + Sync>(
+/// How often a worker comes to a level in a build, each request of which is the workers', and how many nodes it leaves.
+fn told<R: Threads + Wait + Sync>(
     rt: &R,
     alloc: Global,
-    first: &str,
-    second: &str,
-) -> Result<u32, Fail> {
-    let first = read(rt, alloc, first);
-    let second = read(rt, alloc, second);
-    let pairing = pair(alloc, &first, &second, None, Match::Name, &Order::Declared)?;
-    let mut store = Store::new(alloc, pairing.names().len() as u16, 100)?;
+    circuits: &Circuits<'_>,
+    workers: u32,
+) -> Result<(u32, u64), Fail>
+    requires workers { (0 < workers) × (workers ≤ 16) }
+    requires paired { let c = circuits_of circuits.now in IsPaired c.first c.second c.given c.pairing }
+{
+    let mut store = Store::new(alloc, circuits.pairing.names().len() as u16, 100)?;
     let gate = Narrow::new(0);
-    let crew = crew_of(rt, alloc, 2, &gate);
-    let circuits = Circuits {
-        first: &first,
-        second: &second,
-        given: None,
-        pairing: &pairing,
-    };
-    build(&crew, &mut store, &circuits)?;
-    assert_eq!(rt; store.count(), 13);
-    Ok(gate.told.load(Ordering::SeqCst))
+    let crew = crew_of(rt, alloc, workers, &gate);
+    build(&crew, &mut store, circuits)?;
+    Ok((gate.told.load(Ordering::SeqCst), store.count()))
+}
+
+/// Builds three pairs of netlists, each with as many levels that workers come to as the first.
+fn told_alike<R: Abort + Threads + Wait + Sync>(
+    rt: &R,
+    alloc: Global,
+    one: &Circuits<'_>,
+    two: &Circuits<'_>,
+    three: &Circuits<'_>,
+    workers: u32,
+) -> Result<(), Fail>
+    requires workers { (0 < workers) × (workers ≤ 16) }
+    requires one { let c = circuits_of one.now in IsPaired c.first c.second c.given c.pairing }
+    requires two { let c = circuits_of two.now in IsPaired c.first c.second c.given c.pairing }
+    requires three { let c = circuits_of three.now in IsPaired c.first c.second c.given c.pairing }
+{
+    let wanted = told(rt, alloc, one, workers)?;
+    assert!(rt; wanted.0 > 0);
+    assert_eq!(rt; wanted.1, 13);
+    assert_eq!(rt; told(rt, alloc, two, workers)?, wanted);
+    assert_eq!(rt; told(rt, alloc, three, workers)?, wanted);
+    Ok(())
 }
 
 // What both netlists have at other ranks is asked for once: no level more is come to than where both are one text.
 #[test]
 fn other_ranks(rt: HostRuntime) -> Result<(), Fail> {
-    let same = told(&rt, rt.alloc(), C17, C17)?;
-    assert!(rt; same > 0);
-    assert_eq!(rt; told(&rt, rt.alloc(), C17, BUFFERED)?, same);
-    assert_eq!(rt; told(&rt, rt.alloc(), BUFFERED, C17)?, same);
+    let alloc = rt.alloc();
+    let plain = read(&rt, alloc, C17);
+    let behind = read(&rt, alloc, BUFFERED);
+    let same = pair(alloc, &plain, &plain, None, Match::Name, &Order::Declared)?;
+    let later = pair(alloc, &plain, &behind, None, Match::Name, &Order::Declared)?;
+    let earlier = pair(alloc, &behind, &plain, None, Match::Name, &Order::Declared)?;
+    let given = None;
+    let one = Circuits {
+        first: &plain,
+        second: &plain,
+        given,
+        pairing: &same,
+    };
+    let two = Circuits {
+        first: &plain,
+        second: &behind,
+        given,
+        pairing: &later,
+    };
+    let three = Circuits {
+        first: &behind,
+        second: &plain,
+        given,
+        pairing: &earlier,
+    };
+    for workers in [1_u32, 2, 3] {
+        let workers = workers.clamp(1, 16);
+        told_alike(&rt, alloc, &one, &two, &three, workers)?;
+    }
     Ok(())
 }

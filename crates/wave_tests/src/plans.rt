@@ -1,7 +1,7 @@
 //! Plans of netlists, and the building of two netlists' diagrams.
 ghost use Rattle.std.specs.Prelude.{◌≡◌, ◌<◌, ◌≤◌, length};
 ghost use Rattle.net_bench.specs.Circuit.{circuit};
-ghost use Rattle.gate_plan.specs.Building.{AreDiagrams};
+ghost use Rattle.gate_plan.specs.Building.{AreDiagrams, IsPaired, circuits_of};
 ghost use Rattle.net_order.specs.Order.{first_level, second_level};
 
 use crate::waves::crew_of;
@@ -172,35 +172,29 @@ fn diagrams<R: Abort>(
 fn compare_builds<R: Abort + Threads + Wait + Sync>(
     rt: &R,
     alloc: Global,
-    first: &Netlist,
-    second: &Netlist,
+    circuits: &Circuits<'_>,
     need: u64,
     same: bool,
     workers: u32,
 ) -> Result<(), Fail>
+    requires paired { let c = circuits_of circuits.now in IsPaired c.first c.second c.given c.pairing }
     requires some_node { 1 ≤ need }
     requires few_nodes { need ≤ 1000 }
     requires some_worker { 1 ≤ workers }
     requires few_workers { workers ≤ 16 }
 {
-    let pairing = pair(alloc, first, second, None, Match::Name, &Order::Declared)?;
-    let levels = pairing.names().len() as u16;
-    let mut store = Store::new(alloc, levels, need)?;
+    let levels = circuits.pairing.names().len() as u16;
     let crew = crew_of(rt, alloc, workers, &Free);
-    let circuits = Circuits {
-        first,
-        second,
-        given: None,
-        pairing: &pairing,
-    };
-    let built = build(&crew, &mut store, &circuits)?;
+    let mut store = Store::new(alloc, levels, need)?;
+    let built = build(&crew, &mut store, circuits)?;
     assert_eq!(rt; store.count(), need);
-    let equal = diagrams(rt, &store, first, second, &pairing, &built, "22");
+    let (first, second) = (circuits.first, circuits.second);
+    let equal = diagrams(rt, &store, first, second, circuits.pairing, &built, "22");
     assert_eq!(rt; equal.0, equal.1);
-    let other = diagrams(rt, &store, first, second, &pairing, &built, "23");
+    let other = diagrams(rt, &store, first, second, circuits.pairing, &built, "23");
     assert_eq!(rt; other.0 == other.1, same);
     let mut small = Store::new(alloc, levels, need - 1)?;
-    let refused = build(&crew, &mut small, &circuits);
+    let refused = build(&crew, &mut small, circuits);
     assert_eq!(rt; refused.err(), Some(WaveFault::Full));
     Ok(())
 }
@@ -208,12 +202,27 @@ fn compare_builds<R: Abort + Threads + Wait + Sync>(
 // The numbers of nodes are those of a program that counts subtables, of which one and its complement are one.
 #[test]
 fn built_netlists(rt: HostRuntime) -> Result<(), Fail> {
-    let first = read(&rt, rt.alloc(), C17);
-    let second = read(&rt, rt.alloc(), C17B);
+    let alloc = rt.alloc();
+    let first = read(&rt, alloc, C17);
+    let second = read(&rt, alloc, C17B);
+    let alike = pair(alloc, &first, &first, None, Match::Name, &Order::Declared)?;
+    let pairing = pair(alloc, &first, &second, None, Match::Name, &Order::Declared)?;
+    let same = Circuits {
+        first: &first,
+        second: &first,
+        given: None,
+        pairing: &alike,
+    };
+    let other = Circuits {
+        first: &first,
+        second: &second,
+        given: None,
+        pairing: &pairing,
+    };
     for workers in [1_u32, 2, 3, 16] {
         let workers = workers.clamp(1, 16);
-        compare_builds(&rt, rt.alloc(), &first, &first, 13, true, workers)?;
-        compare_builds(&rt, rt.alloc(), &first, &second, 15, false, workers)?;
+        compare_builds(&rt, alloc, &same, 13, true, workers)?;
+        compare_builds(&rt, alloc, &other, 15, false, workers)?;
     }
     Ok(())
 }
