@@ -138,7 +138,7 @@ impl Lanes {
         let alloc = *ports.allocator();
         let workers = lanes.len() as u32;
         let roots = settle::join_all(alloc, &lanes, &store, &mut ports, workers)?;
-        let left = settle::read_lanes(rt, alloc, &lanes, &store, &ports, roots, workers)?;
+        let left = settle::read_lanes(rt, &lanes, &store, &ports, roots, workers)?;
         Ok(Settled { left, ports })
     }
 }

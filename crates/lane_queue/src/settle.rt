@@ -69,7 +69,6 @@ fn read_all<R: Wait>(
 /// What is left in each lane, once all ports are joined.
 pub fn read_lanes<R: Wait>(
     rt: &R,
-    alloc: Global,
     lanes: &Vec<Lane>,
     store: &Snapshot<Store>,
     ports: &Vec<Port>,
@@ -84,6 +83,7 @@ pub fn read_lanes<R: Wait>(
 {
     let _store = store;
     let _ports = ports;
+    let alloc = *roots.allocator();
     let mut left = Vec::new(alloc);
     for lane in 0..workers {
         let at = lane as usize;
