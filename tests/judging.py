@@ -4,6 +4,8 @@ No code is shared with the product, and nothing here is a decision diagram: a fu
 """
 from __future__ import annotations
 
+import math
+import re
 from dataclasses import dataclass
 
 from kit import FEATURES, Run
@@ -95,9 +97,75 @@ class Paired:
     def of_condition(self):
         return [*self.given.inputs, *self.given.registers] if self.given else []
 
+    def by_index(self):
+        """By the number at the end of a name; a condition's variables stand among the others."""
+        return sorted(distinct([*self.declared(), *self.of_condition()]), key=index_key)
+
+    def by_force(self):
+        """From where the rounds end, the last one first: the gates of all netlists, a condition's too, draw at their variables."""
+        variables = self.by_index()
+        number = {name: i for i, name in enumerate(variables)}
+        edges, rank = [], [0] * len(variables)
+        for net in filter(None, (self.first, self.second, self.given)):
+            vertex = {s: number[self.name(net, s)] for s in [*net.inputs, *net.registers]}
+            vertex |= {s: len(rank) + i for i, s in enumerate(net.gates)}
+            edges += [[vertex[s] for s in [*operands, out]] for out, (_, operands) in net.gates.items()]
+            known = ranks(net)
+            rank += [known[s] for s in net.gates]
+        return [variables[v] for v in reversed(moved(len(variables), edges, rank)) if v < len(variables)]
+
 
 def counts(net):
     return len(net.inputs), len(net.outputs), len(net.registers)
+
+
+MOST_NUMBER = 10**18
+
+
+def index_key(name):
+    """0 where no number is at the end of a name, else one more than it; marks may follow it, and letters may not."""
+    found = re.fullmatch(r".*?([0-9]+)[^0-9A-Za-z]*", name)
+    return 1 + min(int(found[1]), MOST_NUMBER) if found else 0
+
+
+# FORCE: vertices are numbers, the variables first, then the gates; the edge of a gate has its operands and last itself.
+
+PARTS = 360_360
+
+
+def moved(variables, edges, rank):
+    """Where the rounds end. They begin with each gate right behind the last variable below it."""
+    by_rank = sorted(range(len(rank)), key=rank.__getitem__)
+    last = list(range(variables)) + [0] * len(edges)
+    for vertex in by_rank:
+        if vertex >= variables:
+            last[vertex] = max(last[operand] for operand in edges[vertex - variables][:-1])
+    order = sorted(by_rank, key=last.__getitem__)
+    for _ in range(min(100, 67_108_864 // (len(rank) + 1))):
+        before, order = order, drawn(edges, order)
+        if order == before:
+            break
+    return order
+
+
+def drawn(edges, order):
+    """One round: each vertex goes to the mean of its edges' centres, equal means as they stood; without edges it stays.
+
+    Centres are counted in parts of a place, and means in as many parts of that as all degrees divide, so they are exact.
+    """
+    place = {vertex: i for i, vertex in enumerate(order)}
+    centres = [[] for _ in order]
+    for edge in edges:
+        centre = PARTS * sum(place[vertex] for vertex in edge) // len(edge)
+        for vertex in edge:
+            centres[vertex].append(centre)
+    whole = math.lcm(*(max(1, len(drawing)) for drawing in centres))
+
+    def mean(vertex):
+        drawing = centres[vertex] or [PARTS * place[vertex]]
+        return sum(drawing) * (whole // len(drawing))
+
+    return sorted(order, key=mean)
 
 
 def falling(signals, rank):
@@ -136,6 +204,7 @@ def leaves(net, roots, rank=None):
 ORDERS = {"declared": Paired.declared, "depth": Paired.by_depth, "best": Paired.interleaved}
 if FEATURES["interleave"]:
     ORDERS["interleave"] = Paired.interleaved
+ORDERS |= {"index": Paired.by_index, "force": Paired.by_force}
 
 
 # The best of these, in this order, is the first whose nodes are within the budget: the cases here are far below the first one, so only

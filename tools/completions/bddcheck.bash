@@ -4,7 +4,7 @@ _bddcheck() {
     local IFS=$' \t\n'
     case $before in
     --match) mapfile -t COMPREPLY < <(compgen -W 'name position' -- "$word") ;;
-    --order) mapfile -t COMPREPLY < <(compgen -W 'declared depth interleave best' -- "$word") ;;
+    --order) mapfile -t COMPREPLY < <(compgen -W 'declared depth interleave index force best' -- "$word") ;;
     --format) mapfile -t COMPREPLY < <(compgen -W 'text json' -- "$word") ;;
     --workers) mapfile -t COMPREPLY < <(compgen -W '1 2 4 8 16' -- "$word") ;;
     --limit) COMPREPLY=() ;;

@@ -11,7 +11,7 @@ use Rattle.check_report.specs.declared.fault.CheckFault.{CheckFault}
 use Rattle.check_report.specs.declared.fault.CheckFault.TheVariants.{First, Second, Given, GivenOutputs, Order, Wave, Write, OutOfMemory as NoCheckMemory}
 use Rattle.command_line.specs.declared.options.Options.{Options}
 use Rattle.command_line.specs.declared.options.OrderChoice.{OrderChoice}
-use Rattle.command_line.specs.declared.options.OrderChoice.TheVariants.{Declared, Depth, Interleave, Best, File}
+use Rattle.command_line.specs.declared.options.OrderChoice.TheVariants.{Declared, Depth, Interleave, Index, Force, Best, File}
 use Rattle.command_line.specs.declared.options.Texts.{Texts}
 use Rattle.command_line.specs.declared.options.Texts.TheVariants.{Input, Files, InputAndFile, FileAndInput, InputTwice, One}
 use Rattle.check_tool.specs.declared.fault.Place.TheVariants.{First as FirstFile, Second as SecondFile, Given as GivenFile, Order as OrderFile}
@@ -86,6 +86,8 @@ order_spot (File path) TooManyInputs = None
 order_spot Declared fault = None
 order_spot Depth fault = None
 order_spot Interleave fault = None
+order_spot Index fault = None
+order_spot Force fault = None
 order_spot Best fault = None
 
 -- where the condition is at fault: in the line of a refused text, or as a whole
@@ -145,6 +147,8 @@ fewer_nodes Best = codes "interleave, depth and declared were tried; a list by -
 fewer_nodes Declared = codes "another order may need fewer nodes: try --order best"
 fewer_nodes Depth = codes "another order may need fewer nodes: try --order best"
 fewer_nodes Interleave = codes "another order may need fewer nodes: try --order best"
+fewer_nodes Index = codes "another order may need fewer nodes: try --order best"
+fewer_nodes Force = codes "another order may need fewer nodes: try --order best"
 fewer_nodes (File path) = codes "another order may need fewer nodes: try --order best"
 
 -- what helps where they are not built

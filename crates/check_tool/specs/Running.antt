@@ -4,7 +4,7 @@ use Rattle.std.specs.Borrow.{Bor}
 use Rattle.std.specs.Io.KnownBytes.{Appends}
 use Rattle.report_text.specs.Writing.{AppendsFront}
 use Rattle.net_order.specs.declared.order.Order.{Order}
-use Rattle.net_order.specs.declared.order.Order.TheVariants.{Declared as declared, Depth as depth, Interleave as interleave, Listed}
+use Rattle.net_order.specs.declared.order.Order.TheVariants.{Declared as declared, Depth as depth, Interleave as interleave, Index as index, Force as force, Listed}
 use Rattle.net_order.specs.declared.order.OrderFault.{OrderFault}
 use Rattle.net_order.specs.declared.order.OrderFault.TheVariants.{Read as OrderReadFailed, OutOfMemory as NoOrderMemory}
 use Rattle.net_order.specs.OrderText.{IsOrderText, IsBadText}
@@ -18,7 +18,7 @@ use Rattle.check_report.specs.declared.choice.Choice.{Choice}
 use Rattle.check_report.specs.declared.choice.Choice.TheVariants.{One as Ordered, Best as TheBest}
 use Rattle.command_line.specs.declared.options.Options.{Options}
 use Rattle.command_line.specs.declared.options.OrderChoice.{OrderChoice}
-use Rattle.command_line.specs.declared.options.OrderChoice.TheVariants.{Declared, Depth, Interleave, Best, File}
+use Rattle.command_line.specs.declared.options.OrderChoice.TheVariants.{Declared, Depth, Interleave, Index, Force, Best, File}
 use Rattle.command_line.specs.declared.options.Texts.{Texts}
 use Rattle.command_line.specs.declared.options.Texts.TheVariants.{Input, Files, InputAndFile, FileAndInput, InputTwice, One}
 use Rattle.check_tool.specs.declared.done.Done.{Done}
@@ -72,6 +72,8 @@ order_paths (File path) = path.now ∷ []
 order_paths Declared = []
 order_paths Depth = []
 order_paths Interleave = []
+order_paths Index = []
+order_paths Force = []
 order_paths Best = []
 
 -- the file that is opened for the condition
@@ -119,6 +121,8 @@ abbrev pub IsOrderOf : (List ℕ → Option (List ℕ)) → OrderChoice → Choi
 IsOrderOf told Declared choice = choice ≡ Ordered declared
 IsOrderOf told Depth choice = choice ≡ Ordered depth
 IsOrderOf told Interleave choice = choice ≡ Ordered interleave
+IsOrderOf told Index choice = choice ≡ Ordered index
+IsOrderOf told Force choice = choice ≡ Ordered force
 IsOrderOf told Best choice = choice ≡ TheBest
 IsOrderOf told (File path) choice = (names : List (List ℕ)) × (choice ≡ Ordered (Listed names)) × IfSome (told path.now) (λ text. IsOrderText text names)
 

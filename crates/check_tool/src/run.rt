@@ -61,6 +61,8 @@ fn order_of<F: Folder>(
         OrderChoice::Declared => Ok(Choice::One(Order::Declared)),
         OrderChoice::Depth => Ok(Choice::One(Order::Depth)),
         OrderChoice::Interleave => Ok(Choice::One(Order::Interleave)),
+        OrderChoice::Index => Ok(Choice::One(Order::Index)),
+        OrderChoice::Force => Ok(Choice::One(Order::Force)),
         OrderChoice::Best => Ok(Choice::Best),
         OrderChoice::File(path) => {
             let mut file = open(folder, path, Place::Order)?;

@@ -8,7 +8,7 @@ use Rattle.net_order.specs.declared.order.Match.{Match}
 use Rattle.net_order.specs.declared.order.Match.TheVariants.{Name, Position}
 use Rattle.command_line.specs.declared.options.Options.{Options}
 use Rattle.command_line.specs.declared.options.OrderChoice.{OrderChoice}
-use Rattle.command_line.specs.declared.options.OrderChoice.TheVariants.{Declared, Depth, Interleave, Best, File}
+use Rattle.command_line.specs.declared.options.OrderChoice.TheVariants.{Declared, Depth, Interleave, Index, Force, Best, File}
 use Rattle.command_line.specs.Words.{tool_app, AreTexts, AskFor, IsChoice, IsFile, IsFlag, IsForm, IsMatching, IsNumberIn}
 use Rattle.command_line.specs.Defaults.{AreDefaults}
 
@@ -69,6 +69,8 @@ as_declared : (choice : OrderChoice) → IsChoice None (Some (codes "declared"))
 as_declared Declared is = refl
 as_declared Depth is = cc
 as_declared Interleave is = cc
+as_declared Index is = cc
+as_declared Force is = cc
 as_declared Best is = cc
 as_declared (File path) is = absurd is
 

@@ -15,7 +15,7 @@ use Rattle.net_order.specs.declared.order.Match.{Match}
 use Rattle.net_order.specs.declared.order.Match.TheVariants.{Name, Position}
 use Rattle.command_line.specs.declared.options.Options.{Options}
 use Rattle.command_line.specs.declared.options.OrderChoice.{OrderChoice}
-use Rattle.command_line.specs.declared.options.OrderChoice.TheVariants.{Declared, Depth, Interleave, Best, File}
+use Rattle.command_line.specs.declared.options.OrderChoice.TheVariants.{Declared, Depth, Interleave, Index, Force, Best, File}
 use Rattle.command_line.specs.declared.options.Texts.{Texts}
 use Rattle.command_line.specs.declared.options.Texts.TheVariants.{Input, Files, InputAndFile, FileAndInput, InputTwice, One}
 use Rattle.command_line.specs.declared.reading.Refused.{Refused}
@@ -74,7 +74,7 @@ abbrev pub TakesMatches : Option ValueParser → Type 0
 TakesMatches = TakesOnly (codes "name" ∷ codes "position" ∷ [])
 
 abbrev pub TakesOrders : Option ValueParser → Type 0
-TakesOrders = TakesOnly (codes "declared" ∷ codes "depth" ∷ codes "interleave" ∷ codes "best" ∷ [])
+TakesOrders = TakesOnly (codes "declared" ∷ codes "depth" ∷ codes "interleave" ∷ codes "index" ∷ codes "force" ∷ codes "best" ∷ [])
 
 abbrev pub TakesFormats : Option ValueParser → Type 0
 TakesFormats = TakesOnly (codes "text" ∷ codes "json" ∷ [])
@@ -101,14 +101,21 @@ IsChoice (Some path) word (File p) = p.now ≡ path
 IsChoice (Some path) word Declared = ⊥
 IsChoice (Some path) word Depth = ⊥
 IsChoice (Some path) word Interleave = ⊥
+IsChoice (Some path) word Index = ⊥
+IsChoice (Some path) word Force = ⊥
 IsChoice (Some path) word Best = ⊥
 IsChoice None word (File p) = ⊥
 IsChoice None (Some word) Depth = bytes_eq word (codes "depth") ≡ true
 IsChoice None (Some word) Interleave = bytes_eq word (codes "interleave") ≡ true
+IsChoice None (Some word) Index = bytes_eq word (codes "index") ≡ true
+IsChoice None (Some word) Force = bytes_eq word (codes "force") ≡ true
 IsChoice None (Some word) Best = bytes_eq word (codes "best") ≡ true
-IsChoice None (Some word) Declared = (bytes_eq word (codes "depth") ≡ false) × (bytes_eq word (codes "interleave") ≡ false) × (bytes_eq word (codes "best") ≡ false)
+IsChoice None (Some word) Declared =
+    (bytes_eq word (codes "depth") ≡ false) × (bytes_eq word (codes "interleave") ≡ false) × (bytes_eq word (codes "index") ≡ false) × (bytes_eq word (codes "force") ≡ false) × (bytes_eq word (codes "best") ≡ false)
 IsChoice None None Depth = ⊥
 IsChoice None None Interleave = ⊥
+IsChoice None None Index = ⊥
+IsChoice None None Force = ⊥
 IsChoice None None Best = ⊥
 IsChoice None None Declared = ⊤
 

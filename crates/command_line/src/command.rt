@@ -8,7 +8,7 @@ use std::alloc::{AllocError, Global};
 
 static MATCHES: [&str; 2] = ["name", "position"];
 
-static ORDERS: [&str; 4] = ["declared", "depth", "interleave", "best"];
+static ORDERS: [&str; 6] = ["declared", "depth", "interleave", "index", "force", "best"];
 
 static FORMATS: [&str; 2] = ["text", "json"];
 
@@ -51,7 +51,7 @@ fn order<'a>(alloc: Global) -> Arg<'a>
         .value_parser(ORDERS.as_slice())
         .default_value("declared")
         .help(
-            "Order the variables as declared, by depth: as met below the outputs, interleaved: each behind what was met before it, or by the best of these, found by trying: take this first",
+            "Order the variables as declared, by depth: as met below the outputs, interleaved: each behind what was met before it, by index: the number at the end of its name, by force: drawn to what it is joined with, or by the best of the first three, found by trying: take this first",
         )
 }
 

@@ -9,7 +9,9 @@ pub enum OrderChoice<'a> {
     Declared,
     Depth,
     Interleave,
-    /// The best of these three is to be found.
+    Index,
+    Force,
+    /// The best of the first three is to be found.
     Best,
     /// The path of a file with the names.
     File(&'a str),

@@ -133,6 +133,8 @@ fn order_of<'a>(path: Option<&'a str>, word: Option<&str>) -> OrderChoice<'a>
     match word {
         Some("depth") => OrderChoice::Depth,
         Some("interleave") => OrderChoice::Interleave,
+        Some("index") => OrderChoice::Index,
+        Some("force") => OrderChoice::Force,
         Some("best") => OrderChoice::Best,
         _ => OrderChoice::Declared,
     }
