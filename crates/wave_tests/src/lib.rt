@@ -14,6 +14,8 @@ mod expanded;
 #[cfg(test)]
 mod lanes;
 #[cfg(test)]
+mod least;
+#[cfg(test)]
 mod meeting;
 #[cfg(test)]
 mod memos;

@@ -92,13 +92,13 @@ fn plan_of_c17(rt: HostRuntime) -> Result<(), Fail> {
 }
 
 /// Builds two netlists without a condition.
-pub(crate) fn built<R: Threads + Wait + Sync, G: Gate>(
+pub(crate) fn built<'x, R: Threads + Wait + Sync, G: Gate>(
     rt: &R,
     alloc: Global,
     store: &mut Store,
-    first: &Netlist,
-    second: &Netlist,
-    pairing: &Pairing,
+    first: &'x Netlist,
+    second: &'x Netlist,
+    pairing: &'x Pairing,
     workers: u32,
     gate: &G,
 ) -> Result<Built, WaveFault>

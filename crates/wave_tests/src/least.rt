@@ -1,0 +1,108 @@
+//! The least assignment in declared order.
+ghost use Rattle.std.specs.Prelude.{All};
+ghost use Rattle.dd_store.specs.View.{Has};
+ghost use Rattle.counter_walk.specs.Arranged.{IsOrder};
+
+use crate::waves::known_at;
+use counter_walk::{by_level, least_true};
+use dd_store::{Ref, Store};
+use std::alloc::Global;
+use std::process::Abort;
+use std::test::Fail;
+
+/// Ends the test where this is no order of so many levels.
+fn assert_order<R: Abort>(rt: &R, order: &[u16], levels: u16)
+    ensures { IsOrder levels order.now }
+{
+    assert!(rt; order.len() == levels as usize);
+    for level in 0..order.len() {
+        assert!(rt; order[level] < levels);
+        for above in 0..level {
+            assert!(rt; order[above] != order[level]);
+        }
+    }
+}
+
+/// Adds the node of a level with two known children.
+fn add_node<R: Abort>(
+    rt: &R,
+    store: &mut Store,
+    known: &mut Vec<Ref>,
+    level: u16,
+    children: (usize, usize),
+)
+    requires { All (Has store.old) known.old.items }
+    ensures { All (Has store.new) known.new.items }
+{
+    let low = known_at(rt, store, known.as_slice(), children.0);
+    let high = known_at(rt, store, known.as_slice(), children.1);
+    assert!(rt; level < store.levels());
+    assert!(rt; level < store.top(low));
+    assert!(rt; level < store.top(high));
+    let made = store.make(level, low, high).expect(rt, "a node");
+    known.push(made).expect(rt, "memory");
+}
+
+/// The functions that are 0 and 1 everywhere.
+fn constants<R: Abort>(rt: &R, alloc: Global, store: &Store) -> Vec<Ref>
+    ensures { All (Has store.now) result.items }
+{
+    let _ = store.levels();
+    let mut known = Vec::new(alloc);
+    known.push(Ref::FALSE).expect(rt, "memory");
+    known.push(Ref::TRUE).expect(rt, "memory");
+    known
+}
+
+/// Ends the test where the least assignment at which a function is 1 is another.
+fn assert_least<R: Abort>(
+    rt: &R,
+    alloc: Global,
+    store: &Store,
+    function: Ref,
+    order: &[u16],
+    wanted: Option<&[bool]>,
+)
+    requires known { Has store.now function }
+    requires order { IsOrder store.now.levels order.now }
+{
+    match (
+        least_true(alloc, store, function, order).expect(rt, "memory"),
+        wanted,
+    ) {
+        (Some(bits), Some(wanted)) => assert!(rt; bits.as_slice() == wanted),
+        (None, None) => {}
+        _ => assert!(rt; false, "found where there is none, or none"),
+    }
+}
+
+// Level 0 has the variable that is declared last. Of two variables, one of which has to be 1, that is the one declared last, which
+// stands above the other.
+#[test]
+fn as_declared(rt: HostRuntime) -> Result<(), Fail> {
+    let alloc = rt.alloc();
+    let mut store = Store::new(alloc, 3, 10)?;
+    let mut known = constants(&rt, alloc, &store);
+    add_node(&rt, &mut store, &mut known, 2, (0, 1));
+    add_node(&rt, &mut store, &mut known, 0, (2, 1));
+    add_node(&rt, &mut store, &mut known, 0, (1, 0));
+    add_node(&rt, &mut store, &mut known, 0, (0, 1));
+    let order = [2, 0, 1];
+    assert_order(&rt, &order, 3);
+    assert!(rt; store.levels() == 3);
+    let wanted: [(usize, Option<&[bool]>); 6] = [
+        (0, None),
+        (1, Some(&[false, false, false])),
+        (2, Some(&[false, true, false])),
+        (3, Some(&[false, false, true])),
+        (4, Some(&[false, false, false])),
+        (5, Some(&[false, false, true])),
+    ];
+    for (place, bits) in wanted {
+        let function = known_at(&rt, &store, known.as_slice(), place);
+        assert_least(&rt, alloc, &store, function, &order, bits);
+    }
+    let levels = by_level(alloc, &[true, false, false], &order)?;
+    assert!(rt; levels.as_slice() == [false, true, false].as_slice());
+    Ok(())
+}
