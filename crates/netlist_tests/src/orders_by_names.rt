@@ -112,9 +112,23 @@ fn by_force(rt: HostRuntime) -> Result<(), Fail> {
 fn with_condition(rt: HostRuntime) -> Result<(), Fail> {
     let alloc = rt.alloc();
     let given = netlist(alloc, GIVEN)?;
-    let index = ordered(alloc, CLOSE, CLOSE, Some(&given), Match::Name, &Order::Index)?;
+    let index = ordered(
+        alloc,
+        CLOSE,
+        CLOSE,
+        Some(&given),
+        Match::Name,
+        &Order::Index,
+    )?;
     assert!(rt; index.as_slice() == b"a b c k ".as_slice());
-    let force = ordered(alloc, CLOSE, CLOSE, Some(&given), Match::Name, &Order::Force)?;
+    let force = ordered(
+        alloc,
+        CLOSE,
+        CLOSE,
+        Some(&given),
+        Match::Name,
+        &Order::Force,
+    )?;
     assert!(rt; force.as_slice() == b"k b a c ".as_slice());
     Ok(())
 }
