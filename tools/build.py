@@ -206,7 +206,7 @@ def main():
             return 0
         jobs = settings.jobs or jobs_here()
         lanes = settings.lanes or (2 if jobs >= 4 else 1)
-        say(f"proving and building the program by {jobs} jobs: some twenty minutes from nothing on four processors, later only what changed")
+        say(f"proving and building the program by {jobs} jobs: half an hour from nothing on four processors, later only what changed")
         if not build_all(jobs, lanes):
             return NOT_BUILT
         # So it is newer than each source, also where nothing had to be built.
