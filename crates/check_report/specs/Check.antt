@@ -11,8 +11,9 @@ use Rattle.net_order.specs.Order.{Paired, IsPairing, IsRefused}
 use Rattle.report_text.specs.declared.outcome.Outcome.{Outcome}
 use Rattle.check_report.specs.Devices.{Told}
 use Rattle.check_report.specs.declared.fault.CheckFault.{CheckFault}
-use Rattle.check_report.specs.declared.fault.CheckFault.TheVariants.{First, Second, Given, GivenOutputs, Order as OrderRefused, Wave, Write, OutOfMemory}
+use Rattle.check_report.specs.declared.fault.CheckFault.TheVariants.{First, Second, Given, GivenOutputs, Order as OrderRefused, Wave, GivenUp, Write, OutOfMemory}
 use Rattle.check_report.specs.Conditions.{HasOneOutput}
+use Rattle.report_text.specs.declared.kind.OrderKind.{OrderKind}
 use Rattle.report_text.specs.Json.{form_text}
 use Rattle.report_text.specs.Lines.{Found}
 use Rattle.check_report.specs.Report.{AreVerdicts, IsReport}
@@ -48,14 +49,14 @@ pub record IsJudged (told : Told) (how : Match) (order : Order) (sizes : Bool) (
   pub paired : ArePaired told how order a b c p
   pub verdicts : AreVerdicts sizes a b c p found
 
--- The bytes are the report of what the devices gave, as JSON or by lines, and these are its counts.
-pub record IsChecked (json : Bool) (told : Told) (how : Match) (order : Order) (sizes : Bool) (o : Outcome) (bytes : List ℕ) : Type 0 where
+-- The bytes are the report of what the devices gave, as JSON, which tells this kind of order, or by lines, and these are its counts.
+pub record IsChecked (json : Bool) (kind : OrderKind) (told : Told) (how : Match) (order : Order) (sizes : Bool) (o : Outcome) (bytes : List ℕ) : Type 0 where
   pub a : Circuit
   pub b : Circuit
   pub c : Option Circuit
   pub p : Paired
   pub paired : ArePaired told how order a b c p
-  pub report : IsReport (form_text json how order (is_some told.given)) sizes a b c p o bytes
+  pub report : IsReport (form_text json how kind (is_some told.given)) sizes a b c p o bytes
 
 -- Why a text was not accepted: want of memory, a device that has failed, or the text's first fault.
 pub record IsUnread (told : Option (List ℕ)) (has_failed : Type 0) (fault : BenchFault) : Type 0 where
@@ -70,6 +71,7 @@ IsConditionFault given has_failed (Given fault) = IsSomeAnd given (λ told. IsUn
 IsConditionFault given has_failed GivenOutputs = (c : Circuit) × IsSomeAnd given (λ told. Gives told c) × (HasOneOutput c → ⊥)
 IsConditionFault given has_failed (OrderRefused fault) = ⊥
 IsConditionFault given has_failed (Wave fault) = ⊥
+IsConditionFault given has_failed GivenUp = ⊥
 IsConditionFault given has_failed Write = ⊥
 IsConditionFault given has_failed OutOfMemory = ⊥
 
@@ -85,6 +87,7 @@ IsEarly (Given fault) = Unit {0}
 IsEarly GivenOutputs = Unit {0}
 IsEarly (OrderRefused fault) = ⊥
 IsEarly (Wave fault) = ⊥
+IsEarly GivenUp = ⊥
 IsEarly Write = ⊥
 IsEarly OutOfMemory = ⊥
 
@@ -96,6 +99,7 @@ IsLate (Given fault) = ⊥
 IsLate GivenOutputs = ⊥
 IsLate (OrderRefused fault) = ⊥
 IsLate (Wave fault) = Unit {0}
+IsLate GivenUp = ⊥
 IsLate Write = ⊥
 IsLate OutOfMemory = Unit {0}
 
@@ -111,5 +115,6 @@ IsCheckFault told first_failed second_failed given_failed how order GivenOutputs
 IsCheckFault told first_failed second_failed given_failed how order (OrderRefused fault) =
     (a b : Circuit) × (c : Option Circuit) × AreGiven told a b c × ((fault ≡ NoOrderMemory) ⊎ IsRefused how a b c order fault)
 IsCheckFault told first_failed second_failed given_failed how order (Wave fault) = AreAccepted told how order
+IsCheckFault told first_failed second_failed given_failed how order GivenUp = AreAccepted told how order
 IsCheckFault told first_failed second_failed given_failed how order Write = AreAccepted told how order
 IsCheckFault told first_failed second_failed given_failed how order OutOfMemory = AreAccepted told how order

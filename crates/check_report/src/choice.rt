@@ -1,14 +1,17 @@
 //! Where the order of the variables comes from.
 ghost use Rattle.std.specs.Prelude.{◌≡◌, Some};
-ghost use Rattle.check_report.specs.Best.{candidate_text, order_of};
+ghost use Rattle.check_report.specs.Best.{candidate_text, order_of, told_kind};
 
 use net_order::order::Order;
+use report_text::OrderKind;
 use std::fmt;
 
 /// One of the orders that are tried in turn, in this order.
 #[derive(Clone, Copy, Drop, Debug, PartialEq, Eq)]
 pub enum Candidate {
     Interleave,
+    Force,
+    Index,
     Depth,
     Declared,
 }
@@ -20,6 +23,8 @@ impl Candidate {
     {
         match self {
             Candidate::Interleave => Order::Interleave,
+            Candidate::Force => Order::Force,
+            Candidate::Index => Order::Index,
             Candidate::Depth => Order::Depth,
             Candidate::Declared => Order::Declared,
         }
@@ -32,6 +37,8 @@ impl fmt::Display for Candidate {
     fn fmt<W: fmt::Write>(&self, f: &mut fmt::Formatter<W>) -> fmt::Result {
         match self {
             Candidate::Interleave => write!(f, "interleave"),
+            Candidate::Force => write!(f, "force"),
+            Candidate::Index => write!(f, "index"),
             Candidate::Depth => write!(f, "depth"),
             Candidate::Declared => write!(f, "declared"),
         }
@@ -45,6 +52,22 @@ pub enum Choice {
     One(Order),
     /// The first of the candidates whose diagrams stay within a budget that grows from attempt to attempt.
     Best,
+    /// The same attempts, with the report of declared order, whichever of them decides.
+    Auto,
+}
+
+impl Choice {
+    /// What a report tells of the order, by the attempt that it comes from.
+    pub fn kind(&self, tried: Option<Attempt>) -> OrderKind
+        ensures { result ≡ told_kind self.now tried }
+    {
+        match (self, tried) {
+            (Choice::One(order), _) => OrderKind::of(order),
+            (Choice::Best, Some(attempt)) => OrderKind::of(&attempt.order.order()),
+            (Choice::Best, None) => OrderKind::Declared,
+            (Choice::Auto, _) => OrderKind::Auto,
+        }
+    }
 }
 
 /// An order of the candidates, and the most nodes that it was to need.

@@ -23,6 +23,8 @@ pub enum CheckFault {
     Order(OrderFault),
     /// The diagrams were not built.
     Wave(WaveFault),
+    /// Orders were tried, and every attempt was given up, not all of them for their nodes.
+    GivenUp,
     /// The report could not be written, or not all of it.
     Write,
     /// A growth was refused elsewhere: for the store, the comparison or the report's text.
@@ -40,6 +42,10 @@ impl fmt::Display for CheckFault {
             CheckFault::GivenOutputs => write!(f, "given: not exactly one output"),
             CheckFault::Order(fault) => write!(f, "order: {fault}"),
             CheckFault::Wave(fault) => write!(f, "build: {fault}"),
+            CheckFault::GivenUp => write!(
+                f,
+                "build: given up in each order; more memory, or a good order by --order-file, may help"
+            ),
             CheckFault::Write => write!(f, "report: cannot be written"),
             CheckFault::OutOfMemory => write!(f, "out of memory"),
         }

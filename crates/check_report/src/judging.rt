@@ -6,7 +6,8 @@ ghost use Rattle.net_order.specs.declared.order.Order.{Order as OrderValue};
 ghost use Rattle.report_text.specs.declared.outcome.Outcome.{Outcome};
 ghost use Rattle.report_text.specs.Writing.{AppendsFront};
 ghost use Rattle.check_report.specs.declared.choice.Attempt.{Attempt as AttemptValue};
-ghost use Rattle.check_report.specs.Best.{AreGivenUp, IsAllowed, IsChosen};
+ghost use Rattle.check_report.specs.declared.choice.Choice.{Choice as ChoiceValue};
+ghost use Rattle.check_report.specs.Best.{AreGivenUp, AreTried, IsAllowed, IsChosen, IsGivenUpWithin, told_kind};
 ghost use Rattle.check_report.specs.Check.{IsChecked, IsJudged, IsCheckFault};
 ghost use Rattle.check_report.specs.Devices.{HasFailedIn, told_by, told_of};
 ghost use Rattle.check_report.specs.Limits.{AreBeyond};
@@ -39,15 +40,19 @@ pub fn judge<H: Threads + Wait + Sync, R1: Source, R2: Source, R3: Source, G: Ga
     ensures verdicts { let told = told_of (R1.remaining first.old) (R2.remaining second.old) (told_by R3.remaining given.old) in
         let s = context.now.settings.now in
         IfOk result (λ r. (order : OrderValue) × IsJudged told s.matching order s.sizes r.0 × IsChosen told s.matching s.order s.limit r.1 order) }
-    // Where the gate sets no bound, each attempt before the one that is told was given up: it needs more nodes than its budget, or one wave
-    // of it reaches more requests than eight for each of them.
+    // Each attempt within a smaller budget than that of the one that is told was given up, and within the first budget each before it.
     ensures passed { let told = told_of (R1.remaining first.old) (R2.remaining second.old) (told_by R3.remaining given.old) in
         let s = context.now.settings.now in
-        G.bound context.now.gate.now ≡ None → IfOk result (λ r. IfSome r.1 (AreGivenUp told s.matching s.limit)) }
+        IfOk result (λ r. IfSome r.1 (AreGivenUp told s.matching s.limit (G.bound context.now.gate.now))) }
     // Full comes only where they are not within the limit, in each order that the settings allow.
     ensures full { let told = told_of (R1.remaining first.old) (R2.remaining second.old) (told_by R3.remaining given.old) in
         let s = context.now.settings.now in
         result ≡ Err (CheckFault.Wave WaveFault.Full) → (order : OrderValue) → IsAllowed s.order order → AreBeyond told s.matching order s.limit }
+    // GivenUp comes only where orders are tried and each attempt within the limit was given up, by declared order in place of Full.
+    ensures given_up { let told = told_of (R1.remaining first.old) (R2.remaining second.old) (told_by R3.remaining given.old) in
+        let s = context.now.settings.now in
+        result ≡ Err CheckFault.GivenUp → AreTried s.order × ((order : OrderValue) → IsAllowed s.order order → IsGivenUpWithin told s.matching s.limit (G.bound context.now.gate.now) order) }
+    ensures in_no_order { context.now.settings.now.order ≡ ChoiceValue.Auto → result ≢ Err (CheckFault.Wave WaveFault.Full) }
     // TooManyRequests comes only where one wave reaches more than the gate allows, in an order that the settings allow.
     ensures past { let told = told_of (R1.remaining first.old) (R2.remaining second.old) (told_by R3.remaining given.old) in
         let s = context.now.settings.now in
@@ -91,13 +96,17 @@ fn reported<H: Threads + Wait + Sync, R1: Source, R2: Source, R3: Source, G: Gat
 ) -> Result<(Vec<u8>, Outcome, Option<Attempt>), CheckFault>
     ensures report { let told = told_of (R1.remaining first.old) (R2.remaining second.old) (told_by R3.remaining given.old) in
         let s = context.now.settings.now in
-        IfOk result (λ r. (order : OrderValue) × IsChecked s.json told s.matching order s.sizes r.1 r.0.items × IsChosen told s.matching s.order s.limit r.2 order) }
+        IfOk result (λ r. (order : OrderValue) × IsChecked s.json (told_kind s.order r.2) told s.matching order s.sizes r.1 r.0.items × IsChosen told s.matching s.order s.limit r.2 order) }
     ensures passed { let told = told_of (R1.remaining first.old) (R2.remaining second.old) (told_by R3.remaining given.old) in
         let s = context.now.settings.now in
-        G.bound context.now.gate.now ≡ None → IfOk result (λ r. IfSome r.2 (AreGivenUp told s.matching s.limit)) }
+        IfOk result (λ r. IfSome r.2 (AreGivenUp told s.matching s.limit (G.bound context.now.gate.now))) }
     ensures full { let told = told_of (R1.remaining first.old) (R2.remaining second.old) (told_by R3.remaining given.old) in
         let s = context.now.settings.now in
         result ≡ Err (CheckFault.Wave WaveFault.Full) → (order : OrderValue) → IsAllowed s.order order → AreBeyond told s.matching order s.limit }
+    ensures given_up { let told = told_of (R1.remaining first.old) (R2.remaining second.old) (told_by R3.remaining given.old) in
+        let s = context.now.settings.now in
+        result ≡ Err CheckFault.GivenUp → AreTried s.order × ((order : OrderValue) → IsAllowed s.order order → IsGivenUpWithin told s.matching s.limit (G.bound context.now.gate.now) order) }
+    ensures in_no_order { context.now.settings.now.order ≡ ChoiceValue.Auto → result ≢ Err (CheckFault.Wave WaveFault.Full) }
     ensures past { let told = told_of (R1.remaining first.old) (R2.remaining second.old) (told_by R3.remaining given.old) in
         let s = context.now.settings.now in
         result ≡ Err (CheckFault.Wave WaveFault.TooManyRequests) → (order : OrderValue) × IsAllowed s.order order × IsSomeAnd (G.bound context.now.gate.now) (AreTooWide told s.matching order) }
@@ -138,17 +147,21 @@ pub fn check<H: Threads + Wait + Sync, R1: Source, R2: Source, R3: Source, G: Ga
     // are needed in this order are within the limit, and within the budget of the attempt.
     ensures report { let told = told_of (R1.remaining first.old) (R2.remaining second.old) (told_by R3.remaining given.old) in
         let s = context.now.settings.now in
-        IfOk result (λ r. (order : OrderValue) × (bytes : List ℕ) × IsChecked s.json told s.matching order s.sizes r.0 bytes
+        IfOk result (λ r. (order : OrderValue) × (bytes : List ℕ) × IsChecked s.json (told_kind s.order r.1) told s.matching order s.sizes r.0 bytes
         × IsChosen told s.matching s.order s.limit r.1 order × Appends (W.contents out.old) (W.contents out.new) bytes) }
-    // Where the gate sets no bound, each attempt before the one that is told was given up: it needs more nodes than its budget, or one wave
-    // of it reaches more requests than eight for each of them.
+    // Each attempt within a smaller budget than that of the one that is told was given up, and within the first budget each before it.
     ensures passed { let told = told_of (R1.remaining first.old) (R2.remaining second.old) (told_by R3.remaining given.old) in
         let s = context.now.settings.now in
-        G.bound context.now.gate.now ≡ None → IfOk result (λ r. IfSome r.1 (AreGivenUp told s.matching s.limit)) }
+        IfOk result (λ r. IfSome r.1 (AreGivenUp told s.matching s.limit (G.bound context.now.gate.now))) }
     // Full comes only where they are not within the limit, in each order that the settings allow.
     ensures full { let told = told_of (R1.remaining first.old) (R2.remaining second.old) (told_by R3.remaining given.old) in
         let s = context.now.settings.now in
         result ≡ Err (CheckFault.Wave WaveFault.Full) → (order : OrderValue) → IsAllowed s.order order → AreBeyond told s.matching order s.limit }
+    // GivenUp comes only where orders are tried and each attempt within the limit was given up, by declared order in place of Full.
+    ensures given_up { let told = told_of (R1.remaining first.old) (R2.remaining second.old) (told_by R3.remaining given.old) in
+        let s = context.now.settings.now in
+        result ≡ Err CheckFault.GivenUp → AreTried s.order × ((order : OrderValue) → IsAllowed s.order order → IsGivenUpWithin told s.matching s.limit (G.bound context.now.gate.now) order) }
+    ensures in_no_order { context.now.settings.now.order ≡ ChoiceValue.Auto → result ≢ Err (CheckFault.Wave WaveFault.Full) }
     // TooManyRequests comes only where one wave reaches more than the gate allows, in an order that the settings allow.
     ensures past { let told = told_of (R1.remaining first.old) (R2.remaining second.old) (told_by R3.remaining given.old) in
         let s = context.now.settings.now in
@@ -163,7 +176,7 @@ pub fn check<H: Threads + Wait + Sync, R1: Source, R2: Source, R3: Source, G: Ga
     ensures unwritten { let told = told_of (R1.remaining first.old) (R2.remaining second.old) (told_by R3.remaining given.old) in
         let s = context.now.settings.now in
         result ≡ Err CheckFault.Write → (o : Outcome) × (tried : Option AttemptValue) × (order : OrderValue) × (bytes : List ℕ)
-        × IsChecked s.json told s.matching order s.sizes o bytes × IsChosen told s.matching s.order s.limit tried order
+        × IsChecked s.json (told_kind s.order tried) told s.matching order s.sizes o bytes × IsChosen told s.matching s.order s.limit tried order
         × AppendsFront (W.contents out.old) (W.contents out.new) (W.has_failed out.new) (W.has_stopped out.new) bytes }
     // At any other fault nothing was written.
     ensures untouched { OnErr result (result ≢ Err CheckFault.Write → out.new ≡ out.old) }

@@ -7,7 +7,8 @@ ghost use Rattle.net_order.specs.declared.order.Order.{Order as OrderValue};
 ghost use Rattle.net_order.specs.OrderText.{order_text};
 ghost use Rattle.report_text.specs.Writing.{AppendsFront};
 ghost use Rattle.check_report.specs.declared.choice.Attempt.{Attempt as AttemptValue};
-ghost use Rattle.check_report.specs.Best.{AreGivenUp, IsAllowed, IsFound};
+ghost use Rattle.check_report.specs.declared.choice.Choice.{Choice as ChoiceValue};
+ghost use Rattle.check_report.specs.Best.{AreGivenUp, AreTried, IsAllowed, IsFound, IsGivenUpWithin};
 ghost use Rattle.check_report.specs.Check.{IsCheckFault};
 ghost use Rattle.check_report.specs.Devices.{HasFailedIn, told_by, told_of};
 ghost use Rattle.check_report.specs.Limits.{AreBeyond};
@@ -151,10 +152,14 @@ fn listed<H: Threads + Wait + Sync, R1: Source, R2: Source, R3: Source, G: Gate>
         IfOk result (λ r. (order : OrderValue) × IsOrderPrinted told s.matching order r.0.items × IsFound told s.matching s.order s.limit r.1 order) }
     ensures passed { let told = told_of (R1.remaining first.old) (R2.remaining second.old) (told_by R3.remaining given.old) in
         let s = context.now.settings.now in
-        G.bound context.now.gate.now ≡ None → IfOk result (λ r. IfSome r.1 (AreGivenUp told s.matching s.limit)) }
+        IfOk result (λ r. IfSome r.1 (AreGivenUp told s.matching s.limit (G.bound context.now.gate.now))) }
     ensures full { let told = told_of (R1.remaining first.old) (R2.remaining second.old) (told_by R3.remaining given.old) in
         let s = context.now.settings.now in
         result ≡ Err (CheckFault.Wave Full) → (order : OrderValue) → IsAllowed s.order order → AreBeyond told s.matching order s.limit }
+    ensures given_up { let told = told_of (R1.remaining first.old) (R2.remaining second.old) (told_by R3.remaining given.old) in
+        let s = context.now.settings.now in
+        result ≡ Err CheckFault.GivenUp → AreTried s.order × ((order : OrderValue) → IsAllowed s.order order → IsGivenUpWithin told s.matching s.limit (G.bound context.now.gate.now) order) }
+    ensures in_no_order { context.now.settings.now.order ≡ ChoiceValue.Auto → result ≢ Err (CheckFault.Wave Full) }
     ensures past { let told = told_of (R1.remaining first.old) (R2.remaining second.old) (told_by R3.remaining given.old) in
         let s = context.now.settings.now in
         result ≡ Err (CheckFault.Wave TooManyRequests) → (order : OrderValue) × IsAllowed s.order order × IsSomeAnd (G.bound context.now.gate.now) (AreTooWide told s.matching order) }
@@ -200,15 +205,19 @@ pub fn print_order<H: Threads + Wait + Sync, R1: Source, R2: Source, R3: Source,
         let s = context.now.settings.now in
         IfOk result (λ tried. (order : OrderValue) × (bytes : List ℕ) × IsOrderPrinted told s.matching order bytes
         × IsFound told s.matching s.order s.limit tried order × Appends (W.contents out.old) (W.contents out.new) bytes) }
-    // Where the gate sets no bound, each attempt before the one that is told was given up: it needs more nodes than its budget, or one wave
-    // of it reaches more requests than eight for each of them.
+    // Each attempt within a smaller budget than that of the one that is told was given up, and within the first budget each before it.
     ensures passed { let told = told_of (R1.remaining first.old) (R2.remaining second.old) (told_by R3.remaining given.old) in
         let s = context.now.settings.now in
-        G.bound context.now.gate.now ≡ None → IfOk result (λ tried. IfSome tried (AreGivenUp told s.matching s.limit)) }
+        IfOk result (λ tried. IfSome tried (AreGivenUp told s.matching s.limit (G.bound context.now.gate.now))) }
     // Full comes only where the nodes that the netlists need are not within the limit, in each order that the settings allow.
     ensures full { let told = told_of (R1.remaining first.old) (R2.remaining second.old) (told_by R3.remaining given.old) in
         let s = context.now.settings.now in
         result ≡ Err (CheckFault.Wave Full) → (order : OrderValue) → IsAllowed s.order order → AreBeyond told s.matching order s.limit }
+    // GivenUp comes only where orders are tried and each attempt within the limit was given up, by declared order in place of Full.
+    ensures given_up { let told = told_of (R1.remaining first.old) (R2.remaining second.old) (told_by R3.remaining given.old) in
+        let s = context.now.settings.now in
+        result ≡ Err CheckFault.GivenUp → AreTried s.order × ((order : OrderValue) → IsAllowed s.order order → IsGivenUpWithin told s.matching s.limit (G.bound context.now.gate.now) order) }
+    ensures in_no_order { context.now.settings.now.order ≡ ChoiceValue.Auto → result ≢ Err (CheckFault.Wave Full) }
     // TooManyRequests comes only where one wave reaches more than the gate allows, in an order that the settings allow.
     ensures past { let told = told_of (R1.remaining first.old) (R2.remaining second.old) (told_by R3.remaining given.old) in
         let s = context.now.settings.now in

@@ -1,5 +1,6 @@
 //! What a comparison is asked for.
-ghost use Rattle.std.specs.Prelude.{◌≤◌};
+ghost use Rattle.std.specs.Prelude.{◌≡◌, ◌≤◌, false};
+ghost use Rattle.check_report.specs.declared.choice.Choice.TheVariants.{Auto};
 
 use crate::choice::Choice;
 use net_order::order::Match;
@@ -8,13 +9,13 @@ use net_order::order::Match;
 #[derive(Drop)]
 pub struct Settings {
     pub matching: Match,
-    /// The order of the variables, or that the best is to be found.
+    /// The order of the variables, or that one is to be found.
     pub order: Choice,
     /// The number of worker threads.
     pub workers: u32,
-    /// The most nodes that the store may hold.
+    /// The most nodes that the store may hold; where orders are tried, the last of their budgets.
     pub limit: u64,
-    /// Whether the report says the sizes of the diagrams.
+    /// Whether the report says the sizes of the diagrams, which it cannot where it is that of another order than the diagrams'.
     pub sizes: bool,
     /// Whether the report is one JSON object, and not lines.
     pub json: bool,
@@ -22,4 +23,5 @@ pub struct Settings {
     ghost few_workers: { workers ≤ 16 },
     ghost some_nodes: { 1 ≤ limit },
     ghost few_nodes: { limit ≤ 4294967295 },
+    ghost no_sizes: { order ≡ Auto → sizes ≡ false },
 }

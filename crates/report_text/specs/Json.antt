@@ -7,7 +7,9 @@ use Rattle.json.specs.Written.{Written}
 use Rattle.net_order.specs.declared.order.Match.{Match}
 use Rattle.net_order.specs.declared.order.Match.TheVariants.{Name, Position}
 use Rattle.net_order.specs.declared.order.Order.{Order}
-use Rattle.net_order.specs.declared.order.Order.TheVariants.{Declared, Depth, Interleave, Index, Force, Listed}
+use Rattle.net_order.specs.declared.order.Order.TheVariants as orders
+use Rattle.report_text.specs.declared.kind.OrderKind.{OrderKind}
+use Rattle.report_text.specs.declared.kind.OrderKind.TheVariants.{Declared, Depth, Interleave, Index, Force, File, Auto}
 use Rattle.report_text.specs.declared.outcome.Outcome.{Outcome}
 use Rattle.report_text.specs.declared.outcome.Role.{Role}
 use Rattle.report_text.specs.declared.outcome.Role.TheVariants.{Output, NextState}
@@ -22,14 +24,24 @@ abbrev pub match_kind : Match → List ℕ
 match_kind Name = codes "name"
 match_kind Position = codes "position"
 
--- where the order of the variables comes from
-abbrev pub order_kind : Order → List ℕ
-order_kind Declared = codes "declared"
-order_kind Depth = codes "depth"
-order_kind Interleave = codes "interleave"
-order_kind Index = codes "index"
-order_kind Force = codes "force"
-order_kind (Listed names) = codes "file"
+-- where an order of the variables comes from
+abbrev pub kind_of : Order → OrderKind
+kind_of orders.Declared = Declared
+kind_of orders.Depth = Depth
+kind_of orders.Interleave = Interleave
+kind_of orders.Index = Index
+kind_of orders.Force = Force
+kind_of (orders.Listed names) = File
+
+-- the same as a word
+abbrev pub order_word : OrderKind → List ℕ
+order_word Declared = codes "declared"
+order_word Depth = codes "depth"
+order_word Interleave = codes "interleave"
+order_word Index = codes "index"
+order_word Force = codes "force"
+order_word File = codes "file"
+order_word Auto = codes "auto"
 
 -- A name as a text. The names of a netlist are ASCII, so each of them is its own text; bytes that are none have the empty one.
 abbrev pub shown : List ℕ → List ℕ
@@ -88,8 +100,8 @@ abbrev pub names_tokens : List (List ℕ) → List Token
 names_tokens [] = []
 names_tokens (v ∷ vs) = string (shown v) ∷ names_tokens vs
 
-abbrev pub settings_tokens : Match → Order → List Token
-settings_tokens how order = key (codes "match") ∷ string (match_kind how) ∷ key (codes "order") ∷ string (order_kind order) ∷ []
+abbrev pub settings_tokens : Match → OrderKind → List Token
+settings_tokens how kind = key (codes "match") ∷ string (match_kind how) ∷ key (codes "order") ∷ string (order_word kind) ∷ []
 
 abbrev pub counts_tokens : Outcome → List Token
 counts_tokens o =
@@ -105,19 +117,19 @@ given_tokens true = key (codes "given") ∷ boolean true ∷ []
 given_tokens false = []
 
 -- the whole object: the settings, the variables, the verdicts, the counts
-abbrev pub report_tokens : Match → Order → (given : Bool) → Found → List Token
-report_tokens how order given found =
-    begin_object ∷ (settings_tokens how order ++ (given_tokens given ++ (array_tokens (codes "variables") (names_tokens found.variables)
+abbrev pub report_tokens : Match → OrderKind → (given : Bool) → Found → List Token
+report_tokens how kind given found =
+    begin_object ∷ (settings_tokens how kind ++ (given_tokens given ++ (array_tokens (codes "variables") (names_tokens found.variables)
     ++ (array_tokens (codes "verdicts") (verdicts_tokens found.variables found.verdicts) ++ (counts_tokens (counted found.verdicts) ++ end_object ∷ [])))))
 
 -- its text, on one line
-abbrev pub json_text : Match → Order → (given : Bool) → Found → List ℕ
-json_text how order given found = print (report_tokens how order given found) ++ 10 ∷ []
+abbrev pub json_text : Match → OrderKind → (given : Bool) → Found → List ℕ
+json_text how kind given found = print (report_tokens how kind given found) ++ 10 ∷ []
 
 -- the bytes of a report in the form that is asked for: as JSON, which tells of a condition, or as lines
-abbrev pub form_text : (json : Bool) → Match → Order → (given : Bool) → Found → List ℕ
-form_text true how order given = json_text how order given
-form_text false how order given = report_text
+abbrev pub form_text : (json : Bool) → Match → OrderKind → (given : Bool) → Found → List ℕ
+form_text true how kind given = json_text how kind given
+form_text false how kind given = report_text
 
 -- a writer has taken these tokens, where it has taken all
 abbrev pub Adds : {E : Type 0} → Result (Unit {0}) E → (old new : Written) → List Token → Type 0

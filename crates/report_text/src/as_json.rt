@@ -1,14 +1,15 @@
 //! What a comparison found as one JSON object.
 ghost use Rattle.std.specs.Prelude.{◌≡◌, ◌∷◌, [], ◌++◌, IfOk, codes, decimal};
 ghost use Rattle.json.specs.Token.{begin_object, end_object, key, string, number, boolean};
-ghost use Rattle.report_text.specs.Json.{Adds, shown, match_kind, order_kind, role_text, side_word, bit_token, subject_tokens, size_tokens, sizes_tokens, assignment_tokens, values_tokens, verdict_members, verdicts_tokens, names_tokens, settings_tokens, given_tokens, counts_tokens, array_tokens, json_text};
+ghost use Rattle.report_text.specs.Json.{Adds, shown, match_kind, order_word, role_text, side_word, bit_token, subject_tokens, size_tokens, sizes_tokens, assignment_tokens, values_tokens, verdict_members, verdicts_tokens, names_tokens, settings_tokens, given_tokens, counts_tokens, array_tokens, json_text};
 
+use crate::kind::OrderKind;
 use crate::outcome::{Outcome, Role, Side};
 use crate::verdict::Verdict;
 use crate::verdicts::Verdicts;
 use json::Writer;
 use net_order::names::Names;
-use net_order::order::{Match, Order};
+use net_order::order::Match;
 use std::alloc::{AllocError, Global};
 
 /// A name as a text, which it is where it is ASCII, as each name of a netlist.
@@ -31,17 +32,18 @@ fn match_word(matching: Match) -> &'static str
     }
 }
 
-/// The word of an order.
-fn order_word(order: &Order) -> &'static str
-    ensures { result.now ≡ order_kind order.now }
+/// The word of a kind of order.
+fn order_word(kind: OrderKind) -> &'static str
+    ensures { result.now ≡ order_word kind }
 {
-    match order {
-        Order::Declared => "declared",
-        Order::Depth => "depth",
-        Order::Interleave => "interleave",
-        Order::Index => "index",
-        Order::Force => "force",
-        Order::Listed(_) => "file",
+    match kind {
+        OrderKind::Declared => "declared",
+        OrderKind::Depth => "depth",
+        OrderKind::Interleave => "interleave",
+        OrderKind::Index => "index",
+        OrderKind::Force => "force",
+        OrderKind::File => "file",
+        OrderKind::Auto => "auto",
     }
 }
 
@@ -230,11 +232,11 @@ fn add_judged(out: &mut Writer, found: &Verdicts) -> Result<(), AllocError>
 }
 
 /// Adds the settings.
-fn add_settings(out: &mut Writer, matching: Match, order: &Order) -> Result<(), AllocError>
-    ensures { Adds result out.old out.new (settings_tokens matching order.now) }
+fn add_settings(out: &mut Writer, matching: Match, kind: OrderKind) -> Result<(), AllocError>
+    ensures { Adds result out.old out.new (settings_tokens matching kind) }
 {
     add_text(out, "match", match_word(matching))?;
-    add_text(out, "order", order_word(order))
+    add_text(out, "order", order_word(kind))
 }
 
 /// Adds that there was a condition, where there was one.
@@ -263,15 +265,15 @@ fn add_counts(out: &mut Writer, outcome: Outcome) -> Result<(), AllocError>
 pub fn json_of(
     alloc: Global,
     matching: Match,
-    order: &Order,
+    kind: OrderKind,
     given: bool,
     found: &Verdicts,
 ) -> Result<Vec<u8>, AllocError>
-    ensures { IfOk result (λ text. text.items ≡ json_text matching order.now given found.now) }
+    ensures { IfOk result (λ text. text.items ≡ json_text matching kind given found.now) }
 {
     let mut out = Writer::new(Vec::new(alloc));
     out.begin_object()?;
-    add_settings(&mut out, matching, order)?;
+    add_settings(&mut out, matching, kind)?;
     add_given(&mut out, given)?;
     add_variables(&mut out, found.variables())?;
     add_judged(&mut out, found)?;

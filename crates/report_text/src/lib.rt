@@ -2,6 +2,7 @@
 #![tactic(auto)]
 
 mod as_json;
+mod kind;
 mod lines;
 mod outcome;
 mod report;
@@ -10,6 +11,7 @@ mod verdicts;
 mod write;
 
 pub use as_json::json_of;
+pub use kind::OrderKind;
 pub use outcome::{Outcome, Role, Side};
 pub use report::report_of;
 pub use verdict::{Bits, Name, Verdict};
