@@ -120,6 +120,11 @@ class Build:
                 self.changed.wait()
             return None
 
+    def is_longest(self, crate):
+        """Whether the longest chain of all crates that are not proved begins with this one."""
+        with self.changed:
+            return all(self.behind[other] <= self.behind[crate] for other in self.needed if other not in self.done)
+
     def stop(self):
         """Begins no further crate, where some are left after an interrupt."""
         with self.changed:
@@ -147,10 +152,11 @@ def prove(folder, crate, jobs):
 
 
 def lane(build, folder, jobs):
-    """Proves crate after crate in a folder of sources. The program itself is built in the repository alone."""
+    """Proves crate after crate in a folder of sources: by all jobs where the longest chain of crates begins with it, else by half of
+    them. The program itself is built in the repository alone."""
     while crate := build.next():
         at = TOP if crate == PROGRAM else folder
-        build.ended(crate, *prove(at, crate, jobs))
+        build.ended(crate, *prove(at, crate, jobs if build.is_longest(crate) else max(1, jobs // 2)))
 
 
 def copied(room):
@@ -168,7 +174,7 @@ def build_all(jobs, lanes):
     with tempfile.TemporaryDirectory(prefix="bddcheck-build-") as room:
         second = None
         if lanes > 1:
-            second = threading.Thread(target=lane, args=(build, copied(room), max(1, jobs // 2)))
+            second = threading.Thread(target=lane, args=(build, copied(room), jobs))
             second.start()
         try:
             lane(build, TOP, jobs)
