@@ -1,47 +1,93 @@
 -- Functions of the bits by level at assignments as declared.
-use Rattle.std.proofs.Common.{◌≡◌, ℕ, ◌<◌, Bool, true, false, not, cond, List, [], ◌∷◌, ◌⊎◌, inl, inr, length, get_or, ◌↔◌, refl, sym, ◌∙◌, ap, arith}
-use Rattle.std.proofs.lemmas.List.{length-map, ext_get_or}
-use Rattle.dd_store.specs.declared.reference.Ref.{Ref}
-use Rattle.dd_store.specs.declared.reference.Reference.TheVariants.{False}
+use Rattle.std.proofs.Common.{◌≡◌, ℕ, zero, suc, ◌<◌, ◌≤◌, Bool, true, false, List, [], ◌∷◌, ◌⊎◌, inl, inr, length, get_or, replicate, ◌↔◌, refl, sym, ◌∙◌, ap, subst, arith}
+use Rattle.std.proofs.Math.ListN.{set, length-replicate}
+use Rattle.std.proofs.lemmas.Bool.{cases_eq, cases_lt}
+use Rattle.std.proofs.lemmas.List.{length-map, length-set, get_or-set_same, get_or-set_other, ext_get_or}
 use Rattle.dd_store.specs.Functions.{Agree, Before, IsLeastDifference}
 use Rattle.dd_store.specs.Functions.Before.{first, later}
-use Rattle.dd_store.specs.Nodes.{Nodes, den}
-use Rattle.dd_store.proofs.Laws.{den-false}
-use Rattle.counter_walk.specs.Arranged.{arranged, by_declared, IsLeastDeclared, IsLeastTrue, IsExclusiveOr, nowhere}
-use Rattle.counter_walk.proofs.Fixing.{get_or-arranged}
+use Rattle.counter_walk.specs.Arranged.{IsOrder, arranged, by_declared, IsLeastDeclared}
 
 pub length-arranged : (order : List ℕ) (x : List Bool) → length (arranged order x) ≡ length order
 length-arranged order x = length-map order (λ d. get_or x d false)
 
--- ---- the exclusive or
+pub get_or-arranged : (order : List ℕ) (x : List Bool) (v : ℕ) → v < length order
+    → get_or (arranged order x) v false ≡ get_or x (get_or order v 0) false
+get_or-arranged [] x v lt = absurd (omega arith)
+get_or-arranged (d ∷ ds) x zero lt = refl
+get_or-arranged (d ∷ ds) x (suc v) lt = get_or-arranged ds x v (omega arith)
 
-xor_same : (a b : Bool) → a ≡ b → cond a (not b) b ≡ false
-xor_same true true e = refl
-xor_same false false e = refl
-xor_same true false e = cc
-xor_same false true e = cc
-
-same_of_xor : (a b : Bool) → cond a (not b) b ≡ false → a ≡ b
-same_of_xor true true e = refl
-same_of_xor false false e = refl
-same_of_xor true false e = cc
-same_of_xor false true e = cc
-
--- where the exclusive or is 0 everywhere the two functions agree
-pub agree_of_nowhere : (n : ℕ) (f g h : List Bool → Bool) → IsExclusiveOr n f g h → Agree n h nowhere → Agree n f g
-agree_of_nowhere n f g h is zero x len = same_of_xor (f x) (g x) (sym (is x len) ∙ zero x len)
-
--- where the exclusive or is 1 first, the two functions differ first
-pub differ_of_true : (n : ℕ) (order : List ℕ) (f g h : List Bool → Bool) (bits : List Bool) → length order ≡ n → IsExclusiveOr n f g h
-    → IsLeastTrue n order h bits → IsLeastDeclared n order f g bits
-differ_of_true n order f g h bits full is k = record {
-  bits = k.bits;
-  differ = λ e. k.differ (at bits ∙ xor_same (f (arranged order bits)) (g (arranged order bits)) e);
-  least = λ y len before. same_of_xor (f (arranged order y)) (g (arranged order y)) (sym (at y) ∙ k.least y len before);
-}
+-- the bit of a declared variable is that of its level
+pub arranged-set : (n : ℕ) (order : List ℕ) (x : List Bool) (v : ℕ) (b : Bool) → IsOrder n order → v < n → length x ≡ n
+    → arranged order (set x (get_or order v 0) b) ≡ set (arranged order x) v b
+arranged-set n order x v b o lt len =
+    let d : ℕ = get_or order v 0 in
+    ext_get_or false (arranged order (set x d b)) (set (arranged order x) v b)
+    (length-arranged order (set x d b) ∙ sym (length-arranged order x) ∙ sym (length-set (arranged order x) v b))
+    (λ i l.
+    let long : length (arranged order (set x d b)) ≡ length order = length-arranged order (set x d b) in
+    get_or-arranged order (set x d b) i (omega arith) ∙ at i (omega arith))
   where
-    at : (y : List Bool) → h (arranged order y) ≡ cond (f (arranged order y)) (not (g (arranged order y))) (g (arranged order y))
-    at y = is (arranged order y) (length-arranged order y ∙ full)
+    at : (i : ℕ) → i < length order
+        → get_or (set x (get_or order v 0) b) (get_or order i 0) false ≡ get_or (set (arranged order x) v b) i false
+    at i within =
+        let full : length order ≡ n = o.each_level in
+        let declared : get_or order v 0 < n = o.declared v lt in
+        let wide : length (arranged order x) ≡ length order = length-arranged order x in
+        elim (cases_eq i v) [
+          | inl same ↦
+              ap (λ k. get_or (set x (get_or order v 0) b) (get_or order k 0) false) same
+              ∙ get_or-set_same x (get_or order v 0) b false (omega arith)
+              ∙ sym (get_or-set_same (arranged order x) v b false (omega arith))
+              ∙ ap (λ k. get_or (set (arranged order x) v b) k false) (sym same)
+          | inr other ↦
+              get_or-set_other x (get_or order v 0) (get_or order i 0) b false (λ e. other (o.once i v (omega arith) lt e))
+              ∙ sym (get_or-arranged order x i within)
+              ∙ sym (get_or-set_other (arranged order x) v i b false other)
+        ]
+
+-- ---- an assignment as declared for one by level
+
+-- the bits of the first k levels, each for its variable
+declared_of : ℕ → List ℕ → List Bool → ℕ → List Bool
+declared_of n order y zero = replicate n false
+declared_of n order y (suc k) = set (declared_of n order y k) (get_or order k 0) (get_or y k false)
+
+length-declared_of : (n : ℕ) (order : List ℕ) (y : List Bool) (k : ℕ) → length (declared_of n order y k) ≡ n
+unfolding declared_of
+length-declared_of n order y zero = length-replicate n false
+length-declared_of n order y (suc k) =
+    length-set (declared_of n order y k) (get_or order k 0) (get_or y k false) ∙ length-declared_of n order y k
+
+get_or-declared_of : (n : ℕ) (order : List ℕ) (y : List Bool) → IsOrder n order → (k u : ℕ) → k ≤ n → u < k
+    → get_or (declared_of n order y k) (get_or order u 0) false ≡ get_or y u false
+unfolding declared_of
+get_or-declared_of n order y o zero u le lt = absurd (omega arith)
+get_or-declared_of n order y o (suc k) u le lt =
+    let before : List Bool = declared_of n order y k in
+    let wide : length (declared_of n order y k) ≡ n = length-declared_of n order y k in
+    let declared : get_or order k 0 < n = o.declared k (omega arith) in
+    elim (cases_lt u k) [
+      | inl less ↦
+          get_or-set_other before (get_or order k 0) (get_or order u 0) (get_or y k false) false
+          (λ e. let same : u ≡ k = o.once u k (omega arith) (omega arith) e in absurd (omega arith))
+          ∙ get_or-declared_of n order y o k u (omega arith) less
+      | inr last ↦
+          let at : k ≡ u = omega arith in
+          subst (λ m. get_or (set before (get_or order k 0) (get_or y k false)) (get_or order m 0) false ≡ get_or y m false) at
+          (get_or-set_same before (get_or order k 0) (get_or y k false) false (omega arith))
+    ]
+
+pub arranged_from : (n : ℕ) (order : List ℕ) (y : List Bool) → IsOrder n order → length y ≡ n
+    → (x : List Bool) × (length x ≡ n) × (arranged order x ≡ y)
+arranged_from n order y o len =
+    let x : List Bool = declared_of n order y n in
+    let full : length order ≡ n = o.each_level in
+    let long : length (arranged order x) ≡ length order = length-arranged order x in (
+      x,
+      length-declared_of n order y n,
+      ext_get_or false (arranged order x) y (omega arith)
+          (λ i lt. get_or-arranged order x i (omega arith) ∙ get_or-declared_of n order y o n i (omega arith) (omega arith)),
+    )
 
 -- ---- the same assignment whatever the order of the levels
 
@@ -105,8 +151,3 @@ least_by_level n order f g bits full own = (
   where
     at : (h : List Bool → Bool) → Agree n (by_declared order h) h
     at h y len = ap h (arranged-same n order y full own len)
-
--- ---- the terminal of the function that is 0 everywhere
-
-pub none_of_false : (S : Nodes) (n : ℕ) (r : Ref) → r ≡ False → Agree n (den S r) nowhere
-none_of_false S n r is x len = ap (λ z. den S z x) is ∙ den-false S x

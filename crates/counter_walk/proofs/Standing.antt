@@ -1,4 +1,4 @@
--- Lines that stand for the references of a diagram.
+-- Lines that stand for functions.
 use Rattle.std.proofs.Common.{◌≡◌, ℕ, ◌+◌, ◌-◌, ◌<◌, ◌≤◌, Bool, true, false, cond, ◌||◌, List, [], ◌∷◌, ◌++◌, length, get_or, slice_get, replicate, Some, refl, sym, ◌∙◌, ap, subst, arith, inl, inr}
 use Rattle.std.proofs.Math.ListN.{set, length-replicate}
 use Rattle.std.proofs.lemmas.Bool.{cases_lt, cases_Bool, or_cases, or_left, or_right}
@@ -9,163 +9,144 @@ use Rattle.std.specs.Vec.{with_items}
 use Rattle.std.specs.declared.vec.Vec.{Vec}
 use Rattle.std.specs.HashMap.{get, Updates}
 use Rattle.std.specs.declared.alloc.AllocError.{AllocError}
-use Rattle.dd_store.specs.declared.reference.NodeId.{NodeId}
-use Rattle.dd_store.specs.declared.reference.Ref.{Ref}
-use Rattle.dd_store.specs.declared.reference.Reference.TheVariants.{Node}
-use Rattle.dd_store.specs.contracts.reference.ReferencePartialEq.TheImpl.{eq-value as ref_eq}
-use Rattle.dd_store.specs.Equal.{ref_same}
-use Rattle.dd_store.specs.Nodes.{Nodes, IsSound, children}
-use Rattle.dd_store.specs.Parts.{Part}
-use Rattle.dd_store.specs.Parts.Part.{leaf, node}
-use Rattle.dd_store.specs.View.{part, part_of, Has, top}
+use Rattle.dd_store.specs.Functions.{Agree}
+use Rattle.dd_store.specs.Nodes.{Nodes}
 use Rattle.dd_store.proofs.Places.{slice_get-push, slice_get-append, slice_get_cases-push}
-use Rattle.dd_store.proofs.Storing.{child_refs}
-use Rattle.dd_store.proofs.View.{parts}
+use Rattle.counter_walk.specs.contracts.least.PairPartialEq.TheImpl.{eq-value as pair_eq}
 use Rattle.counter_walk.specs.declared.least.Line.{Line}
 use Rattle.counter_walk.specs.declared.least.Line.TheVariants.{Terminal, Branch}
+use Rattle.counter_walk.specs.declared.least.Pair.{Pair}
 use Rattle.counter_walk.specs.declared.least.Table.{Table}
-use Rattle.counter_walk.specs.Arranged.{IsOrder}
-use Rattle.counter_walk.specs.Lines.{Stands, AreInOrder, IsTable, AreAble, AreRead, line_can, either}
+use Rattle.counter_walk.specs.Lines.{differs, IsFree, Stands, AreInOrder, AreOf, IsTable, AreAble, AreRead, line_can, either}
 use Rattle.counter_walk.specs.Lines.Stands.{terminal, branch}
-use Rattle.counter_walk.proofs.Fixing.{val, Can, IsFree, val-leaf, val-node, child, into, IsFixed, fixed_free, fixed_zero, fixed_one}
-
--- ---- nodes by their names
-
--- a node that is read by its name: its part, and its children below it
-pub record IsNodeBy (S : Nodes) (r : Ref) (m : NodeId) (p : Ref × Ref) : Type 0 where
-  pub part_is : part S r ≡ node m.level p.0 p.1
-  pub at : top S r ≡ m.level
-  pub within : m.level < S.levels
-  pub low : Has S p.0
-  pub high : Has S p.1
-  pub low_below : m.level < top S p.0
-  pub high_below : m.level < top S p.1
-
-pub node_by : (S : Nodes) → IsSound S → (r : Ref) (m : NodeId) (b : Bool) (p : Ref × Ref) → Has S r → r ≡ Node m b → children S r ≡ Some p
-    → IsNodeBy S r m p
-node_by S w r m b p h is e =
-    let f : children S (Node m b) ≡ Some p = ap (children S) (sym is) ∙ e in
-    let k = child_refs S m b p w f in
-    let q : part S r ≡ node m.level p.0 p.1 = ap (part S) is ∙ ap (part_of m) f in
-    record {
-      part_is = q;
-      at = ap (top S) is;
-      within = (parts S w).level r m.level p.0 p.1 h q;
-      low = k.0.0;
-      high = k.1.0;
-      low_below = k.0.1;
-      high_below = k.1.1;
-    }
+use Rattle.counter_walk.proofs.Choosing.{IsChoice}
+use Rattle.counter_walk.proofs.Fixing.{Can, IsFixed, fixed_free, fixed_zero, fixed_one}
+use Rattle.counter_walk.proofs.Pairing.{pair_same}
 
 -- ---- a line more
 
-pub Stands-push : (S : Nodes) (order : List ℕ) (lines : List Line) (l : Line) (p : ℕ) (r : Ref) → Stands S order lines p r
-    → Stands S order (lines ++ l ∷ []) p r
-Stands-push S order lines l _ _ (terminal p r b e q) = terminal p r b (slice_get-append lines (l ∷ []) p (Terminal b) e) q
-Stands-push S order lines l _ _ (branch p r v low high lo hi e q s t) =
-    branch p r v low high lo hi (slice_get-append lines (l ∷ []) p (Branch (get_or order v 0) low high) e) q (Stands-push S order lines l low lo s) (Stands-push S order lines l high hi t)
+pub Stands-push : (n : ℕ) (lines : List Line) (l : Line) (p : ℕ) (h : List Bool → Bool) → Stands n lines p h → Stands n (lines ++ l ∷ []) p h
+Stands-push n lines l _ _ (terminal p h b e q) = terminal p h b (slice_get-append lines (l ∷ []) p (Terminal b) e) q
+Stands-push n lines l _ _ (branch p h d low high lo hi e s t f g q) =
+    branch p h d low high lo hi (slice_get-append lines (l ∷ []) p (Branch d low high) e) (Stands-push n lines l low lo s) (Stands-push n lines l high hi t) f g q
 
--- a place that stands for a reference is one of the lines
-pub Stands-within : (S : Nodes) (order : List ℕ) (lines : List Line) (p : ℕ) (r : Ref) → Stands S order lines p r → p < length lines
-Stands-within S order lines _ _ (terminal p r b e q) = slice_get_within lines p (Terminal b) e
-Stands-within S order lines _ _ (branch p r v low high lo hi e q s t) = slice_get_within lines p (Branch (get_or order v 0) low high) e
+-- a place that stands for a function is one of the lines
+pub Stands-within : (n : ℕ) (lines : List Line) (p : ℕ) (h : List Bool → Bool) → Stands n lines p h → p < length lines
+Stands-within n lines _ _ (terminal p h b e q) = slice_get_within lines p (Terminal b) e
+Stands-within n lines _ _ (branch p h d low high lo hi e s t f g q) = slice_get_within lines p (Branch d low high) e
 
--- a line that may be put at the end for a reference
-pub data IsLineFor (S : Nodes) (order : List ℕ) (lines : List Line) (r : Ref) : Line → Type 0 where
-  for_leaf : (b : Bool) → part S r ≡ leaf b → IsLineFor S order lines r (Terminal b)
-  for_node : (v low high : ℕ) (lo hi : Ref) → part S r ≡ node v lo hi → Stands S order lines low lo → Stands S order lines high hi
-      → IsLineFor S order lines r (Branch (get_or order v 0) low high)
+-- it stands for each function that agrees with it
+pub Stands-agree : (n : ℕ) (lines : List Line) (p : ℕ) (h k : List Bool → Bool) → Agree n k h → Stands n lines p h → Stands n lines p k
+Stands-agree n lines _ _ k same (terminal p h b e q) = terminal p k b e (λ x len. same x len ∙ q x len)
+Stands-agree n lines _ _ k same (branch p h d low high lo hi e s t f g q) =
+    branch p k d low high lo hi e s t f g (λ x len. same x len ∙ q x len)
 
-Stands-last : (S : Nodes) (order : List ℕ) (lines : List Line) (r : Ref) (l : Line) → IsLineFor S order lines r l
-    → Stands S order (lines ++ l ∷ []) (length lines) r
-Stands-last S order lines r _ (for_leaf b q) = terminal (length lines) r b (slice_get-push lines (Terminal b)) q
-Stands-last S order lines r _ (for_node v low high lo hi q s t) =
-    let l : Line = Branch (get_or order v 0) low high in
-    branch (length lines) r v low high lo hi (slice_get-push lines l) q (Stands-push S order lines l low lo s) (Stands-push S order lines l high hi t)
+-- a line that may be put at the end for a function
+pub data IsLineFor (n : ℕ) (lines : List Line) (h : List Bool → Bool) : Line → Type 0 where
+  for_constant : (b : Bool) → Agree n h (λ x. b) → IsLineFor n lines h (Terminal b)
+  for_choice : (d low high : ℕ) (lo hi : List Bool → Bool) → Stands n lines low lo → Stands n lines high hi → IsChoice n d h lo hi
+      → IsLineFor n lines h (Branch d low high)
 
--- what a line for a reference names
-named : (S : Nodes) → IsSound S → (order : List ℕ) → IsOrder S.levels order → (lines : List Line) (r : Ref) (l : Line) → Has S r
-    → IsLineFor S order lines r l
-    → (d low high : ℕ) → l ≡ Branch d low high → (d < S.levels) × (low < length lines) × (high < length lines)
-named S w order o lines r _ h (for_leaf b q) d low high e = absurd (cc)
-named S w order o lines r _ h (for_node v lw hg lo hi q s t) d low high e =
-    let within : get_or order v 0 < S.levels = o.declared v ((parts S w).level r v lo hi h q) in
-    let a : lw < length lines = Stands-within S order lines lw lo s in
-    let b : hg < length lines = Stands-within S order lines hg hi t in
-    let same : get_or order v 0 ≡ d = cc in
+Stands-last : (n : ℕ) (lines : List Line) (h : List Bool → Bool) (l : Line) → IsLineFor n lines h l
+    → Stands n (lines ++ l ∷ []) (length lines) h
+Stands-last n lines h _ (for_constant b q) = terminal (length lines) h b (slice_get-push lines (Terminal b)) q
+Stands-last n lines h _ (for_choice d low high lo hi s t k) =
+    let l : Line = Branch d low high in
+    branch (length lines) h d low high lo hi (slice_get-push lines l) (Stands-push n lines l low lo s) (Stands-push n lines l high hi t) k.low k.high k.chosen
+
+-- what a line for a function names
+named : (n : ℕ) (lines : List Line) (h : List Bool → Bool) (l : Line) → IsLineFor n lines h l
+    → (d low high : ℕ) → l ≡ Branch d low high → (d < n) × (low < length lines) × (high < length lines)
+named n lines h _ (for_constant b q) d low high e = absurd (cc)
+named n lines h _ (for_choice v lw hg lo hi s t k) d low high e =
+    let lt : v < n = k.variable in
+    let a : lw < length lines = Stands-within n lines lw lo s in
+    let b : hg < length lines = Stands-within n lines hg hi t in
+    let same : v ≡ d = cc in
     let same_low : lw ≡ low = cc in
     let same_high : hg ≡ high = cc in
     (omega arith, omega arith, omega arith)
 
--- a reference has a line at a place, and what stood stands
-pub record IsAdded (S : Nodes) (order : List ℕ) (r : Ref) (old new : Table) (at : ℕ) : Type 0 where
-  pub table : IsTable S S.levels order new
-  pub keeps : (p : ℕ) (z : Ref) → Stands S order old.lines.items p z → Stands S order new.lines.items p z
-  pub place : Stands S order new.lines.items at r
+-- a function has a line at a place, and what stood stands
+pub record IsAdded (S : Nodes) (order : List ℕ) (h : List Bool → Bool) (old new : Table) (at : ℕ) : Type 0 where
+  pub table : IsTable S order new
+  pub keeps : (p : ℕ) (k : List Bool → Bool) → Stands S.levels old.lines.items p k → Stands S.levels new.lines.items p k
+  pub place : Stands S.levels new.lines.items at h
 
-pub added : (S : Nodes) → IsSound S → (order : List ℕ) → IsOrder S.levels order → (old new : Table) (r : Ref) (l : Line) → Has S r
-    → IsTable S S.levels order old → IsLineFor S order old.lines.items r l → new.lines.items ≡ old.lines.items ++ l ∷ []
-    → Updates ref_eq.it old.places new.places r (Some (length old.lines.items)) → IsAdded S order r old new (length old.lines.items)
-added S w order o old new r l h t is grown u =
-    let more : (p : ℕ) (z : Ref) → Stands S order old.lines.items p z → Stands S order new.lines.items p z =
-    (λ p z s. subst (λ ls. Stands S order ls p z) (sym grown) (Stands-push S order old.lines.items l p z s)) in
-    let last : Stands S order new.lines.items (length old.lines.items) r =
-    subst (λ ls. Stands S order ls (length old.lines.items) r) (sym grown) (Stands-last S order old.lines.items r l is) in
-    let names = named S w order o old.lines.items r l h is in
+pub added : (S : Nodes) (order : List ℕ) (old new : Table) (k : Pair) (l : Line) → IsTable S order old
+    → IsLineFor S.levels old.lines.items (differs S order k.first k.second) l → new.lines.items ≡ old.lines.items ++ l ∷ []
+    → Updates pair_eq.it old.places new.places k (Some (length old.lines.items))
+    → IsAdded S order (differs S order k.first k.second) old new (length old.lines.items)
+added S order old new k l t is grown u =
+    let n : ℕ = S.levels in
+    let lines : List Line = old.lines.items in
+    let h : List Bool → Bool = differs S order k.first k.second in
+    let more : (p : ℕ) (z : List Bool → Bool) → Stands n lines p z → Stands n new.lines.items p z =
+    (λ p z s. subst (λ ls. Stands n ls p z) (sym grown) (Stands-push n lines l p z s)) in
+    let last : Stands n new.lines.items (length lines) h = subst (λ ls. Stands n ls (length lines) h) (sym grown) (Stands-last n lines h l is) in
+    let names = named n lines h l is in
     record {
       table = record {
-        in_order = λ p d low high e. elim (slice_get_cases-push old.lines.items l p (Branch d low high) (ap (λ ls. slice_get ls p) (sym grown) ∙ e)) [
+        in_order = λ p d low high e. elim (slice_get_cases-push lines l p (Branch d low high) (ap (λ ls. slice_get ls p) (sym grown) ∙ e)) [
           | inl a ↦ t.in_order p d low high a
-          | inr a ↦ let k = names d low high (sym a.1) in let at = a.0 in let x = k.1 in let y = k.2 in (omega arith, omega arith)
+          | inr a ↦ let m = names d low high (sym a.1) in let at = a.0 in let x = m.1 in let y = m.2 in (omega arith, omega arith)
         ];
-        variables = λ p d low high e. elim (slice_get_cases-push old.lines.items l p (Branch d low high) (ap (λ ls. slice_get ls p) (sym grown) ∙ e)) [
+        variables = λ p d low high e. elim (slice_get_cases-push lines l p (Branch d low high) (ap (λ ls. slice_get ls p) (sym grown) ∙ e)) [
           | inl a ↦ t.variables p d low high a
           | inr a ↦ (names d low high (sym a.1)).0
         ];
-        found = λ z p e. elim (cases_Bool (ref_eq.it r z)) [
+        found = λ z p e. elim (cases_Bool (pair_eq.it k z)) [
           | inl same ↦
-              let f : Some (length old.lines.items) ≡ Some p = sym (u.0 z ∙ ap (λ b. cond b (Some (length old.lines.items)) (get ref_eq.it old.places z)) same) ∙ e in
-              let at : length old.lines.items ≡ p = cc in
-              subst (λ k. Stands S order new.lines.items k z) at (subst (λ k. Stands S order new.lines.items (length old.lines.items) k) (ref_same r z same) last)
-          | inr other ↦ more p z (t.found z p (sym (u.2 z other) ∙ e))
+              let f : Some (length lines) ≡ Some p = sym (u.0 z ∙ ap (λ b. cond b (Some (length lines)) (get pair_eq.it old.places z)) same) ∙ e in
+              let at : length lines ≡ p = cc in
+              subst (λ i. Stands n new.lines.items i (differs S order z.first z.second)) at
+              (subst (λ (q : Pair). Stands n new.lines.items (length lines) (differs S order q.first q.second)) (pair_same k z same) last)
+          | inr other ↦ more p (differs S order z.first z.second) (t.found z p (sym (u.2 z other) ∙ e))
         ];
       };
       keeps = more;
       place = last;
     }
 
--- the line of a reference, before it is put at the end
-pub record IsReady (S : Nodes) (order : List ℕ) (r : Ref) (old t : Table) (l : Line) : Type 0 where
-  pub table : IsTable S S.levels order t
-  pub keeps : (p : ℕ) (z : Ref) → Stands S order old.lines.items p z → Stands S order t.lines.items p z
-  pub line : IsLineFor S order t.lines.items r l
+-- the line of a function, before it is put at the end
+pub record IsReady (S : Nodes) (order : List ℕ) (h : List Bool → Bool) (old t : Table) (l : Line) : Type 0 where
+  pub table : IsTable S order t
+  pub keeps : (p : ℕ) (k : List Bool → Bool) → Stands S.levels old.lines.items p k → Stands S.levels t.lines.items p k
+  pub line : IsLineFor S.levels t.lines.items h l
 
-pub ready_leaf : (S : Nodes) (order : List ℕ) (r : Ref) (old t : Table) (l : Line) (b : Bool) → IsTable S S.levels order old
-    → part S r ≡ leaf b → t ≡ old → l ≡ Terminal b → IsReady S order r old t l
-ready_leaf S order r old t l b i q e f =
-    subst (λ x. IsReady S order r old x l) (sym e)
-    (subst (λ x. IsReady S order r old old x) (sym f) (record { table = i; keeps = λ p z s. s; line = for_leaf b q }))
+pub ready_constant : (S : Nodes) (order : List ℕ) (h : List Bool → Bool) (old t : Table) (l : Line) (b : Bool) → IsTable S order old
+    → Agree S.levels h (λ x. b) → t ≡ old → l ≡ Terminal b → IsReady S order h old t l
+ready_constant S order h old t l b i q e f =
+    subst (λ x. IsReady S order h old x l) (sym e)
+    (subst (λ x. IsReady S order h old old x) (sym f) (record { table = i; keeps = λ p z s. s; line = for_constant b q }))
 
-pub ready_node : (S : Nodes) (order : List ℕ) (r : Ref) (old first second t : Table) (l : Line) (m : NodeId) (p : Ref × Ref) (low high : ℕ) → IsNodeBy S r m p
-    → ((q : ℕ) (z : Ref) → Stands S order old.lines.items q z → Stands S order first.lines.items q z)
-    → Stands S order first.lines.items low p.0
-    → IsTable S S.levels order second → ((q : ℕ) (z : Ref) → Stands S order first.lines.items q z → Stands S order second.lines.items q z)
-    → Stands S order second.lines.items high p.1
-    → t ≡ second → l ≡ Branch (get_or order m.level 0) low high → IsReady S order r old t l
-ready_node S order r old one two t l m p low high k keep at_low i keep_on at_high e f =
-    subst (λ x. IsReady S order r old x l) (sym e)
-    (subst (λ x. IsReady S order r old two x) (sym f)
-    (record { table = i; keeps = λ q z s. keep_on q z (keep q z s); line = for_node m.level low high p.0 p.1 k.part_is (keep_on low p.0 at_low) at_high }))
+pub ready_choice : (S : Nodes) (order : List ℕ) (h lo hi : List Bool → Bool) (old first second t : Table) (l : Line) (d low high : ℕ)
+    → IsChoice S.levels d h lo hi
+    → ((q : ℕ) (z : List Bool → Bool) → Stands S.levels old.lines.items q z → Stands S.levels first.lines.items q z)
+    → Stands S.levels first.lines.items low lo
+    → IsTable S order second
+    → ((q : ℕ) (z : List Bool → Bool) → Stands S.levels first.lines.items q z → Stands S.levels second.lines.items q z)
+    → Stands S.levels second.lines.items high hi
+    → t ≡ second → l ≡ Branch d low high → IsReady S order h old t l
+ready_choice S order h lo hi old one two t l d low high k keep at_low i keep_on at_high e f =
+    subst (λ x. IsReady S order h old x l) (sym e)
+    (subst (λ x. IsReady S order h old two x) (sym f) (record {
+      table = i;
+      keeps = λ q z s. keep_on q z (keep q z s);
+      line = for_choice d low high lo hi (keep_on low lo at_low) at_high k;
+    }))
 
-pub placed : (S : Nodes) → IsSound S → (order : List ℕ) → IsOrder S.levels order
-    → (old t new : Table) (r : Ref) (l : Line) (answer : Result ℕ AllocError) → Has S r → IsReady S order r old t l
+pub placed : (S : Nodes) (order : List ℕ) (old t new : Table) (k : Pair) (l : Line) (answer : Result ℕ AllocError)
+    → IsReady S order (differs S order k.first k.second) old t l
     → IfOk answer (λ p. p ≡ length t.lines.items) → OnOk answer (new.lines.items ≡ t.lines.items ++ l ∷ [])
-    → IfOk answer (λ p. Updates ref_eq.it t.places new.places r (Some p))
-    → IfOk answer (λ p. IsAdded S order r old new p)
-placed S w order o old t new r l (Err e) h i at grown u = tt
-placed S w order o old t new r l (Ok p) h i at grown u =
-    let k : IsAdded S order r t new (length t.lines.items) = added S w order o t new r l h i.table i.line grown (subst (λ n. Updates ref_eq.it t.places new.places r (Some n)) at u) in
-    record { table = k.table; keeps = λ q z s. k.keeps q z (i.keeps q z s); place = subst (λ n. Stands S order new.lines.items n r) (sym at) k.place }
+    → IfOk answer (λ p. Updates pair_eq.it t.places new.places k (Some p))
+    → IfOk answer (λ p. IsAdded S order (differs S order k.first k.second) old new p)
+placed S order old t new k l (Err e) i at grown u = tt
+placed S order old t new k l (Ok p) i at grown u =
+    let h : List Bool → Bool = differs S order k.first k.second in
+    let m : IsAdded S order h t new (length t.lines.items) =
+    added S order t new k l i.table i.line grown (subst (λ n. Updates pair_eq.it t.places new.places k (Some n)) at u) in
+    record { table = m.table; keeps = λ q z s. m.keeps q z (i.keeps q z s); place = subst (λ n. Stands S.levels new.lines.items n h) (sym at) m.place }
 
 -- ---- marking
 
@@ -199,91 +180,103 @@ marked_more lines bits able i v x o at within is done p l lt e =
 
 -- ---- what marks say
 
--- a node's line, and those of its children
-of_node : (S : Nodes) (order : List ℕ) (lines : List Line) (p : ℕ) (r : Ref) (v : ℕ) (lo hi : Ref) → part S r ≡ node v lo hi
-    → Stands S order lines p r
-    → (low : ℕ) × (high : ℕ) × (slice_get lines p ≡ Some (Branch (get_or order v 0) low high)) × Stands S order lines low lo × Stands S order lines high hi
-of_node S order lines _ _ v lo hi is (terminal p r b e q) = let f : ◌≡◌ {A = Part Ref} (leaf b) (node v lo hi) = sym q ∙ is in absurd (cc)
-of_node S order lines _ _ v lo hi is (branch p r u low high lw hg e q s t) =
-    let f : ◌≡◌ {A = Part Ref} (node u lw hg) (node v lo hi) = sym q ∙ is in
-    let at : u ≡ v = cc in
-    let one : lw ≡ lo = cc in
-    let two : hg ≡ hi = cc in
-    (low, high, subst (λ n. slice_get lines p ≡ Some (Branch (get_or order n 0) low high)) at e, subst (Stands S order lines low) one s, subst (Stands S order lines high) two t)
+-- what stands at a line does not depend on a variable that no line reads
+lines_free : (n : ℕ) (lines : List Line) (reads : List Bool) (d : ℕ) → AreRead lines reads → get_or reads d false ≡ false
+    → (p : ℕ) (h : List Bool → Bool) → Stands n lines p h → IsFree n d h
+lines_free n lines reads d all off _ _ (terminal p h c e q) b x len = q (set x d b) (length-set x d b ∙ len) ∙ sym (q x len)
+lines_free n lines reads d all off _ _ (branch p h v low high lo hi e s t f g q) b x len =
+    q (set x d b) (length-set x d b ∙ len)
+    ∙ ap (λ c. cond c (hi (set x d b)) (lo (set x d b))) (get_or-set_other x d v b false (λ same. other same))
+    ∙ ap (λ z. cond (get_or x v false) z (lo (set x d b))) (lines_free n lines reads d all off high hi t b x len)
+    ∙ ap (λ z. cond (get_or x v false) (hi x) z) (lines_free n lines reads d all off low lo s b x len)
+    ∙ sym (q x len)
+  where
+    other : v ≡ d → ⊥
+    other same =
+        let on : get_or reads v false ≡ true = all p v low high e in
+        let f : get_or reads d false ≡ true = subst (λ k. get_or reads k false ≡ true) same on in
+        let g : true ≡ false = sym f ∙ off in
+        cc
 
--- below a line no node reads a variable that no line reads
-pub lines_free : (S : Nodes) → IsSound S → (order : List ℕ) → IsOrder S.levels order → (lines : List Line) (reads : List Bool) (d : ℕ)
-    → AreRead lines reads → get_or reads d false ≡ false
-    → IsFree S order d (λ r. Has S r × ((p : ℕ) × Stands S order lines p r))
-lines_free S w order o lines reads d all off = record {
-  has = λ r q. q.0;
-  below = λ r q v lo hi e.
-      let k = of_node S order lines q.1.0 r v lo hi e q.1.1 in (
-        λ same.
-            let t : get_or reads (get_or order v 0) false ≡ true = all q.1.0 (get_or order v 0) k.0 k.1 k.2 in
-            let f : get_or reads d false ≡ true = subst (λ n. get_or reads n false ≡ true) same t in
-            let g : true ≡ false = sym f ∙ off in
-            cc,
-        ((child S w order o r v lo hi q.0 e false).0, (k.0, k.3)),
-        ((child S w order o r v lo hi q.0 e true).0, (k.1, k.4)),
-      );
-}
+-- a mark tells whether a function can be 1
+IsAbleIff : (n : ℕ) (bits able : List Bool) → ℕ → (List Bool → Bool) → Type 0
+IsAbleIff n bits able p h = (get_or able p false ≡ true → Can n h bits) × (Can n h bits → get_or able p false ≡ true)
 
--- a mark tells whether a reference can be 1
-IsAbleIff : (S : Nodes) (order : List ℕ) (bits able : List Bool) → ℕ → Ref → Type 0
-IsAbleIff S order bits able p r = (get_or able p false ≡ true → Can S order bits r) × (Can S order bits r → get_or able p false ≡ true)
-
-module _ (S : Nodes) (w : IsSound S) (order : List ℕ) (o : IsOrder S.levels order) (lines : List Line) (bits able : List Bool) (short : length bits ≤ S.levels) (a : AreAble lines bits able) where
+module _ (n : ℕ) (lines : List Line) (bits able : List Bool) (short : length bits ≤ n) (a : AreAble lines bits able) where
   -- some assignment has the bits
   some : List Bool
-  some = bits ++ replicate (S.levels - length bits) false
+  some = bits ++ replicate (n - length bits) false
 
-  of_leaf : (r : Ref) → Has S r → part S r ≡ leaf true → Can S order bits r
+  of_constant : (h : List Bool → Bool) → Agree n h (λ x. true) → Can n h bits
   unfolding some
-  of_leaf r h e = record {
-    at = some;
-    size = length-append bits (replicate (S.levels - length bits) false) ∙ ap (λ n. length bits + n) (length-replicate (S.levels - length bits) false) ∙ omega arith;
-    begins = λ k lt. get_or_append_left bits (replicate (S.levels - length bits) false) false k lt;
-    one = val-leaf S w order o r true h e some;
-  }
+  of_constant h q =
+      let full : length some ≡ n =
+      length-append bits (replicate (n - length bits) false) ∙ ap (λ k. length bits + k) (length-replicate (n - length bits) false) ∙ omega arith in
+      record {
+        at = some;
+        size = full;
+        begins = λ k lt. get_or_append_left bits (replicate (n - length bits) false) false k lt;
+        one = q some full;
+      }
 
-  -- the same assignment, for the child of its bit
-  to_child : (r : Ref) (v : ℕ) (lo hi : Ref) → Has S r → part S r ≡ node v lo hi → (z : Can S order bits r) (b : Bool)
-      → get_or z.at (get_or order v 0) false ≡ b → Can S order bits (cond b hi lo)
-  to_child r v lo hi h e z b is = record {
+  -- the same assignment, for the function that its bit chooses
+  to_chosen : (d : ℕ) (h lo hi : List Bool → Bool) → IsChoice n d h lo hi → (z : Can n h bits) (b : Bool) → get_or z.at d false ≡ b
+      → Can n (cond b hi lo) bits
+  to_chosen d h lo hi k z true is = record {
     at = z.at;
     size = z.size;
     begins = z.begins;
-    one = ap (λ c. val S order (cond c hi lo) z.at) (sym is) ∙ sym (val-node S w order o r v lo hi h e z.at) ∙ z.one;
+    one = ap (λ c. cond c (hi z.at) (lo z.at)) (sym is) ∙ sym (k.chosen z.at z.size) ∙ z.one;
   }
-
-  from_child : (r : Ref) (v : ℕ) (lo hi : Ref) → Has S r → part S r ≡ node v lo hi → (b : Bool) (z : Can S order bits (cond b hi lo))
-      → get_or z.at (get_or order v 0) false ≡ b → Can S order bits r
-  from_child r v lo hi h e b z is = record {
+  to_chosen d h lo hi k z false is = record {
     at = z.at;
     size = z.size;
     begins = z.begins;
-    one = val-node S w order o r v lo hi h e z.at ∙ ap (λ c. val S order (cond c hi lo) z.at) is ∙ z.one;
+    one = ap (λ c. cond c (hi z.at) (lo z.at)) (sym is) ∙ sym (k.chosen z.at z.size) ∙ z.one;
+  }
+
+  from_chosen : (d : ℕ) (h lo hi : List Bool → Bool) → IsChoice n d h lo hi → (b : Bool) (z : Can n (cond b hi lo) bits)
+      → get_or z.at d false ≡ b → Can n h bits
+  from_chosen d h lo hi k true z is = record {
+    at = z.at;
+    size = z.size;
+    begins = z.begins;
+    one = k.chosen z.at z.size ∙ ap (λ c. cond c (hi z.at) (lo z.at)) is ∙ z.one;
+  }
+  from_chosen d h lo hi k false z is = record {
+    at = z.at;
+    size = z.size;
+    begins = z.begins;
+    one = k.chosen z.at z.size ∙ ap (λ c. cond c (hi z.at) (lo z.at)) is ∙ z.one;
   }
 
   -- any assignment, where the bit is not fixed
-  free_child : (r : Ref) (v : ℕ) (lo hi : Ref) → Has S r → part S r ≡ node v lo hi → length bits ≤ get_or order v 0 → (b : Bool)
-      → Can S order bits (cond b hi lo) → Can S order bits r
-  free_child r v lo hi h e past b z =
-      let d : ℕ = get_or order v 0 in
-      record {
-        at = set z.at d b;
-        size = length-set z.at d b ∙ z.size;
-        begins = λ k lt. get_or-set_other z.at d k b false (λ same. absurd (omega arith)) ∙ z.begins k lt;
-        one = into S w order o r v lo hi h e b z.at z.size z.one;
-      }
+  set_bit : (d : ℕ) (g : List Bool → Bool) → IsFree n d g → length bits ≤ d → (b : Bool) → Can n g bits → Can n g bits
+  set_bit d g f past b z = record {
+    at = set z.at d b;
+    size = length-set z.at d b ∙ z.size;
+    begins = λ k lt. get_or-set_other z.at d k b false (λ same. absurd (omega arith)) ∙ z.begins k lt;
+    one = f b z.at z.size ∙ z.one;
+  }
 
-  node_able : (p : ℕ) (r : Ref) (v low high : ℕ) (lo hi : Ref) → Has S r → slice_get lines p ≡ Some (Branch (get_or order v 0) low high)
-      → part S r ≡ node v lo hi
-      → IsAbleIff S order bits able low lo → IsAbleIff S order bits able high hi → IsAbleIff S order bits able p r
+  free_low : (d : ℕ) (h lo hi : List Bool → Bool) → IsChoice n d h lo hi → length bits ≤ d → Can n lo bits → Can n h bits
+  unfolding set_bit
+  free_low d h lo hi k past z =
+      let lt : d < n = k.variable in
+      let wide : length z.at ≡ n = z.size in
+      from_chosen d h lo hi k false (set_bit d lo k.low past false z) (get_or-set_same z.at d false false (omega arith))
+
+  free_high : (d : ℕ) (h lo hi : List Bool → Bool) → IsChoice n d h lo hi → length bits ≤ d → Can n hi bits → Can n h bits
+  unfolding set_bit
+  free_high d h lo hi k past z =
+      let lt : d < n = k.variable in
+      let wide : length z.at ≡ n = z.size in
+      from_chosen d h lo hi k true (set_bit d hi k.high past true z) (get_or-set_same z.at d true false (omega arith))
+
+  choice_able : (p d low high : ℕ) (h lo hi : List Bool → Bool) → slice_get lines p ≡ Some (Branch d low high) → IsChoice n d h lo hi
+      → IsAbleIff n bits able low lo → IsAbleIff n bits able high hi → IsAbleIff n bits able p h
   unfolding IsAbleIff
-  node_able p r v low high lo hi h e q l m =
-      let d : ℕ = get_or order v 0 in
+  choice_able p d low high h lo hi e k l m =
       let line : get_or able p false ≡ either (slice_get bits d) (get_or able low false) (get_or able high false) = a p (Branch d low high) e in
       elim (cases_lt d (length bits)) [
         | inl lt ↦
@@ -294,71 +287,69 @@ module _ (S : Nodes) (w : IsSound S) (order : List ℕ) (o : IsOrder S.levels or
             let is : get_or able p false ≡ (get_or able low false || get_or able high false) =
             line ∙ ap (λ z. either z (get_or able low false) (get_or able high false)) (slice_get_past bits d past) in (
               λ t. elim (or_cases (get_or able low false) (get_or able high false) (sym is ∙ t)) [
-                | inl x ↦ free_child r v lo hi h q past false (l.0 x)
-                | inr x ↦ free_child r v lo hi h q past true (m.0 x)
+                | inl x ↦ free_low d h lo hi k past (l.0 x)
+                | inr x ↦ free_high d h lo hi k past (m.0 x)
               ],
               λ z. elim (cases_Bool (get_or z.at d false)) [
-                | inl t ↦ is ∙ or_right (get_or able low false) (get_or able high false) (m.1 (to_child r v lo hi h q z true t))
-                | inr t ↦ is ∙ or_left (get_or able low false) (get_or able high false) (l.1 (to_child r v lo hi h q z false t))
+                | inl t ↦ is ∙ or_right (get_or able low false) (get_or able high false) (m.1 (to_chosen d h lo hi k z true t))
+                | inr t ↦ is ∙ or_left (get_or able low false) (get_or able high false) (l.1 (to_chosen d h lo hi k z false t))
               ],
             )
       ]
     where
-      fixed : get_or order v 0 < length bits → (b : Bool) → get_or bits (get_or order v 0) false ≡ b
+      fixed : d < length bits → (b : Bool) → get_or bits d false ≡ b
           → get_or able p false ≡ cond b (get_or able high false) (get_or able low false)
-          → IsAbleIff S order bits able p r
+          → IsAbleIff n bits able p h
       fixed lt true at is = (
-        λ t. let z : Can S order bits hi = m.0 (sym is ∙ t) in from_child r v lo hi h q true z (z.begins (get_or order v 0) lt ∙ at),
-        λ z. is ∙ m.1 (to_child r v lo hi h q z true (z.begins (get_or order v 0) lt ∙ at)),
+        λ t. let z : Can n hi bits = m.0 (sym is ∙ t) in from_chosen d h lo hi k true z (z.begins d lt ∙ at),
+        λ z. is ∙ m.1 (to_chosen d h lo hi k z true (z.begins d lt ∙ at)),
       )
       fixed lt false at is = (
-        λ t. let z : Can S order bits lo = l.0 (sym is ∙ t) in from_child r v lo hi h q false z (z.begins (get_or order v 0) lt ∙ at),
-        λ z. is ∙ l.1 (to_child r v lo hi h q z false (z.begins (get_or order v 0) lt ∙ at)),
+        λ t. let z : Can n lo bits = l.0 (sym is ∙ t) in from_chosen d h lo hi k false z (z.begins d lt ∙ at),
+        λ z. is ∙ l.1 (to_chosen d h lo hi k z false (z.begins d lt ∙ at)),
       )
 
-  able_iff : (p : ℕ) (r : Ref) → Has S r → Stands S order lines p r → IsAbleIff S order bits able p r
-  unfolding IsAbleIff
-  able_iff _ _ h (terminal p r b e q) =
-      let is : get_or able p false ≡ b = a p (Terminal b) e in
-      (λ t. of_leaf r h (q ∙ ap (λ c. leaf c) (sym is ∙ t)), λ z. is ∙ sym (val-leaf S w order o r b h q z.at) ∙ z.one)
-  able_iff _ _ h (branch p r v low high lo hi e q s t) =
-      node_able p r v low high lo hi h e q (able_iff low lo (child S w order o r v lo hi h q false).0 s) (able_iff high hi (child S w order o r v lo hi h q true).0 t)
+  module _ (of : AreOf n lines) where
+    able_iff : (p : ℕ) (h : List Bool → Bool) → Stands n lines p h → IsAbleIff n bits able p h
+    unfolding IsAbleIff
+    able_iff _ _ (terminal p h b e q) =
+        let is : get_or able p false ≡ b = a p (Terminal b) e in
+        (λ t. of_constant h (λ x len. q x len ∙ sym is ∙ t), λ z. is ∙ sym (q z.at z.size) ∙ z.one)
+    able_iff _ _ (branch p h d low high lo hi e s t f g q) =
+        choice_able p d low high h lo hi e (record { variable = of p d low high e; low = f; high = g; chosen = q }) (able_iff low lo s) (able_iff high hi t)
 
-  pub able_can : (p : ℕ) (r : Ref) → Has S r → Stands S order lines p r → get_or able p false ≡ true → Can S order bits r
-  unfolding IsAbleIff
-  able_can p r h s t = (able_iff p r h s).0 t
+    pub able_can : (p : ℕ) (h : List Bool → Bool) → Stands n lines p h → get_or able p false ≡ true → Can n h bits
+    unfolding IsAbleIff
+    able_can p h s t = (able_iff p h s).0 t
 
-  pub unable_cannot : (p : ℕ) (r : Ref) → Has S r → Stands S order lines p r → get_or able p false ≡ false → Can S order bits r → ⊥
-  unfolding IsAbleIff
-  unable_cannot p r h s f z = let t : get_or able p false ≡ true = (able_iff p r h s).1 z in let g : true ≡ false = sym t ∙ f in cc
+    pub unable_cannot : (p : ℕ) (h : List Bool → Bool) → Stands n lines p h → get_or able p false ≡ false → Can n h bits → ⊥
+    unfolding IsAbleIff
+    unable_cannot p h s f z = let t : get_or able p false ≡ true = (able_iff p h s).1 z in let g : true ≡ false = sym t ∙ f in cc
 
 -- ---- a variable more
 
-module _ (S : Nodes) (w : IsSound S) (order : List ℕ) (o : IsOrder S.levels order) (lines : List Line) (root : ℕ) (r : Ref) (h : Has S r) (stands : Stands S order lines root r) where
-  pub turn_free : (reads bits more : List Bool) → length bits < S.levels → AreRead lines reads → get_or reads (length bits) false ≡ false
+module _ (n : ℕ) (lines : List Line) (of : AreOf n lines) (root : ℕ) (h : List Bool → Bool) (stands : Stands n lines root h) where
+  pub turn_free : (reads bits more : List Bool) → length bits < n → AreRead lines reads → get_or reads (length bits) false ≡ false
       → more ≡ bits ++ false ∷ []
-      → IsFixed S order r bits → IsFixed S order r more
+      → IsFixed n h bits → IsFixed n h more
   turn_free reads bits more lt all off is g =
-      subst (IsFixed S order r) (sym is)
-      (fixed_free S w order o r bits (λ z. Has S z × ((p : ℕ) × Stands S order lines p z)) lt (lines_free S w order o lines reads (length bits) all off) (h, (root, stands)) g)
+      subst (IsFixed n h) (sym is) (fixed_free n h bits lt (lines_free n lines reads (length bits) all off root h stands) g)
 
-  pub turn_zero : (able bits tried more : List Bool) → length bits < S.levels → tried ≡ bits ++ false ∷ [] → AreAble lines tried able
+  pub turn_zero : (able bits tried more : List Bool) → length bits < n → tried ≡ bits ++ false ∷ [] → AreAble lines tried able
       → get_or able root false ≡ true
-      → more ≡ bits ++ false ∷ [] → IsFixed S order r bits → IsFixed S order r more
+      → more ≡ bits ++ false ∷ [] → IsFixed n h bits → IsFixed n h more
   turn_zero able bits tried more lt is marks on last g =
       let long : length (bits ++ false ∷ []) ≡ length bits + 1 = length_push bits false in
       let marks' : AreAble lines (bits ++ false ∷ []) able = subst (λ z. AreAble lines z able) is marks in
-      subst (IsFixed S order r) (sym last)
-      (fixed_zero S w order o r bits (able_can S w order o lines (bits ++ false ∷ []) able (omega arith) marks' root r h stands on) g)
+      subst (IsFixed n h) (sym last) (fixed_zero n h bits (able_can n lines (bits ++ false ∷ []) able (omega arith) marks' of root h stands on) g)
 
-  pub turn_one : (able bits tried more : List Bool) → length bits < S.levels → tried ≡ bits ++ false ∷ [] → AreAble lines tried able
+  pub turn_one : (able bits tried more : List Bool) → length bits < n → tried ≡ bits ++ false ∷ [] → AreAble lines tried able
       → get_or able root false ≡ false
-      → more ≡ bits ++ true ∷ [] → IsFixed S order r bits → IsFixed S order r more
+      → more ≡ bits ++ true ∷ [] → IsFixed n h bits → IsFixed n h more
   turn_one able bits tried more lt is marks off last g =
       let long : length (bits ++ false ∷ []) ≡ length bits + 1 = length_push bits false in
       let marks' : AreAble lines (bits ++ false ∷ []) able = subst (λ z. AreAble lines z able) is marks in
-      subst (IsFixed S order r) (sym last)
-      (fixed_one S w order o r bits (unable_cannot S w order o lines (bits ++ false ∷ []) able (omega arith) marks' root r h stands off) g)
+      subst (IsFixed n h) (sym last) (fixed_one n h bits (unable_cannot n lines (bits ++ false ∷ []) able (omega arith) marks' of root h stands off) g)
 
 -- what is read of a vector that was written through a slice
 pub read_back : {Z : Type 0} (v : Vec Bool Z) (ws : List Bool) (i : ℕ) (x b : Bool) → length ws ≡ v.len → i < length ws

@@ -1,6 +1,6 @@
 -- The least difference in declared order: assignments have a bit for each variable as declared, and an order tells for each level, the
 -- top one first, which declared variable stands there.
-use Rattle.std.specs.Prelude.{◌≡◌, ℕ, ◌<◌, Bool, false, not, cond, List, map, length, slice_index, slice_index_or}
+use Rattle.std.specs.Prelude.{◌≡◌, ℕ, ◌<◌, Bool, false, List, map, length, slice_index, slice_index_or}
 use Rattle.dd_store.specs.Functions.{IsLeastDifference}
 
 -- each of n declared variables stands at one of n levels
@@ -20,15 +20,3 @@ by_declared order f x = f (arranged order x)
 -- The least assignment, as declared, at which two functions of the bits by level differ.
 abbrev pub IsLeastDeclared : ℕ → List ℕ → (List Bool → Bool) → (List Bool → Bool) → List Bool → Type 0
 IsLeastDeclared n order f g x = IsLeastDifference n (by_declared order f) (by_declared order g) x
-
--- the function that is 0 everywhere
-abbrev pub nowhere : List Bool → Bool
-nowhere x = false
-
--- The least assignment, as declared, at which a function of the bits by level is 1.
-abbrev pub IsLeastTrue : ℕ → List ℕ → (List Bool → Bool) → List Bool → Type 0
-IsLeastTrue n order h x = IsLeastDeclared n order h nowhere x
-
--- h is 1 at those assignments of n bits at which f and g differ
-abbrev pub IsExclusiveOr : ℕ → (f g h : List Bool → Bool) → Type 0
-IsExclusiveOr n f g h = (x : List Bool) → length x ≡ n → h x ≡ cond (f x) (not (g x)) (g x)

@@ -1,21 +1,44 @@
--- A diagram as a list of lines, in which the lines of children stand before those of their nodes.
-use Rattle.std.specs.Prelude.{◌≡◌, ℕ, ◌<◌, Bool, true, false, cond, ◌||◌, List, Option, Some, None}
-use Rattle.std.specs.Prelude.{slice_index, slice_index_or, slice_get}
+-- The function that tells where two functions differ, as a list of lines, in which the lines of cofactors stand before their own.
+use Rattle.std.specs.Prelude.{◌≡◌, ℕ, ◌<◌, ◌≤◌, Bool, true, false, not, cond, ◌||◌, List, length, Option, Some, None}
+use Rattle.std.specs.Prelude.{slice_index_or, slice_get, slice_set}
 use Rattle.std.specs.HashMap.{get}
 use Rattle.dd_store.specs.declared.reference.Ref.{Ref}
-use Rattle.dd_store.specs.contracts.reference.ReferencePartialEq.TheImpl.{eq-value as ref_eq}
-use Rattle.dd_store.specs.Nodes.{Nodes}
-use Rattle.dd_store.specs.Parts.Part.{leaf, node}
-use Rattle.dd_store.specs.View.{part}
+use Rattle.dd_store.specs.Functions.{Agree}
+use Rattle.dd_store.specs.Nodes.{Nodes, den}
+use Rattle.dd_store.specs.View.{Has, top}
 use Rattle.counter_walk.specs.declared.least.Line.{Line}
 use Rattle.counter_walk.specs.declared.least.Line.TheVariants.{Terminal, Branch}
+use Rattle.counter_walk.specs.declared.least.Pair.{Pair}
 use Rattle.counter_walk.specs.declared.least.Table.{Table}
+use Rattle.counter_walk.specs.contracts.least.PairPartialEq.TheImpl.{eq-value as pair_eq}
+use Rattle.counter_walk.specs.Arranged.{arranged}
 
--- the line at a place stands for a reference of a store: it has the same children, through their lines
-pub data Stands (S : Nodes) (order : List ℕ) (lines : List Line) : ℕ → Ref → Type 0 where
-  terminal : (p : ℕ) (r : Ref) (b : Bool) → slice_get lines p ≡ Some (Terminal b) → part S r ≡ leaf b → Stands S order lines p r
-  branch : (p : ℕ) (r : Ref) (v low high : ℕ) (lo hi : Ref) → slice_get lines p ≡ Some (Branch (slice_index order v) low high)
-      → part S r ≡ node v lo hi → Stands S order lines low lo → Stands S order lines high hi → Stands S order lines p r
+-- whether two values differ
+abbrev pub unlike : Bool → Bool → Bool
+unlike a b = cond a (not b) b
+
+-- whether two references differ at an assignment as declared
+abbrev pub differs : Nodes → List ℕ → Ref → Ref → List Bool → Bool
+differs S order f g x = unlike (den S f (arranged order x)) (den S g (arranged order x))
+
+-- a pair of references differs where f and g do, and stands no higher
+pub record IsPairOf (S : Nodes) (f g : Ref) (p : Pair) : Type 0 where
+  pub first : Has S p.first
+  pub second : Has S p.second
+  pub level : (v : ℕ) → v ≤ top S f → v ≤ top S g → (v ≤ top S p.first) × (v ≤ top S p.second)
+  pub alike : (x : List Bool) → unlike (den S p.first x) (den S p.second x) ≡ unlike (den S f x) (den S g x)
+
+-- a function of n bits does not depend on bit d
+abbrev pub IsFree : ℕ → ℕ → (List Bool → Bool) → Type 0
+IsFree n d h = (b : Bool) (x : List Bool) → length x ≡ n → h (slice_set x d b) ≡ h x
+
+-- the line at a place stands for a function of n bits: a constant, or what chooses by the bit of its variable one of two functions that do
+-- not depend on it, for which lines stand
+pub data Stands (n : ℕ) (lines : List Line) : ℕ → (List Bool → Bool) → Type 0 where
+  terminal : (p : ℕ) (h : List Bool → Bool) (b : Bool) → slice_get lines p ≡ Some (Terminal b) → Agree n h (λ x. b) → Stands n lines p h
+  branch : (p : ℕ) (h : List Bool → Bool) (d low high : ℕ) (lo hi : List Bool → Bool) → slice_get lines p ≡ Some (Branch d low high)
+      → Stands n lines low lo → Stands n lines high hi → IsFree n d lo → IsFree n d hi
+      → Agree n h (λ x. cond (slice_index_or x d false) (hi x) (lo x)) → Stands n lines p h
 
 -- lines name lines before them
 abbrev pub AreInOrder : List Line → Type 0
@@ -25,11 +48,12 @@ AreInOrder lines = (p d low high : ℕ) → slice_get lines p ≡ Some (Branch d
 abbrev pub AreOf : ℕ → List Line → Type 0
 AreOf n lines = (p d low high : ℕ) → slice_get lines p ≡ Some (Branch d low high) → d < n
 
--- a table of lines of a store, which finds the lines of references
-pub record IsTable (S : Nodes) (n : ℕ) (order : List ℕ) (t : Table) : Type 0 where
+-- a table of lines over a store, which finds the lines of pairs
+pub record IsTable (S : Nodes) (order : List ℕ) (t : Table) : Type 0 where
   pub in_order : AreInOrder t.lines.items
-  pub variables : AreOf n t.lines.items
-  pub found : (r : Ref) (p : ℕ) → get ref_eq.it t.places r ≡ Some p → Stands S order t.lines.items p r
+  pub variables : AreOf S.levels t.lines.items
+  pub found : (k : Pair) (p : ℕ) → get pair_eq.it t.places k ≡ Some p
+      → Stands S.levels t.lines.items p (differs S order k.first k.second)
 
 -- a value that is fixed chooses one of two, and else both count
 abbrev pub either : Option Bool → Bool → Bool → Bool

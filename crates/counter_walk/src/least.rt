@@ -1,41 +1,83 @@
-//! The least assignment in declared order, whatever order the levels have. The variables are fixed one after the other as declared: 0
-//! where the function can still be 1 under what is fixed, else 1. Whether it can is found by one pass over the diagram, from the lowest
-//! level up, and only for the variables that the diagram reads; the others are 0.
-ghost use Rattle.std.specs.Prelude.{◌≡◌, ◌<◌, ◌↔◌, ◌++◌, ◌∷◌, [], ℕ, List, Bool, length};
-ghost use Rattle.std.specs.Prelude.{IfOk, OnOk, IfSome, IsNone, MatchOption};
+//! The least difference of two functions in declared order, whatever order the levels have. The variables are fixed one after the other as
+//! declared: 0 where the functions can still differ under what is fixed, else 1. Whether they can is found by one pass over lines that
+//! stand for pairs of references, from the lowest level up, and only for the variables that these lines read; the others are 0. The store
+//! gets no node.
+ghost use Rattle.std.specs.Prelude.{◌≡◌, ◌<◌, ◌++◌, ◌∷◌, [], ℕ, List, Bool, length};
+ghost use Rattle.std.specs.Prelude.{IfOk, OnOk, MatchOption};
 ghost use Rattle.std.specs.HashMap.{Updates};
-ghost use Rattle.dd_store.specs.declared.reference.Ref.{Ref};
-ghost use Rattle.dd_store.specs.contracts.reference.ReferencePartialEq.TheImpl.{eq-value as ref_eq};
 ghost use Rattle.dd_store.specs.Functions.{Agree};
-ghost use Rattle.dd_store.specs.Nodes.{den};
+ghost use Rattle.dd_store.specs.Marks.{is_marked, mark_by};
+ghost use Rattle.dd_store.specs.Nodes.{Nodes, IsSound, den};
 ghost use Rattle.dd_store.specs.View.{Has};
-ghost use Rattle.counter_walk.specs.Arranged.{IsOrder, arranged, IsLeastTrue, IsLeastDeclared, IsExclusiveOr, nowhere};
-ghost use Rattle.counter_walk.specs.Lines.{Stands, IsTable, AreInOrder, AreOf, AreAble, AreRead, line_can};
+ghost use Rattle.counter_walk.specs.Arranged.{IsOrder, arranged, IsLeastDeclared};
+ghost use Rattle.counter_walk.specs.Lines.{Stands, IsTable, IsPairOf, AreInOrder, AreOf, AreAble, AreRead, line_can, differs};
+ghost use Rattle.counter_walk.specs.contracts.least.PairPartialEq.TheImpl.{eq-value as pair_eq};
 
 use crate::same;
-use dd_store::{Ref, Reference, Store};
+use dd_store::{Ref, Store};
 use std::alloc::{AllocError, Global};
 use std::collections::HashMap;
 
-/// What stands behind a reference: the value of a terminal, or the declared variable that a node reads and the places of its children.
+/// Two references, for the function that is 1 where they differ.
+#[derive(Clone, Copy, PartialEq, Eq, Hash)]
+struct Pair {
+    first: Ref,
+    second: Ref,
+}
+
+/// What stands for a pair: a value, where the two are equal or complements of each other, or the declared variable of the upper of the two
+/// and the places of the pairs of their cofactors.
 #[derive(Clone, Copy, Drop)]
 enum Line {
     Terminal(bool),
     Branch { variable: u16, low: u32, high: u32 },
 }
 
-/// The lines of a diagram, those of children before those of their nodes, and the place of each reference.
+/// The lines of pairs, those of cofactors before those of their pairs, and the place of each pair.
 #[derive(Drop)]
 struct Table {
     lines: Vec<Line>,
-    places: HashMap<Ref, u32>,
+    places: HashMap<Pair, u32>,
 }
 
-/// Puts the line of a reference at the end.
-fn add_line(table: &mut Table, reference: Ref, line: Line) -> Result<u32, AllocError>
+/// Two references, both complemented where the first has a mark.
+fn turned(first: Ref, second: Ref) -> Pair
+    ensures { result ≡ record { first = mark_by (is_marked first) first; second = mark_by (is_marked first) second } }
+{
+    let mark = first.is_marked();
+    Pair {
+        first: first.marked(mark),
+        second: second.marked(mark),
+    }
+}
+
+/// The pair whose line serves f and g, in either order, and both complemented; one pair serves all that are equal, and one all complements.
+fn normal(f: Ref, g: Ref) -> Pair
+    ensures { (S : Nodes) → IsSound S → Has S f → Has S g → IsPairOf S f g result }
+{
+    if same(f, g) {
+        return Pair {
+            first: Ref::TRUE,
+            second: Ref::TRUE,
+        };
+    }
+    if same(f, g.negate()) {
+        return Pair {
+            first: Ref::TRUE,
+            second: Ref::FALSE,
+        };
+    }
+    if g < f {
+        return turned(g, f);
+    }
+    turned(f, g)
+}
+
+/// Puts the line of a pair at the end.
+fn add_line(table: &mut Table, pair: Pair, line: Line) -> Result<u32, AllocError>
     ensures place { IfOk result (λ p. p ≡ length table.old.lines.items) }
     ensures lines { OnOk result (table.new.lines.items ≡ table.old.lines.items ++ line ∷ []) }
-    ensures places { IfOk result (λ p. Updates ref_eq.it table.old.places table.new.places reference (Some p)) }
+    ensures places { IfOk result (λ p. Updates pair_eq.it table.old.places table.new.places pair (Some p)) }
 {
     let place = table.lines.len();
     if place >= u32::MAX as usize {
@@ -43,42 +85,47 @@ fn add_line(table: &mut Table, reference: Ref, line: Line) -> Result<u32, AllocE
     }
     let place = place as u32;
     table.lines.push(line)?;
-    table.places.insert(reference, place)?;
+    table.places.insert(pair, place)?;
     Ok(place)
 }
 
-/// The place of a reference's line, which is added where it is not there, after those of its children.
+/// The place of the line of two references, which is added where it is not there, after those of their cofactors.
 fn place_of(
     store: &Store,
     order: &[u16],
     table: &mut Table,
-    reference: Ref,
+    f: Ref,
+    g: Ref,
 ) -> Result<u32, AllocError>
-    requires known { Has store.now reference }
+    requires first_known { Has store.now f }
+    requires second_known { Has store.now g }
     requires order { IsOrder store.now.levels order.now }
-    requires table { IsTable store.now store.now.levels order.now table.old }
-    ensures table { OnOk result (IsTable store.now store.now.levels order.now table.new) }
-    ensures keeps { OnOk result ((p : ℕ) (r : Ref) → Stands store.now order.now table.old.lines.items p r →
-        Stands store.now order.now table.new.lines.items p r) }
-    ensures place { IfOk result (λ p. Stands store.now order.now table.new.lines.items p reference) }
+    requires table { IsTable store.now order.now table.old }
+    ensures table { OnOk result (IsTable store.now order.now table.new) }
+    ensures keeps { OnOk result ((p : ℕ) (h : List Bool → Bool) → Stands store.now.levels table.old.lines.items p h →
+        Stands store.now.levels table.new.lines.items p h) }
+    ensures place { IfOk result (λ p. Stands store.now.levels table.new.lines.items p (differs store.now order.now f g)) }
 {
     let _ = store.levels();
-    if let Some(place) = table.places.get(&reference) {
+    let pair = normal(f, g);
+    if let Some(place) = table.places.get(&pair) {
         return Ok(*place);
     }
-    let line = match reference.view() {
-        Reference::False => Line::Terminal(false),
-        Reference::True => Line::Terminal(true),
-        Reference::Node { id, .. } => {
-            let (low, high) = store.children(reference);
-            Line::Branch {
-                variable: order[id.level as usize],
-                low: place_of(store, order, table, low)?,
-                high: place_of(store, order, table, high)?,
-            }
+    let line = if same(pair.first, pair.second) {
+        Line::Terminal(false)
+    } else if same(pair.first, pair.second.negate()) {
+        Line::Terminal(true)
+    } else {
+        let level = store.top(pair.first).min(store.top(pair.second));
+        let (f_low, f_high) = store.cofactors(pair.first, level);
+        let (g_low, g_high) = store.cofactors(pair.second, level);
+        Line::Branch {
+            variable: order[level as usize],
+            low: place_of(store, order, table, f_low, g_low)?,
+            high: place_of(store, order, table, f_high, g_high)?,
         }
     };
-    add_line(table, reference, line)
+    add_line(table, pair, line)
 }
 
 /// Whether each of the variables stands in a line.
@@ -96,7 +143,7 @@ fn variables_read(alloc: Global, lines: &[Line], variables: u16) -> Result<Vec<b
     Ok(reads)
 }
 
-/// Whether what stands at a line can still be 1 where the first variables have these bits, by whether its children can.
+/// Whether what stands at a line can still be 1 where the first variables have these bits, by whether those at its two places can.
 fn is_able(line: Line, bits: &[bool], able: &[bool]) -> bool
     requires { (d low high : ℕ) → line ≡ Line.Branch d low high → (low < length able.now) × (high < length able.now) }
     ensures { result ≡ line_can bits.now able.now line }
@@ -129,34 +176,32 @@ fn mark_able(lines: &[Line], bits: &[bool], able: &mut [bool])
     }
 }
 
-/// The least assignment at which a function is 1, in lexicographic order with 0 before 1 and the bit of the variable that is declared first
-/// first; None where it is 0 everywhere. For each level, the top one first, `order` has the place of its variable as declared. Of the
-/// exclusive or of two functions it is the least assignment at which they differ, and the same in every order of the levels; where the
-/// two are conjoined with a condition before, it is the least that satisfies it.
-pub fn least_true(
+/// The least assignment in declared order at which two functions differ, in lexicographic order with 0 before 1 and the bit of the variable
+/// that is declared first first; None where they agree everywhere. For each level, the top one first, `order` has the place of its variable
+/// as declared. The assignment is the same in every order of the levels. Where both functions are conjoined with a condition before, it is
+/// the least that satisfies it.
+pub fn least_declared(
     alloc: Global,
     store: &Store,
-    function: Ref,
+    f: Ref,
+    g: Ref,
     order: &[u16],
 ) -> Result<Option<Vec<bool>>, AllocError>
-    requires known { Has store.now function }
+    requires first_known { Has store.now f }
+    requires second_known { Has store.now g }
     requires order { IsOrder store.now.levels order.now }
-    ensures none { IfOk result (λ found. IsNone found ↔ Agree store.now.levels (den store.now function) nowhere) }
-    ensures least { IfOk result (λ found. IfSome found (λ bits.
-        IsLeastTrue store.now.levels order.now (den store.now function) bits.items)) }
-    ensures difference { (f g : List Bool → Bool) → IsExclusiveOr store.now.levels f g (den store.now function) →
-        IfOk result (λ found. MatchOption found (Agree store.now.levels f g) (λ bits.
-        IsLeastDeclared store.now.levels order.now f g bits.items)) }
+    ensures least { IfOk result (λ found. MatchOption found (Agree store.now.levels (den store.now f) (den store.now g)) (λ bits.
+        IsLeastDeclared store.now.levels order.now (den store.now f) (den store.now g) bits.items)) }
 {
     let variables = store.levels();
-    if same(function, Ref::FALSE) {
+    if same(f, g) {
         return Ok(None);
     }
     let mut table = Table {
         lines: Vec::new(alloc),
         places: HashMap::new(alloc),
     };
-    let root = place_of(store, order, &mut table, function)?;
+    let root = place_of(store, order, &mut table, f, g)?;
     let lines = table.lines.as_slice();
     let reads = variables_read(alloc, lines, variables)?;
     let mut able = vec![in alloc; false; lines.len()]?;

@@ -10,7 +10,7 @@ ghost use Rattle.counter_walk.specs.Walk.{top, step};
 mod least;
 
 use dd_store::{Ref, Store};
-pub use least::{by_level, least_true};
+pub use least::{by_level, least_declared};
 use std::alloc::{AllocError, Global};
 
 /// The reference below `r` for a bit of the level, or `r` itself where it stands below the level.

@@ -4,7 +4,7 @@ ghost use Rattle.dd_store.specs.View.{Has};
 ghost use Rattle.counter_walk.specs.Arranged.{IsOrder};
 
 use crate::waves::known_at;
-use counter_walk::{by_level, least_true};
+use counter_walk::{by_level, least_declared};
 use dd_store::{Ref, Store};
 use std::alloc::Global;
 use std::process::Abort;
@@ -54,30 +54,17 @@ fn constants<R: Abort>(rt: &R, alloc: Global, store: &Store) -> Vec<Ref>
     known
 }
 
-/// Ends the test where the least assignment at which a function is 1 is another.
-fn assert_least<R: Abort>(
-    rt: &R,
-    alloc: Global,
-    store: &Store,
-    function: Ref,
-    order: &[u16],
-    wanted: Option<&[bool]>,
-)
-    requires known { Has store.now function }
-    requires order { IsOrder store.now.levels order.now }
-{
-    match (
-        least_true(alloc, store, function, order).expect(rt, "memory"),
-        wanted,
-    ) {
+/// Ends the test where another assignment was found than is wanted.
+fn assert_found<R: Abort>(rt: &R, found: Option<Vec<bool>>, wanted: Option<&[bool]>) {
+    match (found, wanted) {
         (Some(bits), Some(wanted)) => assert!(rt; bits.as_slice() == wanted),
         (None, None) => {}
         _ => assert!(rt; false, "found where there is none, or none"),
     }
 }
 
-// Level 0 has the variable that is declared last. Of two variables, one of which has to be 1, that is the one declared last, which
-// stands above the other.
+// Level 0 has the variable that is declared last, and level 2 the one before it: where one of these two has to be 1, it is the one that is
+// declared last, although it stands above the other.
 #[test]
 fn as_declared(rt: HostRuntime) -> Result<(), Fail> {
     let alloc = rt.alloc();
@@ -90,17 +77,25 @@ fn as_declared(rt: HostRuntime) -> Result<(), Fail> {
     let order = [2, 0, 1];
     assert_order(&rt, &order, 3);
     assert!(rt; store.levels() == 3);
-    let wanted: [(usize, Option<&[bool]>); 6] = [
-        (0, None),
-        (1, Some(&[false, false, false])),
-        (2, Some(&[false, true, false])),
-        (3, Some(&[false, false, true])),
-        (4, Some(&[false, false, false])),
-        (5, Some(&[false, false, true])),
+    let wanted: [(usize, usize, Option<&[bool]>); 12] = [
+        (0, 0, None),
+        (1, 0, Some(&[false, false, false])),
+        (2, 0, Some(&[false, true, false])),
+        (0, 3, Some(&[false, false, true])),
+        (4, 0, Some(&[false, false, false])),
+        (5, 0, Some(&[false, false, true])),
+        (3, 3, None),
+        (4, 5, Some(&[false, false, false])),
+        (2, 5, Some(&[false, false, true])),
+        (3, 2, Some(&[false, false, true])),
+        (3, 5, Some(&[false, true, false])),
+        (2, 4, Some(&[false, false, false])),
     ];
-    for (place, bits) in wanted {
-        let function = known_at(&rt, &store, known.as_slice(), place);
-        assert_least(&rt, alloc, &store, function, &order, bits);
+    for (first, second, bits) in wanted {
+        let f = known_at(&rt, &store, known.as_slice(), first);
+        let g = known_at(&rt, &store, known.as_slice(), second);
+        assert_found(&rt, least_declared(alloc, &store, f, g, &order)?, bits);
+        assert_found(&rt, least_declared(alloc, &store, g, f, &order)?, bits);
     }
     let levels = by_level(alloc, &[true, false, false], &order)?;
     assert!(rt; levels.as_slice() == [false, true, false].as_slice());

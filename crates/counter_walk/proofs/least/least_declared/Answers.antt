@@ -1,28 +1,19 @@
-use Rattle.std.proofs.Common.{◌≡◌, ◌<◌, ◌+◌, ◌∙◌, Bool, List, [], ◌∷◌, ◌++◌, length, sym, ap, subst, arith, true, false, get_or}
+use Rattle.std.proofs.Common.{◌≡◌, ◌<◌, ◌+◌, ◌∙◌, ℕ, Bool, List, [], ◌∷◌, ◌++◌, length, sym, ap, subst, arith, true, false, get_or}
 use Rattle.std.proofs.Math.ListN.{set}
 use Rattle.std.proofs.lemmas.List.{length_push, get_or_read, set_at, with_items_is}
 use Rattle.dd_store.specs.Nodes.{Nodes, den}
-use Rattle.counter_walk.specs.Arranged.{IsLeastTrue}
-use Rattle.counter_walk.specs.Lines.{Stands, AreAble}
-use Rattle.counter_walk.proofs.Arranging.{agree_of_nowhere, differ_of_true, none_of_false}
-use Rattle.counter_walk.proofs.Fixing.{IsFixed, fixed_start, fixed_all}
+use Rattle.counter_walk.specs.Arranged.{by_declared}
+use Rattle.counter_walk.specs.Lines.{Stands, AreOf, AreAble, differs}
+use Rattle.counter_walk.proofs.Fixing.{IsFixed, fixed_all}
+use Rattle.counter_walk.proofs.Pairing.{differ_start}
 use Rattle.counter_walk.proofs.Standing.{turn_free, turn_zero, turn_one, Stands-within, read_back}
-use Rattle.counter_walk.proofs.least.least_true.Goals as goal
-use Rattle.counter_walk.proofs.least.least_true.Goals.{then-index+then-not-index, then-index+else-not-index, else-index}
-
-pub returns-then-same-clause-none : goal.returns-then-same-clause-none
-returns-then-same-clause-none c =
-    (λ e. none_of_false c.args.store.now c.args.store.now.levels c.args.function (c.same.ensures.references.0 c.if-same.true), λ e i. false)
-
-pub returns-then-same-clause-difference : goal.returns-then-same-clause-difference
-returns-then-same-clause-difference c = λ f g is.
-    agree_of_nowhere c.args.store.now.levels f g (den c.args.store.now c.args.function) is
-    (none_of_false c.args.store.now c.args.store.now.levels c.args.function (c.same.ensures.references.0 c.if-same.true))
+use Rattle.counter_walk.proofs.least.least_declared.Goals as goal
+use Rattle.counter_walk.proofs.least.least_declared.Goals.{then-index+then-not-index, then-index+else-not-index, else-index}
 
 pub loop-variable-init : goal.loop-variable-init
 loop-variable-init c =
-    let start : IsFixed c.args.store.now c.args.order.now c.args.function [] =
-    fixed_start c.args.store.now c.levels-variables.ensures.sound c.args.order.now c.requires.order c.args.function c.requires.known
+    let start : IsFixed c.args.store.now.levels (differs c.args.store.now c.args.order.now c.args.f c.args.g) [] =
+    differ_start c.args.store.now c.levels-variables.ensures.sound c.args.order.now c.requires.order c.args.f c.args.g c.requires.first_known c.requires.second_known
     (λ e. let t : c.same.result ≡ true = c.same.ensures.references.1 e in let f : c.same.result ≡ false = c.if-same.false in cc) in
     record {
       many = ap length c.new-bits.ensures.items;
@@ -32,26 +23,33 @@ loop-variable-init c =
 
 pub index-requires-then-index : goal.index-requires-then-index
 index-requires-then-index c =
-    let within = Stands-within c.args.store.now c.args.order.now c.place_of.new.table.lines.items c.in_ok-root.root c.args.function c.in_ok-root.ensures.place in
+    let within = Stands-within c.args.store.now.levels c.place_of.new.table.lines.items c.in_ok-root.root (differs c.args.store.now c.args.order.now c.args.f c.args.g) c.in_ok-root.ensures.place in
     let same : length c.as_slice-lines.result.now ≡ length c.place_of.new.table.lines.items = ap length c.as_slice-lines.ensures.value in
     let len : c.loop-variable.able.len ≡ length c.loop-variable.able.items = c.loop-variable.able.ok.0 in
     let each : length c.loop-variable.able.items ≡ length c.as_slice-lines.result.now = c.loop-variable.invariant.each in
     omega arith
 
-stands : (c : goal.Joined-index) → Stands c.args.store.now c.args.order.now c.as_slice-lines.result.now c.in_ok-root.root c.args.function
-stands c = subst (λ ls. Stands c.args.store.now c.args.order.now ls c.in_ok-root.root c.args.function) (sym c.as_slice-lines.ensures.value) c.in_ok-root.ensures.place
+stands : (c : goal.Joined-index)
+    → Stands c.args.store.now.levels c.as_slice-lines.result.now c.in_ok-root.root (differs c.args.store.now c.args.order.now c.args.f c.args.g)
+stands c =
+    subst (λ ls. Stands c.args.store.now.levels ls c.in_ok-root.root (differs c.args.store.now c.args.order.now c.args.f c.args.g)) (sym c.as_slice-lines.ensures.value)
+    c.in_ok-root.ensures.place
+
+of_levels : (c : goal.Joined-index) → AreOf c.args.store.now.levels c.as_slice-lines.result.now
+of_levels c = subst (AreOf c.args.store.now.levels) (sym c.as_slice-lines.ensures.value) c.in_ok-root.ensures.table.variables
 
 here : (c : goal.Joined-index) → length c.loop-variable.bits.items < c.args.store.now.levels
 here c = let v = c.levels-variables.ensures.value in let m = c.loop-variable.invariant.many in omega arith
 
 pub loop-variable-preserved : goal.loop-variable-preserved
 loop-variable-preserved c =
-    let s : Nodes = c.args.store.now in
+    let n : ℕ = c.args.store.now.levels in
+    let h : List Bool → Bool = differs c.args.store.now c.args.order.now c.args.f c.args.g in
     let bits : List Bool = c.loop-variable.bits.items in
     let tried : c.push.new.self.items ≡ bits ++ false ∷ [] = c.in_ok-push.ensures.items in
     let many : length bits ≡ c.loop-variable.variable = c.loop-variable.invariant.many in
     let len : c.loop-variable.able.len ≡ length c.loop-variable.able.items = c.loop-variable.able.ok.0 in
-    let within = Stands-within s c.args.order.now c.as_slice-lines.result.now c.in_ok-root.root c.args.function (stands c) in
+    let within = Stands-within n c.as_slice-lines.result.now c.in_ok-root.root h (stands c) in
     elim c.if-index.branch [
       | then-index+then-not-index w ↦
           let ws : List Bool = w.mark_able.new.able in
@@ -62,7 +60,7 @@ loop-variable-preserved c =
           record {
             many = ap length last ∙ length_push bits true ∙ ap (λ n. n + 1) many;
             each = ap (λ z. length z.items) w.able-is ∙ ap length (with_items_is c.loop-variable.able ws same) ∙ omega arith;
-            fixed = turn_one s c.levels-variables.ensures.sound c.args.order.now c.requires.order c.as_slice-lines.result.now c.in_ok-root.root c.args.function c.requires.known (stands c)
+            fixed = turn_one n c.as_slice-lines.result.now (of_levels c) c.in_ok-root.root h (stands c)
                 ws bits c.push.new.self.items c.if-index.bits.items (here c) tried (subst (λ z. AreAble c.as_slice-lines.result.now z ws) w.as_slice.ensures.value w.mark_able.ensures)
                 (read_back c.loop-variable.able ws c.in_ok-root.root w.index-then-index.result.now false same (omega arith) w.index-then-index.ensures w.if-not-index.true) last c.loop-variable.invariant.fixed;
           }
@@ -75,7 +73,7 @@ loop-variable-preserved c =
           record {
             many = ap length last ∙ length_push bits false ∙ ap (λ n. n + 1) many;
             each = ap (λ z. length z.items) w.able-is ∙ ap length (with_items_is c.loop-variable.able ws same) ∙ omega arith;
-            fixed = turn_zero s c.levels-variables.ensures.sound c.args.order.now c.requires.order c.as_slice-lines.result.now c.in_ok-root.root c.args.function c.requires.known (stands c)
+            fixed = turn_zero n c.as_slice-lines.result.now (of_levels c) c.in_ok-root.root h (stands c)
                 ws bits c.push.new.self.items c.if-index.bits.items (here c) tried (subst (λ z. AreAble c.as_slice-lines.result.now z ws) w.as_slice.ensures.value w.mark_able.ensures)
                 (read_back c.loop-variable.able ws c.in_ok-root.root w.index-then-index.result.now true same (omega arith) w.index-then-index.ensures w.if-not-index.false) last c.loop-variable.invariant.fixed;
           }
@@ -87,20 +85,17 @@ loop-variable-preserved c =
           record {
             many = ap length last ∙ length_push bits false ∙ ap (λ n. n + 1) many;
             each = ap (λ z. length z.items) w.able-is ∙ c.loop-variable.invariant.each;
-            fixed = turn_free s c.levels-variables.ensures.sound c.args.order.now c.requires.order c.as_slice-lines.result.now c.in_ok-root.root c.args.function c.requires.known (stands c)
+            fixed = turn_free n c.as_slice-lines.result.now (of_levels c) c.in_ok-root.root h (stands c)
                 reads bits c.if-index.bits.items (here c) c.in_ok-reads.ensures.read (ap (λ n. get_or reads n false) many ∙ off) last c.loop-variable.invariant.fixed;
           }
     ]
 
-all_fixed : (c : goal.After-drop-table-3) → IsLeastTrue c.args.store.now.levels c.args.order.now (den c.args.store.now c.args.function) c.loop-variable.bits.items
-all_fixed c =
+pub returns : goal.returns
+returns c =
+    let s : Nodes = c.args.store.now in
     let v = c.levels-variables.ensures.value in
     let m = c.loop-variable.invariant.many in
-    fixed_all c.args.store.now c.levels-variables.ensures.sound c.args.order.now c.requires.order c.args.function c.loop-variable.bits.items (omega arith) c.loop-variable.invariant.fixed
-
-pub returns-clause-least : goal.returns-clause-least
-returns-clause-least c = all_fixed c
-
-pub returns-clause-difference : goal.returns-clause-difference
-returns-clause-difference c = λ f g is.
-    differ_of_true c.args.store.now.levels c.args.order.now f g (den c.args.store.now c.args.function) c.loop-variable.bits.items c.requires.order.each_level is (all_fixed c)
+    record {
+      least = fixed_all s.levels (by_declared c.args.order.now (den s c.args.f)) (by_declared c.args.order.now (den s c.args.g)) c.loop-variable.bits.items (omega arith)
+          c.loop-variable.invariant.fixed;
+    }

@@ -1,0 +1,19 @@
+use Rattle.std.proofs.Common.{◌∙◌, subst, sym}
+use Rattle.dd_store.specs.Marks.{is_marked}
+use Rattle.counter_walk.specs.Lines.{IsPairOf}
+use Rattle.counter_walk.proofs.Pairing.{pair_of_same, pair_of_opposite, pair_of_turned, pair_of_swapped}
+use Rattle.counter_walk.proofs.least.normal.Goals as goal
+
+pub returns-then-same : goal.returns-then-same
+returns-then-same c = λ S w hf hg. pair_of_same S w c.args.f c.args.g hf hg (c.same.ensures.references.0 c.if-same.true)
+
+pub returns-then-same-2 : goal.returns-then-same-2
+returns-then-same-2 c = λ S w hf hg. pair_of_opposite S w c.args.f c.args.g hf hg (c.same-2.ensures.references.0 c.if-same-2.true ∙ c.negate.ensures.value)
+
+pub returns-then-lt : goal.returns-then-lt
+returns-then-lt c = λ S w hf hg.
+    pair_of_swapped S c.args.f c.args.g c.turned.result
+    (subst (IsPairOf S c.args.g c.args.f) (sym c.turned.ensures) (pair_of_turned S c.args.g c.args.f (is_marked c.args.g) hg hf))
+
+pub returns : goal.returns
+returns c = λ S w hf hg. subst (IsPairOf S c.args.f c.args.g) (sym c.turned-2.ensures) (pair_of_turned S c.args.f c.args.g (is_marked c.args.f) hf hg)
