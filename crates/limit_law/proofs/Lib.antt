@@ -1,0 +1,5 @@
+mod Making
+mod Drawing
+mod Covering
+mod Values
+mod Deciding

@@ -1,0 +1,17 @@
+//! A law of the limit: what two netlists need is within it or beyond it.
+#![tactic(auto)]
+
+ghost use Rattle.std.specs.Prelude.{◌<◌, ◌^◌, ◌⊎◌, ℕ, length, Option, IfSome, option_map};
+ghost use Rattle.net_bench.specs.Circuit.{Net, IsNet, circuit};
+ghost use Rattle.net_order.specs.declared.order.Match.{Match};
+ghost use Rattle.net_order.specs.declared.order.Order.{Order};
+ghost use Rattle.net_order.specs.Order.{Paired, IsPairing};
+ghost use Rattle.check_report.specs.Conditions.{HasOneOutput};
+ghost use Rattle.check_report.specs.Limits.{FitsWithin, Exceeds};
+
+/// What two netlists need, with a condition or without, is within a limit or beyond it.
+pub fn one_of_both()
+    ensures { (how : Match) (order : Order) (a b : Net) (given : Option Net) (p : Paired) → IsNet a → IsNet b → IfSome given (λ net. IsNet net × HasOneOutput (circuit net)) →
+        IsPairing how (circuit a) (circuit b) (option_map circuit given) order p → (limit : ℕ) → limit < 2 ^ 32 →
+        FitsWithin limit (circuit a) (circuit b) (option_map circuit given) p ⊎ Exceeds limit (circuit a) (circuit b) (option_map circuit given) p }
+{}
