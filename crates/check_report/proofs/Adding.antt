@@ -72,15 +72,15 @@ module _ (sizes : Bool) (holds : List Bool → Bool) (a b : Circuit) (p : Paired
   all_added all i verdicts e le h = subst (λ us. HaveVerdicts sizes holds a b p us verdicts) (take_all i all le ∙ e) h
 
   -- one more verdict, by the references of its subject
-  pub next_shown : (S : Nodes) (all : List Subject) (i : ℕ) (role : Role) (name : List ℕ) (one two r q : Ref) (v : Verdict) (verdicts more : List Verdict) → S.levels ≡ length p.names → i < length all →
+  pub next_shown : (told : (List Bool → Bool) → List Bool → Bool) (S : Nodes) (all : List Subject) (i : ℕ) (role : Role) (name : List ℕ) (one two r q : Ref) (v : Verdict) (verdicts more : List Verdict) → S.levels ≡ length p.names → i < length all →
       role ≡ (subject_at all i).role → name ≡ name_of a (subject_at all i).named → one ≡ r → two ≡ q →
-      DenotesWhere holds a (first_level p) S (subject_at all i).first r → DenotesWhere holds b (second_level p) S (subject_at all i).second q →
-      HaveVerdicts sizes holds a b p (take i all) verdicts → IsVerdictOf S.levels sizes everywhere (compared_of S role name one two) v → more ≡ verdicts ++ v ∷ [] → HaveVerdicts sizes holds a b p (take (i + 1) all) more
-  next_shown S all i role name one two r q v verdicts more levels lt er en eo et first second h is grown =
+      DenotesWhere told holds a (first_level p) S (subject_at all i).first r → DenotesWhere told holds b (second_level p) S (subject_at all i).second q →
+      HaveVerdicts sizes holds a b p (take i all) verdicts → IsVerdictOf S.levels sizes everywhere (compared_of told S role name one two) v → more ≡ verdicts ++ v ∷ [] → HaveVerdicts sizes holds a b p (take (i + 1) all) more
+  next_shown told S all i role name one two r q v verdicts more levels lt er en eo et first second h is grown =
       let subject = subject_at all i in
       let c : Compared = record { role = subject.role; name = name_of a subject.named; first = first.1.0; second = second.1.0 } in
-      let e : compared_of S role name one two ≡ compared_of S subject.role (name_of a subject.named) r q = λ j. compared_of S (er j) (en j) (eo j) (et j) in
-      let plain : IsVerdictOf S.levels sizes everywhere (compared_of S subject.role (name_of a subject.named) r q) v = subst (λ z. IsVerdictOf S.levels sizes everywhere z v) e is in
+      let e : compared_of told S role name one two ≡ compared_of told S subject.role (name_of a subject.named) r q = λ j. compared_of told S (er j) (en j) (eo j) (et j) in
+      let plain : IsVerdictOf S.levels sizes everywhere (compared_of told S subject.role (name_of a subject.named) r q) v = subst (λ z. IsVerdictOf S.levels sizes everywhere z v) e is in
       next S.levels all i subject c v verdicts more levels lt (any_default all i subject _ lt) h
       (record {
         role = refl;
@@ -88,7 +88,7 @@ module _ (sizes : Bool) (holds : List Bool → Bool) (a b : Circuit) (p : Paired
         first = subst (λ n. IsFunctionOf a (slice_index p.first) n subject.first first.1.0) levels first.1.1;
         second = subst (λ n. IsFunctionOf b (slice_index p.second) n subject.second second.1.0) levels second.1.1;
       })
-      (verdict_where S.levels sizes holds (compared_of S subject.role (name_of a subject.named) r q) first.1.0 second.1.0 first.1.2 second.1.2 v plain) grown
+      (verdict_where S.levels sizes holds (compared_of told S subject.role (name_of a subject.named) r q) first.1.0 second.1.0 first.1.2 second.1.2 v plain) grown
 
 -- what is compared has names
 pub all_named : (a b : Circuit) (p : Paired) (all : List Subject) → all ≡ subjects a b p → AreSignals a b p → All (λ subject. subject.named < length a.names) all

@@ -30,7 +30,7 @@ use Rattle.gate_plan.proofs.Ranks.{any_default}
 use Rattle.gate_plan.proofs.Together.{of_map}
 use Rattle.check_report.specs.declared.subject.Subject.{Subject}
 use Rattle.check_report.specs.Conditions.{HoldsWhere, everywhere, output_of, restricted}
-use Rattle.check_report.specs.Comparing.{AreBuilt, AreCompared, AreShown, IsInside, DenotesWhere, references, subject_at}
+use Rattle.check_report.specs.Comparing.{AreBuilt, AreCompared, AreShown, IsInside, DenotesWhere, as_built, references, subject_at}
 use Rattle.check_report.specs.Limits.{IsComparedValue, IsFunctionIn, IsNeededIn, HasNeededAlone, HasAllNeeded, HasAll, IsOver}
 use Rattle.check_report.specs.Report.{subjects}
 use Rattle.check_report.proofs.Determined.{one_function}
@@ -130,15 +130,15 @@ module _ (a b : Circuit) (given : Option Circuit) (p : Paired) (S : Nodes) (refs
       (All-map (Has S) (λ (s : Subject). reference_of refs.second s.second) of (λ i d lt. built.second.has (get_or of i d).second (all_inside i d lt).2))
 
   -- without a condition the diagrams are those that are built
-  pub shown_plain : AreShown a b None p S of (references refs of)
+  pub shown_plain : AreShown as_built a b None p S of (references refs of)
   shown_plain = record {
     holds = everywhere;
     condition = refl;
     each = each_reference refs of;
-    first = λ i lt. subst (DenotesWhere everywhere a (first_level p) S (subject_at of i).first) (sym (first_reference refs of i lt))
+    first = λ i lt. subst (DenotesWhere as_built everywhere a (first_level p) S (subject_at of i).first) (sym (first_reference refs of i lt))
         (let s : (subject_at of i).first < length a.names = (all_inside i _ lt).1 in
         (built.first.has (subject_at of i).first s, (den S (reference_of refs.first (subject_at of i).first), built.first.functions (subject_at of i).first s, λ x len. refl)));
-    second = λ i lt. subst (DenotesWhere everywhere b (second_level p) S (subject_at of i).second) (sym (second_reference refs of i lt))
+    second = λ i lt. subst (DenotesWhere as_built everywhere b (second_level p) S (subject_at of i).second) (sym (second_reference refs of i lt))
         (let s : (subject_at of i).second < length b.names = (all_inside i _ lt).2 in
         (built.second.has (subject_at of i).second s, (den S (reference_of refs.second (subject_at of i).second), built.second.functions (subject_at of i).second s, λ x len. refl)));
   }
@@ -163,7 +163,7 @@ module _ (n m k : Net) (p : Paired) (S T : Nodes) (refs : References) (built : A
 
   module _ (answers : List Ref) (keeps : Keeps S T) (h : AreConjoined S (references refs of) given_ref T answers) where
     answer_denotes : (c : Circuit) (level : ℕ → ℕ) (s : ℕ) (r : Ref) (i : ℕ) → i < length (references refs of) → reference_of (references refs of) i ≡ r → IsFunctionOf c level S.levels s (den S r) →
-        DenotesWhere (den S given_ref) c level T s (reference_of answers i)
+        DenotesWhere as_built (den S given_ref) c level T s (reference_of answers i)
     answer_denotes c level s r i lt e f =
         let d = answered S T (references refs of) answers given_ref h i lt in (
           d.0,
@@ -174,7 +174,7 @@ module _ (n m k : Net) (p : Paired) (S T : Nodes) (refs : References) (built : A
           ),
         )
 
-    pub shown_conjoined : AreShown (circuit n) (circuit m) (Some (circuit k)) p T of answers
+    pub shown_conjoined : AreShown as_built (circuit n) (circuit m) (Some (circuit k)) p T of answers
     shown_conjoined = record {
       holds = den S given_ref;
       condition = given_function;
@@ -247,12 +247,12 @@ module _ (n m k : Net) (p : Paired) (S T : Nodes) (refs : References) (built : A
               lacks h.reference h.has (λ x len. h.denotes x (len ∙ adds.keeps.levels ∙ built.levels)),
         )
 
-    module _ (net : IsNet n) (net' : IsNet m) (net'' : IsNet k) (answers : List Ref) (shown : AreShown (circuit n) (circuit m) (Some (circuit k)) p T of answers) where
+    module _ (net : IsNet n) (net' : IsNet m) (net'' : IsNet k) (answers : List Ref) (shown : AreShown as_built (circuit n) (circuit m) (Some (circuit k)) p T of answers) where
       levels : T.levels ≡ length p.names
       levels = adds.keeps.levels ∙ built.levels
 
       -- the reference for a place denotes each function that is the subject's where the condition holds
-      denoted : (c : Net) → IsNet c → (level : ℕ → ℕ) (s : ℕ) → s < length c.names → (r : Ref) → DenotesWhere shown.holds (circuit c) level T s r → (f holds whole : List Bool → Bool) →
+      denoted : (c : Net) → IsNet c → (level : ℕ → ℕ) (s : ℕ) → s < length c.names → (r : Ref) → DenotesWhere as_built shown.holds (circuit c) level T s r → (f holds whole : List Bool → Bool) →
           HoldsWhere (Some (circuit k)) p holds → IsFunctionOf (circuit c) level (length p.names) s whole → Agree (length p.names) f (restricted holds whole) → (q : Ref) × Has T q × Agree T.levels (den T q) f
       denoted c net_c level s lt r d f holds whole is function restriction = (
         r,
@@ -273,11 +273,11 @@ module _ (n m k : Net) (p : Paired) (S T : Nodes) (refs : References) (built : A
           by (i, lt, at) (inl function) =
               let here : subject_at of i ≡ v.subject = any_default of i _ v.subject lt ∙ at in
               denoted n net (slice_index p.first) v.subject.first (inside_of v.subject (i, lt, at)).1 (reference_of answers i)
-              (subst (λ (s : Subject). DenotesWhere shown.holds (circuit n) (slice_index p.first) T s.first (reference_of answers i)) here (shown.first i lt)) f v.holds v.whole v.condition function v.restriction
+              (subst (λ (s : Subject). DenotesWhere as_built shown.holds (circuit n) (slice_index p.first) T s.first (reference_of answers i)) here (shown.first i lt)) f v.holds v.whole v.condition function v.restriction
           by (i, lt, at) (inr function) =
               let here : subject_at of i ≡ v.subject = any_default of i _ v.subject lt ∙ at in
               denoted m net' (slice_index p.second) v.subject.second (inside_of v.subject (i, lt, at)).2 (reference_of answers (length of + i))
-              (subst (λ (s : Subject). DenotesWhere shown.holds (circuit m) (slice_index p.second) T s.second (reference_of answers (length of + i))) here (shown.second i lt)) f v.holds v.whole v.condition function v.restriction
+              (subst (λ (s : Subject). DenotesWhere as_built shown.holds (circuit m) (slice_index p.second) T s.second (reference_of answers (length of + i))) here (shown.second i lt)) f v.holds v.whole v.condition function v.restriction
 
       complete_left : HasAllNeeded (circuit n) (circuit m) (Some (circuit k)) p T
       complete_left =
@@ -317,12 +317,12 @@ module _ (a b : Circuit) (given : Option Circuit) (p : Paired) (S : Nodes) (refs
   all_known = subst (All (Has S)) (sym er) (references_known a b given p S refs built of all)
 
   -- without a condition
-  pub compared_plain : AreCompared a b None p S of rs
+  pub compared_plain : AreCompared as_built a b None p S of rs
   compared_plain = record {
     levels = built.levels;
     signals = built.signals;
     all = all;
-    shown = subst (AreShown a b None p S of) (sym er) (shown_plain a b given p S refs built of all);
+    shown = subst (AreShown as_built a b None p S of) (sym er) (shown_plain a b given p S refs built of all);
   }
 
 -- what is left of a build without a condition is all
@@ -338,10 +338,10 @@ module _ (n m k : Net) (p : Paired) (S T : Nodes) (refs : References) (built : A
   as_meant : (P : List Ref → Ref → Type 0) → P rs g → P (references refs of) (reference_of refs.given (output_of (circuit k)))
   as_meant P h = subst (λ z. P z (reference_of refs.given (output_of (circuit k)))) er (subst (P rs) (sym eg) h)
 
-  shown_by_wave : (answers : List Ref) → Keeps S T → AreConjoined S rs g T answers → AreShown (circuit n) (circuit m) (Some (circuit k)) p T of answers
+  shown_by_wave : (answers : List Ref) → Keeps S T → AreConjoined S rs g T answers → AreShown as_built (circuit n) (circuit m) (Some (circuit k)) p T of answers
   shown_by_wave answers keeps h = shown_conjoined n m k p S T refs built inside of all answers keeps (as_meant (λ z w. AreConjoined S z w T answers) h)
 
-  pub compared_by_wave : (answers : List Ref) → Keeps S T → AreConjoined S rs g T answers → AreCompared (circuit n) (circuit m) (Some (circuit k)) p T of answers
+  pub compared_by_wave : (answers : List Ref) → Keeps S T → AreConjoined S rs g T answers → AreCompared as_built (circuit n) (circuit m) (Some (circuit k)) p T of answers
   compared_by_wave answers keeps h = record { levels = keeps.levels ∙ built.levels; signals = built.signals; all = all; shown = shown_by_wave answers keeps h }
 
   pub all_by_wave : IsSound S → IsSound T → IsNet n → IsNet m → IsNet k → AddsDescribed S T (IsWanted S (conjunctions rs g)) → (answers : List Ref) → AreConjoined S rs g T answers →

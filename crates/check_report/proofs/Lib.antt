@@ -3,6 +3,7 @@ pub mod Adding
 pub mod Reporting
 pub mod Calling
 pub mod Restricting
+pub mod Rearranging
 pub mod Conditional
 pub mod Limiting
 pub mod Pigeons

@@ -1,9 +1,10 @@
 -- What a comparison has at hand before its verdicts are found, and how far it has come.
-use Rattle.std.specs.Prelude.{◌≡◌, ℕ, ◌+◌, ◌<◌, Bool, List, ◌++◌, length, map, All, IfSome, Option, slice_index_or}
+use Rattle.std.specs.Prelude.{◌≡◌, ℕ, ◌+◌, ◌<◌, ⊤, Bool, false, List, ◌++◌, length, map, All, IfSome, Option, slice_index_or}
 use Rattle.std.specs.List.{AllZip}
 use Rattle.net_bench.specs.Circuit.{Circuit}
 use Rattle.net_bench.specs.Labels.{IsFunctionOf}
 use Rattle.net_order.specs.Order.{Paired, first_level, second_level, given_level}
+use Rattle.counter_walk.specs.Arranged.{IsOrder, by_declared}
 use Rattle.dd_store.specs.declared.reference.Ref.{Ref}
 use Rattle.dd_store.specs.Functions.{Agree}
 use Rattle.dd_store.specs.Nodes.{Nodes, den}
@@ -12,6 +13,8 @@ use Rattle.gate_plan.specs.Building.{References, AreDiagrams, reference_of}
 use Rattle.report_text.specs.declared.outcome.Role.{Role}
 use Rattle.report_text.specs.declared.outcome.Role.TheVariants.{Output}
 use Rattle.check_report.specs.declared.subject.Subject.{Subject}
+use Rattle.check_report.specs.declared.telling.Telling.{Telling}
+use Rattle.check_report.specs.declared.telling.Telling.TheVariants.{ByLevel, Arranged}
 use Rattle.report_text.specs.declared.verdict.Verdict.{Verdict}
 use Rattle.check_report.specs.Conditions.{HoldsWhere, restricted}
 use Rattle.check_report.specs.Report.{Compared, AreFunctions, IsVerdictOf, subjects}
@@ -44,24 +47,43 @@ subject_at of i = slice_index_or of i (record { role = Output; named = 0; first 
 abbrev pub references : References → List Subject → List Ref
 references refs of = map (λ subject. reference_of refs.first subject.first) of ++ map (λ subject. reference_of refs.second subject.second) of
 
--- r denotes the function of a signal where the condition holds
-abbrev pub DenotesWhere : (List Bool → Bool) → Circuit → (ℕ → ℕ) → Nodes → ℕ → Ref → Type 0
-DenotesWhere holds c level S s r = Has S r × ((whole : List Bool → Bool) × IsFunctionOf c level S.levels s whole × Agree S.levels (den S r) (restricted holds whole))
+-- what a diagram denotes, told as it is: over the variables by level
+abbrev pub as_built : (List Bool → Bool) → List Bool → Bool
+as_built f = f
 
--- the references of what is compared denote its functions where the condition holds
-pub record AreShown (a b : Circuit) (given : Option Circuit) (p : Paired) (S : Nodes) (of : List Subject) (refs : List Ref) : Type 0 where
+-- what a diagram denotes, as it is told: over the variables by level, or in another order
+abbrev pub as_told : Telling → (List Bool → Bool) → List Bool → Bool
+as_told (ByLevel sizes) f = as_built f
+as_told (Arranged order) f = by_declared order.now f
+
+-- where verdicts are told in another order than that of n levels, it has each level's variable
+abbrev pub IsTelling : ℕ → Telling → Type 0
+IsTelling n (ByLevel sizes) = ⊤
+IsTelling n (Arranged order) = IsOrder n order.now
+
+-- whether sizes are told
+abbrev pub tells_sizes : Telling → Bool
+tells_sizes (ByLevel sizes) = sizes
+tells_sizes (Arranged order) = false
+
+-- r denotes the function of a signal where the condition holds, as it is told
+abbrev pub DenotesWhere : (told : (List Bool → Bool) → List Bool → Bool) → (List Bool → Bool) → Circuit → (ℕ → ℕ) → Nodes → ℕ → Ref → Type 0
+DenotesWhere told holds c level S s r = Has S r × ((whole : List Bool → Bool) × IsFunctionOf c level S.levels s whole × Agree S.levels (told (den S r)) (restricted holds whole))
+
+-- the references of what is compared denote its functions where the condition holds, as they are told over the variables of the pairing
+pub record AreShown (told : (List Bool → Bool) → List Bool → Bool) (a b : Circuit) (given : Option Circuit) (p : Paired) (S : Nodes) (of : List Subject) (refs : List Ref) : Type 0 where
   pub holds : List Bool → Bool
   pub condition : HoldsWhere given p holds
   pub each : length refs ≡ length of + length of
-  pub first : (i : ℕ) → i < length of → DenotesWhere holds a (first_level p) S (subject_at of i).first (reference_of refs i)
-  pub second : (i : ℕ) → i < length of → DenotesWhere holds b (second_level p) S (subject_at of i).second (reference_of refs (length of + i))
+  pub first : (i : ℕ) → i < length of → DenotesWhere told holds a (first_level p) S (subject_at of i).first (reference_of refs i)
+  pub second : (i : ℕ) → i < length of → DenotesWhere told holds b (second_level p) S (subject_at of i).second (reference_of refs (length of + i))
 
 -- this is compared, and these are the references of a store for it
-pub record AreCompared (a b : Circuit) (given : Option Circuit) (p : Paired) (S : Nodes) (of : List Subject) (refs : List Ref) : Type 0 where
+pub record AreCompared (told : (List Bool → Bool) → List Bool → Bool) (a b : Circuit) (given : Option Circuit) (p : Paired) (S : Nodes) (of : List Subject) (refs : List Ref) : Type 0 where
   pub levels : S.levels ≡ length p.names
   pub signals : AreSignals a b p
   pub all : of ≡ subjects a b p
-  pub shown : AreShown a b given p S of refs
+  pub shown : AreShown told a b given p S of refs
 
 -- these are the verdicts of what is compared
 pub record HaveVerdicts (sizes : Bool) (holds : List Bool → Bool) (a b : Circuit) (p : Paired) (of : List Subject) (verdicts : List Verdict) : Type 0 where
@@ -73,6 +95,6 @@ pub record HaveVerdicts (sizes : Bool) (holds : List Bool → Bool) (a b : Circu
 abbrev pub HaveAllVerdicts : Bool → Circuit → Circuit → Option Circuit → Paired → List Verdict → Type 0
 HaveAllVerdicts sizes a b given p verdicts = (holds : List Bool → Bool) × HoldsWhere given p holds × HaveVerdicts sizes holds a b p (subjects a b p) verdicts
 
--- two functions of this role and name, whose diagrams these are
-abbrev pub compared_of : Nodes → Role → List ℕ → Ref → Ref → Compared
-compared_of S role name first second = record { role = role; name = name; first = den S first; second = den S second }
+-- two functions of this role and name, whose diagrams these are, as they are told
+abbrev pub compared_of : (told : (List Bool → Bool) → List Bool → Bool) → Nodes → Role → List ℕ → Ref → Ref → Compared
+compared_of told S role name first second = record { role = role; name = name; first = told (den S first); second = told (den S second) }

@@ -2,6 +2,7 @@ pub mod Devices
 pub mod Conditions
 pub mod Report
 pub mod Comparing
+pub mod Arranging
 pub mod Check
 pub mod Tasks
 pub mod Limits

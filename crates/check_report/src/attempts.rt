@@ -93,7 +93,10 @@ fn attempt<H: Threads + Wait + Sync, G: Gate>(
         Ok(pairing) => pairing,
         Err(fault) => return Err(CheckFault::Order(fault)),
     };
-    compare(task, pairing, limit, gate)
+    match compare(task, &pairing, limit, gate) {
+        Ok(verdicts) => Ok(Verdicts::of(pairing, verdicts)),
+        Err(fault) => Err(fault),
+    }
 }
 
 /// Whether the fault of an attempt stays: it was not given up for the nodes that it needs, nor, where its requests are bounded, for these.

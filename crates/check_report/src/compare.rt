@@ -1,5 +1,6 @@
 //! The comparison of two netlists whose diagrams stand in one store: a verdict for each line of the report.
-ghost use Rattle.std.specs.Prelude.{◌≡◌, ◌++◌, ◌+◌, ◌<◌, length, map, All, OnOk, IfOk};
+ghost use Rattle.std.specs.Prelude.{◌≡◌, ◌++◌, ◌+◌, ◌<◌, false, length, map, All, OnOk, IfOk};
+ghost use Rattle.counter_walk.specs.Arranged.{IsOrder, by_declared};
 ghost use Rattle.net_bench.specs.Circuit.{circuit};
 ghost use Rattle.net_order.specs.Order.{condition, name_of, names_of};
 ghost use Rattle.dd_store.specs.Nodes.{den};
@@ -7,10 +8,11 @@ ghost use Rattle.dd_store.specs.View.{Has};
 ghost use Rattle.gate_plan.specs.Building.{reference_of};
 ghost use Rattle.check_report.specs.Conditions.{everywhere};
 ghost use Rattle.check_report.specs.Report.{IsSizeShown, AreSizesShown, IsVerdictOf, AreVerdicts, lone_side};
-ghost use Rattle.check_report.specs.Comparing.{AreCompared, AreSignals, HaveAllVerdicts, compared_of, subject_at};
+ghost use Rattle.check_report.specs.Comparing.{AreCompared, AreSignals, HaveAllVerdicts, IsTelling, as_built, as_told, compared_of, subject_at, tells_sizes};
 
 use crate::subject::Subject;
-use counter_walk::{least_difference, value};
+use crate::telling::Telling;
+use counter_walk::{by_level, least_declared, least_difference, value};
 use dd_store::{Ref, Store};
 use net_bench::netlist::Signal;
 use net_bench::reader::Netlist;
@@ -18,7 +20,8 @@ use net_order::pairing::Pairing;
 use report_text::{Bits, Name, Role, Side, Verdict};
 use std::alloc::{AllocError, Global};
 
-/// Two netlists, how they are paired, what is compared of them, and the diagrams of this: the first netlist's of each, then the second's.
+/// Two netlists, how they are paired, what is compared of them, the diagrams of this, the first netlist's of each and then the second's,
+/// and how the verdicts are told over the variables of the pairing.
 #[derive(Clone, Copy, Drop)]
 pub struct Comparison<'a> {
     pub first: &'a Netlist,
@@ -28,7 +31,7 @@ pub struct Comparison<'a> {
     pub store: &'a Store,
     pub subjects: &'a [Subject],
     pub references: &'a [Ref],
-    pub sizes: bool,
+    pub telling: Telling<'a>,
 }
 
 /// What a verdict speaks of, and the two diagrams that it compares.
@@ -73,24 +76,21 @@ fn sizes_of(
     }
 }
 
-/// The verdict of two functions.
+/// The verdict of two functions, over the variables by level.
 fn verdict_of(
     alloc: Global,
     store: &Store,
-    of: Diagrams<'_>,
+    of: &Diagrams<'_>,
     sizes: bool,
 ) -> Result<Verdict, AllocError>
-    requires first_known { Has store.now of.first }
-    requires second_known { Has store.now of.second }
-    ensures { IfOk result (λ v. IsVerdictOf store.now.levels sizes everywhere (compared_of store.now of.entry.role of.entry.name.now of.entry.first of.entry.second) v) }
+    requires first_known { Has store.now of.now.first }
+    requires second_known { Has store.now of.now.second }
+    ensures { IfOk result (λ v. IsVerdictOf store.now.levels sizes everywhere (compared_of as_built store.now of.now.role of.now.name.now of.now.first of.now.second) v) }
 {
-    let Diagrams {
-        role,
-        name,
-        first,
-        second,
-    } = of;
-    let name = Name::copied(alloc, name)?;
+    let role = of.role;
+    let name = Name::copied(alloc, of.name)?;
+    let first = of.first;
+    let second = of.second;
     match least_difference(alloc, store, first, second)? {
         None => {
             let size = size_of(store, first, sizes)?;
@@ -109,6 +109,62 @@ fn verdict_of(
                 sizes,
             })
         }
+    }
+}
+
+/// The verdict of two functions, over the variables in another order, which has for each level the place of its variable.
+fn arranged_verdict(
+    alloc: Global,
+    store: &Store,
+    of: &Diagrams<'_>,
+    order: &[u16],
+) -> Result<Verdict, AllocError>
+    requires first_known { Has store.now of.now.first }
+    requires second_known { Has store.now of.now.second }
+    requires order { IsOrder store.now.levels order.now }
+    ensures { IfOk result (λ v. IsVerdictOf store.now.levels false everywhere (compared_of (by_declared order.now) store.now of.now.role of.now.name.now of.now.first of.now.second) v) }
+{
+    let role = of.role;
+    let name = Name::copied(alloc, of.name)?;
+    let first = of.first;
+    let second = of.second;
+    match least_declared(alloc, store, first, second, order)? {
+        None => Ok(Verdict::Equal {
+            role,
+            name,
+            size: None,
+        }),
+        Some(bits) => {
+            let levels = by_level(alloc, bits.as_slice(), order)?;
+            let first = value(store, first, levels.as_slice());
+            let second = value(store, second, levels.as_slice());
+            Ok(Verdict::Differs {
+                role,
+                name,
+                at: Bits::of(bits),
+                first,
+                second,
+                sizes: None,
+            })
+        }
+    }
+}
+
+/// The verdict of two functions, as it is told.
+fn told_verdict(
+    alloc: Global,
+    store: &Store,
+    of: &Diagrams<'_>,
+    telling: &Telling<'_>,
+) -> Result<Verdict, AllocError>
+    requires first_known { Has store.now of.now.first }
+    requires second_known { Has store.now of.now.second }
+    requires order { IsTelling store.now.levels telling.now }
+    ensures { IfOk result (λ v. IsVerdictOf store.now.levels (tells_sizes telling.now) everywhere (compared_of (as_told telling.now) store.now of.now.role of.now.name.now of.now.first of.now.second) v) }
+{
+    match telling {
+        Telling::ByLevel { sizes } => verdict_of(alloc, store, of, *sizes),
+        Telling::Arranged { order } => arranged_verdict(alloc, store, of, order),
     }
 }
 
@@ -133,13 +189,14 @@ fn diagrams_of<'a>(of: &Comparison<'a>, place: usize) -> Diagrams<'a>
 
 /// The verdicts of all that is compared.
 fn verdicts_of_pairs(alloc: Global, of: &Comparison<'_>) -> Result<Vec<Verdict>, AllocError>
-    requires { AreCompared (circuit of.now.first.now) (circuit of.now.second.now) (condition of.now.given) of.now.pairing.now of.now.store.now of.now.subjects.now of.now.references.now }
-    ensures { IfOk result (λ v. HaveAllVerdicts of.now.sizes (circuit of.now.first.now) (circuit of.now.second.now) (condition of.now.given) of.now.pairing.now v.items) }
+    requires compared { AreCompared (as_told of.now.telling) (circuit of.now.first.now) (circuit of.now.second.now) (condition of.now.given) of.now.pairing.now of.now.store.now of.now.subjects.now of.now.references.now }
+    requires order { IsTelling of.now.store.now.levels of.now.telling }
+    ensures { IfOk result (λ v. HaveAllVerdicts (tells_sizes of.now.telling) (circuit of.now.first.now) (circuit of.now.second.now) (condition of.now.given) of.now.pairing.now v.items) }
 {
     let mut verdicts = Vec::new(alloc);
     for i in 0..of.subjects.len() {
         let diagrams = diagrams_of(of, i);
-        let verdict = verdict_of(alloc, of.store, diagrams, of.sizes)?;
+        let verdict = told_verdict(alloc, of.store, &diagrams, &of.telling)?;
         verdicts.push(verdict)?;
     }
     Ok(verdicts)
@@ -224,8 +281,9 @@ fn add_second_lone(
 
 /// What a comparison finds, in the order of the report.
 pub fn verdicts_of(alloc: Global, of: &Comparison<'_>) -> Result<Vec<Verdict>, AllocError>
-    requires { AreCompared (circuit of.now.first.now) (circuit of.now.second.now) (condition of.now.given) of.now.pairing.now of.now.store.now of.now.subjects.now of.now.references.now }
-    ensures { IfOk result (λ v. AreVerdicts of.now.sizes (circuit of.now.first.now) (circuit of.now.second.now) (condition of.now.given) of.now.pairing.now (record { variables = of.now.pairing.now.names; verdicts = v.items })) }
+    requires compared { AreCompared (as_told of.now.telling) (circuit of.now.first.now) (circuit of.now.second.now) (condition of.now.given) of.now.pairing.now of.now.store.now of.now.subjects.now of.now.references.now }
+    requires order { IsTelling of.now.store.now.levels of.now.telling }
+    ensures { IfOk result (λ v. AreVerdicts (tells_sizes of.now.telling) (circuit of.now.first.now) (circuit of.now.second.now) (condition of.now.given) of.now.pairing.now (record { variables = of.now.pairing.now.names; verdicts = v.items })) }
 {
     let mut verdicts = verdicts_of_pairs(alloc, of)?;
     add_first_lone(alloc, &mut verdicts, of)?;

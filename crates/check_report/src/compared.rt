@@ -8,7 +8,7 @@ ghost use Rattle.dd_store.specs.View.{Keeps};
 ghost use Rattle.gate_plan.specs.Building.{reference_of};
 ghost use Rattle.gate_plan.specs.Needing.{HasNeed};
 ghost use Rattle.check_report.specs.Check.{IsLate};
-ghost use Rattle.check_report.specs.Comparing.{AreBuilt, AreCompared, references};
+ghost use Rattle.check_report.specs.Comparing.{AreBuilt, AreCompared, as_built, references};
 ghost use Rattle.check_report.specs.Limits.{HasAll, IsOver};
 ghost use Rattle.check_report.specs.Widths.{IsWideWhere};
 ghost use Rattle.check_report.specs.Report.{next_of, next_subject, output_subject, subjects};
@@ -155,7 +155,7 @@ pub fn shown_of<H: Threads + Wait + Sync, G: Gate>(
     requires built { AreBuilt (circuit task.now.first.now) (circuit task.now.second.now) (condition task.now.given) pairing.now store.old built.now }
     ensures sound { IsSound store.new }
     ensures keeps { Keeps store.old store.new }
-    ensures compared { IfOk result (λ shown. AreCompared (circuit task.now.first.now) (circuit task.now.second.now) (condition task.now.given) pairing.now store.new shown.subjects.items shown.references.items) }
+    ensures compared { IfOk result (λ shown. AreCompared as_built (circuit task.now.first.now) (circuit task.now.second.now) (condition task.now.given) pairing.now store.new shown.subjects.items shown.references.items) }
     ensures need { HasNeed (circuit task.now.first.now) (circuit task.now.second.now) (condition task.now.given) pairing.now store.old →
         OnOk result (HasAll (circuit task.now.first.now) (circuit task.now.second.now) (condition task.now.given) pairing.now store.new) }
     ensures full { HasNeed (circuit task.now.first.now) (circuit task.now.second.now) (condition task.now.given) pairing.now store.old →

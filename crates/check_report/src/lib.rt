@@ -1,6 +1,7 @@
 //! Two netlists to the report of their comparison.
 #![tactic(auto)]
 
+mod arranging;
 mod attempts;
 mod checking;
 mod choice;
@@ -15,6 +16,7 @@ mod report;
 mod settings;
 mod subject;
 mod task;
+mod telling;
 
 pub use choice::{Attempt, Candidate, Choice};
 pub use fault::CheckFault;

@@ -1,6 +1,6 @@
 use Rattle.std.proofs.Common.{◌≡◌, ◌<◌, [], length, sym, subst}
 use Rattle.net_bench.specs.Circuit.{circuit}
-use Rattle.check_report.specs.Comparing.{HaveVerdicts}
+use Rattle.check_report.specs.Comparing.{HaveVerdicts, as_told, tells_sizes}
 use Rattle.check_report.proofs.Adding.{start, next_shown, all_added, all_named}
 use Rattle.check_report.proofs.compare.verdicts_of_pairs.Goals as goal
 
@@ -8,13 +8,13 @@ pub loop-i-init : goal.loop-i-init
 loop-i-init c = λ h.
     let of = c.args.of.now in
     let none : c.new-verdicts.result.items ≡ [] = cc in
-    subst (λ vs. HaveVerdicts of.sizes h.shown.holds (circuit of.first.now) (circuit of.second.now) of.pairing.now [] vs) (sym none) (start of.sizes h.shown.holds (circuit of.first.now) (circuit of.second.now) of.pairing.now)
+    subst (λ vs. HaveVerdicts (tells_sizes of.telling) h.shown.holds (circuit of.first.now) (circuit of.second.now) of.pairing.now [] vs) (sym none) (start (tells_sizes of.telling) h.shown.holds (circuit of.first.now) (circuit of.second.now) of.pairing.now)
 
 pub diagrams_of-diagrams-requires : goal.diagrams_of-diagrams-requires
 diagrams_of-diagrams-requires c = record {
   place = c.loop-i-test.true;
-  named = all_named (circuit c.args.of.now.first.now) (circuit c.args.of.now.second.now) c.args.of.now.pairing.now c.args.of.now.subjects.now c.requires.all c.requires.signals;
-  each = c.requires.shown.each;
+  named = all_named (circuit c.args.of.now.first.now) (circuit c.args.of.now.second.now) c.args.of.now.pairing.now c.args.of.now.subjects.now c.requires.compared.all c.requires.compared.signals;
+  each = c.requires.compared.shown.each;
 }
 
 pub loop-i-preserved : goal.loop-i-preserved
@@ -22,13 +22,13 @@ loop-i-preserved c = λ h.
     let of = c.args.of.now in
     let lt : c.loop-i.i < length of.subjects.now = c.loop-i-test.true in
     let d = c.diagrams_of-diagrams in
-    next_shown of.sizes h.shown.holds (circuit of.first.now) (circuit of.second.now) of.pairing.now of.store.now of.subjects.now c.loop-i.i d.result.role d.result.name.now d.result.first d.result.second _ _ c.in_ok-verdict.verdict _ _
+    next_shown (tells_sizes of.telling) h.shown.holds (circuit of.first.now) (circuit of.second.now) of.pairing.now (as_told of.telling) of.store.now of.subjects.now c.loop-i.i d.result.role d.result.name.now d.result.first d.result.second _ _ c.in_ok-verdict.verdict _ _
     h.levels lt d.ensures.role d.ensures.name d.ensures.first d.ensures.second (h.shown.first c.loop-i.i lt) (h.shown.second c.loop-i.i lt) (c.loop-i.invariant h) c.in_ok-verdict.ensures c.in_ok-push.ensures.items
 
 pub returns : goal.returns
 returns c =
     let of = c.args.of.now in (
-      c.requires.shown.holds,
-      c.requires.shown.condition,
-      all_added of.sizes c.requires.shown.holds (circuit of.first.now) (circuit of.second.now) of.pairing.now of.subjects.now c.loop-i.i _ c.requires.all c.loop-i-test.false (c.loop-i.invariant c.requires),
+      c.requires.compared.shown.holds,
+      c.requires.compared.shown.condition,
+      all_added (tells_sizes of.telling) c.requires.compared.shown.holds (circuit of.first.now) (circuit of.second.now) of.pairing.now of.subjects.now c.loop-i.i _ c.requires.compared.all c.loop-i-test.false (c.loop-i.invariant c.requires.compared),
     )

@@ -5,7 +5,7 @@ use Rattle.gate_plan.specs.Needing.{HasNeed}
 use Rattle.net_bench.specs.Circuit.{Net, circuit}
 use Rattle.net_order.specs.Order.{condition}
 use Rattle.check_report.specs.Conditions.{HasOneOutput}
-use Rattle.check_report.specs.Comparing.{AreBuilt, AreCompared}
+use Rattle.check_report.specs.Comparing.{AreBuilt, AreCompared, as_built}
 use Rattle.check_report.specs.Limits.{HasAll, IsOver}
 use Rattle.check_report.specs.Widths.{IsWideWhere}
 use Rattle.check_report.proofs.Determined.{output_inside}
@@ -20,7 +20,7 @@ returns-in_default-given-clause-compared g c =
     let p = c.args.pairing.now in
     let S = c.args.store.now in
     let none : c.args.task.now.given ≡ None = no_other _ c.in_default-given.not-Some in
-    subst (λ o. AreCompared a b (condition o) p S c.in-Ok.subjects.items c.in-Ok-references_of.references.items) (sym none)
+    subst (λ o. AreCompared as_built a b (condition o) p S c.in-Ok.subjects.items c.in-Ok-references_of.references.items) (sym none)
     (compared_plain a b (condition c.args.task.now.given) p S c.args.built.now c.requires.built c.in-Ok.subjects.items c.in-Ok.ensures c.in-Ok-references_of.references.items
     (made c.args.built.now c.in-Ok.subjects.items _ _ c.in-Ok-references_of.ensures c.as_slice.ensures.value))
 
@@ -60,7 +60,7 @@ returns-in-Ok-conjoin-clause-compared g c =
     let built = subst (λ o. AreBuilt a b (condition o) c.args.pairing.now c.args.store.now c.args.built.now) c.in-Some.is c.requires.built in
     let one : length k.outputs ≡ 1 = subst (λ o. IfSome (condition o) HasOneOutput) c.in-Some.is c.args.task.now.one_output in
     let some : 0 < length c.outputs.result.now = (let e = ap length c.outputs.ensures.value in omega (arith, one, e)) in
-    subst (λ o. AreCompared a b (condition o) c.args.pairing.now c.conjoin.new.store of c.in-Ok-conjoin.references.items) (sym c.in-Some.is)
+    subst (λ o. AreCompared as_built a b (condition o) c.args.pairing.now c.conjoin.new.store of c.in-Ok-conjoin.references.items) (sym c.in-Some.is)
     (compared_by_wave c.args.task.now.first.now c.args.task.now.second.now k c.args.pairing.now c.args.store.now c.conjoin.new.store c.args.built.now built (output_inside k c.outputs.ensures.sound one) of c.in-Ok.ensures c.as_slice-2.result.now c.given-holds.result
     (handed c.args.built.now c.in-Ok.subjects.items _ _ _ c.as_slice-2.ensures.value c.in-Ok-references_of.ensures c.as_slice.ensures.value)
     (given_is c.args.built.now.given c.outputs.result.now k.outputs c.index-outputs-0.result c.given-holds.result c.index-outputs-0.is c.outputs.ensures.value some c.given-holds.ensures)

@@ -5,10 +5,10 @@ use Rattle.net_order.specs.Order.{condition}
 use Rattle.expand_work.specs.declared.fault.WaveFault.TheVariants.{Full, TooManyRequests}
 use Rattle.gate_plan.proofs.Needed.{lean_left}
 use Rattle.check_report.specs.declared.fault.CheckFault.TheVariants.{Wave}
-use Rattle.check_report.proofs.Limiting.{none_before, exceeds, fits, on_ok, over}
+use Rattle.check_report.proofs.Limiting.{none_before, exceeds, fits, over}
 use Rattle.check_report.proofs.Subjects.{all_signals}
 use Rattle.check_report.proofs.Widening.{wide_build, wide_compared}
-use Rattle.check_report.proofs.checking.compare.Goals as goal
+use Rattle.check_report.proofs.checking.built_within.Goals as goal
 
 pub shown_of-requires : goal.shown_of-requires
 shown_of-requires g c = (
@@ -31,7 +31,7 @@ returns-in-Err-clause-full g c = λ e.
     let a = circuit c.args.task.now.first.now in
     let b = circuit c.args.task.now.second.now in
     let given = condition c.args.task.now.given in
-    let p = c.args.pairing in
+    let p = c.args.pairing.now in
     let levels : T.levels ≡ c.len-levels.result = c.build.ensures.keeps.levels ∙ ap (λ (S : Nodes). S.levels) c.in-Ok.ensures in
     let limit : T.limit ≡ c.args.limit = c.build.ensures.keeps.limit ∙ ap (λ (S : Nodes). S.limit) c.in-Ok.ensures in
     let none : count_of c.in-Ok.store ≡ 0 = ap count_of c.in-Ok.ensures ∙ none_before c.len-levels.result c.args.limit T c.build.ensures.sound levels limit in
@@ -47,27 +47,27 @@ returns-in-Err-shown_of-clause-full g c = λ e.
     let limit : T.limit ≡ c.args.limit = c.build.ensures.keeps.limit ∙ ap (λ (S : Nodes). S.limit) c.in-Ok.ensures in
     let none : count_of c.in-Ok.store ≡ 0 = ap count_of c.in-Ok.ensures ∙ none_before c.len-levels.result c.args.limit T c.build.ensures.sound levels limit in
     let full : c.in-Err-shown_of.fault ≡ Wave Full = cc in
-    over c.args.limit (circuit c.args.task.now.first.now) (circuit c.args.task.now.second.now) (condition c.args.task.now.given) c.args.pairing U c.shown_of.ensures.sound
+    over c.args.limit (circuit c.args.task.now.first.now) (circuit c.args.task.now.second.now) (condition c.args.task.now.given) c.args.pairing.now U c.shown_of.ensures.sound
     (c.shown_of.ensures.keeps.levels ∙ levels ∙ c.len-levels.ensures.value ∙ ap length c.names.ensures.value) (c.shown_of.ensures.keeps.limit ∙ limit)
     (c.in-Err-shown_of.ensures.full (c.in-Ok-build.ensures.need none) (ap Err full))
 
-pub returns-clause-within : goal.returns-clause-within
-returns-clause-within g c =
+pub returns-in-Ok-shown_of-clause-within : goal.returns-in-Ok-shown_of-clause-within
+returns-in-Ok-shown_of-clause-within g c =
     let T : Nodes = c.build.new.store in
     let U : Nodes = c.shown_of.new.store in
     let levels : T.levels ≡ c.len-levels.result = c.build.ensures.keeps.levels ∙ ap (λ (S : Nodes). S.levels) c.in-Ok.ensures in
     let limit : T.limit ≡ c.args.limit = c.build.ensures.keeps.limit ∙ ap (λ (S : Nodes). S.limit) c.in-Ok.ensures in
     let none : count_of c.in-Ok.store ≡ 0 = ap count_of c.in-Ok.ensures ∙ none_before c.len-levels.result c.args.limit T c.build.ensures.sound levels limit in
-    on_ok c.verdicts_in.result (fits c.args.limit (circuit c.args.task.now.first.now) (circuit c.args.task.now.second.now) (condition c.args.task.now.given) c.args.pairing U c.shown_of.ensures.sound
+    fits c.args.limit (circuit c.args.task.now.first.now) (circuit c.args.task.now.second.now) (condition c.args.task.now.given) c.args.pairing.now U c.shown_of.ensures.sound
     (c.shown_of.ensures.keeps.levels ∙ levels ∙ c.len-levels.ensures.value ∙ ap length c.names.ensures.value) (c.shown_of.ensures.keeps.limit ∙ limit)
-    (c.in-Ok-shown_of.ensures.need (c.in-Ok-build.ensures.need none)))
+    (c.in-Ok-shown_of.ensures.need (c.in-Ok-build.ensures.need none))
 
 pub returns-in-Err-clause-past : goal.returns-in-Err-clause-past
 returns-in-Err-clause-past g c = λ e.
     let refused : c.in-Err.fault ≡ TooManyRequests = cc in
-    wide_build (circuit c.args.task.now.first.now) (circuit c.args.task.now.second.now) (condition c.args.task.now.given) c.args.pairing (g.G.Gate.bound c.args.gate.now) (c.build.ensures.past (c.in-Err.is ∙ ap Err refused))
+    wide_build (circuit c.args.task.now.first.now) (circuit c.args.task.now.second.now) (condition c.args.task.now.given) c.args.pairing.now (g.G.Gate.bound c.args.gate.now) (c.build.ensures.past (c.in-Err.is ∙ ap Err refused))
 
 pub returns-in-Err-shown_of-clause-past : goal.returns-in-Err-shown_of-clause-past
 returns-in-Err-shown_of-clause-past g c = λ e.
     let refused : c.in-Err-shown_of.fault ≡ Wave TooManyRequests = cc in
-    wide_compared (circuit c.args.task.now.first.now) (circuit c.args.task.now.second.now) (condition c.args.task.now.given) c.args.pairing (g.G.Gate.bound c.args.gate.now) (c.in-Err-shown_of.ensures.past (ap Err refused))
+    wide_compared (circuit c.args.task.now.first.now) (circuit c.args.task.now.second.now) (condition c.args.task.now.given) c.args.pairing.now (g.G.Gate.bound c.args.gate.now) (c.in-Err-shown_of.ensures.past (ap Err refused))
