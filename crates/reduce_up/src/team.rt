@@ -155,7 +155,7 @@ pub(crate) fn level_size(parts: &Parts, workers: u32, level: u16) -> usize
 /// A level with fewer records is reduced on the caller's thread: to start the threads that share it takes as long.
 const FEWEST_SHARED: usize = 8192;
 
-/// The diagrams of a level's records, worker by worker, by threads where there are many; missing nodes are made.
+/// The diagrams of a level's records, worker by worker, by threads where there are many and several workers; missing nodes are made.
 fn level_answers<R: Threads + Sync, G: Gate>(
     crew: &Crew<'_, R, G>,
     store: &mut Store,
@@ -167,7 +167,7 @@ fn level_answers<R: Threads + Sync, G: Gate>(
     requires { MayReduceLevel field.workers field.roots.now field.parts.now answers.now store.old level rest.old.lefts.items }
     ensures { AnswersLevel field.entry.workers field.entry.roots.now field.entry.parts.now answers.now store.old level result store.new rest.new.lefts.items }
 {
-    if level_size(field.parts, field.workers, level) < FEWEST_SHARED {
+    if field.workers < 2 || level_size(field.parts, field.workers, level) < FEWEST_SHARED {
         return make_level(store, field.team(answers), level, rest);
     }
     share_level(crew, store, field, answers, level, rest)
