@@ -1,7 +1,6 @@
 pub mod Adding
 pub mod AddingAll
 pub mod Canonical
-pub mod Dividing
 pub mod Growing
 pub mod Lacking
 pub mod Laws

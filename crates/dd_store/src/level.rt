@@ -1,5 +1,5 @@
-//! The shards of one level, and lists of pairs of children that are added to them: by four threads that are started for it, or by the
-//! thread that has a shard in its task, which notes the references too.
+//! The shards of one level, and lists of pairs of children that are added to them, by four threads; or by makers (`makers`), who note
+//! the references too.
 ghost use Rattle.std.specs.Prelude.{List, ◌≡◌, ◌⊎◌, ◌<◌, ◌≤◌, ◌-◌, ◌^◌, ◌++◌, [], ℕ, length, map, slice_index_or, vec_capacity, Some, All, MatchResult};
 ghost use Rattle.std.specs.List.{sum_by, AllZip};
 ghost use Rattle.dd_store.specs.declared.reference.Ref.{Ref as RefValue};

@@ -14,13 +14,11 @@ mod makers;
 mod reference;
 mod size;
 mod store;
-mod tasks;
 
 pub use level::Watch;
-pub use makers::Pool;
+pub use makers::Makers;
 pub use reference::{NodeId, Ref, Reference, SHARDS, code, shard_of};
 pub use store::Store;
-pub use tasks::ShardTask;
 
 /// Why a store has not made a node.
 #[derive(Clone, Copy, Debug, PartialEq, Eq, Error)]

@@ -1,53 +1,81 @@
-//! Threads that make nodes for a caller, as long as it keeps the lines to them.
-ghost use Rattle.std.specs.Prelude.{◌≡◌, ◌≤◌, ◌<◌, [], length, vec_capacity, All};
-ghost use Rattle.std.specs.List.{AllZip};
-ghost use Rattle.dd_store.specs.Tasks.{MayMakeShards, AreShardsMade};
+//! Threads that share the shards of a level, where each makes nodes in some neighbouring shards of its own.
+ghost use Rattle.std.specs.Prelude.{◌≡◌, ◌+◌, ◌^◌, ◌<◌, ◌≤◌, ℕ, length, slice_index_or, All};
+ghost use Rattle.dd_store.specs.declared.level.Slot.{Slot as SlotValue};
+ghost use Rattle.dd_store.specs.Levels.{IsNoted, all_at};
 
-use crate::level::Watch;
-use crate::reference::SHARDS;
-use crate::tasks::ShardTask;
-use std::sync::Wait;
-use task_pool::{Carrier, Line, Task, run_all};
+use crate::level::{Slot, Watch};
+use crate::reference::{Ref, SHARDS};
+use rayon::prelude::*;
+use std::thread::Threads;
 
-impl<H: Watch> Task<H> for ShardTask {
-    ghost use Rattle.dd_store.specs.Tasks.{MayMakeShards, AreShardsMade};
-
-    ghost ready = { MayMakeShards };
-
-    ghost done = { AreShardsMade };
-
-    fn run(self, site: &H) -> ShardTask {
-        self.run(site)
-    }
-}
-
-/// A caller's thread with its runtime, what watches it and the threads come to the shards, and the lines to these threads, which run
-/// whatever carries shards.
+/// Who makes the nodes of a level.
 #[derive(Drop)]
-pub struct Pool<'a, R, H: Watch, T: Carrier<H, ShardTask>> {
-    /// What the caller waits by.
+pub struct Makers<'a, R, H> {
+    /// Starts the threads.
     pub rt: &'a R,
-    /// What watches.
+    /// What watches them come to the shards.
     pub watch: &'a H,
-    /// The lines to the threads.
-    pub lines: Vec<Line<H, T>>,
+    /// How many threads share a level at most, the caller's one of them.
+    pub count: u32,
 }
 
-impl<'a, R: Wait, H: Watch, T: Carrier<H, ShardTask>> Pool<'a, R, H, T> {
-    /// Into how many tasks a level is divided: one for each thread and one for the caller, and no more than there are shards.
-    pub(crate) fn tasks(&self) -> usize
+impl<'a, R, H> Makers<'a, R, H> {
+    /// How many neighbouring shards of a level each thread has; the last may have fewer.
+    fn share(&self) -> usize
         ensures { 0 < result }
     {
-        self.lines.len().min(SHARDS - 1) + 1
+        SHARDS.div_ceil(self.count.max(1) as usize)
     }
+}
 
-    /// Runs all tasks, on the threads and on the caller's. `room` is where they are put, so that none is lost for want of memory.
-    pub(crate) fn make(&mut self, tasks: Vec<ShardTask>, room: Vec<ShardTask>) -> Vec<ShardTask>
-        requires ready { All MayMakeShards tasks.items }
-        requires empty { room.items ≡ [] }
-        requires room { length tasks.items ≤ vec_capacity room }
-        ensures { AllZip AreShardsMade tasks.items result.items }
-    {
-        run_all(self.rt, self.watch, &mut self.lines, tasks, room)
+/// Adds list i of each part to slot i, and notes the references of its pairs.
+fn note_lists(slot: &mut Slot, parts: &[Vec<Vec<(Ref, Ref)>>], limit: u64, level: u16, shard: usize)
+    requires limit { limit < 2 ^ 32 }
+    requires lists { All (λ part. length part.items ≡ 16) parts.now }
+    requires shard { shard < 16 }
+    ensures { IsNoted limit level shard (all_at parts.now shard) slot.old slot.new }
+{
+    slot.fault = slot.make_lists(parts, limit, level, shard as u8).err();
+}
+
+/// Adds the lists of neighbouring shards, of which `first` is the first, to their slots, and notes the references of the pairs.
+fn make_shards<H: Watch>(
+    slots: &mut [Slot],
+    parts: &[Vec<Vec<(Ref, Ref)>>],
+    limit: u64,
+    level: u16,
+    first: usize,
+    watch: &H,
+)
+    requires limit { limit < 2 ^ 32 }
+    requires lists { All (λ part. length part.items ≡ 16) parts.now }
+    requires shards { first + length slots.old ≤ 16 }
+    ensures { (i : ℕ) (d : SlotValue) → i < length slots.old → IsNoted limit level (first + i) (all_at parts.now (first + i)) (slice_index_or slots.old i d) (slice_index_or slots.new i d) }
+{
+    for place in 0..slots.len() {
+        let shard = first + place;
+        watch.at_shard(shard as u8, level);
+        note_lists(&mut slots[place], parts, limit, level, shard);
     }
+}
+
+/// Adds list i of each part to slot i, for the sixteen slots of a level, and notes the references of its pairs.
+pub(crate) fn make_slots<R: Threads + Sync, H: Watch + Sync>(
+    makers: &Makers<'_, R, H>,
+    slots: &mut [Slot],
+    parts: &[Vec<Vec<(Ref, Ref)>>],
+    limit: u64,
+    level: u16,
+)
+    requires slots { length slots.old ≡ 16 }
+    requires lists { All (λ part. length part.items ≡ 16) parts.now }
+    requires limit { limit < 2 ^ 32 }
+    ensures { (s : ℕ) (d : SlotValue) → s < 16 → IsNoted limit level s (all_at parts.now s) (slice_index_or slots.old s d) (slice_index_or slots.new s d) }
+{
+    let watch = makers.watch;
+    let make = |first: usize, share: &mut [Slot]|
+        requires { (first + length share.now ≤ 16) × All (λ part. length part.items ≡ 16) parts.now × (limit < 2 ^ 32) }
+        ensures { (i : ℕ) (d : SlotValue) → i < length share.entry.now → IsNoted limit level (first + i) (all_at parts.entry.now (first + i)) (slice_index_or share.entry.now i d) (slice_index_or share.exit.now i d) }
+    { make_shards(share, parts, limit, level, first, watch) };
+    par_chunks_mut_for_each(makers.rt, slots, makers.share(), make);
 }

@@ -2,28 +2,23 @@
 //! so that equal functions have equal references (Bryant 1986).
 ghost use Rattle.std.specs.Prelude.{None, Some, ◌≡◌, ◌<◌, ◌≤◌, ◌^◌, ℕ, List, [], length, Bool, true, false, All, IfOk, IfErr, IfSome, IfNone, OnErr, IsSome, MatchResult, vec_capacity};
 ghost use Rattle.std.specs.List.{AllZip};
-ghost use Rattle.std.specs.Arc.{arc_value};
 ghost use Rattle.dd_store.specs.declared.reference.NodeId.{NodeId};
 ghost use Rattle.dd_store.specs.Graph.{top, bit, IsRef, Pair};
 ghost use Rattle.dd_store.specs.Levels.{list_at, all_at, refs_at, plain_lists};
 ghost use Rattle.dd_store.specs.Marks.{is_marked};
 ghost use Rattle.dd_store.specs.View.{IsMade, IsFull};
-ghost use Rattle.dd_store.specs.Tasks.{IsTaskOf, AreFrom, slots_of};
 ghost use Rattle.dd_store.specs.Adding.{AreReady, GrowsLevel, IsLevelFault, IsMakeFault};
 ghost use Rattle.dd_store.specs.Nodes.{Nodes, node, count_of, children, low_of, high_of, cofactor_of, IsSound, IsFound, IsThere, Extends, IsBranch, IsCanonical, Makes, empty_nodes, den, shard_at};
 ghost use Rattle.slot_table.specs.Probes.{IsSlotCount};
 
 use crate::StoreFault;
 use crate::level::{Slot, Watch, add_lists, level_count, level_fault, take_found};
-use crate::makers::Pool;
+use crate::makers::{Makers, make_slots};
 use crate::reference::{NodeId, Ref, Reference, SHARDS, marked_pair, shard_of};
-use crate::tasks::{Prepared, ShardTask, make_slots};
 use slot_table::{Placed, SlotTable};
 use std::alloc::{AllocError, Global};
 use std::marker::Model;
-use std::sync::{Arc, Wait};
 use std::thread::Threads;
-use task_pool::Carrier;
 
 /// The nodes of shared diagrams over one order of variables; level 0 is the top. References stay valid for as long as
 /// the store lives, since nodes are added and never moved or dropped.
@@ -351,36 +346,29 @@ impl Store {
         }
     }
 
-    /// Makes the nodes of tasks in a level, and says why references are missing.
-    fn make_level_by<R: Wait, H: Watch, T: Carrier<H, ShardTask>>(
+    /// Adds the lists of several parts to the shards of a level, and says why references are missing.
+    fn make_level_by<R: Threads + Sync, H: Watch + Sync>(
         &mut self,
-        pool: &mut Pool<'_, R, H, T>,
+        makers: &Makers<'_, R, H>,
         level: u16,
-        parts: &Arc<Vec<Vec<Vec<(Ref, Ref)>>>>,
-        prepared: Prepared,
+        parts: &[Vec<Vec<(Ref, Ref)>>],
         refs: &mut Vec<Vec<Ref>>,
     ) -> Option<StoreFault>
-        requires lists { All (λ part. length part.items ≡ 16) (arc_value parts.now).items }
-        requires ready { AreReady self.old level (all_at (arc_value parts.now).items) }
-        requires of { All (IsTaskOf self.old.limit level (arc_value parts.now).items) prepared.tasks.items }
-        requires from { AreFrom 0 prepared.tasks.items }
-        requires whole { length (slots_of prepared.tasks.items) ≡ 16 }
-        requires no_more { prepared.room.items ≡ [] }
-        requires tasks_room { length prepared.tasks.items ≤ vec_capacity prepared.room }
+        requires lists { All (λ part. length part.items ≡ 16) parts.now }
+        requires ready { AreReady self.old level (all_at parts.now) }
         requires empty { refs.old.items ≡ [] }
         requires room { 16 ≤ vec_capacity refs.old }
-        ensures grows { GrowsLevel self.old self.new level (plain_lists (all_at (arc_value parts.now).items)) }
+        ensures grows { GrowsLevel self.old self.new level (plain_lists (all_at parts.now)) }
         ensures sound { IsSound self.new }
         ensures sixteen { length refs.new.items ≡ 16 }
-        ensures answers { IfNone result ((s : ℕ) → s < 16 → AllZip (λ p r. IsThere self.new level p.0 p.1 r) (all_at (arc_value parts.now).items s) (refs_at refs.new.items s)) }
-        ensures fault { IfSome result (λ f. IsMakeFault self.new level (plain_lists (all_at (arc_value parts.now).items)) f) }
+        ensures answers { IfNone result ((s : ℕ) → s < 16 → AllZip (λ p r. IsThere self.new level p.0 p.1 r) (all_at parts.now s) (refs_at refs.new.items s)) }
+        ensures fault { IfSome result (λ f. IsMakeFault self.new level (plain_lists (all_at parts.now)) f) }
     {
-        let _ = parts;
         let first = SHARDS * level as usize;
         let limit = self.limit;
         let slots = &mut self.slots[first..first + SHARDS];
         let before = level_count(slots, limit);
-        make_slots(slots, pool, prepared);
+        make_slots(makers, slots, parts, limit, level);
         let after = level_count(slots, limit);
         let halted = level_fault(slots);
         take_found(self.alloc, slots, refs);
@@ -390,33 +378,29 @@ impl Store {
 
     /// The references of pairs of different children at a level; missing nodes are made. Where a second child has a mark, the node is
     /// that of both complements, and the reference has the mark. Each part has sixteen lists, one for each shard. The answer has a list
-    /// for each shard: the references of the first part's pairs, then those of the second's, and so on. The threads of a pool and the
-    /// caller's share the shards, by tasks that each own some of them; no thread is started, and each pair is sought once. All memory of
-    /// the call itself is taken before a task has a shard. Full is answered only where a shard alone holds as many nodes as the limit and
-    /// lacks a pair of its lists. After a refusal some of the nodes may stand.
-    pub fn make_by<R: Wait, H: Watch, T: Carrier<H, ShardTask>>(
+    /// for each shard: the references of the first part's pairs, then those of the second's, and so on. The makers' threads share the
+    /// shards, each some neighbouring ones, where they stand; what no thread could be started for, the caller's does, and each pair is
+    /// sought once. Full is answered only where a shard alone holds as many nodes as the limit and lacks a pair of its lists. After a
+    /// refusal some of the nodes may stand.
+    pub fn make_by<R: Threads + Sync, H: Watch + Sync>(
         &mut self,
-        pool: &mut Pool<'_, R, H, T>,
+        makers: &Makers<'_, R, H>,
         level: u16,
-        parts: &Arc<Vec<Vec<Vec<(Ref, Ref)>>>>,
+        parts: &[Vec<Vec<(Ref, Ref)>>],
     ) -> Result<Vec<Vec<Ref>>, StoreFault>
-        requires lists { All (λ part. length part.items ≡ 16) (arc_value parts.now).items }
-        requires ready { AreReady self.old level (all_at (arc_value parts.now).items) }
-        ensures grows { GrowsLevel self.old self.new level (plain_lists (all_at (arc_value parts.now).items)) }
+        requires lists { All (λ part. length part.items ≡ 16) parts.now }
+        requires ready { AreReady self.old level (all_at parts.now) }
+        ensures grows { GrowsLevel self.old self.new level (plain_lists (all_at parts.now)) }
         ensures sound { IsSound self.new }
         ensures extends { Extends self.old self.new }
         ensures sixteen { IfOk result (λ refs. length refs.items ≡ 16) }
-        ensures answers { IfOk result (λ refs. (s : ℕ) → s < 16 → AllZip (λ p r. IsThere self.new level p.0 p.1 r) (all_at (arc_value parts.now).items s) (refs_at refs.items s)) }
-        ensures fault { IfErr result (λ f. IsMakeFault self.new level (plain_lists (all_at (arc_value parts.now).items)) f) }
+        ensures answers { IfOk result (λ refs. (s : ℕ) → s < 16 → AllZip (λ p r. IsThere self.new level p.0 p.1 r) (all_at parts.now s) (refs_at refs.items s)) }
+        ensures fault { IfErr result (λ f. IsMakeFault self.new level (plain_lists (all_at parts.now)) f) }
     {
         let Ok(mut refs) = Vec::with_capacity(self.alloc, SHARDS) else {
             return Err(StoreFault::OutOfMemory);
         };
-        let count = pool.tasks();
-        let Ok(prepared) = Prepared::new(self.alloc, level, self.limit, parts, count) else {
-            return Err(StoreFault::OutOfMemory);
-        };
-        match self.make_level_by(pool, level, parts, prepared, &mut refs) {
+        match self.make_level_by(makers, level, parts, &mut refs) {
             None => Ok(refs),
             Some(stopped) => Err(stopped),
         }

@@ -5,7 +5,7 @@ use Rattle.std.specs.declared.vec.Vec.{Vec}
 use Rattle.std.specs.declared.alloc.Global.{Global}
 use Rattle.std.proofs.lemmas.List.{get_or-map, length-map, take_all, reverse-reverse, get_or_default, get_or_append_left}
 use Rattle.std.proofs.Math.Seq.{get_or-append_seam}
-use Rattle.std.specs.Prelude.{Result, Ok, Err, IfOk}
+use Rattle.std.specs.Prelude.{Result, Ok, Err, OnOk}
 use Rattle.std.specs.declared.alloc.AllocError.{AllocError}
 use Rattle.reduce_up.specs.declared.division.Divided.{Divided}
 use Rattle.std.proofs.Math.ListN.{get_or-eq_default}
@@ -36,11 +36,9 @@ use Rattle.reduce_up.specs.declared.division.Homes.{Homes}
 use Rattle.reduce_up.specs.Sharing.{IsPairOf, IsAnswered, CanStand, RowCanStand, AddsRow, IsRowRefused}
 use Rattle.reduce_up.specs.Division.{chosen, span, source, begin_of, IsDivided, IsPicked, IsPickedOf, ArePicked, AreHomes, AreRefsOf}
 use Rattle.reduce_up.specs.Team.{AnswersView, in_turn, team_row, told, read_of, asked_above, AreLeft, AreAllLeft, IsPartRead, AreDividedBy, AreMadeOf}
-use Rattle.reduce_up.specs.declared.reads.ReadTask.{ReadTask}
-use Rattle.reduce_up.specs.declared.picking.PickTask.{PickTask}
-use Rattle.reduce_up.specs.declared.picking.Sources.{Sources}
-use Rattle.std.specs.Arc.{arc_value}
-use Rattle.reduce_up.specs.Steps.{AreRead, AllArePicked}
+use Rattle.reduce_up.specs.declared.reads.ReadShare.{ReadShare}
+use Rattle.reduce_up.specs.declared.picking.PickShare.{PickShare}
+use Rattle.reduce_up.specs.Steps.{IsShareRead, AreRead, IsSharePicked, AreAllPicked}
 use Rattle.reduce_up.proofs.Naming.{grown_of_pair}
 use Rattle.reduce_up.proofs.Reading.{in_team}
 use Rattle.reduce_up.proofs.Shared.{zip_right, zip_through}
@@ -274,13 +272,13 @@ pick_room parts refs k h p l all r are s sb = dite (ℕ_discrete s 16)
     let all-refs = r.many s lt in
     subst (λ z. begin_of parts k s + length (chosen s h.numbers.items h.numbers.items) ≤ length z) from (omega (arith, room, many, all-refs)))
 
-pub picked_from : (parts : List (Vec (Vec Pair Global) Global)) (refs : List (Vec Ref Global)) (k : ℕ) (h : Homes) (starts : List ℕ) → ((s : ℕ) → s ≤ 16 → get_or starts s 0 ≡ begin_of parts k s) → (slice : List ℕ) → slice ≡ starts → (r : Result (Vec Ref Global) AllocError)
-    → IfOk r (λ answers. IsPicked h.numbers.items (λ s. get_or slice s 0) (source refs h) (reverse answers.items)) → IfOk r (λ answers. IsPickedOf parts refs k h answers.items)
-picked_from parts refs k h starts each slice is (Ok answers) o = record {
+pub picked_from : (parts : List (Vec (Vec Pair Global) Global)) (refs : List (Vec Ref Global)) (k : ℕ) (h : Homes) (starts : List ℕ) → ((s : ℕ) → s ≤ 16 → get_or starts s 0 ≡ begin_of parts k s) → (slice : List ℕ) → slice ≡ starts → (answers : List Ref) (r : Result (Unit {0}) AllocError)
+    → OnOk r (IsPicked h.numbers.items (λ s. get_or slice s 0) (source refs h) (reverse answers)) → OnOk r (IsPickedOf parts refs k h answers)
+picked_from parts refs k h starts each slice is answers (Ok x) o = record {
   long = o.long;
-  each = λ s l. o.each s l ∙ ap (λ z. span z (length (chosen s h.numbers.items (reverse answers.items))) (source refs h s)) (ap (λ z. get_or z s 0) is ∙ each s l);
+  each = λ s l. o.each s l ∙ ap (λ z. span z (length (chosen s h.numbers.items (reverse answers))) (source refs h s)) (ap (λ z. get_or z s 0) is ∙ each s l);
 }
-picked_from parts refs k h starts each slice is (Err e) o = o
+picked_from parts refs k h starts each slice is answers (Err e) o = o
 
 at_seam : {X : Type 0} (xs xs' : List X) (x d : X) (m : ℕ) → length xs ≡ m → xs' ≡ xs ++ x ∷ [] → get_or xs' m d ≡ x
 at_seam xs xs' x d m e is = ap (λ z. get_or z m d) is ∙ ap (λ z. get_or (xs ++ x ∷ []) z d) (sym e) ∙ get_or-append_seam xs x [] d
@@ -322,13 +320,14 @@ reads_more n roots p a v m parts homes lefts o d left r parts' homes' lefts' x y
 }
 
 -- what one worker read
-pub read_one : (n : ℕ) (roots : List Key) (p : PartsView) (a : AnswersView) (v : ℕ) (tasks done rest : List ReadTask) (t : ReadTask) (d : Divided) (left : Vec ℕ Global)
-    → AreRead n roots p a v n tasks → (done ++ t ∷ []) ++ rest ≡ tasks → t.read ≡ Ok (d, left) → IsPartRead n roots p a v (length done) d left.items
-read_one n roots p a v tasks done rest t d left h whole is =
-    let at : tasks ≡ done ++ t ∷ rest = sym whole ∙ append_assoc done (t ∷ []) rest in
+pub read_one : (n : ℕ) (roots : List Key) (p : PartsView) (a : AnswersView) (v : ℕ) (shares done rest : List ReadShare) (t : ReadShare) (x : Unit {0})
+    → AreRead n roots p a v n shares → (done ++ t ∷ []) ++ rest ≡ shares → t.done ≡ Ok x → IsPartRead n roots p a v (length done) t.divided t.left.items
+read_one n roots p a v shares done rest t x h whole is =
+    let at : shares ≡ done ++ t ∷ rest = sym whole ∙ append_assoc done (t ∷ []) rest in
     let long = ap (λ z. length z) at ∙ length-append done (t ∷ rest) in
     let all = h.long in
-    subst (λ (z : Result (Divided × Vec ℕ Global) AllocError). IfOk z (λ q. IsPartRead n roots p a v (length done) q.0 q.1.items)) (ap (λ (z : List ReadTask). (get_or z (length done) t).read) at ∙ ap (λ (z : ReadTask). z.read) (get_or-append_seam done t rest t) ∙ is) (h.each (length done) t (omega (arith, long, all)))
+    let own = subst (IsShareRead n roots p a v (length done)) (ap (λ (z : List ReadShare). get_or z (length done) t) at ∙ get_or-append_seam done t rest t) (h.each (length done) t (omega (arith, long, all))) in
+    subst (λ (z : Result (Unit {0}) AllocError). OnOk z (IsPartRead n roots p a v (length done) t.divided t.left.items)) is own
 
 pub picked_more : (parts : List (Vec (Vec Pair Global) Global)) (homes : List Homes) (refs : List (Vec Ref Global)) (m : ℕ) (answers answers' : List (Vec Ref Global)) (x : Vec Ref Global) → ArePicked parts homes refs m answers → ((h : Homes) → IsPickedOf parts refs m (get_or homes m h) x.items) → answers' ≡ answers ++ x ∷ [] → ArePicked parts homes refs (m + 1) answers'
 picked_more parts homes refs m answers answers' x o own is = record {
@@ -339,13 +338,13 @@ picked_more parts homes refs m answers answers' x o own is = record {
 }
 
 -- one of the parts' answers
-pub picked_one : (s : Sources) (tasks done rest : List PickTask) (t : PickTask) (x : Vec Ref Global) → AllArePicked s tasks → (done ++ t ∷ []) ++ rest ≡ tasks → t.picked ≡ Ok x
-    → (h : Homes) → IsPickedOf (arc_value s.parts).items s.refs.items (length done) (get_or s.homes.items (length done) h) x.items
-picked_one s tasks done rest t x f whole is h =
-    let at : tasks ≡ done ++ t ∷ rest = sym whole ∙ append_assoc done (t ∷ []) rest in
+pub picked_one : (parts : List (Vec (Vec Pair Global) Global)) (homes : List Homes) (refs : List (Vec Ref Global)) (shares done rest : List PickShare) (t : PickShare) (x : Unit {0})
+    → AreAllPicked parts homes refs shares → (done ++ t ∷ []) ++ rest ≡ shares → t.done ≡ Ok x → (h : Homes) → IsPickedOf parts refs (length done) (get_or homes (length done) h) t.answers.items
+picked_one parts homes refs shares done rest t x f whole is h =
+    let at : shares ≡ done ++ t ∷ rest = sym whole ∙ append_assoc done (t ∷ []) rest in
     let long = ap (λ z. length z) at ∙ length-append done (t ∷ rest) in
-    subst (λ (z : Result (Vec Ref Global) AllocError). IfOk z (λ (q : Vec Ref Global). IsPickedOf (arc_value s.parts).items s.refs.items (length done) (get_or s.homes.items (length done) h) q.items))
-    (ap (λ (z : List PickTask). (get_or z (length done) t).picked) at ∙ ap (λ (z : PickTask). z.picked) (get_or-append_seam done t rest t) ∙ is) (f (length done) t (omega (arith, long)) h)
+    let own = subst (IsSharePicked parts homes refs (length done)) (ap (λ (z : List PickShare). get_or z (length done) t) at ∙ get_or-append_seam done t rest t) (f (length done) t (omega (arith, long))) in
+    subst (λ (z : Result (Unit {0}) AllocError). OnOk z (IsPickedOf parts refs (length done) (get_or homes (length done) h) t.answers.items)) is (own h)
 
 -- the same of lists that were read elsewhere
 pub picked_as : (parts' : List (Vec (Vec Pair Global) Global)) (homes' : List Homes) (refs' : List (Vec Ref Global)) (parts : List (Vec (Vec Pair Global) Global)) (homes : List Homes) (refs : List (Vec Ref Global)) (n : ℕ) → parts' ≡ parts → homes' ≡ homes → refs' ≡ refs → length homes ≡ n → (answers : List (Vec Ref Global))

@@ -1,9 +1,9 @@
 //! The pairs that a worker's records of a level come to, divided by shard while they are read.
-ghost use Rattle.std.specs.Prelude.{◌≡◌, ℕ, [], length, IfOk, OnOk};
+ghost use Rattle.std.specs.Prelude.{◌≡◌, ℕ, [], length, OnOk};
 ghost use Rattle.dd_store.specs.Levels.{list_at};
 ghost use Rattle.reduce_up.specs.Division.{IsPut};
 
-use crate::lists::emptied_lists;
+use crate::lists::empty_all;
 use dd_store::{Ref, SHARDS, shard_of};
 use std::alloc::{AllocError, Global};
 
@@ -37,26 +37,18 @@ impl Divided {
         }
     }
 
-    /// Nothing is read, in the memory of these lists. There is room for so many records whose pairs are spread over the shards.
-    pub(crate) fn emptied(self, alloc: Global, count: usize) -> Result<Divided, AllocError>
-        ensures sixteen { IfOk result (λ d. length d.lists.items ≡ 16) }
-        ensures empty { IfOk result (λ d. (s : ℕ) → length (list_at d.lists.items s) ≡ 0) }
-        ensures numbers { IfOk result (λ d. d.homes.numbers.items ≡ []) }
-        ensures equal { IfOk result (λ d. d.homes.equal.items ≡ []) }
+    /// Nothing is read any more, and there is room for so many records whose pairs are spread over the shards.
+    pub(crate) fn empty(&mut self, alloc: Global, count: usize) -> Result<(), AllocError>
+        ensures sixteen { OnOk result (length self.new.lists.items ≡ 16) }
+        ensures empty { OnOk result ((s : ℕ) → length (list_at self.new.lists.items s) ≡ 0) }
+        ensures numbers { OnOk result (self.new.homes.numbers.items ≡ []) }
+        ensures equal { OnOk result (self.new.homes.equal.items ≡ []) }
     {
-        let Divided { lists, homes } = self;
-        let Homes {
-            mut numbers,
-            mut equal,
-        } = homes;
-        let lists = emptied_lists(alloc, lists, count / SHARDS + count / 64 + 16)?;
-        numbers.clear();
-        numbers.reserve_exact(count)?;
-        equal.clear();
-        Ok(Divided {
-            lists,
-            homes: Homes { numbers, equal },
-        })
+        empty_all(alloc, &mut self.lists, count / SHARDS + count / 64 + 16)?;
+        self.homes.numbers.clear();
+        self.homes.numbers.reserve_exact(count)?;
+        self.homes.equal.clear();
+        Ok(())
     }
 
     /// One pair more is read.

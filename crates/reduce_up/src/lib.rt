@@ -3,7 +3,6 @@
 
 mod answers;
 mod division;
-mod jobs;
 mod lists;
 mod narrow;
 mod picking;

@@ -30,19 +30,18 @@ fn clear_lists(lists: &mut Vec<Vec<(Ref, Ref)>>, room: usize) -> Result<(), Allo
     Ok(())
 }
 
-/// A list for each shard, without pairs and with room for some, in the memory of other lists where these are as many.
-pub(crate) fn emptied_lists(
+/// Makes a list for each shard, without pairs and with room for some, in the memory of the lists that are there, where these are as many.
+pub(crate) fn empty_all(
     alloc: Global,
-    used: Vec<Vec<(Ref, Ref)>>,
+    lists: &mut Vec<Vec<(Ref, Ref)>>,
     room: usize,
-) -> Result<Vec<Vec<(Ref, Ref)>>, AllocError>
-    ensures sixteen { IfOk result (λ lists. length lists.items ≡ 16) }
-    ensures empty { IfOk result (λ lists. (s : ℕ) → length (list_at lists.items s) ≡ 0) }
+) -> Result<(), AllocError>
+    ensures sixteen { OnOk result (length lists.new.items ≡ 16) }
+    ensures empty { OnOk result ((s : ℕ) → length (list_at lists.new.items s) ≡ 0) }
 {
-    let mut lists = used;
-    if lists.len() != SHARDS {
-        return empty_lists(alloc, room);
+    if lists.len() == SHARDS {
+        return clear_lists(lists, room);
     }
-    clear_lists(&mut lists, room)?;
-    Ok(lists)
+    *lists = empty_lists(alloc, room)?;
+    Ok(())
 }

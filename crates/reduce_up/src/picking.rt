@@ -1,38 +1,26 @@
 //! The diagrams of a worker's records of a level, picked from those of all workers' pairs.
-ghost use Rattle.std.specs.Prelude.{◌≡◌, ◌+◌, ◌<◌, ◌≤◌, ℕ, length, take, slice_get, slice_index_or, Some, All, IfOk};
+ghost use Rattle.std.specs.Prelude.{◌≡◌, ◌+◌, ◌<◌, ◌≤◌, ℕ, length, take, slice_get, slice_index_or, Some, All, IfOk, OnOk};
 ghost use Rattle.std.specs.declared.vec.Vec.{Vec as VecValue};
 ghost use Rattle.std.specs.declared.alloc.Global.{Global as GlobalValue};
-ghost use Rattle.std.specs.Arc.{arc_value};
 ghost use mathlib.Core.List.{reverse};
 ghost use Rattle.dd_store.specs.Graph.{Pair};
 ghost use Rattle.dd_store.specs.Levels.{list_at, all_at, refs_at};
 ghost use Rattle.reduce_up.specs.declared.division.Homes.{Homes as HomesValue};
 ghost use Rattle.reduce_up.specs.Division.{chosen, source, IsPicked, IsPickedOf, ArePicked, AreRefsOf, MayPick, begin_of};
-ghost use Rattle.reduce_up.specs.Steps.{MayPickTask, IsPickTask, ArePickTasks, AllArePicked};
+ghost use Rattle.reduce_up.specs.Steps.{IsSharePicked, AreAllPicked};
 
 use crate::division::{EQUAL, Homes};
-use crate::jobs::JobPool;
-use crate::spare::{emptied, next_room};
-use dd_store::{Ref, SHARDS, Watch};
+use crate::spare::{empty, next_room};
+use dd_store::{Ref, SHARDS};
+use rayon::prelude::*;
 use std::alloc::{AllocError, Global};
-use std::mem;
-use std::sync::{Arc, Wait};
-use task_pool::run_all;
+use std::thread::Threads;
 
-/// Whose diagrams are picked, and the memory for them.
+/// A part's share of a level: the diagrams of its records, and whether there was memory to pick these.
 #[derive(Drop)]
-pub(crate) struct PickJob {
-    pub(crate) part: usize,
-    pub(crate) room: Vec<Ref>,
-}
-
-/// What a level's diagrams are picked from: the pairs of its records by part and shard, the homes of each part's records, and by shard the
-/// references of the pairs.
-#[derive(Drop)]
-pub(crate) struct Sources {
-    pub(crate) parts: Arc<Vec<Vec<Vec<(Ref, Ref)>>>>,
-    pub(crate) homes: Vec<Homes>,
-    pub(crate) refs: Vec<Vec<Ref>>,
+pub(crate) struct PickShare {
+    pub(crate) answers: Vec<Ref>,
+    pub(crate) done: Result<(), AllocError>,
 }
 
 /// The diagram at a place of a home's.
@@ -48,23 +36,22 @@ fn diagram_at(homes: &Homes, refs: &[Vec<Ref>], home: u8, place: usize) -> Ref
     refs[home as usize][place]
 }
 
-/// A diagram for each home: the next of those of this home from a place on. The last one that was read is the first. They are put in the
-/// memory that is handed in.
+/// A diagram for each home: the next of those of this home from a place on. The last one that was read is the first.
 fn pick(
     homes: &Homes,
     refs: &[Vec<Ref>],
     starts: &[usize],
-    room: Vec<Ref>,
-) -> Result<Vec<Ref>, AllocError>
+    answers: &mut Vec<Ref>,
+) -> Result<(), AllocError>
     requires sixteen { length refs.now ≡ 16 }
     requires starts { length starts.now ≡ 17 }
     requires homes { All (λ h. h ≤ 16) homes.now.numbers.items }
     requires room { (s : ℕ) → s ≤ 16 → slice_index_or starts.now s 0 + length (chosen s homes.now.numbers.items homes.now.numbers.items) ≤ length (source refs.now homes.now s) }
-    ensures { IfOk result (λ answers. IsPicked homes.now.numbers.items (λ s. slice_index_or starts.now s 0) (source refs.now homes.now) (reverse answers.items)) }
+    ensures { OnOk result (IsPicked homes.now.numbers.items (λ s. slice_index_or starts.now s 0) (source refs.now homes.now) (reverse answers.new.items)) }
 {
-    let mut places = Vec::with_capacity(*room.allocator(), starts.len())?;
+    let mut places = Vec::with_capacity(*answers.allocator(), starts.len())?;
     places.extend_from_slice(starts)?;
-    let mut answers = emptied(room, homes.numbers.len())?;
+    empty(answers, homes.numbers.len())?;
     for home in &homes.numbers {
         let place = places[*home as usize];
         let Some(next) = place.checked_add(1) else {
@@ -74,7 +61,7 @@ fn pick(
         answers.push(diagram_at(homes, refs, *home, place))?;
     }
     answers.reverse();
-    Ok(answers)
+    Ok(())
 }
 
 /// Where a part's references of a shard begin.
@@ -118,94 +105,104 @@ fn pick_part(
     parts: &[Vec<Vec<(Ref, Ref)>>],
     homes: &[Homes],
     refs: &[Vec<Ref>],
-    job: PickJob,
-) -> Result<Vec<Ref>, AllocError>
-    requires part { job.part < length homes.now }
+    part: usize,
+    answers: &mut Vec<Ref>,
+) -> Result<(), AllocError>
+    requires part { part < length homes.now }
     requires may { MayPick parts.now homes.now refs.now }
-    ensures { (h : HomesValue) → IfOk result (λ answers. IsPickedOf parts.now refs.now job.part (slice_index_or homes.now job.part h) answers.items) }
+    ensures { (h : HomesValue) → OnOk result (IsPickedOf parts.now refs.now part (slice_index_or homes.now part h) answers.new.items) }
 {
-    let PickJob { part, room } = job;
-    let starts = starts_of(*room.allocator(), parts, part, refs)?;
-    pick(&homes[part], refs, starts.as_slice(), room)
+    let starts = starts_of(*answers.allocator(), parts, part, refs)?;
+    pick(&homes[part], refs, starts.as_slice(), answers)
 }
 
-/// A part of a level, whose diagrams a thread picks. Nothing is picked before it is run.
-#[derive(Drop)]
-pub(crate) struct PickTask {
-    pub(crate) sources: Arc<Sources>,
-    pub(crate) job: PickJob,
-    pub(crate) picked: Result<Vec<Ref>, AllocError>,
-}
-
-impl PickTask {
-    /// Picks the diagrams.
-    pub(crate) fn pick(mut self) -> PickTask
-        requires { MayPickTask self }
-        ensures { IsPickTask self result }
+impl PickShare {
+    /// Picks the diagrams of a part whose share this is.
+    fn pick(
+        &mut self,
+        parts: &[Vec<Vec<(Ref, Ref)>>],
+        homes: &[Homes],
+        refs: &[Vec<Ref>],
+        part: usize,
+    )
+        requires part { part < length homes.now }
+        requires may { MayPick parts.now homes.now refs.now }
+        ensures { IsSharePicked parts.now homes.now refs.now part self.new }
     {
-        let alloc = *self.job.room.allocator();
-        let none = PickJob {
-            part: self.job.part,
-            room: Vec::new(alloc),
-        };
-        let job = mem::replace(&mut self.job, none);
-        let Sources { parts, homes, refs } = &*self.sources;
-        self.picked = pick_part(parts.as_slice(), homes.as_slice(), refs.as_slice(), job);
-        self
+        self.done = pick_part(parts, homes, refs, part, &mut self.answers);
     }
 }
 
-/// A task for each part.
-fn pick_tasks(
-    sources: &Arc<Sources>,
-    rooms: &mut Vec<Vec<Ref>>,
-) -> Result<Vec<PickTask>, AllocError>
-    ensures { IfOk result (λ tasks. ArePickTasks (arc_value sources.now) (length (arc_value sources.now).homes.items) tasks.items) }
+/// A share for each part, in which nothing is picked yet. They have the memory of the lists that are handed in, as far as there are some.
+fn pick_shares(parts: usize, rooms: Vec<Vec<Ref>>) -> Result<Vec<PickShare>, AllocError>
+    ensures { IfOk result (λ shares. length shares.items ≡ parts) }
 {
-    let parts = sources.homes.len();
-    let mut tasks = Vec::with_capacity(*rooms.allocator(), parts)?;
-    for part in 0..parts {
-        let room = next_room(rooms);
-        tasks.push(PickTask {
-            sources: Arc::try_clone(sources)?,
-            job: PickJob { part, room },
-            picked: Err(AllocError),
+    let mut rooms = rooms;
+    let mut shares = Vec::with_capacity(*rooms.allocator(), parts)?;
+    for _ in 0..parts {
+        shares.push(PickShare {
+            answers: next_room(&mut rooms),
+            done: Err(AllocError),
         })?;
     }
-    Ok(tasks)
+    Ok(shares)
+}
+
+/// Picks the diagrams of all parts, each in the part's share and by a thread of its own.
+fn pick_each<R: Threads + Sync>(
+    rt: &R,
+    parts: &[Vec<Vec<(Ref, Ref)>>],
+    homes: &[Homes],
+    refs: &[Vec<Ref>],
+    shares: &mut [PickShare],
+)
+    requires long { length shares.old ≡ length homes.now }
+    requires may { MayPick parts.now homes.now refs.now }
+    ensures { AreAllPicked parts.now homes.now refs.now shares.new }
+{
+    let pick = |part: usize, share: &mut PickShare|
+        requires { (part < length homes.now) × MayPick parts.now homes.now refs.now }
+        ensures { IsSharePicked parts.entry.now homes.entry.now refs.entry.now part share.exit.now }
+    { share.pick(parts, homes, refs, part) };
+    par_for_each_mut(rt, shares, pick);
 }
 
 /// The answers of all parts, where each had memory.
 fn join_picked(
-    alloc: Global,
-    sources: &Sources,
-    tasks: Vec<PickTask>,
+    parts: &[Vec<Vec<(Ref, Ref)>>],
+    homes: &[Homes],
+    refs: &[Vec<Ref>],
+    shares: Vec<PickShare>,
 ) -> Result<Vec<Vec<Ref>>, AllocError>
-    requires { AllArePicked sources.now tasks.items }
-    ensures { IfOk result (λ answers. ArePicked (arc_value sources.now.parts).items sources.now.homes.items sources.now.refs.items (length tasks.items) answers.items) }
+    requires { AreAllPicked parts.now homes.now refs.now shares.items }
+    ensures { IfOk result (λ answers. ArePicked parts.now homes.now refs.now (length shares.items) answers.items) }
 {
-    let _ = sources;
-    let mut answers = Vec::with_capacity(alloc, tasks.len())?;
-    for task in tasks {
-        answers.push(task.picked?)?;
+    let _ = (parts.len(), homes.len(), refs.len());
+    let mut answers = Vec::with_capacity(*shares.allocator(), shares.len())?;
+    for share in shares {
+        let PickShare {
+            answers: picked,
+            done,
+        } = share;
+        done?;
+        answers.push(picked)?;
     }
     Ok(answers)
 }
 
-/// The diagrams of all parts' records, each part's by a thread of the pool or by the caller's. They are put in the memory of the lists that
-/// are handed in, as far as there are some.
-pub(crate) fn pick_all<'a, R: Wait, H: Watch>(
-    pool: &mut JobPool<'_, 'a, R, H>,
-    alloc: Global,
-    sources: &Arc<Sources>,
+/// The diagrams of all parts' records, each part's by a thread of its own. They are put in the memory of the lists that are handed in, as
+/// far as there are some.
+pub(crate) fn pick_all<R: Threads + Sync>(
+    rt: &R,
+    parts: &[Vec<Vec<(Ref, Ref)>>],
+    homes: &[Homes],
+    refs: &[Vec<Ref>],
     rooms: Vec<Vec<Ref>>,
 ) -> Result<Vec<Vec<Ref>>, AllocError>
-    requires may { MayPick (arc_value (arc_value sources.now).parts).items (arc_value sources.now).homes.items (arc_value sources.now).refs.items }
-    ensures { IfOk result (λ answers. ArePicked (arc_value (arc_value sources.now).parts).items (arc_value sources.now).homes.items (arc_value sources.now).refs.items (length (arc_value sources.now).homes.items) answers.items) }
+    requires may { MayPick parts.now homes.now refs.now }
+    ensures { IfOk result (λ answers. ArePicked parts.now homes.now refs.now (length homes.now) answers.items) }
 {
-    let mut rooms = rooms;
-    let tasks = pick_tasks(sources, &mut rooms)?;
-    let room = Vec::with_capacity(alloc, tasks.len())?;
-    let picked = run_all(pool.rt, pool.watch, &mut pool.lines, tasks, room);
-    join_picked(alloc, sources, picked)
+    let mut shares = pick_shares(homes.len(), rooms)?;
+    pick_each(rt, parts, homes, refs, shares.as_mut_slice());
+    join_picked(parts, homes, refs, shares)
 }

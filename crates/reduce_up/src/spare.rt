@@ -1,5 +1,5 @@
 //! The memory of reductions by threads, which lasts from level to level and from wave to wave.
-ghost use Rattle.std.specs.Prelude.{◌≡◌, [], IfOk};
+ghost use Rattle.std.specs.Prelude.{◌≡◌, [], IfOk, OnOk};
 
 use crate::division::Divided;
 use dd_store::Ref;
@@ -30,13 +30,20 @@ pub(crate) fn next_room(rooms: &mut Vec<Vec<Ref>>) -> Vec<Ref> {
     }
 }
 
+/// Removes all diagrams of a list, and makes room for so many.
+pub(crate) fn empty(answers: &mut Vec<Ref>, count: usize) -> Result<(), AllocError>
+    ensures items { OnOk result (answers.new.items ≡ []) }
+{
+    answers.clear();
+    answers.reserve_exact(count)
+}
+
 /// No diagrams, in the memory of a list, with room for so many.
 pub(crate) fn emptied(room: Vec<Ref>, count: usize) -> Result<Vec<Ref>, AllocError>
     ensures items { IfOk result (λ answers. answers.items ≡ []) }
 {
     let mut answers = room;
-    answers.clear();
-    answers.reserve_exact(count)?;
+    empty(&mut answers, count)?;
     Ok(answers)
 }
 

@@ -1,10 +1,6 @@
 //! Reduction of what the workers in threads recorded, each for itself. A child is found by its number among what its worker asked
 //! of the owner: the rows are read from the last level up and backwards, so that this number is how many are still to be read.
-ghost use Rattle.std.specs.Prelude.{◌≡◌, ◌+◌, ◌<◌, ◌≤◌, ℕ, [], length, map, slice_index_or, slice_set, IfOk, IfErr, OnErr, OnOk, All};
-ghost use Rattle.std.specs.Arc.{arc_value};
-ghost use Rattle.std.specs.declared.vec.Vec.{Vec as VecValue};
-ghost use Rattle.std.specs.declared.alloc.Global.{Global as GlobalValue};
-ghost use Rattle.dd_store.specs.declared.reference.Ref.{Ref as RefValue};
+ghost use Rattle.std.specs.Prelude.{◌≡◌, ◌+◌, ◌<◌, ◌≤◌, ℕ, [], length, slice_index_or, IfOk, IfErr, OnOk, All};
 ghost use Rattle.dd_store.specs.Nodes.{IsSound};
 ghost use Rattle.req_table.specs.declared.Child.{Child as ChildValue};
 ghost use Rattle.req_table.specs.Keys.{IsKey};
@@ -14,15 +10,14 @@ ghost use Rattle.expand_work.specs.Gathered.{AreParts};
 ghost use Rattle.reduce_up.specs.Team.{IsReducedTo, MayReduceLevel, AnswersLevel, IsNext, AreFewer, AreLeft, AreAllLeft, asked_above, gathered, team_row, told};
 
 use crate::answers::Answers;
-use crate::jobs::JobPool;
 use crate::narrow::make_level;
 use crate::spare::Spare;
 use crate::wide::share_level;
-use dd_store::{Ref, Store, StoreFault, Watch};
-use expand_work::{Parts, WaveFault};
+use dd_store::{Ref, Store, StoreFault};
+use expand_work::{Crew, Gate, Parts, WaveFault};
 use req_table::{Key, Placed, PlacedChild};
 use std::alloc::{AllocError, Global};
-use std::sync::{Arc, Wait};
+use std::thread::Threads;
 
 /// What is read of a wave: what its workers ended with, the roots that they had, and the diagrams that are known; and where memory is from.
 #[derive(Clone, Copy)]
@@ -139,7 +134,7 @@ pub(crate) struct Rest {
 /// How far a wave is reduced: the diagrams that are known, and what is left.
 #[derive(Drop)]
 pub(crate) struct Progress {
-    pub(crate) answers: Arc<Answers>,
+    pub(crate) answers: Answers,
     pub(crate) rest: Rest,
 }
 
@@ -157,54 +152,41 @@ pub(crate) fn level_size(parts: &Parts, workers: u32, level: u16) -> usize
     total
 }
 
-/// A level with fewer records is reduced on the caller's thread: to hand it to the threads of the pool and back takes as long.
-const FEWEST_HANDED: usize = 1024;
+/// A level with fewer records is reduced on the caller's thread: to start the threads that share it takes as long.
+const FEWEST_SHARED: usize = 8192;
 
-/// The diagrams of a level's records, worker by worker, by threads where there are many; missing nodes are made.
-fn level_answers<'a, R: Wait, H: Watch>(
-    pool: &mut JobPool<'_, 'a, R, H>,
+/// The diagrams of a level's records, worker by worker, by threads where there are many and several workers; missing nodes are made.
+fn level_answers<R: Threads + Sync, G: Gate>(
+    crew: &Crew<'_, R, G>,
     store: &mut Store,
-    field: Field<'a>,
-    answers: &Arc<Answers>,
+    field: Field<'_>,
+    answers: &Answers,
     level: u16,
     rest: &mut Rest,
 ) -> Result<Vec<Vec<Ref>>, StoreFault>
-    requires { MayReduceLevel field.workers field.roots.now field.parts.now (arc_value answers.now) store.old level rest.old.lefts.items }
-    ensures { AnswersLevel field.entry.workers field.entry.roots.now field.entry.parts.now (arc_value answers.now) store.old level result store.new rest.new.lefts.items }
+    requires { MayReduceLevel field.workers field.roots.now field.parts.now answers.now store.old level rest.old.lefts.items }
+    ensures { AnswersLevel field.entry.workers field.entry.roots.now field.entry.parts.now answers.now store.old level result store.new rest.new.lefts.items }
 {
-    if level_size(field.parts, field.workers, level) < FEWEST_HANDED {
+    if field.workers < 2 || level_size(field.parts, field.workers, level) < FEWEST_SHARED {
         return make_level(store, field.team(answers), level, rest);
     }
-    share_level(pool, store, field, answers, level, rest)
-}
-
-/// Puts the diagrams of a level in, where no thread has those of the levels below any more.
-fn put_level(known: &mut Arc<Answers>, level: u16, answers: Vec<Vec<Ref>>) -> Result<(), AllocError>
-    requires { level < length (arc_value known.old).found }
-    ensures put { OnOk result (arc_value known.new ≡ record { found = slice_set (arc_value known.old).found level (map (λ (v : VecValue RefValue GlobalValue). v.items) answers.items) }) }
-    ensures refused { OnErr result (arc_value known.new ≡ arc_value known.old) }
-{
-    let Some(own) = Arc::get_mut(known) else {
-        return Err(AllocError);
-    };
-    own.put(level, answers);
-    Ok(())
+    share_level(crew, store, field, answers, level, rest)
 }
 
 /// Puts the diagrams of a level's requests in, and sees that the store is within its limit where there are some.
-fn reduce_team_level<'a, R: Wait, H: Watch>(
-    pool: &mut JobPool<'_, 'a, R, H>,
+fn reduce_team_level<R: Threads + Sync, G: Gate>(
+    crew: &Crew<'_, R, G>,
     store: &mut Store,
-    field: Field<'a>,
+    field: Field<'_>,
     progress: &mut Progress,
     level: u16,
 ) -> Result<(), WaveFault>
     requires level { level < store.old.levels }
-    requires reached { IsReducedTo field.workers field.roots.now field.parts.now store.old.levels (level + 1) (arc_value progress.old.answers) progress.old.rest.lefts.items }
-    requires ready { MayReduceRow store.old (told field.workers field.parts.now (arc_value progress.old.answers)) level (team_row field.workers field.parts.now level) }
-    ensures row { ReducesRow store.old (told field.entry.workers field.entry.parts.now (arc_value progress.old.answers)) level
-        (team_row field.entry.workers field.entry.parts.now level) result store.new (told field.entry.workers field.entry.parts.now (arc_value progress.new.answers)) }
-    ensures reached { OnOk result (IsReducedTo field.entry.workers field.entry.roots.now field.entry.parts.now store.old.levels level (arc_value progress.new.answers) progress.new.rest.lefts.items) }
+    requires reached { IsReducedTo field.workers field.roots.now field.parts.now store.old.levels (level + 1) progress.old.answers progress.old.rest.lefts.items }
+    requires ready { MayReduceRow store.old (told field.workers field.parts.now progress.old.answers) level (team_row field.workers field.parts.now level) }
+    ensures row { ReducesRow store.old (told field.entry.workers field.entry.parts.now progress.old.answers) level
+        (team_row field.entry.workers field.entry.parts.now level) result store.new (told field.entry.workers field.entry.parts.now progress.new.answers) }
+    ensures reached { OnOk result (IsReducedTo field.entry.workers field.entry.roots.now field.entry.parts.now store.old.levels level progress.new.answers progress.new.rest.lefts.items) }
     ensures within { OnOk result (IsRowWithin store.old (team_row field.entry.workers field.entry.parts.now level) store.new) }
 {
     if level_size(field.parts, field.workers, level) == 0 {
@@ -214,13 +196,11 @@ fn reduce_team_level<'a, R: Wait, H: Watch>(
         answers: known,
         rest,
     } = progress;
-    let answers = match level_answers(pool, store, field, known, level, rest) {
+    let answers = match level_answers(crew, store, field, known, level, rest) {
         Ok(answers) => answers,
         Err(fault) => return Err(WaveFault::from(fault)),
     };
-    let Ok(()) = put_level(known, level, answers) else {
-        return Err(WaveFault::OutOfMemory);
-    };
+    known.put(level, answers);
     if store.count() > store.limit() {
         return Err(WaveFault::Full);
     }
@@ -232,39 +212,38 @@ pub(crate) fn begin(store: &Store, field: Field<'_>, spare: Spare) -> Result<Pro
     requires some { 0 < field.workers }
     requires roots { All (IsKey store.now) field.roots.now }
     requires parts { AreParts store.now field.workers field.roots.now field.parts.now }
-    ensures reached { IfOk result (λ g. IsReducedTo field.entry.workers field.entry.roots.now field.entry.parts.now store.now.levels store.now.levels (arc_value g.answers) g.rest.lefts.items) }
-    ensures none { IfOk result (λ g. told field.entry.workers field.entry.parts.now (arc_value g.answers) ≡ []) }
+    ensures reached { IfOk result (λ g. IsReducedTo field.entry.workers field.entry.roots.now field.entry.parts.now store.now.levels store.now.levels g.answers g.rest.lefts.items) }
+    ensures none { IfOk result (λ g. told field.entry.workers field.entry.parts.now g.answers ≡ []) }
 {
     let levels = store.levels();
-    let none = Answers::new(field.alloc, levels)?;
-    let answers = Arc::new(field.alloc, none)?;
+    let answers = Answers::new(field.alloc, levels)?;
     let lefts = all_sent(field.alloc, store, field.parts, field.roots, field.workers)?;
     let rest = Rest { lefts, spare };
     Ok(Progress { answers, rest })
 }
 
 /// Reduces a wave from the last level up.
-pub(crate) fn reduce_team<'a, R: Wait, H: Watch>(
-    pool: &mut JobPool<'_, 'a, R, H>,
+pub(crate) fn reduce_team<R: Threads + Sync, G: Gate>(
+    crew: &Crew<'_, R, G>,
     store: &mut Store,
-    field: Field<'a>,
+    field: Field<'_>,
     progress: &mut Progress,
 ) -> Result<(), WaveFault>
     requires records { AreRecords store.old (gathered store.old.levels (team_row field.workers field.parts.now)) }
-    requires reached { IsReducedTo field.workers field.roots.now field.parts.now store.old.levels store.old.levels (arc_value progress.old.answers) progress.old.rest.lefts.items }
-    requires none { told field.workers field.parts.now (arc_value progress.old.answers) ≡ [] }
+    requires reached { IsReducedTo field.workers field.roots.now field.parts.now store.old.levels store.old.levels progress.old.answers progress.old.rest.lefts.items }
+    requires none { told field.workers field.parts.now progress.old.answers ≡ [] }
     ensures sound { IsSound store.new }
     ensures adds { AddsDescribed store.old store.new (AskedInRows store.old (gathered store.old.levels (team_row field.entry.workers field.entry.parts.now))) }
     ensures answers { OnOk result (AreReduced (gathered store.old.levels (team_row field.entry.workers field.entry.parts.now)) store.new
-        (told field.entry.workers field.entry.parts.now (arc_value progress.new.answers))) }
-    ensures reached { OnOk result (IsReducedTo field.entry.workers field.entry.roots.now field.entry.parts.now store.old.levels 0 (arc_value progress.new.answers) progress.new.rest.lefts.items) }
+        (told field.entry.workers field.entry.parts.now progress.new.answers)) }
+    ensures reached { OnOk result (IsReducedTo field.entry.workers field.entry.roots.now field.entry.parts.now store.old.levels 0 progress.new.answers progress.new.rest.lefts.items) }
     ensures within { OnOk result (IsWithinFrom store.old (gathered store.old.levels (team_row field.entry.workers field.entry.parts.now)) 0 store.new) }
     ensures fault { IfErr result (λ e. IsReduceFault store.new (gathered store.old.levels (team_row field.entry.workers field.entry.parts.now)) e) }
 {
     let mut level = store.levels();
     while level > 0 {
         level -= 1;
-        match reduce_team_level(pool, store, field, progress, level) {
+        match reduce_team_level(crew, store, field, progress, level) {
             Ok(()) => {}
             Err(fault) => return Err(fault),
         }

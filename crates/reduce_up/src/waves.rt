@@ -4,25 +4,23 @@ ghost use Rattle.req_table.specs.Keys.{IsKey};
 ghost use Rattle.expand_work.specs.Gathered.{AreParts};
 ghost use Rattle.reduce_up.specs.Waves.{AnswersWave, entries_for};
 
-use crate::jobs::{Job, JobPool};
 use crate::roots::root_answers;
 use crate::spare::Spare;
 use crate::team::{Field, Progress, begin, reduce_team};
-use dd_store::{Pool, Ref, Store, Watch};
-use expand_work::{Crew, Gate, Parts, Spaces, WaveFault, expand_parts};
+use dd_store::{Ref, Store};
+use expand_work::{Crew, Gate, Spaces, WaveFault, expand_parts};
 use req_table::Key;
 use std::alloc::Global;
 use std::marker::Model;
-use std::sync::{Arc, Wait};
+use std::mem;
+use std::sync::Wait;
 use std::thread::Threads;
-use std::{mem, thread};
-use task_pool::{Line, start_all};
 
 /// The diagram of each root, by reduction of what the workers recorded, each for itself.
-fn answer_team<'a, R: Wait, H: Watch>(
-    pool: &mut JobPool<'_, 'a, R, H>,
+fn answer_team<R: Threads + Sync, G: Gate>(
+    crew: &Crew<'_, R, G>,
     store: &mut Store,
-    field: Field<'a>,
+    field: Field<'_>,
     spare: &mut Spare,
 ) -> Result<Vec<Ref>, WaveFault>
     requires roots { All (IsKey store.old) field.roots.now }
@@ -36,7 +34,7 @@ fn answer_team<'a, R: Wait, H: Watch>(
     let Ok(mut progress) = begin(store, field, used) else {
         return Err(WaveFault::OutOfMemory);
     };
-    match reduce_team(pool, store, field, &mut progress) {
+    match reduce_team(crew, store, field, &mut progress) {
         Ok(()) => {}
         Err(fault) => return Err(fault),
     }
@@ -46,80 +44,8 @@ fn answer_team<'a, R: Wait, H: Watch>(
         return Err(WaveFault::OutOfMemory);
     };
     *spare = rest.spare;
-    if let Some(answers) = Arc::into_inner(answers) {
-        spare.keep_answers(answers.into_lists());
-    }
+    spare.keep_answers(answers.into_lists());
     Ok(found)
-}
-
-/// So many threads at least share the shards of a level, however few workers there are. The caller's is one of them.
-const FEWEST_MAKERS: u32 = 4;
-
-/// The diagram of each root, by the caller's thread and those that these lines go to; and the store and the memory again.
-fn answer_in<'a, R: Wait, H: Watch>(
-    rt: &R,
-    watch: &H,
-    lines: Vec<Line<H, Job<'a>>>,
-    field: Field<'a>,
-    own: Store,
-    used: Spare,
-) -> (Store, Spare, Result<Vec<Ref>, WaveFault>)
-    requires some { 0 < field.workers }
-    requires roots { All (IsKey own) field.roots.now }
-    requires parts { AreParts own field.workers field.roots.now field.parts.now }
-    ensures wave { AnswersWave own (entries_for field.entry.roots.now) (entries_for field.entry.roots.now) result.2 result.0 }
-    ensures unbounded { IfErr result.2 (λ e. e ≢ WaveFault.TooManyRequests) }
-{
-    let mut pool = Pool { rt, watch, lines };
-    let (mut store, mut spare) = (own, used);
-    let answers = answer_team(&mut pool, &mut store, field, &mut spare);
-    (store, spare, answers)
-}
-
-/// The diagram of each root, by the caller's thread and threads that live as long as the reduction.
-fn answer_by_team<R: Threads + Wait + Sync, G: Gate>(
-    crew: &Crew<'_, R, G>,
-    store: &mut Store,
-    parts: &Parts,
-    roots: &[Key],
-    spare: &mut Spare,
-) -> Result<Vec<Ref>, WaveFault>
-    requires roots { All (IsKey store.old) roots.now }
-    requires parts { AreParts store.old crew.now.workers.count roots.now parts.now }
-    ensures wave { AnswersWave store.old (entries_for roots.now) (entries_for roots.now) result store.new }
-    ensures unbounded { IfErr result (λ e. e ≢ WaveFault.TooManyRequests) }
-{
-    let _ = store.levels();
-    let (rt, alloc, gate) = (crew.rt, crew.alloc, crew.gate);
-    let workers = crew.workers.count();
-    let Ok(blank) = Store::new(alloc, 0, 0) else {
-        return Err(WaveFault::OutOfMemory);
-    };
-    let own = mem::replace(store, blank);
-    let used = mem::replace(spare, Spare::new(alloc));
-    let (own, used, answers) = thread::scope(
-        thread::scope_env(),
-        rt,
-        |scope| -> (Store, Spare, Result<Vec<Ref>, WaveFault>)
-            requires some { 0 < workers }
-            requires roots { All (IsKey own) roots.now }
-            requires parts { AreParts own workers roots.now parts.now }
-            ensures wave { AnswersWave own (entries_for roots.entry.now) (entries_for roots.entry.now) result.2 result.0 }
-            ensures unbounded { IfErr result.2 (λ e. e ≢ WaveFault.TooManyRequests) }
-        {
-            let field = Field {
-                alloc,
-                parts,
-                roots,
-                workers,
-            };
-            let lines = start_all(scope, rt, gate, alloc, workers.max(FEWEST_MAKERS) - 1);
-            answer_in(rt, gate, lines, field, own, used)
-        },
-    );
-    *store = own;
-    *spare = used;
-    answers
 }
 
 /// The memory of waves by threads, between two of them, and how large the last one was. Contracts see nothing in it.
@@ -174,7 +100,13 @@ pub fn shared_wave<R: Threads + Wait + Sync, G: Gate>(
         Err(fault) => return Err(fault),
     };
     rooms.requests = parts.count();
-    let answers = answer_by_team(crew, store, &parts, roots, &mut rooms.spare)?;
+    let field = Field {
+        alloc: crew.alloc,
+        parts: &parts,
+        roots,
+        workers: crew.workers.count(),
+    };
+    let answers = answer_team(crew, store, field, &mut rooms.spare)?;
     rooms.spaces = parts.into_spaces();
     Ok(answers)
 }

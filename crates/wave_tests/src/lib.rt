@@ -22,8 +22,6 @@ mod memos;
 #[cfg(test)]
 mod plans;
 #[cfg(test)]
-mod pools;
-#[cfg(test)]
 mod refused;
 #[cfg(test)]
 mod requests;

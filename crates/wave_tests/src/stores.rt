@@ -9,15 +9,12 @@ ghost use Rattle.dd_store.specs.Nodes.{node};
 ghost use Rattle.dd_store.specs.View.{Has};
 
 use crate::meeting::Meeting;
-use dd_store::{Pool, Ref, Reference, SHARDS, ShardTask, Store, StoreFault, Watch, shard_of};
+use dd_store::{Makers, Ref, Reference, SHARDS, Store, StoreFault, Watch, shard_of};
 use std::alloc::{AllocError, Global};
 use std::process::Abort;
 use std::sync::atomic::{AtomicBool, AtomicU64, Ordering};
-use std::sync::{Arc, Wait};
 use std::test::Fail;
-use std::thread;
 use std::thread::Threads;
-use task_pool::start_all;
 
 /// The reference that a store has answered.
 pub(crate) fn ok(rt: &impl Abort, answer: Result<Ref, StoreFault>) -> Ref
@@ -192,11 +189,11 @@ impl Watch for Visits {
     }
 }
 
-/// What a pool makes, by tasks that carry themselves, of four parts with two pairs of one shard and their complements: of True and the
-/// variable of level 1, and of the terminals.
-fn make_four<R: Wait, H: Watch>(
+/// What makers make of four parts with two pairs of one shard and their complements: of True and the variable of level 1, and of the
+/// terminals.
+fn make_four<R: Threads + Sync, H: Watch + Sync>(
     alloc: Global,
-    pool: &mut Pool<'_, R, H, ShardTask>,
+    makers: &Makers<'_, R, H>,
     store: &mut Store,
     b: Ref,
 ) -> Result<Result<Vec<Vec<Ref>>, StoreFault>, AllocError>
@@ -211,43 +208,42 @@ fn make_four<R: Wait, H: Watch>(
     let first = (Ref::TRUE, b);
     let second = (Ref::TRUE, Ref::FALSE);
     let parts = four_parts(alloc, 3, first, second)?;
-    let parts = Arc::new(alloc, parts)?;
-    let made = store.make_by(pool, 0, &parts);
+    let made = store.make_by(makers, 0, parts.as_slice());
     Ok(made)
 }
 
-/// Has a pool make the four parts twice: the nodes that are missing are made once, and found where they are asked for again.
-fn made_on<R: Wait + Abort, H: Watch>(
+/// Has makers make the four parts twice: the nodes that are missing are made once, and found where they are asked for again.
+fn made_by<R: Threads + Sync + Abort, H: Watch + Sync>(
     rt: &R,
     alloc: Global,
-    pool: &mut Pool<'_, R, H, ShardTask>,
+    makers: &Makers<'_, R, H>,
 ) -> Result<(), AllocError> {
     let mut store = Store::new(alloc, 2, 3)?;
     let b = ok(rt, store.variable(1));
     let old = ok(rt, store.make(0, Ref::TRUE, b));
     assert!(rt; store.top(b) == 1);
     assert!(rt; shard_of(Ref::TRUE, b) == 3);
-    let refs = make_four(alloc, pool, &mut store, b)?.expect(rt, "refused");
+    let refs = make_four(alloc, makers, &mut store, b)?.expect(rt, "refused");
     assert!(rt; store.count() == 3);
     let new = store.find(0, Ref::FALSE, Ref::TRUE).expect(rt, "no node");
     assert!(rt; are_four(refs.as_slice(), old, new));
-    let again = make_four(alloc, pool, &mut store, b)?.expect(rt, "refused");
+    let again = make_four(alloc, makers, &mut store, b)?.expect(rt, "refused");
     assert!(rt; store.count() == 3);
     assert!(rt; are_four(again.as_slice(), old, new));
     Ok(())
 }
 
-/// Has a pool make the four parts in a store whose limit is one node for a shard: that of the first pair stands after the refusal.
-fn full_on<R: Wait + Abort, H: Watch>(
+/// Has makers make the four parts in a store whose limit is one node for a shard: that of the first pair stands after the refusal.
+fn full_by<R: Threads + Sync + Abort, H: Watch + Sync>(
     rt: &R,
     alloc: Global,
-    pool: &mut Pool<'_, R, H, ShardTask>,
+    makers: &Makers<'_, R, H>,
 ) -> Result<(), AllocError> {
     let mut store = Store::new(alloc, 2, 1)?;
     let b = ok(rt, store.variable(1));
     assert!(rt; store.top(b) == 1);
     assert!(rt; shard_of(Ref::TRUE, b) == 3);
-    let made = make_four(alloc, pool, &mut store, b)?;
+    let made = make_four(alloc, makers, &mut store, b)?;
     assert!(rt; made.err() == Some(StoreFault::Full));
     assert!(rt; store.count() == 2);
     assert!(rt; store.find(0, Ref::TRUE, b).is_some());
@@ -255,39 +251,35 @@ fn full_on<R: Wait + Abort, H: Watch>(
     Ok(())
 }
 
-/// Both on a pool of so many threads.
-fn made_by_threads<R: Threads + Wait + Sync + Abort, H: Watch + Sync>(
+/// Both by so many threads.
+fn made_by_threads<R: Threads + Sync + Abort, H: Watch + Sync>(
     rt: &R,
     alloc: Global,
     watch: &H,
-    threads: u32,
+    count: u32,
 ) -> Result<(), AllocError> {
-    thread::scope(thread::scope_env(), rt, |scope| -> Result<(), AllocError> {
-        let lines = start_all(scope, rt, watch, alloc, threads);
-        assert!(rt; lines.len() == threads as usize);
-        let mut pool = Pool { rt, watch, lines };
-        made_on(rt, alloc, &mut pool)?;
-        full_on(rt, alloc, &mut pool)
-    })
+    let makers = Makers { rt, watch, count };
+    made_by(rt, alloc, &makers)?;
+    full_by(rt, alloc, &makers)
 }
 
 #[test]
-fn made_by_a_pool(rt: HostRuntime) -> Result<(), Fail> {
-    for threads in [0, 1, 3, 15, 20] {
+fn made_by_makers(rt: HostRuntime) -> Result<(), Fail> {
+    for count in [0, 1, 2, 3, 7, 16, 20] {
         let watch = Visits {
             count: AtomicU64::new(0),
         };
-        made_by_threads(&rt, rt.alloc(), &watch, threads)?;
+        made_by_threads(&rt, rt.alloc(), &watch, count)?;
         assert!(rt; watch.count.load(Ordering::SeqCst) == 48);
     }
     Ok(())
 }
 
 #[test]
-fn two_at_tasks(rt: HostRuntime) -> Result<(), Fail> {
-    for threads in [1, 3] {
+fn two_makers_at_ends(rt: HostRuntime) -> Result<(), Fail> {
+    for count in [2, 4] {
         let watch = AtEnds::of(0);
-        made_by_threads(&rt, rt.alloc(), &watch, threads)?;
+        made_by_threads(&rt, rt.alloc(), &watch, count)?;
         assert!(rt; watch.met());
     }
     Ok(())

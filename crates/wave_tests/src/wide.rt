@@ -100,8 +100,23 @@ fn wide_level(rt: HostRuntime) -> Result<(), Fail> {
     Ok(())
 }
 
-/// The entries of so many sums in a store that gets the products.
-fn sums_of<R: Threads + Wait + Abort + Sync>(
+/// So many variables have enough products.
+const MANY: u16 = 76;
+
+/// An operation on each two products of many variables, for three operations: 8,325 requests of the first level.
+fn combinations<R: Abort>(rt: &R, alloc: Global) -> Vec<Step> {
+    let mut steps = Vec::new(alloc);
+    for op in [Op::Or, Op::And, Op::Xor] {
+        let more = pairs(rt, alloc, op, FACTOR + MANY as usize, MANY - 1);
+        steps
+            .extend_from_slice(more.as_slice())
+            .expect(rt, "memory");
+    }
+    steps
+}
+
+/// The entries of so many combinations in a store that gets the products.
+fn combined<R: Threads + Wait + Abort + Sync>(
     rt: &R,
     alloc: Global,
     store: &mut Store,
@@ -110,7 +125,7 @@ fn sums_of<R: Threads + Wait + Abort + Sync>(
     ensures { All (IsEntry store.new) result.items }
 {
     let mut known = start(rt, alloc, store);
-    let factors = products(rt, alloc, 66);
+    let factors = products(rt, alloc, MANY);
     let made = run(
         rt,
         alloc,
@@ -121,7 +136,7 @@ fn sums_of<R: Threads + Wait + Abort + Sync>(
         Way::Upto(0),
     );
     assert!(rt; made.is_ok());
-    let steps = sums(rt, alloc);
+    let steps = combinations(rt, alloc);
     let steps = steps.get(..count).expect(rt, "fewer products");
     entries_of(rt, alloc, store, known.as_slice(), steps)
 }
@@ -174,37 +189,62 @@ fn told_shards<R: Threads + Wait + Abort + Sync>(
     rt: &R,
     alloc: Global,
     records: usize,
-) -> Result<(u64, bool), Fail> {
-    let mut store = Store::new(alloc, 66, 10_000)?;
-    let entries = sums_of(rt, alloc, &mut store, records);
+    workers: u32,
+) -> Result<(u64, bool), Fail>
+    requires workers { (0 < workers) × (workers ≤ 16) }
+{
+    let mut store = Store::new(alloc, MANY, 20_000)?;
+    let entries = combined(rt, alloc, &mut store, records);
     let gate = Shards {
         counts: AtomicU64::new(0),
         elsewhere: AtomicBool::new(false),
     };
-    summed(rt, alloc, &mut store, entries.as_slice(), 2, &gate)?;
+    summed(rt, alloc, &mut store, entries.as_slice(), workers, &gate)?;
     Ok((
         gate.counts.load(Ordering::SeqCst),
         gate.elsewhere.load(Ordering::SeqCst),
     ))
 }
 
-// A level of 1,023 records is left to the caller's thread; of one with 1,024 each shard is told once.
+// A level of 8,191 records is left to the caller's thread; of one with 8,192 each shard is told once.
 #[test]
 fn shards_of_a_wide_level(rt: HostRuntime) -> Result<(), Fail> {
-    let few = told_shards(&rt, rt.alloc(), 1_023)?;
+    let few = told_shards(&rt, rt.alloc(), 8_191, 2)?;
     assert!(rt; few == (0, false));
-    let many = told_shards(&rt, rt.alloc(), 1_024)?;
+    let many = told_shards(&rt, rt.alloc(), 8_192, 2)?;
     assert!(rt; many == (0x1111_1111_1111_1111, false));
+    let alone = told_shards(&rt, rt.alloc(), 8_192, 1)?;
+    assert!(rt; alone == (0, false));
     Ok(())
 }
 
-/// Four threads meet where they come to shards.
+/// Threads meet where they come to shards, and it is seen whether there are ever more than so many.
 #[derive(Drop)]
-struct AtShards(Meeting);
+struct AtShards {
+    meeting: Meeting,
+    most: u64,
+    present: AtomicU64,
+    too_many: AtomicBool,
+}
+
+impl AtShards {
+    fn of(wanted: u32, most: u64) -> AtShards {
+        AtShards {
+            meeting: Meeting::of(wanted),
+            most,
+            present: AtomicU64::new(0),
+            too_many: AtomicBool::new(false),
+        }
+    }
+}
 
 impl Watch for AtShards {
     fn at_shard(&self, _shard: u8, _level: u16) {
-        self.0.come();
+        if self.present.fetch_add(1, Ordering::SeqCst) >= self.most {
+            self.too_many.store(true, Ordering::SeqCst);
+        }
+        self.meeting.come();
+        self.present.fetch_sub(1, Ordering::SeqCst);
     }
 }
 
@@ -216,13 +256,23 @@ impl Gate for AtShards {
     }
 }
 
-// Four threads are at once in the shards of a level, however few workers there are.
+// As many threads as there are workers are at once in the shards of a level, and never more.
 #[test]
-fn four_at_shards(rt: HostRuntime) -> Result<(), Fail> {
-    let mut store = Store::new(rt.alloc(), 66, 10_000)?;
-    let entries = sums_of(&rt, rt.alloc(), &mut store, 2_080);
-    let gate = AtShards(Meeting::of(4));
-    summed(&rt, rt.alloc(), &mut store, entries.as_slice(), 1, &gate)?;
-    assert!(rt; gate.0.met());
+fn workers_at_shards(rt: HostRuntime) -> Result<(), Fail> {
+    for workers in [2, 4] {
+        let mut store = Store::new(rt.alloc(), MANY, 20_000)?;
+        let entries = combined(&rt, rt.alloc(), &mut store, 8_300);
+        let gate = AtShards::of(workers, workers as u64);
+        summed(
+            &rt,
+            rt.alloc(),
+            &mut store,
+            entries.as_slice(),
+            workers,
+            &gate,
+        )?;
+        assert!(rt; gate.meeting.met());
+        assert!(rt; !gate.too_many.load(Ordering::SeqCst));
+    }
     Ok(())
 }

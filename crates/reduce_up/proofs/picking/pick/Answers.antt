@@ -8,7 +8,7 @@ pub loop-home-init : goal.loop-home-init
 loop-home-init c =
     let starts = c.args.starts.now in let sources = source c.args.refs.now c.args.homes.now in
     let p : c.extend_from_slice.new.self.items ≡ starts = c.in_ok-extend_from_slice.ensures.items ∙ ap (λ z. z ++ starts) c.in_ok-places.ensures.items in
-    subst (λ z. ArePicking [] (λ s. get_or starts s 0) sources z c.in_ok-answers.answers.items) (sym p) (picking_none starts sources c.in_ok-answers.answers.items c.requires.starts c.in_ok-answers.ensures.items)
+    subst (λ z. ArePicking [] (λ s. get_or starts s 0) sources z c.empty.new.answers.items) (sym p) (picking_none starts sources c.empty.new.answers.items c.requires.starts c.in_ok-empty.ensures.items)
 
 pub diagram_at-requires-clause-place : goal.diagram_at-requires-clause-place
 diagram_at-requires-clause-place c =

@@ -1,20 +1,20 @@
-use Rattle.std.proofs.Common.{◌≡◌, ℕ, length, sym, ◌∙◌, subst}
+use Rattle.std.proofs.Common.{◌≡◌, length, sym, subst, rules}
 use Rattle.std.specs.Prelude.{IfOk}
-use Rattle.std.specs.Arc.{arc_value}
-use Rattle.expand_work.proofs.Zips.{zip_long}
-use Rattle.reduce_up.specs.declared.picking.Sources.{Sources}
+use Rattle.std.specs.Vec.{with_items}
+use Rattle.std.proofs.lemmas.List.{with_items_is}
 use Rattle.reduce_up.specs.Division.{ArePicked}
-use Rattle.reduce_up.specs.Steps.{IsPickTask, AllArePicked}
-use Rattle.reduce_up.proofs.Stepping.{all_picked}
+use Rattle.reduce_up.specs.Steps.{AreAllPicked}
 use Rattle.reduce_up.proofs.picking.pick_all.Goals as goal
 
 pub join_picked-requires : goal.join_picked-requires
 join_picked-requires g c =
-    let tasks = c.in_ok-tasks.tasks.items in let done = c.run_all-picked.result.items in
-    subst (λ z. AllArePicked z done) (sym c.deref.ensures) (all_picked (arc_value c.args.sources.now) _ tasks done c.in_ok-tasks.ensures c.run_all-picked.ensures.done)
+    let shares = c.in_ok-shares.shares in
+    let stored : (with_items shares c.pick_each.new.shares).items ≡ c.pick_each.new.shares = with_items_is shares c.pick_each.new.shares (search rules) in
+    subst (AreAllPicked c.args.parts.now c.args.homes.now c.args.refs.now) (sym stored) c.pick_each.ensures
 
 pub returns : goal.returns
 returns g c =
-    let tasks = c.in_ok-tasks.tasks.items in let done = c.run_all-picked.result.items in
-    let long : length done ≡ length (arc_value c.args.sources.now).homes.items = sym (zip_long IsPickTask tasks done c.run_all-picked.ensures.done) ∙ c.in_ok-tasks.ensures.long in
-    subst (λ (z : Sources × ℕ). IfOk c.join_picked.result (λ answers. ArePicked (arc_value z.0.parts).items z.0.homes.items z.0.refs.items z.1 answers.items)) (λ i. (c.deref.ensures i, long i)) c.join_picked.ensures
+    let shares = c.in_ok-shares.shares in
+    let stored : (with_items shares c.pick_each.new.shares).items ≡ c.pick_each.new.shares = with_items_is shares c.pick_each.new.shares (search rules) in
+    let long : length (with_items shares c.pick_each.new.shares).items ≡ length c.args.homes.now = search rules in
+    subst (λ z. IfOk c.join_picked.result (λ answers. ArePicked c.args.parts.now c.args.homes.now c.args.refs.now z answers.items)) long c.join_picked.ensures

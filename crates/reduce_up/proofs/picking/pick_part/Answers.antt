@@ -1,6 +1,6 @@
 use Rattle.std.proofs.Common.{◌+◌, ◌<◌, ◌≤◌, length, get_or, sym, ◌∙◌, subst, arith}
 use Rattle.std.proofs.lemmas.List.{get_or_default}
-use Rattle.std.specs.Prelude.{IfOk}
+use Rattle.std.specs.Prelude.{OnOk}
 use Rattle.dd_store.specs.Levels.{list_at}
 use Rattle.reduce_up.specs.Division.{chosen, source, AreHomes, IsPickedOf}
 use Rattle.reduce_up.proofs.Joined.{some_of, pick_room, picked_from}
@@ -8,7 +8,7 @@ use Rattle.reduce_up.proofs.picking.pick_part.Goals as goal
 
 pub pick-requires-clause-homes : goal.pick-requires-clause-homes
 pick-requires-clause-homes c =
-    let parts = c.args.parts.now in let k = c.args.job.part in let refs = c.args.refs.now in
+    let parts = c.args.parts.now in let k = c.args.part in let refs = c.args.refs.now in
     let kh = c.requires.part in
     let kp : k < length parts = (let e = c.requires.may.many in omega (arith, e, kh)) in
     let p = some_of parts (omega (arith, kp)) in
@@ -19,7 +19,7 @@ pick-requires-clause-homes c =
 
 pub pick-requires-clause-room : goal.pick-requires-clause-room
 pick-requires-clause-room c =
-    let parts = c.args.parts.now in let k = c.args.job.part in let refs = c.args.refs.now in
+    let parts = c.args.parts.now in let k = c.args.part in let refs = c.args.refs.now in
     let kh = c.requires.part in
     let kp : k < length parts = (let e = c.requires.may.many in omega (arith, e, kh)) in
     let p = some_of parts (omega (arith, kp)) in
@@ -32,5 +32,5 @@ pick-requires-clause-room c =
 pub returns : goal.returns
 returns c = λ hd.
     let h = c.index-homes-part.result in
-    subst (λ z. IfOk c.pick.result (λ answers. IsPickedOf c.args.parts.now c.args.refs.now c.args.job.part z answers.items)) (c.index-homes-part.is ∙ get_or_default c.args.homes.now c.args.job.part h hd c.requires.part)
-    (picked_from c.args.parts.now c.args.refs.now c.args.job.part h c.in_ok-starts.starts.items c.in_ok-starts.ensures.starts c.as_slice.result.now c.as_slice.ensures.value c.pick.result c.pick.ensures)
+    subst (λ z. OnOk c.pick.result (IsPickedOf c.args.parts.now c.args.refs.now c.args.part z c.pick.new.answers.items)) (c.index-homes-part.is ∙ get_or_default c.args.homes.now c.args.part h hd c.requires.part)
+    (picked_from c.args.parts.now c.args.refs.now c.args.part h c.in_ok-starts.starts.items c.in_ok-starts.ensures.starts c.as_slice.result.now c.as_slice.ensures.value c.pick.new.answers.items c.pick.result c.pick.ensures)

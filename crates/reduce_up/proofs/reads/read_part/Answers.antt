@@ -16,78 +16,78 @@ pub loop-next-init : goal.loop-next-init
 loop-next-init c =
     let t = c.args.team in
     let T = told t.workers t.parts.now t.answers.now in
-    let row = row_of t.parts.now.rows c.args.job.sender c.args.level in
+    let row = row_of t.parts.now.rows c.args.sender c.args.level in
     let long : length c.children-row.result.now ≡ length row = ap (λ z. length z) c.children-row.ensures ∙ lean-long (length t.parts.now.rows) row in
-    let d = c.in_ok-divided.divided in
+    let d = c.empty.new.self in
     record {
       bound = omega (arith, long);
-      left = subst (λ z. AreLeft t.workers (before t.workers t.roots.now t.parts.now c.args.job.sender c.args.level z) c.args.job.left.items) (sym long)
-          (subst (λ z. AreLeft t.workers z c.args.job.left.items) (sym (before_whole t.workers t.roots.now t.parts.now c.args.job.sender c.args.level)) c.requires.left);
-      sixteen = c.in_ok-divided.ensures.sixteen;
+      left = subst (λ z. AreLeft t.workers (before t.workers t.roots.now t.parts.now c.args.sender c.args.level z) c.args.left.now.items) (sym long)
+          (subst (λ z. AreLeft t.workers z c.args.left.now.items) (sym (before_whole t.workers t.roots.now t.parts.now c.args.sender c.args.level)) c.requires.left);
+      sixteen = c.in_ok-empty.ensures.sixteen;
       divided = subst (λ z. IsDivided T (reverse (drop z row)) d.homes (list_at d.lists.items)) (sym long)
           (subst (λ z. IsDivided T (reverse z) d.homes (list_at d.lists.items)) (sym (drop-length row))
-          (divided_none T d.homes (list_at d.lists.items) c.in_ok-divided.ensures.numbers c.in_ok-divided.ensures.equal c.in_ok-divided.ensures.empty));
+          (divided_none T d.homes (list_at d.lists.items) c.in_ok-empty.ensures.numbers c.in_ok-empty.ensures.equal c.in_ok-empty.ensures.empty));
     }
 
 pub resolve-high-requires-clause-child : goal.resolve-high-requires-clause-child
 resolve-high-requires-clause-child c =
     let t = c.args.team in let i : ℕ = c.loop-next.next - 1 in let some = c.loop-next-test.true in let bound = c.loop-next.invariant.bound in
-    let n = t.workers in let p = t.parts.now in let a = t.answers.now in let v = c.args.level in let s = c.args.job.sender in
+    let n = t.workers in let p = t.parts.now in let a = t.answers.now in let v = c.args.level in let s = c.args.sender in
     let own = row_of p.rows s v in
     let entry = c.index-row-next.result in
     let e : c.loop-next.next ≡ i + 1 = omega (arith, some) in
     let ib : i < length own = omega (arith, some, bound) in
     let w = row_read n p s v c.children-row.result.now c.children-row.ensures c.requires.halfway.parts.many_rows i ib entry c.index-row-next.is in
     let r : Record = w.0 in
-    let left = subst (λ z. AreLeft n (before n t.roots.now p s v z) c.loop-next.rest.items) e c.loop-next.invariant.left in
-    let high : IsNext n p a s c.loop-next.rest.items entry.1 r.high = (w.3, high_last n t.roots.now p v a c.requires.halfway s c.requires.sender c.requires.found i r ib w.1 c.loop-next.rest.items left, high_found n t.roots.now p v a c.requires.halfway s c.requires.sender c.requires.found i r ib w.1) in
+    let left = subst (λ z. AreLeft n (before n t.roots.now p s v z) c.loop-next.left.items) e c.loop-next.invariant.left in
+    let high : IsNext n p a s c.loop-next.left.items entry.1 r.high = (w.3, high_last n t.roots.now p v a c.requires.halfway s c.requires.sender c.requires.found i r ib w.1 c.loop-next.left.items left, high_found n t.roots.now p v a c.requires.halfway s c.requires.sender c.requires.found i r ib w.1) in
     (r.high, high)
 
 pub resolve-low-requires-clause-child : goal.resolve-low-requires-clause-child
 resolve-low-requires-clause-child c =
     let t = c.args.team in let i : ℕ = c.loop-next.next - 1 in let some = c.loop-next-test.true in let bound = c.loop-next.invariant.bound in
-    let n = t.workers in let p = t.parts.now in let a = t.answers.now in let v = c.args.level in let s = c.args.job.sender in
+    let n = t.workers in let p = t.parts.now in let a = t.answers.now in let v = c.args.level in let s = c.args.sender in
     let own = row_of p.rows s v in
     let entry = c.index-row-next.result in
     let e : c.loop-next.next ≡ i + 1 = omega (arith, some) in
     let ib : i < length own = omega (arith, some, bound) in
     let w = row_read n p s v c.children-row.result.now c.children-row.ensures c.requires.halfway.parts.many_rows i ib entry c.index-row-next.is in
     let r : Record = w.0 in
-    let left = subst (λ z. AreLeft n (before n t.roots.now p s v z) c.loop-next.rest.items) e c.loop-next.invariant.left in
-    let high : IsNext n p a s c.loop-next.rest.items entry.1 r.high = (w.3, high_last n t.roots.now p v a c.requires.halfway s c.requires.sender c.requires.found i r ib w.1 c.loop-next.rest.items left, high_found n t.roots.now p v a c.requires.halfway s c.requires.sender c.requires.found i r ib w.1) in
-    let mid = after_high n t.roots.now p v a c.requires.halfway s c.requires.sender c.requires.found i r ib w.1 c.loop-next.rest.items c.resolve-high.new.left.items left (c.resolve-high.ensures.left r.high high) in
+    let left = subst (λ z. AreLeft n (before n t.roots.now p s v z) c.loop-next.left.items) e c.loop-next.invariant.left in
+    let high : IsNext n p a s c.loop-next.left.items entry.1 r.high = (w.3, high_last n t.roots.now p v a c.requires.halfway s c.requires.sender c.requires.found i r ib w.1 c.loop-next.left.items left, high_found n t.roots.now p v a c.requires.halfway s c.requires.sender c.requires.found i r ib w.1) in
+    let mid = after_high n t.roots.now p v a c.requires.halfway s c.requires.sender c.requires.found i r ib w.1 c.loop-next.left.items c.resolve-high.new.left.items left (c.resolve-high.ensures.left r.high high) in
     let low : IsNext n p a s c.resolve-high.new.left.items entry.0 r.low = (w.2, low_last n t.roots.now p v a c.requires.halfway s c.requires.sender c.requires.found i r ib w.1 c.resolve-high.new.left.items mid, low_found n t.roots.now p v a c.requires.halfway s c.requires.sender c.requires.found i r ib w.1) in
     (r.low, low)
 
 pub resolve-low-requires-clause-long : goal.resolve-low-requires-clause-long
 resolve-low-requires-clause-long c =
     let t = c.args.team in let i : ℕ = c.loop-next.next - 1 in let some = c.loop-next-test.true in let bound = c.loop-next.invariant.bound in
-    let n = t.workers in let p = t.parts.now in let a = t.answers.now in let v = c.args.level in let s = c.args.job.sender in
+    let n = t.workers in let p = t.parts.now in let a = t.answers.now in let v = c.args.level in let s = c.args.sender in
     let own = row_of p.rows s v in
     let entry = c.index-row-next.result in
     let e : c.loop-next.next ≡ i + 1 = omega (arith, some) in
     let ib : i < length own = omega (arith, some, bound) in
     let w = row_read n p s v c.children-row.result.now c.children-row.ensures c.requires.halfway.parts.many_rows i ib entry c.index-row-next.is in
     let r : Record = w.0 in
-    let left = subst (λ z. AreLeft n (before n t.roots.now p s v z) c.loop-next.rest.items) e c.loop-next.invariant.left in
-    let high : IsNext n p a s c.loop-next.rest.items entry.1 r.high = (w.3, high_last n t.roots.now p v a c.requires.halfway s c.requires.sender c.requires.found i r ib w.1 c.loop-next.rest.items left, high_found n t.roots.now p v a c.requires.halfway s c.requires.sender c.requires.found i r ib w.1) in
-    let mid = after_high n t.roots.now p v a c.requires.halfway s c.requires.sender c.requires.found i r ib w.1 c.loop-next.rest.items c.resolve-high.new.left.items left (c.resolve-high.ensures.left r.high high) in
+    let left = subst (λ z. AreLeft n (before n t.roots.now p s v z) c.loop-next.left.items) e c.loop-next.invariant.left in
+    let high : IsNext n p a s c.loop-next.left.items entry.1 r.high = (w.3, high_last n t.roots.now p v a c.requires.halfway s c.requires.sender c.requires.found i r ib w.1 c.loop-next.left.items left, high_found n t.roots.now p v a c.requires.halfway s c.requires.sender c.requires.found i r ib w.1) in
+    let mid = after_high n t.roots.now p v a c.requires.halfway s c.requires.sender c.requires.found i r ib w.1 c.loop-next.left.items c.resolve-high.new.left.items left (c.resolve-high.ensures.left r.high high) in
     let low : IsNext n p a s c.resolve-high.new.left.items entry.0 r.low = (w.2, low_last n t.roots.now p v a c.requires.halfway s c.requires.sender c.requires.found i r ib w.1 c.resolve-high.new.left.items mid, low_found n t.roots.now p v a c.requires.halfway s c.requires.sender c.requires.found i r ib w.1) in
     mid.long
 
 pub loop-next-preserved : goal.loop-next-preserved
 loop-next-preserved c =
     let t = c.args.team in let i : ℕ = c.loop-next.next - 1 in let some = c.loop-next-test.true in let bound = c.loop-next.invariant.bound in
-    let n = t.workers in let p = t.parts.now in let a = t.answers.now in let v = c.args.level in let s = c.args.job.sender in
+    let n = t.workers in let p = t.parts.now in let a = t.answers.now in let v = c.args.level in let s = c.args.sender in
     let own = row_of p.rows s v in
     let entry = c.index-row-next.result in
     let e : c.loop-next.next ≡ i + 1 = omega (arith, some) in
     let ib : i < length own = omega (arith, some, bound) in
     let w = row_read n p s v c.children-row.result.now c.children-row.ensures c.requires.halfway.parts.many_rows i ib entry c.index-row-next.is in
     let r : Record = w.0 in
-    let left = subst (λ z. AreLeft n (before n t.roots.now p s v z) c.loop-next.rest.items) e c.loop-next.invariant.left in
-    let high : IsNext n p a s c.loop-next.rest.items entry.1 r.high = (w.3, high_last n t.roots.now p v a c.requires.halfway s c.requires.sender c.requires.found i r ib w.1 c.loop-next.rest.items left, high_found n t.roots.now p v a c.requires.halfway s c.requires.sender c.requires.found i r ib w.1) in
-    let mid = after_high n t.roots.now p v a c.requires.halfway s c.requires.sender c.requires.found i r ib w.1 c.loop-next.rest.items c.resolve-high.new.left.items left (c.resolve-high.ensures.left r.high high) in
+    let left = subst (λ z. AreLeft n (before n t.roots.now p s v z) c.loop-next.left.items) e c.loop-next.invariant.left in
+    let high : IsNext n p a s c.loop-next.left.items entry.1 r.high = (w.3, high_last n t.roots.now p v a c.requires.halfway s c.requires.sender c.requires.found i r ib w.1 c.loop-next.left.items left, high_found n t.roots.now p v a c.requires.halfway s c.requires.sender c.requires.found i r ib w.1) in
+    let mid = after_high n t.roots.now p v a c.requires.halfway s c.requires.sender c.requires.found i r ib w.1 c.loop-next.left.items c.resolve-high.new.left.items left (c.resolve-high.ensures.left r.high high) in
     let low : IsNext n p a s c.resolve-high.new.left.items entry.0 r.low = (w.2, low_last n t.roots.now p v a c.requires.halfway s c.requires.sender c.requires.found i r ib w.1 c.resolve-high.new.left.items mid, low_found n t.roots.now p v a c.requires.halfway s c.requires.sender c.requires.found i r ib w.1) in
     let fewer = after_low n t.roots.now p v a c.requires.halfway s c.requires.sender c.requires.found i r ib w.1 c.resolve-high.new.left.items c.resolve-low.new.left.items mid (c.resolve-low.ensures.left r.low low) in
     let T = told n p a in
@@ -108,6 +108,6 @@ returns c =
     let z : c.loop-next.next ≡ 0 = omega arith in
     record {
       sixteen = c.loop-next.invariant.sixteen;
-      divided = subst (λ k. IsDivided (told t.workers t.parts.now t.answers.now) (reverse (drop k (row_of t.parts.now.rows c.args.job.sender c.args.level))) c.loop-next.divided.homes (list_at c.loop-next.divided.lists.items)) z c.loop-next.invariant.divided;
-      rest = subst (λ k. AreLeft t.workers k c.loop-next.rest.items) (ap (before t.workers t.roots.now t.parts.now c.args.job.sender c.args.level) z ∙ before_none t.workers t.roots.now t.parts.now c.args.job.sender c.args.level) c.loop-next.invariant.left;
+      divided = subst (λ k. IsDivided (told t.workers t.parts.now t.answers.now) (reverse (drop k (row_of t.parts.now.rows c.args.sender c.args.level))) c.loop-next.divided.homes (list_at c.loop-next.divided.lists.items)) z c.loop-next.invariant.divided;
+      rest = subst (λ k. AreLeft t.workers k c.loop-next.left.items) (ap (before t.workers t.roots.now t.parts.now c.args.sender c.args.level) z ∙ before_none t.workers t.roots.now t.parts.now c.args.sender c.args.level) c.loop-next.invariant.left;
     }

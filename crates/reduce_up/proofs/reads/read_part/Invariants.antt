@@ -10,7 +10,7 @@ use Rattle.reduce_up.proofs.reads.read_part.Given as goal
 abbrev pub invariant-loop-next : goal.invariant-loop-next
 invariant-loop-next l = record {
   bound : l.next ≤ length (row_of l.team.parts.now.rows l.sender l.level);
-  left : AreLeft l.team.workers (before l.team.workers l.team.roots.now l.team.parts.now l.sender l.level l.next) l.rest.items;
+  left : AreLeft l.team.workers (before l.team.workers l.team.roots.now l.team.parts.now l.sender l.level l.next) l.left.items;
   sixteen : length l.divided.lists.items ≡ 16;
   divided : IsDivided (told l.team.workers l.team.parts.now l.team.answers.now) (reverse (drop l.next (row_of l.team.parts.now.rows l.sender l.level))) l.divided.homes (list_at l.divided.lists.items);
 }

@@ -8,11 +8,10 @@ use Rattle.reduce_up.proofs.Rooting.{team_closure, roots_left}
 use Rattle.reduce_up.specs.Reducing.{AddsDescribed}
 use Rattle.reduce_up.specs.Waves.{IsWanted, entries_for}
 use Rattle.reduce_up.proofs.Waving.{wave_records, wave_adds, wave_answers, wave_within, wave_refused, wave_given_up, wave_done}
-use Rattle.std.specs.Arc.{arc_value}
 use Rattle.reduce_up.proofs.waves.answer_team.Goals as goal
 
 pub reduce_team-requires-clause-records : goal.reduce_team-requires-clause-records
-reduce_team-requires-clause-records g c =
+reduce_team-requires-clause-records g c κs within =
     let S = c.args.store.now in let f = c.args.field in let n = f.workers in let p = f.parts.now in
     let rows = gathered S.levels (team_row n p) in
     let good = c.requires.roots in
@@ -23,7 +22,7 @@ reduce_team-requires-clause-records g c =
     wave_records S c.levels.ensures.sound n c.requires.some E operands rows closure
 
 pub root_answers-requires-clause-levels : goal.root_answers-requires-clause-levels
-root_answers-requires-clause-levels g c = ap (λ (z : AnswersView). length z.found) (c.team-team.ensures.answers ∙ c.deref.ensures) ∙ c.in-Ok-reduce_team.ensures.reached.levels ∙ sym c.reduce_team.ensures.adds.keeps.levels
+root_answers-requires-clause-levels g c = ap (λ (z : AnswersView). length z.found) c.team-team.ensures.answers ∙ c.in-Ok-reduce_team.ensures.reached.levels ∙ sym c.reduce_team.ensures.adds.keeps.levels
 
 pub root_answers-requires-clause-lefts : goal.root_answers-requires-clause-lefts
 root_answers-requires-clause-lefts g c =
@@ -56,9 +55,9 @@ returns-clause-wave g c =
     let closure = team_closure S c.levels.ensures.sound n c.requires.some f.roots.now good p c.requires.parts E again in
     let adds : AddsDescribed S c.reduce_team.new.store (IsWanted S E) =
     wave_adds S c.levels.ensures.sound n c.requires.some E operands rows closure c.reduce_team.new.store c.reduce_team.ensures.sound c.reduce_team.ensures.adds in
-    let known = arc_value c.reduce_team.new.progress.answers in
+    let known = c.reduce_team.new.progress.answers in
     let told-each = subst (λ (z : ℕ × List Key × PartsView × AnswersView). AllZip (λ k r. Contains (told z.0 z.2 z.3) (k, r)) z.1 c.in-Ok-root_answers.found.items)
-    (λ i. (c.team-team.ensures.workers i, c.team-team.ensures.roots i, c.team-team.ensures.parts i, (c.team-team.ensures.answers ∙ c.deref.ensures) i)) c.in-Ok-root_answers.ensures in
+    (λ i. (c.team-team.ensures.workers i, c.team-team.ensures.roots i, c.team-team.ensures.parts i, c.team-team.ensures.answers i)) c.in-Ok-root_answers.ensures in
     wave_done S E E c.reduce_team.new.store c.in-Ok-root_answers.found c.reduce_team.ensures.sound adds
     (wave_answers S c.levels.ensures.sound n c.requires.some E operands rows closure c.reduce_team.new.store c.reduce_team.ensures.sound c.reduce_team.ensures.adds (told n p known) c.in-Ok-reduce_team.ensures.answers E operands c.in-Ok-root_answers.found.items (taken_each S (told n p known) f.roots.now c.in-Ok-root_answers.found.items good told-each))
     (wave_within S c.levels.ensures.sound n c.requires.some E operands rows closure c.reduce_team.new.store c.reduce_team.ensures.sound c.reduce_team.ensures.adds c.in-Ok-reduce_team.ensures.within)

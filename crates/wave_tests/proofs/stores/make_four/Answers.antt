@@ -5,4 +5,4 @@ use Rattle.wave_tests.proofs.stores.make_four.Goals as goal
 pub make_by-made-requires-clause-ready : goal.make_by-made-requires-clause-ready
 make_by-made-requires-clause-ready g c =
     let r = c.requires in
-    rw c.in_ok-parts-2.ensures.ok (ready_four c.args.store.now c.args.b (all_at c.in_ok-parts.parts.items) r.levels r.here r.top r.shard c.in_ok-parts.ensures.only)
+    rw c.as_slice.ensures.value (ready_four c.args.store.now c.args.b (all_at c.in_ok-parts.parts.items) r.levels r.here r.top r.shard c.in_ok-parts.ensures.only)

@@ -1,5 +1,4 @@
-use Rattle.std.specs.Arc.{arc_value}
-use Rattle.std.proofs.Common.{◌≡◌, ◌<◌, ◌*◌, length, get_or, ℕ, ◌+◌, ◌-◌, List, sym, subst, ap, rules, arith}
+use Rattle.std.proofs.Common.{◌≡◌, ◌<◌, ◌*◌, length, ℕ, ◌+◌, ◌-◌, List, sym, subst, ap, rules, arith}
 use Rattle.std.specs.Vec.{vec_len}
 use Rattle.dd_store.specs.declared.level.Slot.{Slot}
 use Rattle.dd_store.specs.Graph.{Pair}
@@ -9,44 +8,32 @@ use Rattle.std.proofs.Common.{◌∙◌, Option}
 use Rattle.std.specs.List.{sum_by}
 use Rattle.std.proofs.lemmas.List.{length-map}
 use Rattle.dd_store.specs.declared.StoreFault.{StoreFault}
-use Rattle.dd_store.specs.Levels.{pairs_of, all_at, plain_lists, IsFault, IsNoted}
-use Rattle.dd_store.proofs.LevelGrown.{within_old, sixteen-left, sixteen_slots, slots_of_level}
-use Rattle.dd_store.proofs.Dividing.{all_may-of}
-use Rattle.dd_store.specs.Tasks.{IsTaskOf}
-use Rattle.std.specs.Prelude.{All}
+use Rattle.dd_store.specs.Levels.{pairs_of, all_at, plain_lists, IsFault}
+use Rattle.dd_store.proofs.LevelGrown.{within_old, sixteen-left}
 use Rattle.dd_store.proofs.Widening.{Widened, Noted, within, grows, sound, fewer, counted, small, taken, answers_of, fault_of_level}
 use Rattle.dd_store.proofs.store.Store.make_level_by.Goals.{After-make_slots}
 use Rattle.dd_store.proofs.store.Store.make_level_by.Given.{Over}
 use Rattle.dd_store.proofs.store.Store.make_level_by.Goals as goal
 
--- once the makers have made the lists
+-- once the threads have made the lists
 module _ (g : Over) (c : After-make_slots g) where
   -- the store before the call
   abbrev S : Nodes
   S = record { levels = c.self.inside.levels; limit = c.self.inside.limit; shards = pairs_of c.self.inside.slots.items }
 
-  ready : AreReady S c.args.level (all_at (arc_value c.args.parts.now).items)
-  ready = subst (λ (z : Nodes). AreReady z c.args.level (all_at (arc_value c.args.parts.now).items)) (sym c.self.view_is) c.requires.ready
+  ready : AreReady S c.args.level (all_at c.args.parts.now)
+  ready = subst (λ (z : Nodes). AreReady z c.args.level (all_at c.args.parts.now)) (sym c.self.view_is) c.requires.ready
 
   as_long : length c.deref_mut.result.now ≡ vec_len c.self.inside.slots
   as_long = search rules
 
-  of : All (IsTaskOf c.self.inside.limit c.args.level (arc_value c.args.parts.now).items) c.args.prepared.tasks.items
-  of = subst (λ (z : Nodes). All (IsTaskOf z.limit c.args.level (arc_value c.args.parts.now).items) c.args.prepared.tasks.items) (sym c.self.view_is) c.requires.of
-
-  held : length (slots_of_level c.args.level c.deref_mut.result.now) ≡ 16
-  held = sixteen_slots S c.args.level (16 * c.args.level + 16 - 16 * c.args.level) c.deref_mut.result.now c.self.invariant.sound ready.level (ap (λ z. pairs_of z) (sym c.deref_mut.ensures.value)) (omega arith)
-
-  made : (s : ℕ) (d : Slot) → s < 16 → IsNoted c.self.inside.limit c.args.level s (all_at (arc_value c.args.parts.now).items s) (get_or (slots_of_level c.args.level c.deref_mut.result.now) s d) (get_or c.make_slots.new.slots s d)
-  made s d lts = c.make_slots.ensures c.self.inside.limit c.args.level (arc_value c.args.parts.now).items of s d (let h = held in omega (arith, h, lts))
-
-  -- the level, as the makers left it
+  -- the level, as the threads left it
   abbrev level : Widened
   level = record {
     S = S;
     count = c.self.inside.count;
     v = c.args.level;
-    lists = all_at (arc_value c.args.parts.now).items;
+    lists = all_at c.args.parts.now;
     slots = c.self.inside.slots;
     xs = c.deref_mut.result.now;
     ys = c.make_slots.new.slots;
@@ -58,19 +45,13 @@ module _ (g : Over) (c : After-make_slots g) where
       level = ready.level;
       view = ap (λ z. pairs_of z) (sym c.deref_mut.ensures.value);
       as_many = c.make_slots.auto.slots;
-      added = λ s d lts. (made s d lts).0;
+      added = λ s d lts. (c.make_slots.ensures s d lts).0;
     };
   }
 
-pub make_slots-requires-clause-ready : goal.make_slots-requires-clause-ready
-make_slots-requires-clause-ready g c =
-    let of = subst (λ (z : Nodes). All (IsTaskOf z.limit c.args.level (arc_value c.args.parts.now).items) c.args.prepared.tasks.items) (sym c.self.view_is) c.requires.of in
-    all_may-of c.self.inside.limit c.args.level (arc_value c.args.parts.now).items c.args.prepared.tasks.items c.self.invariant.sound.small_limit c.requires.lists of c.requires.from
-    (let w = c.requires.whole in omega (arith, w))
-
 -- what they have noted
 noted : (g : Over) (c : After-make_slots g) (f : Option StoreFault) → IsFault c.make_slots.new.slots f → Noted (level g c) f
-noted g c f fault = record { noted = λ s d lts. (made g c s d lts).1; fault = fault }
+noted g c f fault = record { noted = λ s d lts. (c.make_slots.ensures s d lts).1; fault = fault }
 
 pub level_count-before-requires-clause-within : goal.level_count-before-requires-clause-within
 level_count-before-requires-clause-within g c =
