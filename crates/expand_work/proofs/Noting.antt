@@ -1,19 +1,18 @@
 -- The places that a worker notes of what it takes and keeps.
-use Rattle.std.proofs.Common.{◌≡◌, ◌≢◌, ℕ, ◌+◌, ◌<◌, true, false, cond, eqb, inl, inr, List, [], ◌∷◌, ◌++◌, length, map, get_or, set, slice_get, Some, refl, sym, ap, ◌∙◌, subst, arith, append_assoc, append-nil, get_or-set_same, get_or-set_other}
+use Rattle.std.proofs.Common.{◌≡◌, ◌≢◌, ℕ, ◌+◌, ◌<◌, Bool, true, false, cond, eqb, inl, inr, List, [], ◌∷◌, ◌++◌, length, map, get_or, set, slice_get, Some, refl, sym, ap, ◌∙◌, subst, arith, append_assoc, append-nil, get_or-set_same, get_or-set_other}
 use Rattle.std.specs.List.{AllZip}
 use Rattle.std.proofs.lemmas.List.{length-set, length-map, get_or-replicate, length-replicate}
-use Rattle.std.proofs.lemmas.Option.{slice_get_within, slice_get-get_or, get_or_from_slice_get}
 use Rattle.std.specs.Prelude.{replicate}
 use mathlib.Core.Logic.{dite}
 use native.Mathlib.Decide.{ℕ_discrete}
-use Rattle.slot_table.specs.Lists.{IsIn}
-use Rattle.dd_store.proofs.Places.{slice_get-push, slice_get-append}
+use Rattle.dd_store.proofs.Places.{slice_get-append}
 use Rattle.req_table.specs.declared.Key.{Key}
 use Rattle.req_table.specs.declared.Item.{Item}
 use Rattle.req_table.specs.declared.Item.TheVariants.{Ask, End}
 use Rattle.req_table.specs.Wave.{Scope}
 use Rattle.req_table.specs.Lanes.{sent_by, asks, IsFairFrom}
 use Rattle.req_table.specs.Settled.{Admits}
+use Rattle.req_table.specs.Tables.{Offers}
 use Rattle.req_table.proofs.Fair.{sent_by-append}
 use Rattle.lane_queue.specs.declared.load.Load.TheVariants.{Bundle}
 use Rattle.lane_queue.specs.Loads.{ask_of}
@@ -24,11 +23,9 @@ use Rattle.expand_work.specs.Noted.{Enters, EntersAt, StandsAt, leveled, IsNoted
 use Rattle.expand_work.proofs.Zips.{zip_push, zip_append, zip_weaker}
 
 -- ---- a table that a key was offered to
-pub found_enters : (ks : List Key) (x : Key) (p : ℕ) → slice_get ks p ≡ Some x → Enters ks x p ks
-found_enters ks x p e = (inl ((p, slice_get_within ks p x e, get_or_from_slice_get ks p x x e), refl), e)
-
-pub added_enters : (ks : List Key) (x : Key) → (IsIn ks x → ⊥) → Enters ks x (length ks) (ks ++ x ∷ [])
-added_enters ks x n = (inr ((λ c. n (c.0, slice_get-get_or ks c.0 x c.1 ∙ ap (λ z. Some z) c.2)), refl), slice_get-push ks x)
+pub offered_enters : (ks new : List Key) (x : Key) (p : ℕ) (fresh : Bool) → Offers ks x fresh new → slice_get new p ≡ Some x → Enters ks x p new
+offered_enters ks new x p true o at = (inr (o.0, sym o.1), at)
+offered_enters ks new x p false o at = (inl (o.0, sym o.1), at)
 
 -- what stood in a table stands in it
 admits_stands : (ys xs zs : List Key) (p : ℕ) (x : Key) → Admits ys xs zs → slice_get ys p ≡ Some x → slice_get zs p ≡ Some x

@@ -14,7 +14,6 @@ mod say;
 mod site;
 mod space;
 mod spare;
-mod table;
 mod team;
 mod worker;
 

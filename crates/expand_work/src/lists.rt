@@ -3,8 +3,7 @@ ghost use Rattle.std.specs.Prelude.{◌≡◌, ◌<◌, [], ◌∷◌, ◌++◌,
 ghost use Rattle.expand_work.specs.Noted.{EntersAt};
 ghost use Rattle.expand_work.specs.Work.{at};
 
-use crate::table::Table;
-use req_table::{Key, Placed};
+use req_table::{Key, Placed, Table};
 use std::alloc::{AllocError, Global};
 use std::marker::Model;
 use std::mem;
@@ -18,7 +17,7 @@ fn clear_all<T: Copy>(lists: &mut Vec<Vec<T>>)
     }
 }
 
-// Removes all keys of each table, and keeps the memory.
+// Removes all keys of each table.
 fn clear_tables(tables: &mut Vec<Table>)
     ensures { tables.new.items ≡ replicate (length tables.old.items) [] }
 {
@@ -127,7 +126,8 @@ impl Tables {
         requires { level < length self.old }
         ensures { IfOk result (λ p. EntersAt self.old level key p self.new) }
     {
-        self.tables[level as usize].admit(key)
+        let (place, _) = self.tables[level as usize].admit(key)?;
+        Ok(place)
     }
 
     /// The keys of the level's table, in order of admission.

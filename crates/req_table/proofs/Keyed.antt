@@ -1,12 +1,19 @@
--- The derived `==` of keys is equality.
-use Rattle.std.proofs.Common.{◌≡◌, ◌∙◌, ℕ, Bool, List, Option, None, Some, slice_get, Contains, IsTrue, true≢false, ap, sym}
+-- The derived `==` of keys is equality, and what that makes of a set of keys.
+use Rattle.std.proofs.Common.{if◌then◌else◌, ◌≡◌, ◌∙◌, ℕ, ◌<◌, ◌≤◌, Bool, true, false, not, List, [], ◌∷◌, ◌++◌, length, get_or, Option, None, Some, slice_get, position, Contains, AllPairs, ◌≢◌, true≢false, refl, sym, ap, subst, inl, inr, arith}
+use Rattle.std.specs.List.{list_any, IsDistinct}
 use Rattle.std.specs.Option.{MatchOption, is_some}
-use Rattle.std.proofs.lemmas.Option.{slice_get_within, slice_get-get_or, get_or_from_slice_get}
-use Rattle.slot_table.specs.Lists.{IsIn}
 use Rattle.std.specs.Cmp.{IsEquivalence}
 use Rattle.std.specs.Bool.{Decides}
+use Rattle.std.proofs.lemmas.Bool.{cases_lt}
+use Rattle.std.proofs.lemmas.List.Quantifiers.{position-Some}
+use Rattle.std.proofs.lemmas.Map.Made.{AllPairs-from_IsDistinct}
+use Rattle.std.proofs.lemmas.Map.Views.{Contains-from_any, list_any-from_Contains}
+use Rattle.std.proofs.lemmas.Option.{slice_get-get_or, slice_get_within, get_or_from_slice_get}
+use Rattle.indexmap.specs.IndexSet.{insert_key}
+use Rattle.slot_table.specs.Lists.{IsOnce}
 use Rattle.req_table.specs.declared.Key.{Key}
 use Rattle.req_table.specs.Equal.{key_same}
+use Rattle.req_table.specs.Tables.{Offers}
 use Rattle.req_table.specs.contracts.OperationPartialEq.TheImpl.{eq-value}
 use Rattle.req_table.specs.contracts.OperationEq.TheImpl.Laws.{laws-law}
 
@@ -16,3 +23,33 @@ key_laws = laws-law
 
 pub key_decides : (x y : Key) → Decides (eq-value.it x y) (x ≡ y)
 key_decides x y = (key_same x y, λ e. ap (eq-value.it x) (sym e) ∙ key_laws.refl x)
+
+-- a set of keys that has no equal key has not the key
+pub absent_from : (keys : List Key) (k : Key) → list_any (eq-value.it k) keys ≡ false → ¬ Contains keys k
+absent_from keys k e m = true≢false (sym (list_any-from_Contains key_laws k keys m) ∙ e)
+
+-- what an insertion answers and leaves is an offer
+pub offered : (old new : List Key) (k : Key) (fresh : Bool) → fresh ≡ not (list_any (eq-value.it k) old) → new ≡ insert_key eq-value.it old k → Offers old k fresh new
+offered old new k fresh e f =
+    elim (list_any (eq-value.it k) old) as (λ t. list_any (eq-value.it k) old ≡ t → fresh ≡ not t → new ≡ (if t then old else old ++ k ∷ []) → Offers old k fresh new) [
+      | true ↦ (λ t e' f'. subst (λ b. Offers old k b new) (sym e') (Contains-from_any {eq = eq-value.it} key_same k old t, f'))
+      | false ↦ (λ t e' f'. subst (λ b. Offers old k b new) (sym e') (absent_from old k t, f'))
+    ] refl e f
+
+-- an equal key that stands at a place is the key
+pub stored : (keys : List Key) (k x : Key) (p : ℕ) → slice_get keys p ≡ Some x → eq-value.it k x ≡ true → slice_get keys p ≡ Some k
+stored keys k x p at same = at ∙ ap (λ z. Some z) (sym (key_same k x same))
+
+-- what a search for a key finds
+pub found : (keys : List Key) (k : Key) (r : Option ℕ) → r ≡ position (eq-value.it k) keys → is_some r ≡ list_any (eq-value.it k) keys → MatchOption r (¬ Contains keys k) (λ p. slice_get keys p ≡ Some k)
+found keys k None e f = absent_from keys k (sym f)
+found keys k (Some p) e f = let at = position-Some (eq-value.it k) keys p k (sym e) in stored keys k (get_or keys p k) p (slice_get-get_or keys p k at.0) at.1
+
+-- a set of keys has each once
+pub once : (keys : List Key) → IsDistinct eq-value.it keys → IsOnce keys
+once keys distinct i j x a b = elim (cases_lt i j) [ inl lt ↦ absurd (apart i j a b lt) | inr ge ↦ elim (cases_lt j i) [ inl lt ↦ absurd (apart j i b a lt) | inr le ↦ omega arith ] ]
+  where
+    apart : (u v : ℕ) → slice_get keys u ≡ Some x → slice_get keys v ≡ Some x → u < v → ⊥
+    apart u v p q lt =
+        AllPairs-from_IsDistinct key_decides keys distinct u v x lt (slice_get_within keys v x q)
+        (get_or_from_slice_get keys u x x p ∙ sym (get_or_from_slice_get keys v x x q))

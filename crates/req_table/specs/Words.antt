@@ -1,4 +1,4 @@
--- The first eight bytes of a request as a number: the word of its first operand, with the number of the operation from bit 58
+-- The bytes of a request as numbers: the first eight are the word of its first operand, with the number of the operation from bit 58
 -- on.
 use Rattle.std.specs.Prelude.{ℕ, ◌+◌, ◌*◌, ◌/◌, ◌%◌, ◌^◌, ◌<◌, ◌==◌, if◌then◌else◌}
 use Rattle.dd_store.specs.declared.reference.Ref.{Ref}
@@ -14,6 +14,10 @@ first_word op f = op_number op * 2 ^ 58 + word_of f
 -- the operation of a number below 6
 abbrev pub op_of : ℕ → Op
 op_of n = if n == 0 then And else (if n == 1 then Or else (if n == 2 then Xor else (if n == 3 then Nand else (if n == 4 then Nor else Xnor))))
+
+-- all sixteen bytes as a number: the word of the second operand above the first word
+abbrev pub key_word : Operation → ℕ
+key_word k = word_of k.g * 2 ^ 64 + first_word k.op k.f
 
 -- what a first word says, with the second operand
 abbrev pub operation_of : ℕ → Ref → Operation

@@ -9,6 +9,7 @@ ghost use Rattle.req_table.specs.Words.{op_of};
 mod memo;
 mod placed;
 pub mod requests;
+mod table;
 
 use dd_store::Ref;
 pub use memo::Memo;
@@ -18,6 +19,7 @@ use std::collections::LinkedList;
 use std::fmt;
 use std::hash::{Hash, Hasher};
 use std::marker::Model;
+pub use table::Table;
 
 /// A Boolean operation on two operands.
 #[derive(Clone, Copy, Debug, PartialEq, Eq, PartialOrd, Ord, Hash)]
@@ -51,6 +53,9 @@ const _: () = prove!(size_of::<Key>() == 16);
 
 /// The lowest bit of an operation's number in a word.
 const OP_BIT: u64 = 1 << 58;
+
+/// The lowest bit of the second operand's word in the number of a request's sixteen bytes.
+const SECOND_BIT: u128 = 1 << 64;
 
 impl Model for Key {
     ghost use Rattle.req_table.specs.declared.Operation.{Operation};
@@ -188,19 +193,17 @@ impl Eq for Key {
 }
 
 impl Hash for Key {
-    ghost use Rattle.std.specs.Prelude.{◌++◌};
     ghost use Rattle.std.specs.Hash as fed;
-    ghost use Rattle.dd_store.specs.Words.{word_of};
-    ghost use Rattle.req_table.specs.Words.{first_word};
+    ghost use Rattle.req_table.specs.Words.{key_word};
     ghost use Rattle.req_table.specs.Equal.{key_same};
     ghost use Rattle.std.proofs.Common.{ap};
 
-    ghost hash_input = { λ k. fed.u64 (first_word k.op k.f) ++ fed.u64 (word_of k.g) };
+    ghost hash_input = { λ k. fed.u128 (key_word k) };
 
-    ghost respects_eq = { λ x y e. ap (λ k. fed.u64 (first_word k.op k.f) ++ fed.u64 (word_of k.g)) (key_same x y e) };
+    ghost respects_eq = { λ x y e. ap (λ k. fed.u128 (key_word k)) (key_same x y e) };
 
     fn hash<H: Hasher>(&self, state: &mut H) {
-        (self.first, self.second).hash(state);
+        state.write_u128(self.second.word() as u128 * SECOND_BIT + self.first as u128);
     }
 }
 

@@ -14,6 +14,7 @@ use Rattle.req_table.specs.declared.Child.TheVariants as child
 use Rattle.req_table.specs.Keys.{IsKey, IsChildIn, level_of, normal_of, child as child_at, child_of, answer_of}
 use Rattle.req_table.specs.Reached.{root as root_of, child as child_from}
 use Rattle.req_table.specs.Short.{short_of}
+use Rattle.req_table.specs.Tables.{Offers}
 use Rattle.req_table.proofs.Waved.{told, held, deeper, bounded}
 use Rattle.reduce_up.specs.Waves.{Entry, requests_of}
 use Rattle.reduce_up.proofs.Noting.{nothing, in_cases}
@@ -46,6 +47,11 @@ row_own lists v xs lt = get_or-set_same lists v xs [] lt
 
 pub row_other : {X : Type 0} (lists : List (List X)) (v : ℕ) (xs : List X) (w : ℕ) → w ≢ v → row (set lists v xs) w ≡ row lists w
 row_other lists v xs w ne = get_or-set_other lists v w xs [] ne
+
+-- a key that was offered to a table, and its place there
+pub offered_enters : (old new : List Key) (k : Key) (p : ℕ) (fresh : Bool) → Offers old k fresh new → slice_get new p ≡ Some k → Enters old k p new
+offered_enters old new k p true o at = (at, inr o.1)
+offered_enters old new k p false o at = (at, inl o.1)
 
 -- the place of a key that entered
 entered_kept : (old new : List Key) (k : Key) (p : ℕ) → Enters old k p new → (q : ℕ) (x : Key) → slice_get old q ≡ Some x → slice_get new q ≡ Some x

@@ -1,81 +1,10 @@
-//! What a wave keeps of a level: its requests, the children of each, and the answer of each, all by place.
-ghost use Rattle.std.specs.Prelude.{◌≡◌, ◌<◌, ◌++◌, ◌∷◌, [], length, slice_get, Some, IfOk, OnOk, OnErr};
-ghost use Rattle.slot_table.specs.Lists.{IsOnce};
-ghost use Rattle.wave_engine.specs.Places.{Enters};
+//! What a wave keeps of a level beside its requests: the children of each, and the answer of each, by place.
+ghost use Rattle.std.specs.Prelude.{◌≡◌, ◌<◌, ◌++◌, ◌∷◌, [], length, slice_get, Some, OnOk, OnErr};
 
 use dd_store::Ref;
-use req_table::{Key, Placed};
-use slot_table::SlotTable;
+use req_table::Placed;
 use std::alloc::{AllocError, Global};
 use std::marker::Model;
-
-/// The requests of a level, each once, in the order of their admission.
-#[derive(Drop)]
-pub(crate) struct Table {
-    keys: SlotTable<Key>,
-}
-
-impl Model for Table {
-    ghost use Rattle.std.specs.Prelude.{List};
-    ghost use Rattle.req_table.specs.declared.Key.{Key};
-
-    ghost Value = { List Key };
-
-    ghost view = { λ t. t.keys };
-}
-
-impl Table {
-    /// No requests. It takes no memory yet.
-    pub(crate) fn new(alloc: Global) -> Table
-        ensures { result ≡ [] }
-    {
-        Table {
-            keys: SlotTable::new(alloc),
-        }
-    }
-
-    /// The place of a request, which is admitted if it was not there.
-    pub(crate) fn admit(&mut self, key: Key) -> Result<u32, AllocError>
-        ensures enters { IfOk result (λ p. Enters self.old key p self.new) }
-        ensures refused { OnErr result (self.new ≡ self.old) }
-    {
-        let room = (u32::MAX as u64).saturating_sub(self.keys.len() as u64);
-        match self.keys.find_or_add(key, room) {
-            Ok(slot_table::Placed::Found(place) | slot_table::Placed::Added(place)) => Ok(place),
-            Err(_) => Err(AllocError),
-        }
-    }
-
-    /// The number of requests.
-    pub(crate) fn len(&self) -> usize
-        ensures value { result ≡ length self.now }
-        ensures once { IsOnce self.now }
-    {
-        self.keys.as_slice().len()
-    }
-
-    /// The request at a place.
-    pub(crate) fn key_at(&self, place: usize) -> Key
-        requires { place < length self.now }
-        ensures { slice_get self.now place ≡ Some result }
-    {
-        self.keys.at(place)
-    }
-
-    /// All requests, by place.
-    pub(crate) fn keys(&self) -> &[Key]
-        ensures { result.now ≡ self.now }
-    {
-        self.keys.as_slice()
-    }
-
-    /// Removes all requests and keeps the memory.
-    pub(crate) fn clear(&mut self)
-        ensures { self.new ≡ [] }
-    {
-        self.keys.clear();
-    }
-}
 
 /// The children of a level's requests, low and high, by place.
 #[derive(Drop)]

@@ -4,9 +4,8 @@ ghost use Rattle.slot_table.specs.Lists.{IsOnce};
 ghost use Rattle.req_table.specs.declared.Child.TheVariants as child;
 ghost use Rattle.wave_engine.specs.Places.{row, StandsAt, Admits, AreEmpty, IsNextLevel, IsLastLevel};
 
-use crate::lists::Table;
 use crate::marks::Marks;
-use req_table::Key;
+use req_table::{Key, Table};
 use std::alloc::{AllocError, Global};
 use std::marker::Model;
 
@@ -94,7 +93,7 @@ impl Requests {
         ensures admits { (mark : Bool) → Admits self.old (child.Ask level key mark) self.new }
     {
         let count = self.count(level);
-        let place = self.tables[level as usize].admit(key)?;
+        let (place, _) = self.tables[level as usize].admit(key)?;
         if count == 0 {
             self.marks.mark(level);
         }
