@@ -1,9 +1,10 @@
 -- Two orders of the variables of the same netlists: what is a function over the one is a function over the other.
-use Rattle.std.proofs.Common.{◌≡◌, ◌∙◌, ap, sym, refl, subst, arith, inl, inr, ℕ, ◌+◌, ◌<◌, ◌≤◌, Bool, true, false, List, [], ◌∷◌, ◌++◌, map, length, get_or, take, Option, Some, None, All}
-use Rattle.std.specs.Prelude.{bytes_eq, cond, nat_lt, slice_get, slice_index, unwrap_or, IfSome}
+use Rattle.std.proofs.Common.{◌≡◌, ◌∙◌, ap, sym, refl, subst, arith, inl, inr, ℕ, ◌+◌, ◌<◌, ◌≤◌, Bool, true, false, List, [], ◌∷◌, ◌++◌}
+use Rattle.std.proofs.Common.{map, length, get_or, take, Option, Some, None, All}
+use Rattle.std.specs.Prelude.{bytes_eq, cond, nat_lt, slice_get, slice_index, unwrap_or, IfSome, IsTrue, ◌↔◌}
 use Rattle.std.specs.List.{IsDistinct, position_or_len}
 use Rattle.std.proofs.lemmas.Bool.{cases_lt, false_from_ne_true, ltb-true, true≢false}
-use Rattle.std.proofs.lemmas.List.{length-map, length-take, get_or-map, get_or-take, map_more}
+use Rattle.std.proofs.lemmas.List.{ext_get_or, length-map, length-take, get_or-map, get_or-take, map_more}
 use Rattle.std.proofs.lemmas.List.Elements.{Contains-get_or}
 use Rattle.std.proofs.lemmas.Map.Keys.{apart_from_distinct}
 use Rattle.std.proofs.lemmas.Option.{get_or_from_slice_get}
@@ -27,7 +28,7 @@ use Rattle.net_order.proofs.Steps.{taken_more}
 use Rattle.check_report.specs.declared.subject.Subject.{Subject}
 use Rattle.check_report.specs.Arranging.{ArePairings, places_among}
 use Rattle.check_report.specs.Comparing.{AreCompared, AreShown, AreSignals, DenotesWhere, IsInside, as_built, subject_at}
-use Rattle.check_report.specs.Conditions.{HoldsWhere, output_of}
+use Rattle.check_report.specs.Conditions.{AgreeWhere, HoldsWhere, output_of}
 use Rattle.check_report.specs.Report.{next_subject, output_subject, subjects}
 
 -- ---- functions
@@ -38,8 +39,8 @@ module _ (n : ℕ) (order : List ℕ) (full : length order ≡ n) where
   agree_arranged f g same x len = same (arranged order x) (length-arranged order x ∙ full)
 
   -- the function of a signal where its variables have other levels: the same labelling serves
-  pub function_arranged : (c : Circuit) (level other : ℕ → ℕ) (s : ℕ) (f : List Bool → Bool) → All (λ v. level v < n) (variables_of c) → All (λ v. get_or order (level v) 0 ≡ other v) (variables_of c) →
-      IsFunctionOf c level n s f → IsFunctionOf c other n s (by_declared order f)
+  pub function_arranged : (c : Circuit) (level other : ℕ → ℕ) (s : ℕ) (f : List Bool → Bool) → All (λ v. level v < n) (variables_of c) →
+      All (λ v. get_or order (level v) 0 ≡ other v) (variables_of c) → IsFunctionOf c level n s f → IsFunctionOf c other n s (by_declared order f)
   function_arranged c level other s f low at is x len =
       let by = is (arranged order x) (length-arranged order x ∙ full) in (
         by.0,
@@ -55,7 +56,8 @@ module _ (n : ℕ) (order : List ℕ) (full : length order ≡ n) where
       )
 
   -- what a reference denotes
-  denotes_arranged : (c : Circuit) (level other : ℕ → ℕ) (S : Nodes) (s : ℕ) (r : Ref) (holds : List Bool → Bool) → S.levels ≡ n → All (λ v. level v < n) (variables_of c) → All (λ v. get_or order (level v) 0 ≡ other v) (variables_of c) →
+  denotes_arranged : (c : Circuit) (level other : ℕ → ℕ) (S : Nodes) (s : ℕ) (r : Ref) (holds : List Bool → Bool) → S.levels ≡ n →
+      All (λ v. level v < n) (variables_of c) → All (λ v. get_or order (level v) 0 ≡ other v) (variables_of c) →
       DenotesWhere as_built holds c level S s r → DenotesWhere (by_declared order) (by_declared order holds) c other S s r
   denotes_arranged c level other S s r holds levels low at d = (
     d.0,
@@ -70,7 +72,8 @@ module _ (n : ℕ) (order : List ℕ) (full : length order ≡ n) where
 -- ---- places of names
 
 -- a table of names that are apart has one more
-pub table_more : (names table new : List (List ℕ)) (i : ℕ) (n : List ℕ) → IsDistinct bytes_eq names → i < length names → slice_get names i ≡ Some n → table ≡ take i names → new ≡ with_name table n → new ≡ take (i + 1) names
+pub table_more : (names table new : List (List ℕ)) (i : ℕ) (n : List ℕ) → IsDistinct bytes_eq names → i < length names → slice_get names i ≡ Some n →
+    table ≡ take i names → new ≡ with_name table n → new ≡ take (i + 1) names
 table_more names table new i n apart lt at taken grown = taken_more [] table names i n at lt new absent grown taken
   where
     here : get_or names i [] ≡ n
@@ -106,28 +109,33 @@ place_at : (others names : List (List ℕ)) (i : ℕ) → i < length names → g
 place_at others names i lt = get_or-map (level_of others) names i [] 0 lt
 
 -- the place of one more name
-pub places_more : (others names : List (List ℕ)) (i k : ℕ) (n : List ℕ) (old new : List ℕ) → i < length names → slice_get names i ≡ Some n → old ≡ places_among others (take i names) → k ≡ level_of others n → new ≡ old ++ k ∷ [] →
-    new ≡ places_among others (take (i + 1) names)
+pub places_more : (others names : List (List ℕ)) (i k : ℕ) (n : List ℕ) (old new : List ℕ) → i < length names → slice_get names i ≡ Some n →
+    old ≡ places_among others (take i names) → k ≡ level_of others n → new ≡ old ++ k ∷ [] → new ≡ places_among others (take (i + 1) names)
 places_more others names i k n old new lt at done is grown =
-    grown ∙ ap (λ ks. ks ++ k ∷ []) done ∙ ap (λ m. places_among others (take i names) ++ m ∷ []) (is ∙ ap (level_of others) (sym (get_or_from_slice_get names i n [] at))) ∙
+    grown ∙ ap (λ ks. ks ++ k ∷ []) done ∙
+    ap (λ m. places_among others (take i names) ++ m ∷ []) (is ∙ ap (level_of others) (sym (get_or_from_slice_get names i n [] at))) ∙
     sym (map_more (level_of others) names i [] lt)
 
 -- the same names in another order
 module _ (others names : List (List ℕ)) (apart : IsDistinct bytes_eq names) (many : length names ≡ length others) (among : AmongNames names others) where
-  places_once : (u v : ℕ) → u < length names → v < length names → get_or (places_among others names) u 0 ≡ get_or (places_among others names) v 0 → get_or names u [] ≡ get_or names v []
+  places_once : (u v : ℕ) → u < length names → v < length names →
+      get_or (places_among others names) u 0 ≡ get_or (places_among others names) v 0 → get_or names u [] ≡ get_or names v []
   places_once u v low lower e =
-      numbers_differ others (get_or names u []) (get_or names v []) (among (get_or names u []) (name_there names u low)) (among (get_or names v []) (name_there names v lower))
+      numbers_differ others (get_or names u []) (get_or names v []) (among (get_or names u []) (name_there names u low))
+      (among (get_or names v []) (name_there names v lower))
       (sym (place_at others names u low) ∙ e ∙ place_at others names v lower)
 
   differ : (u v : ℕ) → u < v → v < length names → get_or names u [] ≡ get_or names v [] → ⊥
-  differ u v lt low e = true≢false (sym (name_itself (get_or names u [])) ∙ ap (bytes_eq (get_or names u [])) e ∙ apart_from_distinct bytes_eq names u v [] apart lt low)
+  differ u v lt low e =
+      true≢false (sym (name_itself (get_or names u [])) ∙ ap (bytes_eq (get_or names u [])) e ∙ apart_from_distinct bytes_eq names u v [] apart lt low)
 
   pub places_order : IsOrder (length others) (places_among others names)
   places_order = record {
     each_level = length-map names (level_of others) ∙ many;
     declared = λ v lt.
         let low : v < length names = omega (arith, lt, many) in
-        subst (λ k. k < length others) (sym (place_at others names v low)) (number_low others (get_or names v []) (among (get_or names v []) (name_there names v low)));
+        subst (λ k. k < length others) (sym (place_at others names v low))
+        (number_low others (get_or names v []) (among (get_or names v []) (name_there names v low)));
     once = λ u v lt below e.
         let low : u < length names = omega (arith, lt, many) in
         let lower : v < length names = omega (arith, below, many) in
@@ -140,6 +148,56 @@ module _ (others names : List (List ℕ)) (apart : IsDistinct bytes_eq names) (m
           ]
         ];
   }
+
+  -- a name's place among them is where it stands
+  own_place : (v : ℕ) → v < length names → level_of names (get_or names v []) ≡ v
+  own_place v lt =
+      let n = get_or names v [] in
+      let there = name_there names v lt in
+      let low : level_of names n < length names = number_low names n there in
+      elim (cases_lt (level_of names n) v) [
+        | inl less ↦ absurd (differ (level_of names n) v less lt (number_at names n [] there))
+        | inr ge ↦ elim (cases_lt v (level_of names n)) [
+          | inl more ↦ absurd (differ v (level_of names n) more low (sym (number_at names n [] there)))
+          | inr le ↦ omega (arith, ge, le)
+        ]
+      ]
+
+  place_back : (v : ℕ) → v < length names → get_or (places_among names others) (get_or (places_among others names) v 0) 0 ≡ v
+  place_back v lt =
+      let n = get_or names v [] in
+      let there : is_name_in others n ≡ true = among n (name_there names v lt) in
+      ap (λ k. get_or (places_among names others) k 0) (place_at others names v lt) ∙
+      place_at names others (level_of others n) (number_low others n there) ∙ ap (level_of names) (number_at others n [] there) ∙ own_place v lt
+
+  -- each assignment is one that is arranged
+  arranged_back : (x : List Bool) → length x ≡ length others →
+      arranged (places_among others names) (arranged (places_among names others) x) ≡ x
+  arranged_back x len =
+      let order = places_among others names in
+      let back = places_among names others in
+      let long : length order ≡ length names = length-map names (level_of others) in
+      let wide : length back ≡ length others = length-map others (level_of names) in
+      let full : length (arranged order (arranged back x)) ≡ length order = length-arranged order (arranged back x) in
+      ext_get_or false (arranged order (arranged back x)) x (full ∙ long ∙ many ∙ sym len)
+      (λ i lt.
+      let low : i < length names = omega (arith, lt, full, long) in
+      let below : get_or order i 0 < length others = places_order.declared i (omega (arith, low, many)) in
+      get_or-arranged order (arranged back x) i (omega (arith, lt, full)) ∙ get_or-arranged back x (get_or order i 0) (omega (arith, below, wide)) ∙
+      ap (λ k. get_or x k false) (place_back i low))
+
+  -- so functions agree wherever a condition holds in the one order exactly where they do in the other
+  pub agree_where_arranged : (holds f g : List Bool → Bool) →
+      let order = places_among others names in
+      AgreeWhere (length others) (by_declared order holds) (by_declared order f) (by_declared order g) ↔ AgreeWhere (length others) holds f g
+  agree_where_arranged holds f g = (
+    λ same x len h.
+        let y = arranged (places_among names others) x in
+        let e = arranged_back x len in
+        let size : length y ≡ length others = length-arranged (places_among names others) x ∙ length-map others (level_of names) in
+        subst (λ z. f z ≡ g z) e (same y size (subst (λ z. IsTrue (holds z)) (sym e) h)),
+    λ same x len h. same (arranged (places_among others names) x) (length-arranged (places_among others names) x ∙ places_order.each_level) h,
+  )
 
 -- ---- two pairings
 
@@ -177,9 +235,12 @@ module _ (how : Match) (a b : Circuit) (given : Option Circuit) (q p : Paired) (
   module _ (side : Sided) (levels others : List ℕ) (known : IsKnown (all_names (both how a b) (given_side given)) side)
       (has : HasLevels (names_by how a b given h.first_order) side levels) (also : HasLevels (names_by how a b given h.second_order) side others) where
     side_there : (i d : ℕ) → i < length (variables_of side.net) → is_name_in q.names (named side (get_or (variables_of side.net) i d)) ≡ true
-    side_there i d lt = all_first (named side (get_or (variables_of side.net) i d)) (known (get_or (variables_of side.net) i d) (at_place (variables_of side.net) i d lt))
+    side_there i d lt =
+        let s = get_or (variables_of side.net) i d in
+        all_first (named side s) (known s (at_place (variables_of side.net) i d lt))
 
-    side_is : (i d : ℕ) → i < length (variables_of side.net) → get_or levels (get_or (variables_of side.net) i d) 0 ≡ level_of q.names (named side (get_or (variables_of side.net) i d))
+    side_is : (i d : ℕ) → i < length (variables_of side.net) →
+        get_or levels (get_or (variables_of side.net) i d) 0 ≡ level_of q.names (named side (get_or (variables_of side.net) i d))
     side_is i d lt = has i d lt ∙ ap (λ ns. level_of ns (named side (get_or (variables_of side.net) i d))) (sym h.first.names)
 
     side_low : All (λ s. slice_index levels s < length p.names) (variables_of side.net)
@@ -190,7 +251,8 @@ module _ (how : Match) (a b : Circuit) (given : Option Circuit) (q p : Paired) (
     side_at : All (λ s. get_or (places_among p.names q.names) (slice_index levels s) 0 ≡ slice_index others s) (variables_of side.net)
     side_at i d lt =
         let n = named side (get_or (variables_of side.net) i d) in
-        ap (λ k. get_or (places_among p.names q.names) k 0) (side_is i d lt) ∙ place_at p.names q.names (level_of q.names n) (number_low q.names n (side_there i d lt)) ∙
+        ap (λ k. get_or (places_among p.names q.names) k 0) (side_is i d lt) ∙
+        place_at p.names q.names (level_of q.names n) (number_low q.names n (side_there i d lt)) ∙
         ap (level_of p.names) (number_at q.names n [] (side_there i d lt)) ∙ ap (λ ns. level_of ns n) h.second.names ∙ sym (also i d lt)
 
   -- ---- what is compared
@@ -214,7 +276,8 @@ module _ (how : Match) (a b : Circuit) (given : Option Circuit) (q p : Paired) (
       }
 
   -- the condition
-  holds_arranged : (g : Option Circuit) → g ≡ given → (holds : List Bool → Bool) → HoldsWhere g q holds → HoldsWhere g p (by_declared (places_among p.names q.names) holds)
+  holds_arranged : (g : Option Circuit) → g ≡ given → (holds : List Bool → Bool) → HoldsWhere g q holds →
+      HoldsWhere g p (by_declared (places_among p.names q.names) holds)
   holds_arranged None e holds is = ap (by_declared (places_among p.names q.names)) is
   holds_arranged (Some c) e holds is =
       let known : IsKnown (all_names (both how a b) (given_side given)) (own c) =
@@ -239,10 +302,14 @@ module _ (how : Match) (a b : Circuit) (given : Option Circuit) (q p : Paired) (
           holds = by_declared order c.shown.holds;
           condition = holds_arranged given refl c.shown.holds c.shown.condition;
           each = c.shown.each;
-          first = λ i lt. denotes_arranged (length p.names) order is_order.each_level a (first_level q) (first_level p) S (subject_at of i).first (reference_of refs i) c.shown.holds levels_are
-              (side_low (own a) q.first p.first known.0 h.first.first h.second.first) (side_at (own a) q.first p.first known.0 h.first.first h.second.first) (c.shown.first i lt);
-          second = λ i lt. denotes_arranged (length p.names) order is_order.each_level b (second_level q) (second_level p) S (subject_at of i).second (reference_of refs (length of + i)) c.shown.holds levels_are
-              (side_low second q.second p.second known.1.0 h.first.second h.second.second) (side_at second q.second p.second known.1.0 h.first.second h.second.second) (c.shown.second i lt);
+          first = λ i lt.
+              denotes_arranged (length p.names) order is_order.each_level a (first_level q) (first_level p) S (subject_at of i).first
+              (reference_of refs i) c.shown.holds levels_are (side_low (own a) q.first p.first known.0 h.first.first h.second.first)
+              (side_at (own a) q.first p.first known.0 h.first.first h.second.first) (c.shown.first i lt);
+          second = λ i lt.
+              denotes_arranged (length p.names) order is_order.each_level b (second_level q) (second_level p) S (subject_at of i).second
+              (reference_of refs (length of + i)) c.shown.holds levels_are (side_low second q.second p.second known.1.0 h.first.second h.second.second)
+              (side_at second q.second p.second known.1.0 h.first.second h.second.second) (c.shown.second i lt);
         }
 
     pub compared_arranged : (order : List ℕ) → order ≡ places_among p.names q.names → AreCompared (by_declared order) a b given p S of refs

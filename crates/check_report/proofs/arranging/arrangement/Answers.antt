@@ -11,9 +11,11 @@ loop-level-preserved c =
     let names = c.args.built.now.names in
     let many : length c.names-names.result.now ≡ length names = ap length c.names-names.ensures.value in
     let place : c.unwrap_or-place.result ≡ level_of c.args.told.now.names c.at.result.now =
-    c.unwrap_or-place.ensures ∙ ap (λ o. unwrap_or o 0) c.find.ensures ∙ ap (λ ns. level_of ns c.at.result.now) (c.in_ok-table.ensures ∙ c.names.ensures.value) in
-    places_more c.args.told.now.names names c.loop-level.level c.unwrap_or-place.result c.at.result.now c.loop-level.order.items c.push.new.self.items (omega (arith, many))
-    (subst (λ ns. slice_get ns c.loop-level.level ≡ Some c.at.result.now) c.names-names.ensures.value c.at.ensures) c.loop-level.invariant place c.in_ok-push.ensures.items
+    c.unwrap_or-place.ensures ∙ ap (λ o. unwrap_or o 0) c.find.ensures ∙
+    ap (λ ns. level_of ns c.at.result.now) (c.in_ok-table.ensures ∙ c.names.ensures.value) in
+    places_more c.args.told.now.names names c.loop-level.level c.unwrap_or-place.result c.at.result.now c.loop-level.order.items
+    c.push.new.self.items (omega (arith, many)) (subst (λ ns. slice_get ns c.loop-level.level ≡ Some c.at.result.now) c.names-names.ensures.value c.at.ensures)
+    c.loop-level.invariant place c.in_ok-push.ensures.items
 
 pub returns : goal.returns
 returns c =

@@ -5,7 +5,8 @@ use Rattle.check_report.proofs.arranging.table_of.Goals as goal
 
 pub loop-place-preserved : goal.loop-place-preserved
 loop-place-preserved c =
-    table_more c.args.names.now c.loop-place.table c.count.new.self c.loop-place.place c.at.result.now c.requires (omega arith) c.at.ensures c.loop-place.invariant c.in_ok-count.ensures.added
+    table_more c.args.names.now c.loop-place.table c.count.new.self c.loop-place.place c.at.result.now c.requires
+    (omega arith) c.at.ensures c.loop-place.invariant c.in_ok-count.ensures.added
 
 pub returns : goal.returns
 returns c = c.loop-place.invariant ∙ take_all c.loop-place.place c.args.names.now (omega arith)
