@@ -3,7 +3,7 @@ ghost use Rattle.std.specs.Prelude.{◌<◌, ◌≤◌, All};
 ghost use Rattle.reduce_up.specs.Waves.{IsEntry};
 
 use crate::meeting::Meeting;
-use crate::waves::{Step, Way, crew_of, entries_of, run, start};
+use crate::waves::{Narrow, Step, Way, crew_of, entries_of, run, start};
 use dd_store::{Ref, Store, Watch};
 use expand_work::{Gate, WaveFault};
 use req_table::{Memo, Op};
@@ -49,12 +49,13 @@ pub(crate) fn sums<R: Abort>(rt: &R, alloc: Global) -> Vec<Step> {
     pairs(rt, alloc, Op::Or, FACTOR + 66, 65)
 }
 
-/// Does the sums in a store that has the products and room for so many nodes. The store is then as large as they need, and a second wave,
-/// by a core, adds nothing and answers the same.
+/// Does the sums in a store that has the products and room for so many nodes, and is left with as many as are named. Where it is not refused,
+/// a second wave, by a core, adds nothing and answers the same.
 fn sums_within<R: Threads + Wait + Abort + Sync>(
     rt: &R,
     alloc: Global,
     limit: u32,
+    left: u64,
     way: Way,
 ) -> Result<(), WaveFault> {
     let mut store = Store::new(alloc, 66, limit as u64)?;
@@ -72,7 +73,7 @@ fn sums_within<R: Threads + Wait + Abort + Sync>(
     assert!(rt; store.count() == 131);
     let steps = sums(rt, alloc);
     let summed = run(rt, alloc, &mut store, &mut known, steps.as_slice(), 3, way);
-    assert!(rt; store.count() == 4_291);
+    assert!(rt; store.count() == left);
     summed?;
     run(
         rt,
@@ -89,12 +90,12 @@ fn sums_within<R: Threads + Wait + Abort + Sync>(
 }
 
 // 2,080 records at the first level, and as many nodes there and below it: with 66 variables and 65 products 4,291 nodes are just
-// enough, and where one less is allowed the whole level is there before it is refused.
+// enough. Where one less is allowed the caller's thread stops there, and the threads that share the level in `reduce` when it is done.
 #[test]
 fn wide_level(rt: HostRuntime) -> Result<(), Fail> {
-    for way in [Way::Upto(0), Way::Alone(&[])] {
-        sums_within(&rt, rt.alloc(), 4_291, way)?;
-        let refused = sums_within(&rt, rt.alloc(), 4_290, way);
+    for (way, left) in [(Way::Upto(0), 4_290), (Way::Alone(&[]), 4_291)] {
+        sums_within(&rt, rt.alloc(), 4_291, 4_291, way)?;
+        let refused = sums_within(&rt, rt.alloc(), 4_290, left, way);
         assert!(rt; refused == Err(WaveFault::Full));
     }
     Ok(())
@@ -215,6 +216,20 @@ fn shards_of_a_wide_level(rt: HostRuntime) -> Result<(), Fail> {
     assert!(rt; many == (0x1111_1111_1111_1111, false));
     let alone = told_shards(&rt, rt.alloc(), 8_192, 1)?;
     assert!(rt; alone == (0, false));
+    Ok(())
+}
+
+// The 8,325 records need twice as many nodes beside those of the products. Where one less is allowed the whole level is there before it is
+// refused.
+#[test]
+fn refused_when_a_shared_level_is_done(rt: HostRuntime) -> Result<(), Fail> {
+    let mut store = Store::new(rt.alloc(), MANY, 16_800)?;
+    let entries = combined(&rt, rt.alloc(), &mut store, 8_325);
+    assert!(rt; store.count() == 151);
+    let gate = Narrow::new(0);
+    let refused = summed(&rt, rt.alloc(), &mut store, entries.as_slice(), 3, &gate);
+    assert!(rt; refused == Err(WaveFault::Full));
+    assert!(rt; store.count() == 16_801);
     Ok(())
 }
 
