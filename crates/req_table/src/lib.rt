@@ -14,7 +14,6 @@ mod table;
 use dd_store::Ref;
 pub use memo::Memo;
 pub use placed::{Placed, PlacedChild};
-use slot_table::{Spread, mix};
 use std::collections::LinkedList;
 use std::fmt;
 use std::hash::{Hash, Hasher};
@@ -150,21 +149,6 @@ impl Key {
             g: self.second,
         }
     }
-}
-
-impl Spread for Key {
-    ghost use Rattle.slot_table.specs.Mixing.{mix_of};
-    ghost use Rattle.dd_store.specs.Words.{word_of};
-    ghost use Rattle.req_table.specs.Words.{first_word};
-    ghost use Rattle.req_table.specs.Equal.{key_same};
-
-    ghost spread_of = { λ k. mix_of (first_word k.op k.f) (word_of k.g) };
-
-    fn spread(&self) -> u64 {
-        mix(self.first, self.second.spread())
-    }
-
-    ghost same = { key_same };
 }
 
 impl fmt::Debug for Key {

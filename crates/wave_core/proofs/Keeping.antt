@@ -9,7 +9,7 @@ use Rattle.req_table.specs.declared.Item.{Item}
 use Rattle.req_table.specs.declared.Item.TheVariants.{Ask}
 use Rattle.req_table.specs.Lanes.{from_of, is_from, sent_by, ends, asks_at}
 use Rattle.req_table.specs.Keys.{level_of}
-use Rattle.wave_core.specs.Tables.{Offers}
+use Rattle.req_table.specs.Tables.{Offers}
 use Rattle.req_table.proofs.Lists.{Has, Has-get_or}
 use Rattle.req_table.proofs.Items.{sent_by_of}
 use Rattle.req_table.proofs.Fair.{ends-append}

@@ -24,4 +24,3 @@ pub mod Drives
 pub mod Stepped
 pub mod Admits
 pub mod Fair
-pub mod Keyed

@@ -7,7 +7,7 @@ use Rattle.req_table.specs.declared.Item.{Item}
 use Rattle.req_table.specs.declared.Item.TheVariants.{Ask, End}
 use Rattle.req_table.specs.Lanes.{sent_by, ends, asks_at}
 use Rattle.req_table.specs.Settled.{key_of}
-use Rattle.wave_core.specs.Tables.{Offers}
+use Rattle.req_table.specs.Tables.{Offers}
 use Rattle.wave_core.proofs.Admits.{Admits-offer}
 use Rattle.req_table.proofs.Fair.{ends-append, asks_at-append, sent_by-append}
 use Rattle.wave_core.specs.declared.Event.TheVariants.{Take}

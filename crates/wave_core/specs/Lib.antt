@@ -6,4 +6,3 @@ pub mod View
 pub mod Counting
 pub mod Cores
 pub mod Fall
-pub mod Tables

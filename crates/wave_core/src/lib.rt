@@ -6,11 +6,9 @@ mod lists;
 mod machine;
 mod records;
 mod start;
-mod table;
 mod waves;
 
 pub use records::Records;
-pub use table::Table;
 pub use waves::Core;
 
 /// A step of one worker: it sends the first request that is due to a worker, ends its next level on a worker's lane, takes

@@ -9,14 +9,14 @@ ghost use Rattle.req_table.specs.Tables.{row_at};
 ghost use Rattle.wave_core.specs.Step.{IsStart, IsStep, IsAllowed, IsAtWork, asks_here, row_here};
 ghost use Rattle.wave_core.specs.declared.Event.TheVariants.{Send, End, Take, Expand, Advance, Keep};
 
+use crate::Records;
 use crate::lists::{
     Items, Keys, Lane, Row, append, count_items, count_levels, count_records, put_both,
 };
 use crate::start::{deal, tables};
-use crate::{Records, Table};
 use dd_store::Store;
 use req_table::requests::{level_of, owner, split};
-use req_table::{Child, Item, Key, Record};
+use req_table::{Child, Item, Key, Record, Table};
 use std::alloc::{AllocError, Global};
 use std::marker::Model;
 

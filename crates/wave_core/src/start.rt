@@ -2,10 +2,9 @@
 ghost use Rattle.std.specs.Prelude.{◌≡◌, ◌*◌, ◌<◌, ◌≤◌, [], length, replicate, IfOk};
 ghost use Rattle.wave_core.specs.View.{AreDealt};
 
-use crate::Table;
 use crate::lists::Keys;
-use req_table::Key;
 use req_table::requests::owner;
+use req_table::{Key, Table};
 use std::alloc::{AllocError, Global};
 
 /// So many empty tables.
@@ -14,7 +13,7 @@ pub fn tables(alloc: Global, count: usize) -> Result<Vec<Table>, AllocError>
 {
     let mut tables = Vec::new(alloc);
     for made in 0..count {
-        tables.push(Table::new(alloc)?)?;
+        tables.push(Table::new(alloc))?;
     }
     Ok(tables)
 }

@@ -8,11 +8,11 @@ use Rattle.dd_store.specs.declared.reference.Reference.TheVariants.{False, True,
 use Rattle.dd_store.specs.Graph.{top}
 use Rattle.dd_store.specs.Nodes.{Nodes, IsSound}
 use Rattle.std.proofs.lemmas.List.Elements.{Contains-get_or}
+use Rattle.std.proofs.lemmas.Option.{get_or_from_slice_get}
 use Rattle.req_table.specs.declared.Key.{Key}
 use Rattle.req_table.specs.declared.Child.TheVariants.{Done}
 use Rattle.req_table.specs.declared.Record.{Record}
 use Rattle.req_table.specs.Settled.{key_of}
-use Rattle.slot_table.specs.Lists.{IsIn}
 use Rattle.reduce_up.specs.Reducing.{IsKeyAt, IsRow, HasAnswer, Notes}
 use Rattle.reduce_up.specs.Sharing.{NotesFirst}
 use Rattle.reduce_up.specs.Placed.{place_of, paired, joined, ArePlaced}
@@ -41,8 +41,8 @@ paired_more (l ∷ ks) [] k r e = absurd (omega (arith, e))
 paired_more (l ∷ ks) (s ∷ rs) k r e = ap (λ z. (l, s) ∷ z) (paired_more ks rs k r (omega (arith, e)))
 
 -- a key that stands nowhere has no answer
-pub none_paired : (ks : List Key) (rs : List Ref) (k : Key) → (IsIn ks k → ⊥) → HasAnswer (paired ks rs) k → ⊥
-none_paired ks rs k out h = let (i, lt, f, g) = paired_place ks rs k h.0 h.1 in out (i, f)
+pub none_paired : (ks : List Key) (rs : List Ref) (k : Key) → (¬ Contains ks k) → HasAnswer (paired ks rs) k → ⊥
+none_paired ks rs k out h = let (i, lt, f, g) = paired_place ks rs k h.0 h.1 in out (i, lt, get_or_from_slice_get ks i k k f)
 
 -- a key that is new is noted
 pub notes_last : (old : List (Key × Ref)) (k : Key) (r : Ref) → Notes old k r (old ++ (k, r) ∷ [])

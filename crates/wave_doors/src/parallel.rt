@@ -14,8 +14,7 @@ use crate::results::{Results, index_of};
 use dd_store::{Ref, SHARDS, Store, StoreFault, Watch, shard_of};
 use rayon::prelude::*;
 use reduce_up::empty_lists;
-use req_table::{Key, Record};
-use slot_table::SlotTable;
+use req_table::{Record, Table};
 use std::alloc::{AllocError, Global};
 use std::thread::Threads;
 
@@ -148,14 +147,14 @@ pub(crate) fn note_all(
     Ok(())
 }
 
-/// The diagrams of each record's children, and the keys of the row with slots by which they are found: the one by several threads,
+/// The diagrams of each record's children, and the keys of the row as a table by which they are found: the one by several threads,
 /// and meanwhile the other by one more.
 fn gather<R: Threads + Sync>(
     rt: &R,
     alloc: Global,
     results: &Results,
     row: &[Record],
-) -> Result<(Vec<(Ref, Ref)>, SlotTable<Key>), AllocError>
+) -> Result<(Vec<(Ref, Ref)>, Table), AllocError>
     requires low_ready { All (λ r. IsReady results.now r.low) row.now }
     requires high_ready { All (λ r. IsReady results.now r.high) row.now }
     ensures pairs { IfOk result (λ r. AllZip (IsPairOf results.now) row.now r.0.items) }

@@ -9,8 +9,7 @@ ghost use Rattle.wave_doors.specs.Placed.{IsIndexOf};
 
 use crate::parallel::note_all;
 use dd_store::{Ref, Reference};
-use req_table::{Child, Key, Record};
-use slot_table::{Placed, SlotTable};
+use req_table::{Child, Key, Record, Table};
 use std::alloc::{AllocError, Global};
 use std::marker::Model;
 
@@ -39,7 +38,7 @@ fn place_of(key: Key) -> usize
 /// The diagrams of some requests, by the places of their keys.
 #[derive(Drop)]
 struct Answered {
-    keys: SlotTable<Key>,
+    keys: Table,
     answers: Vec<Ref>,
 }
 
@@ -62,13 +61,13 @@ impl Answered {
         ensures { result ≡ [] }
     {
         Answered {
-            keys: SlotTable::new(alloc),
+            keys: Table::new(alloc),
             answers: Vec::new(alloc),
         }
     }
 
     /// Those of keys, in their order.
-    fn of(keys: SlotTable<Key>, answers: Vec<Ref>) -> Answered
+    fn of(keys: Table, answers: Vec<Ref>) -> Answered
         requires { length keys ≡ length answers.items }
         ensures { result ≡ paired keys answers.items }
     {
@@ -98,28 +97,21 @@ impl Answered {
         ensures refused { OnErr result (self.new ≡ self.old) }
     {
         self.answers.reserve(1)?;
-        let room = (u32::MAX as u64).saturating_sub(self.keys.len() as u64);
-        match self.keys.find_or_add(key, room) {
-            Ok(Placed::Added(_)) => {
-                self.answers.push_reserved(answer);
-                Ok(())
-            }
-            Ok(Placed::Found(_)) => Ok(()),
-            Err(_) => Err(AllocError),
+        let (_, new) = self.keys.admit(key)?;
+        if new {
+            self.answers.push_reserved(answer);
         }
+        Ok(())
     }
 }
 
-/// The keys of a row, each once, in order, with slots by which they are found.
-pub(crate) fn index_of(alloc: Global, row: &[Record]) -> Result<SlotTable<Key>, AllocError>
+/// The keys of a row, each once, in order, as a table by which they are found.
+pub(crate) fn index_of(alloc: Global, row: &[Record]) -> Result<Table, AllocError>
     ensures { IfOk result (λ keys. IsIndexOf row.now keys) }
 {
-    let mut keys = SlotTable::new(alloc);
+    let mut keys = Table::new(alloc);
     for entry in row {
-        let room = (u32::MAX as u64).saturating_sub(keys.len() as u64);
-        if keys.find_or_add(entry.key, room).is_err() {
-            return Err(AllocError);
-        }
+        keys.admit(entry.key)?;
     }
     Ok(keys)
 }
@@ -187,7 +179,7 @@ impl Results {
         &mut self,
         level: u16,
         row: &[Record],
-        keys: SlotTable<Key>,
+        keys: Table,
         answers: Vec<Ref>,
     ) -> Result<(), AllocError>
         requires long { length answers.items ≡ length row.now }

@@ -6,11 +6,10 @@ ghost use Rattle.req_table.specs.Sizes.{sizes_of, IsKeyOf};
 
 use dd_store::{Ref, Store};
 use req_table::requests::{level_of, normal, owner, short};
-use req_table::{Key, Memo, Op};
+use req_table::{Key, Memo, Op, Table};
 use std::alloc::Global;
 use std::process::Abort;
 use std::test::Fail;
-use wave_core::Table;
 
 /// A store of so many levels that has all its variables.
 pub fn store_of(rt: &impl Abort, alloc: Global, levels: u16) -> Store
@@ -153,18 +152,22 @@ fn owners(rt: HostRuntime) {
     owned(&rt, &store, 2, 3, 2, 1);
 }
 
-// A key is admitted once; the table has the keys in the order of admission.
+// A request is admitted once; the table has the requests in the order of admission, and none when it was emptied.
 #[test]
 fn table_admits_once(rt: HostRuntime) -> Result<(), Fail> {
     let store = store_of(&rt, rt.alloc(), 2);
     let first = request(&rt, &store, Op::And, 0, 1);
     let second = request(&rt, &store, Op::Nor, 0, 1);
-    let mut table = Table::new(rt.alloc())?;
-    assert!(rt; table.admit(first)?);
-    assert!(rt; !table.admit(first)?);
+    let mut table = Table::new(rt.alloc());
+    assert!(rt; table.admit(first)? == (0, true));
+    assert!(rt; table.admit(first)? == (0, false));
     assert!(rt; table.len() == 1);
-    assert!(rt; table.admit(second)?);
+    assert!(rt; table.admit(second)? == (1, true));
     assert!(rt; table.keys() == [first, second].as_slice());
+    assert!(rt; table.find(second) == Some(1));
+    table.clear();
+    assert!(rt; table.len() == 0 && table.find(first).is_none());
+    assert!(rt; table.admit(second)? == (0, true));
     Ok(())
 }
 

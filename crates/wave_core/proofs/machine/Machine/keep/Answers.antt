@@ -48,7 +48,7 @@ invariant_of-self-in-Ok c =
     let first : c.index_mut-in-Ok.result.now ≡ key ∷ rest =
     c.index_mut-in-Ok.ensures.value ∙ get_or-default v.due (c.args.by * v.workers + c.args.by) c.index_mut-in-Ok.result.now c.index.result.now (in_due v c.self.invariant c.args.by c.args.by bb bb) ∙ sym c.index.ensures ∙ seen in
     let popped : c.index_mut-in-Ok.result.now ≡ key ∷ c.pop.new.self = first ∙ ap (λ l. key ∷ l) (sym (c.pop.ensures rest key first)) in
-    keep_kept c.args.store.now v c.self.invariant c.args.by bb key n c.index_mut.result.now c.put_both.new.first c.index_mut-2.result.now c.put_both.new.second c.index_mut-in-Ok.result.now c.pop.new.self c.index_mut-3.result.now c.admit.new.self c.in-Ok.field-0
+    keep_kept c.args.store.now v c.self.invariant c.args.by bb key n c.index_mut.result.now c.put_both.new.first c.index_mut-2.result.now c.put_both.new.second c.index_mut-in-Ok.result.now c.pop.new.self c.index_mut-3.result.now c.admit.new.self c.in-Ok.field-0.1
     c.index_mut.ensures.value c.index_mut-2.ensures.value c.index_mut-in-Ok.ensures.value c.index_mut-3.ensures.value c.in_ok-put_both.ensures.first c.in_ok-put_both.ensures.second popped c.in-Ok.ensures.offers nb c.level_of-level.ensures
 
 pub returns-in-Ok-clause-ok : goal.returns-in-Ok-clause-ok
@@ -66,7 +66,7 @@ returns-in-Ok-clause-ok c =
     let after : View = record v { sent = set v.sent (c.args.by * v.workers + c.args.by) c.put_both.new.first; taken = set v.taken c.args.by c.put_both.new.second; tables = set v.tables (c.args.by * v.levels + n) c.admit.new.self; due = set v.due (c.args.by * v.workers + c.args.by) c.pop.new.self; kept = v.kept + 1 } in
     let all = (subst (λ (u : View). IsAllowed (wave_of_view c.args.store.now u) (state_of u) (Keep c.args.by)) (sym view) c.if-not-can_keep.ensures).2 in
     subst (λ (u : View). IsStep (wave_of_view c.args.store.now u) (state_of u) (Keep c.args.by) (state_of after)) view
-    (keep_step c.args.store.now v c.self.invariant c.args.by bb key n c.index_mut.result.now c.put_both.new.first c.index_mut-2.result.now c.put_both.new.second c.index_mut-in-Ok.result.now c.pop.new.self c.index_mut-3.result.now c.admit.new.self c.in-Ok.field-0
+    (keep_step c.args.store.now v c.self.invariant c.args.by bb key n c.index_mut.result.now c.put_both.new.first c.index_mut-2.result.now c.put_both.new.second c.index_mut-in-Ok.result.now c.pop.new.self c.index_mut-3.result.now c.admit.new.self c.in-Ok.field-0.1
     c.index_mut.ensures.value c.index_mut-2.ensures.value c.index_mut-in-Ok.ensures.value c.index_mut-3.ensures.value c.in_ok-put_both.ensures.first c.in_ok-put_both.ensures.second popped c.in-Ok.ensures.offers nb c.level_of-level.ensures all)
 
 pub invariant_of-self-in-Err : goal.invariant_of-self-in-Err

@@ -39,7 +39,7 @@ invariant_of-self-in-Ok c =
     let new = set v.tables (c.args.by * v.levels + c.in-Ask.level) c.admit.new.self in
     take_kept v h c.args.by bb item c.index_mut.result.now c.put.new.self c.index_mut-in-Ok.result.now c.pop-in-Ok.new.self c.index_mut.ensures.value c.in_ok-put.ensures.ok c.index_mut-in-Ok.ensures.value popped v.counted new h.shape.counted (still v.tables (c.args.by * v.levels + c.in-Ask.level) c.admit.new.self (v.workers * v.levels) h.shape.tables)
     (λ k s kb sb. subst (λ i. number_of v.workers v.counted k s ≡ ends (sent_by s (list_of v.taken k ++ at_one c.args.by i k))) (sym c.in-Ask.is) (ask_counted v h c.args.by bb c.in-Ask.from c.in-Ask.level c.in-Ask.key k s kb sb))
-    (λ k l kb lb. subst (λ i. IsTable (asks_at l (list_of v.taken k ++ at_one c.args.by i k)) (by_place v.levels new k l) (by_place v.levels v.rows k l)) (sym c.in-Ask.is) (ask_offered v h c.args.by bb c.in-Ask.from c.in-Ask.level c.in-Ask.key near c.index_mut-in-Ask.result.now c.admit.new.self c.in-Ok.field-0 c.index_mut-in-Ask.ensures.value c.in-Ok.ensures.offers k l kb lb))
+    (λ k l kb lb. subst (λ i. IsTable (asks_at l (list_of v.taken k ++ at_one c.args.by i k)) (by_place v.levels new k l) (by_place v.levels v.rows k l)) (sym c.in-Ask.is) (ask_offered v h c.args.by bb c.in-Ask.from c.in-Ask.level c.in-Ask.key near c.index_mut-in-Ask.result.now c.admit.new.self c.in-Ok.field-0.1 c.index_mut-in-Ask.ensures.value c.in-Ok.ensures.offers k l kb lb))
 
 pub invariant_of-self-then-from-self : goal.invariant_of-self-then-from-self
 invariant_of-self-then-from-self c =

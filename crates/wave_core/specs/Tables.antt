@@ -1,9 +1,0 @@
--- Tables of keys.
-use Rattle.std.specs.Prelude.{◌≡◌, ℕ, Bool, true, false, List, [], ◌∷◌, ◌++◌, Contains, slice_index_or}
-use Rattle.req_table.specs.declared.Key.{Key}
-use Rattle.req_table.specs.declared.Record.{Record}
-
--- a table after a key was offered to it: it is new and stands at the end, or it was there and the table is as before
-abbrev pub Offers : List Key → Key → Bool → List Key → Type 0
-Offers old k true new = (¬ Contains old k) × (new ≡ old ++ k ∷ [])
-Offers old k false new = Contains old k × (new ≡ old)
