@@ -21,6 +21,7 @@ pub mod Building
 pub mod Counting
 pub mod Found
 pub mod Parts
+pub mod Placing
 pub mod Telling
 pub mod Judged
 pub mod Faultless

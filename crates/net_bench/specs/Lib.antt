@@ -6,6 +6,7 @@ pub mod Statement
 pub mod Machine
 pub mod Said
 pub mod Circuit
+pub mod Assembly
 pub mod Devices
 pub mod Fault
 pub mod FaultText

@@ -1,6 +1,7 @@
 //! Netlists in the bench format: what a text says, and the reader.
 #![tactic(auto)]
 
+pub mod assembly;
 mod build;
 pub mod device;
 mod judge;

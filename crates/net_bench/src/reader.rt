@@ -7,8 +7,10 @@ ghost use Rattle.net_bench.specs.Judge.{statements_in};
 ghost use Rattle.net_bench.specs.Sound.{IsSound, AreDefined, IsLate};
 ghost use Rattle.net_bench.specs.Machine.{Between};
 ghost use Rattle.net_bench.specs.Marks.{IsDriven};
+ghost use Rattle.net_bench.specs.Assembly.{whole};
 ghost use Rattle.net_bench.specs.Symbols.{IsTold};
 
+use crate::assembly::{Parts, symbols_of};
 use crate::build::variables_of;
 use crate::device::{Source, TextFault, read_text};
 use crate::judge::judge_text;
@@ -16,7 +18,7 @@ use crate::name_table::NameTable;
 use crate::netlist::{BenchFault, GateLine, Role, Signal};
 use crate::ranks::ranks_of;
 use crate::symbols::{Symbol, SymbolTable, first_undefined, symbol_of};
-use std::alloc::Global;
+use std::alloc::{AllocError, Global};
 use std::marker::Model;
 
 /// The most bytes of a text, and of an order file.
@@ -217,6 +219,33 @@ fn netlist_of(alloc: Global, text: &[u8], symbols: SymbolTable) -> Result<Netlis
         variables.as_slice(),
         gates.as_slice(),
     )?;
+    Ok(Netlist {
+        names,
+        symbols,
+        inputs,
+        outputs,
+        gates,
+        registers,
+        variables,
+        ranks,
+    })
+}
+
+/// The netlist of parts that are at hand.
+pub fn netlist_of_parts(alloc: Global, parts: Parts) -> Result<Netlist, AllocError>
+    requires { IsNet (whole parts) }
+    ensures { IfOk result (λ net. net ≡ whole parts) }
+{
+    let symbols = symbols_of(alloc, &parts)?;
+    let variables = variables_of(alloc, parts.inputs.as_slice(), parts.registers.as_slice())?;
+    let Parts {
+        names,
+        inputs,
+        outputs,
+        gates,
+        registers,
+        ranks,
+    } = parts;
     Ok(Netlist {
         names,
         symbols,

@@ -1,0 +1,35 @@
+-- A netlist of parts that are at hand, and what its symbols tell while they are made.
+use Rattle.std.specs.Prelude.{◌≡◌, ◌⊎◌, ℕ, true, List, slice_index_or}
+use Rattle.net_bench.specs.declared.assembly.Parts.{Parts}
+use Rattle.net_bench.specs.declared.symbols.Symbol.{Symbol}
+use Rattle.net_bench.specs.declared.netlist.Role.{Role}
+use Rattle.net_bench.specs.declared.netlist.Role.TheVariants.{Undefined as undefined}
+use Rattle.net_bench.specs.Circuit.{Net, HasRole}
+use Rattle.net_bench.specs.Symbols.{blank, is_defined_role}
+
+-- the netlist that has these parts
+abbrev pub whole : Parts → Net
+whole p = record {
+  names = p.names;
+  inputs = p.inputs.items;
+  outputs = p.outputs.items;
+  gates = p.gates.items;
+  registers = p.registers.items;
+  ranks = p.ranks.items;
+}
+
+-- the role that a signal's symbol tells
+abbrev pub role_in : List Symbol → ℕ → Role
+role_in symbols s = (slice_index_or symbols s blank).role
+
+-- each role that is told is right
+abbrev pub AreRight : Net → List Symbol → Type 0
+AreRight n symbols = (s : ℕ) → (role_in symbols s ≡ undefined) ⊎ HasRole n s (role_in symbols s)
+
+-- the signal's role is told
+abbrev pub IsPlaced : List Symbol → ℕ → Type 0
+IsPlaced symbols s = is_defined_role (role_in symbols s) ≡ true
+
+-- no role that is told is lost
+abbrev pub KeepsRoles : List Symbol → List Symbol → Type 0
+KeepsRoles old new = (s : ℕ) → IsPlaced old s → IsPlaced new s
