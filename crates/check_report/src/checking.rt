@@ -1,9 +1,10 @@
 //! What a comparison of two netlists finds, within so many nodes.
-ghost use Rattle.std.specs.Prelude.{◌≡◌, ◌≢◌, ◌<◌, ◌-◌, ◌^◌, IfOk, IfErr, IsSomeAnd, OnOk, Err};
+ghost use Rattle.std.specs.Prelude.{◌≡◌, ◌≢◌, ◌<◌, ◌-◌, ◌^◌, false, IfOk, IfErr, IsSomeAnd, OnOk, Err};
 ghost use Rattle.expand_work.specs.Bounds.{most_of};
 ghost use Rattle.net_bench.specs.Circuit.{circuit};
 ghost use Rattle.net_order.specs.Order.{condition};
 ghost use Rattle.gate_plan.specs.Building.{IsPaired};
+ghost use Rattle.check_report.specs.Arranging.{ArePairings};
 ghost use Rattle.check_report.specs.Report.{AreVerdicts};
 ghost use Rattle.check_report.specs.Check.{IsLate};
 ghost use Rattle.check_report.specs.Comparing.{AreCompared};
@@ -18,19 +19,19 @@ use dd_store::Store;
 use expand_work::{Crew, Gate, WaveFault, Workers};
 use gate_plan::{Circuits, build};
 use net_order::pairing::Pairing;
-use report_text::Verdicts;
+use report_text::Verdict;
 use std::sync::Wait;
 use std::thread::Threads;
 
 /// The verdicts of what is shown of two netlists, over the variables of their pairing.
 fn verdicts_in<H>(
     task: &Task<'_, H>,
-    pairing: Pairing,
+    pairing: &Pairing,
     store: &Store,
     shown: &Shown,
-) -> Result<Verdicts, CheckFault>
-    requires { AreCompared (circuit task.now.first.now) (circuit task.now.second.now) (condition task.now.given) pairing store.now shown.now.subjects.items shown.now.references.items }
-    ensures ok { IfOk result (λ v. AreVerdicts task.now.settings.now.sizes (circuit task.now.first.now) (circuit task.now.second.now) (condition task.now.given) pairing v) }
+) -> Result<Vec<Verdict>, CheckFault>
+    requires { AreCompared (circuit task.now.first.now) (circuit task.now.second.now) (condition task.now.given) pairing.now store.now shown.now.subjects.items shown.now.references.items }
+    ensures ok { IfOk result (λ v. AreVerdicts task.now.settings.now.sizes (circuit task.now.first.now) (circuit task.now.second.now) (condition task.now.given) pairing.now (record { variables = pairing.now.names; verdicts = v.items })) }
     ensures err { IfErr result IsLate }
     ensures unbuilt { result ≢ Err (CheckFault.Wave WaveFault.Full) }
     ensures unbounded { result ≢ Err (CheckFault.Wave WaveFault.TooManyRequests) }
@@ -40,14 +41,14 @@ fn verdicts_in<H>(
         first: task.first,
         second: task.second,
         given: task.given,
-        pairing: &pairing,
+        pairing,
         store,
         subjects: shown.subjects.as_slice(),
         references: shown.references.as_slice(),
         sizes: task.settings.sizes,
     };
     match verdicts_of(task.alloc, &comparison) {
-        Ok(verdicts) => Ok(Verdicts::of(pairing, verdicts)),
+        Ok(verdicts) => Ok(verdicts),
         Err(_) => Err(CheckFault::OutOfMemory),
     }
 }
@@ -55,17 +56,17 @@ fn verdicts_in<H>(
 /// What a comparison of two netlists that are paired finds, within so many nodes.
 pub fn compare<H: Threads + Wait + Sync, G: Gate>(
     task: &Task<'_, H>,
-    pairing: Pairing,
+    pairing: &Pairing,
     limit: u64,
     gate: &G,
-) -> Result<Verdicts, CheckFault>
-    requires paired { IsPaired (circuit task.now.first.now) (circuit task.now.second.now) (condition task.now.given) pairing }
+) -> Result<Vec<Verdict>, CheckFault>
+    requires paired { IsPaired (circuit task.now.first.now) (circuit task.now.second.now) (condition task.now.given) pairing.now }
     requires small { limit < 2 ^ 32 }
-    ensures ok { IfOk result (λ v. AreVerdicts task.now.settings.now.sizes (circuit task.now.first.now) (circuit task.now.second.now) (condition task.now.given) pairing v) }
+    ensures ok { IfOk result (λ v. AreVerdicts task.now.settings.now.sizes (circuit task.now.first.now) (circuit task.now.second.now) (condition task.now.given) pairing.now (record { variables = pairing.now.names; verdicts = v.items })) }
     ensures err { IfErr result IsLate }
-    ensures within { OnOk result (FitsWithin limit (circuit task.now.first.now) (circuit task.now.second.now) (condition task.now.given) pairing) }
-    ensures full { result ≡ Err (CheckFault.Wave WaveFault.Full) → Exceeds limit (circuit task.now.first.now) (circuit task.now.second.now) (condition task.now.given) pairing }
-    ensures past { result ≡ Err (CheckFault.Wave WaveFault.TooManyRequests) → IsSomeAnd (G.bound gate.now) (λ n. IsTooWide n (circuit task.now.first.now) (circuit task.now.second.now) (condition task.now.given) pairing) }
+    ensures within { OnOk result (FitsWithin limit (circuit task.now.first.now) (circuit task.now.second.now) (condition task.now.given) pairing.now) }
+    ensures full { result ≡ Err (CheckFault.Wave WaveFault.Full) → Exceeds limit (circuit task.now.first.now) (circuit task.now.second.now) (condition task.now.given) pairing.now }
+    ensures past { result ≡ Err (CheckFault.Wave WaveFault.TooManyRequests) → IsSomeAnd (G.bound gate.now) (λ n. IsTooWide n (circuit task.now.first.now) (circuit task.now.second.now) (condition task.now.given) pairing.now) }
     ensures alone { most_of (G.bound gate.now) < 2 ^ 64 - 1 → result ≢ Err (CheckFault.Wave WaveFault.NoWorker) }
 {
     let _ = task.first.inputs();
@@ -84,15 +85,38 @@ pub fn compare<H: Threads + Wait + Sync, G: Gate>(
         first: task.first,
         second: task.second,
         given: task.given,
-        pairing: &pairing,
+        pairing,
     };
     let built = match build(&crew, &mut store, &circuits) {
         Ok(built) => built,
         Err(fault) => return Err(CheckFault::Wave(fault)),
     };
-    let shown = match shown_of(task, &mut store, &built, &pairing, &crew) {
+    let shown = match shown_of(task, &mut store, &built, pairing, &crew) {
         Ok(shown) => shown,
         Err(fault) => return Err(fault),
     };
     verdicts_in(task, pairing, &store, &shown)
+}
+
+/// What a comparison of two netlists finds, within so many nodes, told over the variables of another pairing of them than that by which
+/// the diagrams are built.
+pub fn compare_as_declared<H: Threads + Wait + Sync, G: Gate>(
+    task: &Task<'_, H>,
+    pairing: &Pairing,
+    declared: &Pairing,
+    limit: u64,
+    gate: &G,
+) -> Result<Vec<Verdict>, CheckFault>
+    requires paired { ArePairings task.now.settings.now.matching (circuit task.now.first.now) (circuit task.now.second.now) (condition task.now.given) pairing.now declared.now }
+    requires no_sizes { task.now.settings.now.sizes ≡ false }
+    requires small { limit < 2 ^ 32 }
+    ensures ok { IfOk result (λ v. AreVerdicts false (circuit task.now.first.now) (circuit task.now.second.now) (condition task.now.given) declared.now (record { variables = declared.now.names; verdicts = v.items })) }
+    ensures err { IfErr result IsLate }
+    ensures within { OnOk result (FitsWithin limit (circuit task.now.first.now) (circuit task.now.second.now) (condition task.now.given) pairing.now) }
+    ensures full { result ≡ Err (CheckFault.Wave WaveFault.Full) → Exceeds limit (circuit task.now.first.now) (circuit task.now.second.now) (condition task.now.given) pairing.now }
+    ensures past { result ≡ Err (CheckFault.Wave WaveFault.TooManyRequests) → IsSomeAnd (G.bound gate.now) (λ n. IsTooWide n (circuit task.now.first.now) (circuit task.now.second.now) (condition task.now.given) pairing.now) }
+    ensures alone { most_of (G.bound gate.now) < 2 ^ 64 - 1 → result ≢ Err (CheckFault.Wave WaveFault.NoWorker) }
+{
+    let _ = declared.names();
+    compare(task, pairing, limit, gate)
 }

@@ -2,10 +2,12 @@
 #![tactic(auto)]
 
 mod attempts;
+mod bounded;
 mod checking;
 mod choice;
 mod compare;
 mod compared;
+mod deciding;
 mod fault;
 mod judging;
 pub mod laws;
@@ -15,6 +17,7 @@ mod report;
 mod settings;
 mod subject;
 mod task;
+mod trials;
 
 pub use choice::{Attempt, Candidate, Choice};
 pub use fault::CheckFault;

@@ -31,7 +31,7 @@ returns-in-Err-clause-full g c = λ e.
     let a = circuit c.args.task.now.first.now in
     let b = circuit c.args.task.now.second.now in
     let given = condition c.args.task.now.given in
-    let p = c.args.pairing in
+    let p = c.args.pairing.now in
     let levels : T.levels ≡ c.len-levels.result = c.build.ensures.keeps.levels ∙ ap (λ (S : Nodes). S.levels) c.in-Ok.ensures in
     let limit : T.limit ≡ c.args.limit = c.build.ensures.keeps.limit ∙ ap (λ (S : Nodes). S.limit) c.in-Ok.ensures in
     let none : count_of c.in-Ok.store ≡ 0 = ap count_of c.in-Ok.ensures ∙ none_before c.len-levels.result c.args.limit T c.build.ensures.sound levels limit in
@@ -47,7 +47,7 @@ returns-in-Err-shown_of-clause-full g c = λ e.
     let limit : T.limit ≡ c.args.limit = c.build.ensures.keeps.limit ∙ ap (λ (S : Nodes). S.limit) c.in-Ok.ensures in
     let none : count_of c.in-Ok.store ≡ 0 = ap count_of c.in-Ok.ensures ∙ none_before c.len-levels.result c.args.limit T c.build.ensures.sound levels limit in
     let full : c.in-Err-shown_of.fault ≡ Wave Full = cc in
-    over c.args.limit (circuit c.args.task.now.first.now) (circuit c.args.task.now.second.now) (condition c.args.task.now.given) c.args.pairing U c.shown_of.ensures.sound
+    over c.args.limit (circuit c.args.task.now.first.now) (circuit c.args.task.now.second.now) (condition c.args.task.now.given) c.args.pairing.now U c.shown_of.ensures.sound
     (c.shown_of.ensures.keeps.levels ∙ levels ∙ c.len-levels.ensures.value ∙ ap length c.names.ensures.value) (c.shown_of.ensures.keeps.limit ∙ limit)
     (c.in-Err-shown_of.ensures.full (c.in-Ok-build.ensures.need none) (ap Err full))
 
@@ -58,16 +58,16 @@ returns-clause-within g c =
     let levels : T.levels ≡ c.len-levels.result = c.build.ensures.keeps.levels ∙ ap (λ (S : Nodes). S.levels) c.in-Ok.ensures in
     let limit : T.limit ≡ c.args.limit = c.build.ensures.keeps.limit ∙ ap (λ (S : Nodes). S.limit) c.in-Ok.ensures in
     let none : count_of c.in-Ok.store ≡ 0 = ap count_of c.in-Ok.ensures ∙ none_before c.len-levels.result c.args.limit T c.build.ensures.sound levels limit in
-    on_ok c.verdicts_in.result (fits c.args.limit (circuit c.args.task.now.first.now) (circuit c.args.task.now.second.now) (condition c.args.task.now.given) c.args.pairing U c.shown_of.ensures.sound
+    on_ok c.verdicts_in.result (fits c.args.limit (circuit c.args.task.now.first.now) (circuit c.args.task.now.second.now) (condition c.args.task.now.given) c.args.pairing.now U c.shown_of.ensures.sound
     (c.shown_of.ensures.keeps.levels ∙ levels ∙ c.len-levels.ensures.value ∙ ap length c.names.ensures.value) (c.shown_of.ensures.keeps.limit ∙ limit)
     (c.in-Ok-shown_of.ensures.need (c.in-Ok-build.ensures.need none)))
 
 pub returns-in-Err-clause-past : goal.returns-in-Err-clause-past
 returns-in-Err-clause-past g c = λ e.
     let refused : c.in-Err.fault ≡ TooManyRequests = cc in
-    wide_build (circuit c.args.task.now.first.now) (circuit c.args.task.now.second.now) (condition c.args.task.now.given) c.args.pairing (g.G.Gate.bound c.args.gate.now) (c.build.ensures.past (c.in-Err.is ∙ ap Err refused))
+    wide_build (circuit c.args.task.now.first.now) (circuit c.args.task.now.second.now) (condition c.args.task.now.given) c.args.pairing.now (g.G.Gate.bound c.args.gate.now) (c.build.ensures.past (c.in-Err.is ∙ ap Err refused))
 
 pub returns-in-Err-shown_of-clause-past : goal.returns-in-Err-shown_of-clause-past
 returns-in-Err-shown_of-clause-past g c = λ e.
     let refused : c.in-Err-shown_of.fault ≡ Wave TooManyRequests = cc in
-    wide_compared (circuit c.args.task.now.first.now) (circuit c.args.task.now.second.now) (condition c.args.task.now.given) c.args.pairing (g.G.Gate.bound c.args.gate.now) (c.in-Err-shown_of.ensures.past (ap Err refused))
+    wide_compared (circuit c.args.task.now.first.now) (circuit c.args.task.now.second.now) (condition c.args.task.now.given) c.args.pairing.now (g.G.Gate.bound c.args.gate.now) (c.in-Err-shown_of.ensures.past (ap Err refused))
