@@ -13,3 +13,5 @@ pub mod Determined
 pub mod Trying
 pub mod Printing
 pub mod Widening
+pub mod Rounds
+pub mod Budgets

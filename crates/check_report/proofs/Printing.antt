@@ -1,12 +1,13 @@
 -- An order that is printed, from a comparison that was made in it.
-use Rattle.std.proofs.Common.{◌≡◌, ◌∙◌, ap, ℕ, Bool, List, Option, Some, None}
+use Rattle.std.proofs.Common.{◌≡◌, ◌∙◌, ap, sym, subst, ℕ, Bool, List, Option, Some, None, Result, Ok, Err, IfOk, IfSome}
 use Rattle.net_order.specs.declared.order.Match.{Match}
 use Rattle.net_order.specs.declared.order.Order.{Order}
 use Rattle.net_order.specs.OrderText.{order_text}
 use Rattle.check_report.specs.Devices.{Told}
 use Rattle.check_report.specs.declared.choice.Choice.{Choice}
-use Rattle.check_report.specs.declared.choice.Choice.TheVariants.{One, Best}
+use Rattle.check_report.specs.declared.choice.Choice.TheVariants.{One, Best, Auto}
 use Rattle.check_report.specs.declared.choice.Attempt.{Attempt}
+use Rattle.check_report.specs.declared.choice.Candidate.TheVariants.{Declared}
 use Rattle.check_report.specs.Best.{IsAllowed, IsFound}
 use Rattle.check_report.specs.Check.{IsJudged}
 use Rattle.report_text.specs.Lines.{Found}
@@ -20,3 +21,9 @@ pub found_allowed : (told : Told) (how : Match) (choice : Choice) (limit : ℕ) 
 found_allowed told how (One o) limit tried order f = f.1
 found_allowed told how Best limit None order f = absurd f
 found_allowed told how Best limit (Some t) order f = (t.order, f.0)
+found_allowed told how Auto limit tried order f = (Declared, f.1)
+
+-- where no order was tried, whatever is said of an attempt
+pub never_tried : {A B E : Type 0} (P : B → Type 0) (r : Result (A × Option B) E) → IfOk r (λ r. r.1 ≡ None) → IfOk r (λ r. IfSome r.1 P)
+never_tried P (Ok (a, tried)) e = subst (λ t. IfSome t P) (sym e) tt
+never_tried P (Err fault) e = tt

@@ -1,43 +1,34 @@
--- Candidates, and the budgets within which they are tried.
-use Rattle.std.proofs.Common.{◌≡◌, ℕ, suc, ◌*◌, ◌^◌, List, Option, Some, None, Result, Ok, Err, IfErr, arith, refl, ap, sym, subst, ◌∙◌, Bool}
+-- Choices of an order, and what the devices of a task gave.
+use Rattle.std.proofs.Common.{◌≡◌, ℕ, List, Option, Some, None, Result, Ok, Err, IfErr, refl, ap, sym, subst, ◌∙◌, Bool}
 use Rattle.std.specs.Prelude.{IfSome, IsSomeAnd, is_some, option_map}
 use Rattle.std.specs.Option.{option_copied}
 use Rattle.std.specs.Borrow.{Bor}
-use Rattle.std.proofs.Math.Nat.{pow-suc}
 use Rattle.net_order.specs.declared.order.Match.{Match}
 use Rattle.net_order.specs.declared.order.Order.{Order}
 use Rattle.net_order.specs.declared.order.Order.TheVariants as orders
 use Rattle.check_report.specs.declared.choice.Candidate.{Candidate}
-use Rattle.check_report.specs.declared.choice.Candidate.TheVariants.{Interleave, Depth, Declared}
+use Rattle.check_report.specs.declared.choice.Candidate.TheVariants.{Interleave, Declared}
 use Rattle.check_report.specs.declared.choice.Choice.{Choice}
-use Rattle.check_report.specs.declared.choice.Choice.TheVariants.{One, Best}
+use Rattle.check_report.specs.declared.choice.Choice.TheVariants.{One, Best, Auto}
 use Rattle.check_report.specs.declared.fault.CheckFault.{CheckFault}
-use Rattle.check_report.specs.declared.fault.CheckFault.TheVariants.{First, Second, Given, GivenOutputs, Order as OrderRefused, Wave, Write, OutOfMemory}
+use Rattle.check_report.specs.declared.fault.CheckFault.TheVariants.{First, Second, Given, GivenOutputs, Order as OrderRefused, Wave, GivenUp, Write, OutOfMemory}
 use Rattle.check_report.specs.declared.choice.Attempt.{Attempt}
-use Rattle.check_report.specs.Best.{IsAllowed, IsChosen, tried_order}
+use Rattle.check_report.specs.Best.{IsAllowed, IsChosen}
 use Rattle.net_bench.specs.Circuit.{Circuit, Net, circuit}
 use Rattle.net_order.specs.Order.{condition}
 use Rattle.check_report.specs.Devices.{Told, told_by}
+use Rattle.report_text.specs.declared.kind.OrderKind.{OrderKind}
 use Rattle.report_text.specs.Json.{form_text}
 use Rattle.report_text.specs.Lines.{Found}
 use Rattle.net_bench.specs.declared.netlist.BenchFault.{BenchFault}
 use Rattle.check_report.specs.Check.{AreGiven, Gives, IsCondition, IsUnread, IsConditionFault, IsCheckFault}
 use Rattle.check_report.specs.Conditions.{HasOneOutput}
 
--- what holds of the three candidates holds of each
-pub each_candidate : (P : Candidate → Type 0) → P Interleave → P Depth → P Declared → (c : Candidate) → P c
-each_candidate P i d e Interleave = i
-each_candidate P i d e Depth = d
-each_candidate P i d e Declared = e
-
--- the next budget
-pub next_budget : (k b : ℕ) → b ≡ 65536 * 4 ^ k → b * 4 ≡ 65536 * 4 ^ suc k
-next_budget k b e = let s = pow-suc 4 k in omega (arith, s, e)
-
 -- each choice allows some order
 pub some_order : (choice : Choice) → (order : Order) × IsAllowed choice order
 some_order (One o) = (o, refl)
 some_order Best = (orders.Interleave, (Interleave, refl))
+some_order Auto = (orders.Interleave, (Interleave, refl))
 
 -- a fault for which no device had to fail
 unread : (told : Option (List ℕ)) (failed : Type 0) (fault : BenchFault) → IsUnread told ⊥ fault → IsUnread told failed fault
@@ -54,6 +45,7 @@ none_failed told first second third how order (Given fault) c = (c.0, c.1, c.2, 
 none_failed told first second third how order GivenOutputs c = c
 none_failed told first second third how order (OrderRefused fault) c = c
 none_failed told first second third how order (Wave fault) c = c
+none_failed told first second third how order GivenUp c = c
 none_failed told first second third how order Write c = c
 none_failed told first second third how order OutOfMemory c = c
 
@@ -72,6 +64,7 @@ condition_fault told a b first second third how order (Given fault) ga gb f = (a
 condition_fault told a b first second third how order GivenOutputs ga gb f = (a, b, ga, gb, f)
 condition_fault told a b first second third how order (OrderRefused fault) ga gb f = absurd f
 condition_fault told a b first second third how order (Wave fault) ga gb f = absurd f
+condition_fault told a b first second third how order GivenUp ga gb f = absurd f
 condition_fault told a b first second third how order Write ga gb f = absurd f
 condition_fault told a b first second third how order OutOfMemory ga gb f = absurd f
 
@@ -95,20 +88,15 @@ pub is_told : {R : Type 0} (tells : R → Option (List ℕ)) (r : Option R) → 
 is_told tells None = refl
 is_told tells (Some device) = refl
 
--- the order of what a comparison ended with
-pub chosen_is : (told : Told) (how : Match) (choice : Choice) (limit : ℕ) (tried : Option Attempt) (order : Order) → IsChosen told how choice limit tried order → order ≡ tried_order choice tried
-chosen_is told how (One o) limit None order c = c.0
-chosen_is told how (One o) limit (Some t) order c = absurd c
-chosen_is told how Best limit None order c = absurd c
-chosen_is told how Best limit (Some t) order c = c.0
+-- the bytes of a report, by whether there is a condition
+pub form_as : (json : Bool) (how : Match) (kind : OrderKind) (found : Found) (items : List ℕ) (h given : Bool) → items ≡ form_text json how kind h found → h ≡ given → items ≡ form_text json how kind given found
+form_as json how kind found items h given e told = e ∙ ap (λ z. form_text json how kind z found) told
 
--- the bytes of a report, by what its order and its condition are
-pub form_as : (json : Bool) (how : Match) (found : Found) (items : List ℕ) (o order : Order) (h given : Bool) → items ≡ form_text json how o h found → order ≡ o → h ≡ given → items ≡ form_text json how order given found
-form_as json how found items o order h given e same told = e ∙ ap (λ z. form_text json how z h found) (sym same) ∙ ap (λ z. form_text json how order z found) told
-
--- and it is allowed
+-- the order of a report is allowed
 pub chosen_allowed : (told : Told) (how : Match) (choice : Choice) (limit : ℕ) (tried : Option Attempt) (order : Order) → IsChosen told how choice limit tried order → IsAllowed choice order
 chosen_allowed told how (One o) limit None order c = c.0
 chosen_allowed told how (One o) limit (Some t) order c = absurd c
 chosen_allowed told how Best limit None order c = absurd c
 chosen_allowed told how Best limit (Some t) order c = (t.order, c.0)
+chosen_allowed told how Auto limit None order c = absurd c
+chosen_allowed told how Auto limit (Some t) order c = (Declared, c.0)

@@ -8,5 +8,7 @@ pub mod Tasks
 pub mod Limits
 pub mod Widths
 pub mod Best
+pub mod Arranging
+pub mod Trials
 pub mod Texts
 pub mod Listing

@@ -1,271 +1,298 @@
 //! The attempts of a comparison: an order, and the nodes within which it is to stay.
-ghost use Rattle.std.specs.Prelude.{min, None, ◌≡◌, ◌≢◌, ◌≤◌, ◌<◌, ◌-◌, ◌^◌, ◌*◌, ◌⊎◌, ℕ, List, Option, Some, true, false, IfOk, IfErr, IfSome, IsSomeAnd, OnOk, IsTrue, Err};
+ghost use Rattle.std.specs.Prelude.{◌≡◌, ◌≢◌, ◌≤◌, ◌<◌, ◌-◌, ◌^◌, ◌*◌, ◌⊎◌, ℕ, [], true, All, Option, Some, IfOk, IfErr, IsSomeAnd, OnOk, Err};
 ghost use Rattle.expand_work.specs.Bounds.{most_of};
-ghost use Rattle.check_report.specs.declared.choice.Candidate.{Candidate as CandidateValue};
+ghost use Rattle.net_bench.specs.Circuit.{circuit};
 ghost use Rattle.net_order.specs.declared.order.Order.{Order as OrderValue};
-ghost use Rattle.check_report.specs.Best.{AllBefore, AreGivenUp, IsAllowed, IsBudget, IsChosen, IsPassed, order_of};
-ghost use Rattle.check_report.specs.Check.{IsJudged, IsCheckFault};
-ghost use Rattle.check_report.specs.Limits.{AreWithin, AreBeyond};
+ghost use Rattle.net_order.specs.Order.{condition};
+ghost use Rattle.check_report.specs.declared.choice.Candidate.{Candidate as CandidateValue};
+ghost use Rattle.check_report.specs.Best.{IsBudget, order_of};
+ghost use Rattle.check_report.specs.Check.{IsCheckFault, IsLate};
+ghost use Rattle.check_report.specs.Limits.{FitsWithin, Exceeds};
+ghost use Rattle.check_report.specs.Report.{AreVerdicts};
 ghost use Rattle.check_report.specs.Tasks.{OfTask};
-ghost use Rattle.check_report.specs.Widths.{AreTooWide};
+ghost use Rattle.check_report.specs.Trials.{ArePassedBefore, AreTrials, EndsAtOnce, EndsSearch, IsDecided, IsFirstRound, IsEnded, IsFull, IsPairingIn, IsPassed, IsRound, IsTelling, IsTrial, IsTurn, told_in};
+ghost use Rattle.check_report.specs.Widths.{IsTooWide};
 
-use crate::checking::compare;
-use crate::choice::{Attempt, Candidate, Choice};
+use crate::bounded::Bounded;
+use crate::checking::{compare, compare_as_declared};
+use crate::choice::Candidate;
 use crate::fault::CheckFault;
 use crate::task::Task;
-use dd_store::Watch;
+use crate::trials::{Trial, is_tried, paired, put_furthest_first};
 use expand_work::{Gate, WaveFault};
-use net_order::order::Order;
-use net_order::pairing::pair;
-use report_text::Verdicts;
+use net_order::pairing::Pairing;
+use report_text::Verdict;
 use std::sync::Wait;
+use std::sync::atomic::AtomicU32;
 use std::thread::Threads;
 
 /// The nodes of the first budget.
-const FIRST_BUDGET: u64 = 65_536;
+const FIRST_BUDGET: u64 = 16_384;
+
+/// Each budget has so many times the nodes of the one before it.
+const GROWTH: u64 = 16;
 
 /// A wave may have so many requests for each node of the budget.
 const REQUESTS: u64 = 8;
 
-/// A gate that bounds the requests of a wave as well.
+/// The candidates, in the order in which they are tried within the first budget.
+const CANDIDATES: [Candidate; 5] = [
+    Candidate::Interleave,
+    Candidate::Force,
+    Candidate::Index,
+    Candidate::Depth,
+    Candidate::Declared,
+];
+
+/// The attempt that decides a comparison: its trial, its verdicts, and the nodes that it was to need.
 #[derive(Drop)]
-struct Bounded<'a, G> {
-    gate: &'a G,
-    most: usize,
+pub struct Decided {
+    pub trial: Trial,
+    pub verdicts: Vec<Verdict>,
+    pub budget: u64,
 }
 
-impl<'a, G: Gate> Watch for Bounded<'a, G> {
-    fn at_shard(&self, shard: u8, level: u16) {
-        self.gate.at_shard(shard, level);
+/// What an attempt comes to.
+#[derive(Drop)]
+enum Ended {
+    Decided(Vec<Verdict>),
+    /// Given up, for its nodes or for a wave's requests.
+    GivenUp { full: bool },
+}
+
+/// What the attempts within a budget come to.
+#[derive(Drop)]
+enum Round {
+    Decided(Decided),
+    /// All were given up, each for its nodes or not.
+    GivenUp { full: bool },
+}
+
+/// The verdicts of a comparison by this pairing, told over its variables, or in declared order.
+fn verdicts_by<H: Threads + Wait + Sync, G: Gate>(
+    task: &Task<'_, H>,
+    declared: Option<&Pairing>,
+    pairing: &Pairing,
+    limit: u64,
+    gate: &G,
+) -> Result<Vec<Verdict>, CheckFault>
+    requires small { limit < 2 ^ 32 }
+    requires telling { IsTelling task.now declared }
+    requires paired { (order : OrderValue) × IsPairingIn task.now order pairing.now }
+    ensures ok { IfOk result (λ v. AreVerdicts task.now.settings.now.sizes (circuit task.now.first.now) (circuit task.now.second.now) (condition task.now.given) (told_in declared.entry pairing.now)
+        (record { variables = (told_in declared.entry pairing.now).names; verdicts = v.items })) }
+    ensures err { IfErr result IsLate }
+    ensures within { OnOk result (FitsWithin limit (circuit task.now.first.now) (circuit task.now.second.now) (condition task.now.given) pairing.now) }
+    ensures full { result ≡ Err (CheckFault.Wave WaveFault.Full) → Exceeds limit (circuit task.now.first.now) (circuit task.now.second.now) (condition task.now.given) pairing.now }
+    ensures past { result ≡ Err (CheckFault.Wave WaveFault.TooManyRequests) → IsSomeAnd (G.bound gate.now) (λ n. IsTooWide n (circuit task.now.first.now) (circuit task.now.second.now) (condition task.now.given) pairing.now) }
+    ensures alone { most_of (G.bound gate.now) < 2 ^ 64 - 1 → result ≢ Err (CheckFault.Wave WaveFault.NoWorker) }
+{
+    match declared {
+        Some(declared) => compare_as_declared(task, pairing, declared, limit, gate),
+        None => compare(task, pairing, limit, gate),
     }
 }
 
-impl<'a, G: Gate> Gate for Bounded<'a, G> {
-    ghost bound = { λ b. Some (min b.most (most_of (G.bound b.gate.now))) };
-
-    fn at_level(&self, worker: u32, level: u16) {
-        self.gate.at_level(worker, level);
-    }
-
-    fn most_alone(&self, workers: u32, expected: usize) -> usize {
-        self.gate.most_alone(workers, expected)
-    }
-
-    fn most_requests(&self) -> usize {
-        self.most.min(self.gate.most_requests())
-    }
-
-    fn at_rank(&self, rank: u32, ranks: u32, nodes: u64) {
-        self.gate.at_rank(rank, ranks, nodes);
-    }
-
-    fn at_requests(&self, requests: usize) {
-        self.gate.at_requests(requests);
-    }
-}
-
-/// Pairs two netlists in this order, and compares them within so many nodes.
+/// Compares in the order of a trial within so many nodes.
 fn attempt<H: Threads + Wait + Sync, G: Gate>(
     task: &Task<'_, H>,
-    order: &Order,
-    limit: u64,
+    declared: Option<&Pairing>,
+    trial: &Trial,
+    budget: u64,
     gate: &G,
-) -> Result<Verdicts, CheckFault>
-    requires { limit < 2 ^ 32 }
-    ensures judged { OfTask task.now (λ told s. IfOk result (IsJudged told s.matching order.now s.sizes)) }
-    ensures within { OfTask task.now (λ told s. OnOk result (AreWithin told s.matching order.now limit)) }
-    ensures full { OfTask task.now (λ told s. result ≡ Err (CheckFault.Wave WaveFault.Full) → AreBeyond told s.matching order.now limit) }
-    ensures fault { OfTask task.now (λ told s. IfErr result (IsCheckFault told ⊥ ⊥ ⊥ s.matching order.now)) }
-    ensures unwritten { result ≢ Err CheckFault.Write }
-    ensures past { OfTask task.now (λ told s.
-        result ≡ Err (CheckFault.Wave WaveFault.TooManyRequests) → IsSomeAnd (G.bound gate.now) (AreTooWide told s.matching order.now)) }
-    ensures alone { most_of (G.bound gate.now) < 2 ^ 64 - 1 → result ≢ Err (CheckFault.Wave WaveFault.NoWorker) }
+) -> Result<Ended, CheckFault>
+    requires small { budget < 2 ^ 32 }
+    requires telling { IsTelling task.now declared }
+    requires trial { IsTrial task.now trial.now }
+    ensures ended { IfOk result (IsEnded task.now declared.entry budget (G.bound gate.now) trial.now) }
+    ensures fault { OfTask task.now (λ told s. IfErr result (λ fault. (c : CandidateValue) × IsCheckFault told ⊥ ⊥ ⊥ s.matching (order_of c) fault)) }
+    ensures ends { IfErr result EndsAtOnce }
 {
-    let _ = task.first.inputs();
-    let pairing = match pair(
-        task.alloc,
-        task.first,
-        task.second,
-        task.given,
-        task.settings.matching,
-        order,
-    ) {
-        Ok(pairing) => pairing,
-        Err(fault) => return Err(CheckFault::Order(fault)),
+    let bounded = Bounded {
+        gate,
+        most: (budget * REQUESTS) as usize,
+        reached: &trial.reached,
     };
-    match compare(task, &pairing, limit, gate) {
-        Ok(verdicts) => Ok(Verdicts::of(pairing, verdicts)),
+    match verdicts_by(task, declared, &trial.pairing, budget, &bounded) {
+        Ok(verdicts) => Ok(Ended::Decided(verdicts)),
+        Err(CheckFault::Wave(WaveFault::Full)) => Ok(Ended::GivenUp { full: true }),
+        Err(CheckFault::Wave(WaveFault::TooManyRequests)) => Ok(Ended::GivenUp { full: false }),
         Err(fault) => Err(fault),
     }
 }
 
-/// Whether the fault of an attempt stays: it was not given up for the nodes that it needs, nor, where its requests are bounded, for these.
-fn is_kept(fault: CheckFault, bounded: bool) -> bool
-    ensures kept { result ≡ true → fault ≢ CheckFault.Wave WaveFault.Full }
-    ensures passed { bounded ≡ true → result ≡ true → fault ≢ CheckFault.Wave WaveFault.TooManyRequests }
-    ensures full { bounded ≡ false → result ≡ false → fault ≡ CheckFault.Wave WaveFault.Full }
-    ensures dropped { result ≡ false → (fault ≡ CheckFault.Wave WaveFault.Full) ⊎ (fault ≡ CheckFault.Wave WaveFault.TooManyRequests) }
+/// The first attempt in the order of a candidate. One that is the order of a trial before is that trial's.
+fn try_candidate<H: Threads + Wait + Sync, G: Gate>(
+    task: &Task<'_, H>,
+    declared: Option<&Pairing>,
+    candidate: Candidate,
+    trials: &mut Vec<Trial>,
+    budget: u64,
+    gate: &G,
+) -> Result<Round, CheckFault>
+    requires small { budget < 2 ^ 32 }
+    requires telling { IsTelling task.now declared }
+    requires own { All (IsTrial task.now) trials.old.items }
+    ensures turn { IfOk result (IsTurn task.now declared.entry budget (G.bound gate.now) candidate trials.old.items trials.new.items) }
+    ensures fault { OfTask task.now (λ told s. IfErr result (λ fault. (c : CandidateValue) × IsCheckFault told ⊥ ⊥ ⊥ s.matching (order_of c) fault)) }
+    ensures ends { IfErr result EndsAtOnce }
 {
-    match fault {
-        CheckFault::Wave(WaveFault::Full) => false,
-        CheckFault::Wave(WaveFault::TooManyRequests) => !bounded,
-        _ => true,
+    let pairing = match paired(task, &candidate.order()) {
+        Ok(pairing) => pairing,
+        Err(fault) => return Err(fault),
+    };
+    if is_tried(trials.as_slice(), pairing.names()) {
+        return Ok(Round::GivenUp { full: true });
+    }
+    let trial = Trial {
+        candidate,
+        pairing,
+        reached: AtomicU32::new(0),
+    };
+    let full = match attempt(task, declared, &trial, budget, gate)? {
+        Ended::Decided(verdicts) => {
+            return Ok(Round::Decided(Decided {
+                trial,
+                verdicts,
+                budget,
+            }));
+        }
+        Ended::GivenUp { full } => full,
+    };
+    match trials.push(trial) {
+        Ok(()) => Ok(Round::GivenUp { full }),
+        Err(_) => Err(CheckFault::OutOfMemory),
     }
 }
 
-/// Tries the candidates in turn within so many nodes, and answers the first that ends. One that has too many requests is passed over
-/// only where they are bounded.
-fn try_candidates<H: Threads + Wait + Sync, G: Gate>(
+/// Tries the candidates in turn within the first budget, and keeps a trial of each order that was given up.
+fn try_first<H: Threads + Wait + Sync, G: Gate>(
     task: &Task<'_, H>,
-    limit: u64,
-    bounded: bool,
+    declared: Option<&Pairing>,
+    trials: &mut Vec<Trial>,
+    budget: u64,
     gate: &G,
-) -> Result<(Verdicts, Candidate), CheckFault>
-    requires { limit < 2 ^ 32 }
-    ensures judged { OfTask task.now (λ told s. IfOk result (λ r. IsJudged told s.matching (order_of r.1) s.sizes r.0)) }
-    ensures within { OfTask task.now (λ told s. IfOk result (λ r. AreWithin told s.matching (order_of r.1) limit)) }
-    ensures before { OfTask task.now (λ told s.
-        bounded ≡ false → IfOk result (λ r. AllBefore r.1 (λ c. AreBeyond told s.matching (order_of c) limit))) }
-    ensures full { OfTask task.now (λ told s.
-        bounded ≡ false → result ≡ Err (CheckFault.Wave WaveFault.Full) → (c : CandidateValue) → AreBeyond told s.matching (order_of c) limit) }
-    ensures fault { OfTask task.now (λ told s.
-        IfErr result (λ fault. (c : CandidateValue) × IsCheckFault told ⊥ ⊥ ⊥ s.matching (order_of c) fault)) }
-    ensures unwritten { result ≢ Err CheckFault.Write }
-    ensures past { OfTask task.now (λ told s.
-        result ≡ Err (CheckFault.Wave WaveFault.TooManyRequests) → (c : CandidateValue) × IsSomeAnd (G.bound gate.now) (AreTooWide told s.matching (order_of c))) }
-    ensures passed { OfTask task.now (λ told s. IfOk result (λ r. AllBefore r.1 (IsPassed told s.matching limit (G.bound gate.now)))) }
-    ensures refused { OfTask task.now (λ told s.
-        bounded ≡ true → (result ≡ Err (CheckFault.Wave WaveFault.Full)) ⊎ (result ≡ Err (CheckFault.Wave WaveFault.TooManyRequests)) → (c : CandidateValue) → IsPassed told s.matching limit (G.bound gate.now) c) }
-    ensures alone { most_of (G.bound gate.now) < 2 ^ 64 - 1 → result ≢ Err (CheckFault.Wave WaveFault.NoWorker) }
+) -> Result<Round, CheckFault>
+    requires small { budget < 2 ^ 32 }
+    requires telling { IsTelling task.now declared }
+    requires none { trials.old.items ≡ [] }
+    ensures round { IfOk result (IsRound task.now declared.entry budget (G.bound gate.now) trials.new.items) }
+    ensures first { IfOk result (IsFirstRound task.now budget (G.bound gate.now)) }
+    ensures fault { OfTask task.now (λ told s. IfErr result (λ fault. (c : CandidateValue) × IsCheckFault told ⊥ ⊥ ⊥ s.matching (order_of c) fault)) }
+    ensures ends { IfErr result EndsAtOnce }
 {
-    match attempt(task, &Order::Interleave, limit, gate) {
-        Ok(verdicts) => return Ok((verdicts, Candidate::Interleave)),
-        Err(fault) => if is_kept(fault, bounded) {
-            return Err(fault);
-        },
+    let mut all_full = true;
+    for candidate in CANDIDATES {
+        match try_candidate(task, declared, candidate, trials, budget, gate)? {
+            Round::Decided(decided) => return Ok(Round::Decided(decided)),
+            Round::GivenUp { full } => all_full &= full,
+        }
     }
-    match attempt(task, &Order::Depth, limit, gate) {
-        Ok(verdicts) => return Ok((verdicts, Candidate::Depth)),
-        Err(fault) => if is_kept(fault, bounded) {
-            return Err(fault);
-        },
+    Ok(Round::GivenUp { full: all_full })
+}
+
+/// Tries the orders again within a larger budget, those first that came furthest.
+fn try_again<H: Threads + Wait + Sync, G: Gate>(
+    task: &Task<'_, H>,
+    declared: Option<&Pairing>,
+    trials: &mut Vec<Trial>,
+    budget: u64,
+    gate: &G,
+) -> Result<Round, CheckFault>
+    requires small { budget < 2 ^ 32 }
+    requires telling { IsTelling task.now declared }
+    requires trials { AreTrials task.now trials.old.items }
+    ensures round { IfOk result (IsRound task.now declared.entry budget (G.bound gate.now) trials.new.items) }
+    ensures fault { OfTask task.now (λ told s. IfErr result (λ fault. (c : CandidateValue) × IsCheckFault told ⊥ ⊥ ⊥ s.matching (order_of c) fault)) }
+    ensures ends { IfErr result EndsAtOnce }
+{
+    put_furthest_first(trials);
+    let mut all_full = true;
+    for place in 0..trials.len() {
+        match attempt(task, declared, &trials[place], budget, gate)? {
+            Ended::Decided(verdicts) => {
+                let trial = trials.remove(place);
+                return Ok(Round::Decided(Decided {
+                    trial,
+                    verdicts,
+                    budget,
+                }));
+            }
+            Ended::GivenUp { full } => all_full &= full,
+        }
     }
-    match attempt(task, &Order::Declared, limit, gate) {
-        Ok(verdicts) => Ok((verdicts, Candidate::Declared)),
-        Err(fault) => Err(fault),
+    Ok(Round::GivenUp { full: all_full })
+}
+
+/// The fault of a search whose attempts within the limit were all given up, each for its nodes or not.
+fn fault_of(full: bool) -> CheckFault
+    ensures which { (result ≡ CheckFault.Wave WaveFault.Full) ⊎ (result ≡ CheckFault.GivenUp) }
+    ensures full { result ≡ CheckFault.Wave WaveFault.Full → full ≡ true }
+    ensures ends { EndsSearch result }
+{
+    if full {
+        CheckFault::Wave(WaveFault::Full)
+    } else {
+        CheckFault::GivenUp
     }
 }
 
-/// Tries the candidates within budgets that grow up to the limit.
-pub fn find_best<H: Threads + Wait + Sync, G: Gate>(
+/// Goes on within the budgets behind the first one, up to the limit.
+fn find_later<H: Threads + Wait + Sync, G: Gate>(
     task: &Task<'_, H>,
+    declared: Option<&Pairing>,
+    mut trials: Vec<Trial>,
     gate: &G,
-) -> Result<(Verdicts, Attempt), CheckFault>
-    ensures judged { OfTask task.now (λ told s. IfOk result (λ r. IsJudged told s.matching (order_of r.1.order) s.sizes r.0)) }
-    ensures chosen { OfTask task.now (λ told s.
-        IfOk result (λ r. IsChosen told s.matching Choice.Best s.limit (Some r.1) (order_of r.1.order))) }
-    ensures full { OfTask task.now (λ told s.
-        result ≡ Err (CheckFault.Wave WaveFault.Full) → (c : CandidateValue) → AreBeyond told s.matching (order_of c) s.limit) }
-    ensures fault { OfTask task.now (λ told s.
-        IfErr result (λ fault. (c : CandidateValue) × IsCheckFault told ⊥ ⊥ ⊥ s.matching (order_of c) fault)) }
-    ensures unwritten { result ≢ Err CheckFault.Write }
-    ensures past { OfTask task.now (λ told s.
-        result ≡ Err (CheckFault.Wave WaveFault.TooManyRequests) → (c : CandidateValue) × IsSomeAnd (G.bound gate.now) (AreTooWide told s.matching (order_of c))) }
-    ensures passed { G.bound gate.now ≡ None → OfTask task.now (λ told s. IfOk result (λ r. AreGivenUp told s.matching s.limit r.1)) }
-    ensures alone { most_of (G.bound gate.now) < 2 ^ 64 - 1 → result ≢ Err (CheckFault.Wave WaveFault.NoWorker) }
+) -> Result<Decided, CheckFault>
+    requires telling { IsTelling task.now declared }
+    requires trials { AreTrials task.now trials.items }
+    requires more { FIRST_BUDGET < task.now.settings.now.limit }
+    requires first { (c : CandidateValue) → IsPassed task.now FIRST_BUDGET (G.bound gate.now) c }
+    ensures decided { IfOk result (λ d. IsDecided task.now declared.entry d.budget d.trial d.verdicts.items) }
+    ensures budget { IfOk result (λ d. IsBudget task.now.settings.now.limit d.budget) }
+    ensures passed { IfOk result (λ d. ArePassedBefore task.now (G.bound gate.now) (record { order = d.trial.candidate; budget = d.budget })) }
+    ensures full { result ≡ Err (CheckFault.Wave WaveFault.Full) → (c : CandidateValue) → IsFull task.now task.now.settings.now.limit c }
+    ensures given_up { result ≡ Err CheckFault.GivenUp → (c : CandidateValue) → IsPassed task.now task.now.settings.now.limit (G.bound gate.now) c }
+    ensures fault { OfTask task.now (λ told s. IfErr result (λ fault. (c : CandidateValue) × IsCheckFault told ⊥ ⊥ ⊥ s.matching (order_of c) fault)) }
+    ensures ends { IfErr result EndsSearch }
 {
     let limit = task.settings.limit;
-    let mut budget = FIRST_BUDGET;
+    let mut budget = FIRST_BUDGET * GROWTH;
     while budget < limit {
-        let bounded = Bounded {
-            gate,
-            most: (budget * REQUESTS) as usize,
-        };
-        match try_candidates(task, budget, true, &bounded) {
-            Ok((verdicts, order)) => return Ok((verdicts, Attempt { order, budget })),
-            Err(fault) => if is_kept(fault, true) {
-                return Err(fault);
-            },
+        match try_again(task, declared, &mut trials, budget, gate)? {
+            Round::Decided(decided) => return Ok(decided),
+            Round::GivenUp { .. } => {}
         }
-        budget *= 4;
+        budget *= GROWTH;
     }
-    let (verdicts, order) = try_candidates(task, limit, false, gate)?;
-    let budget = limit;
-    Ok((verdicts, Attempt { order, budget }))
-}
-
-/// Compares two netlists in this order.
-fn by_order<H: Threads + Wait + Sync, G: Gate>(
-    task: &Task<'_, H>,
-    order: &Order,
-    gate: &G,
-) -> Result<(Verdicts, Option<Attempt>), CheckFault>
-    ensures chosen { OfTask task.now (λ told s.
-        IfOk result (λ r. (o : OrderValue) × IsJudged told s.matching o s.sizes r.0
-        × IsChosen told s.matching (Choice.One order.now) s.limit r.1 o)) }
-    ensures full { OfTask task.now (λ told s.
-        result ≡ Err (CheckFault.Wave WaveFault.Full) → (o : OrderValue) → IsAllowed (Choice.One order.now) o → AreBeyond told s.matching o s.limit) }
-    ensures fault { OfTask task.now (λ told s.
-        IfErr result (λ fault. (o : OrderValue) × IsAllowed (Choice.One order.now) o × IsCheckFault told ⊥ ⊥ ⊥ s.matching o fault)) }
-    ensures unwritten { result ≢ Err CheckFault.Write }
-    ensures past { OfTask task.now (λ told s.
-        result ≡ Err (CheckFault.Wave WaveFault.TooManyRequests) → (o : OrderValue) × IsAllowed (Choice.One order.now) o × IsSomeAnd (G.bound gate.now) (AreTooWide told s.matching o)) }
-    ensures passed { G.bound gate.now ≡ None → OfTask task.now (λ told s.
-        IfOk result (λ r. IfSome r.1 (AreGivenUp told s.matching s.limit))) }
-    ensures alone { most_of (G.bound gate.now) < 2 ^ 64 - 1 → result ≢ Err (CheckFault.Wave WaveFault.NoWorker) }
-{
-    match attempt(task, order, task.settings.limit, gate) {
-        Ok(verdicts) => Ok((verdicts, None)),
-        Err(fault) => Err(fault),
+    match try_again(task, declared, &mut trials, limit, gate)? {
+        Round::Decided(decided) => Ok(decided),
+        Round::GivenUp { full } => Err(fault_of(full)),
     }
 }
 
-/// Compares two netlists in the best order.
-fn by_best<H: Threads + Wait + Sync, G: Gate>(
+/// Tries the candidates within budgets that grow up to the limit. The verdicts are told over the variables of the order that decides, or
+/// in declared order where its pairing is given.
+pub fn find_attempt<H: Threads + Wait + Sync, G: Gate>(
     task: &Task<'_, H>,
+    declared: Option<&Pairing>,
     gate: &G,
-) -> Result<(Verdicts, Option<Attempt>), CheckFault>
-    ensures chosen { OfTask task.now (λ told s.
-        IfOk result (λ r. (o : OrderValue) × IsJudged told s.matching o s.sizes r.0
-        × IsChosen told s.matching Choice.Best s.limit r.1 o)) }
-    ensures full { OfTask task.now (λ told s.
-        result ≡ Err (CheckFault.Wave WaveFault.Full) → (o : OrderValue) → IsAllowed Choice.Best o → AreBeyond told s.matching o s.limit) }
-    ensures fault { OfTask task.now (λ told s.
-        IfErr result (λ fault. (o : OrderValue) × IsAllowed Choice.Best o × IsCheckFault told ⊥ ⊥ ⊥ s.matching o fault)) }
-    ensures unwritten { result ≢ Err CheckFault.Write }
-    ensures past { OfTask task.now (λ told s.
-        result ≡ Err (CheckFault.Wave WaveFault.TooManyRequests) → (o : OrderValue) × IsAllowed Choice.Best o × IsSomeAnd (G.bound gate.now) (AreTooWide told s.matching o)) }
-    ensures passed { G.bound gate.now ≡ None → OfTask task.now (λ told s.
-        IfOk result (λ r. IfSome r.1 (AreGivenUp told s.matching s.limit))) }
-    ensures alone { most_of (G.bound gate.now) < 2 ^ 64 - 1 → result ≢ Err (CheckFault.Wave WaveFault.NoWorker) }
+) -> Result<Decided, CheckFault>
+    requires telling { IsTelling task.now declared }
+    ensures decided { IfOk result (λ d. IsDecided task.now declared.entry d.budget d.trial d.verdicts.items) }
+    ensures budget { IfOk result (λ d. IsBudget task.now.settings.now.limit d.budget) }
+    ensures passed { IfOk result (λ d. ArePassedBefore task.now (G.bound gate.now) (record { order = d.trial.candidate; budget = d.budget })) }
+    ensures full { result ≡ Err (CheckFault.Wave WaveFault.Full) → (c : CandidateValue) → IsFull task.now task.now.settings.now.limit c }
+    ensures given_up { result ≡ Err CheckFault.GivenUp → (c : CandidateValue) → IsPassed task.now task.now.settings.now.limit (G.bound gate.now) c }
+    ensures fault { OfTask task.now (λ told s. IfErr result (λ fault. (c : CandidateValue) × IsCheckFault told ⊥ ⊥ ⊥ s.matching (order_of c) fault)) }
+    ensures ends { IfErr result EndsSearch }
 {
-    match find_best(task, gate) {
-        Ok((verdicts, found)) => Ok((verdicts, Some(found))),
-        Err(fault) => Err(fault),
-    }
-}
-
-/// Compares two netlists in the order that is asked for, or in the best; then says which attempt it was.
-pub fn decide<H: Threads + Wait + Sync, G: Gate>(
-    task: &Task<'_, H>,
-    gate: &G,
-) -> Result<(Verdicts, Option<Attempt>), CheckFault>
-    ensures chosen { OfTask task.now (λ told s.
-        IfOk result (λ r. (order : OrderValue) × IsJudged told s.matching order s.sizes r.0
-        × IsChosen told s.matching s.order s.limit r.1 order)) }
-    ensures full { OfTask task.now (λ told s.
-        result ≡ Err (CheckFault.Wave WaveFault.Full) → (order : OrderValue) → IsAllowed s.order order → AreBeyond told s.matching order s.limit) }
-    ensures fault { OfTask task.now (λ told s.
-        IfErr result (λ fault. (order : OrderValue) × IsAllowed s.order order × IsCheckFault told ⊥ ⊥ ⊥ s.matching order fault)) }
-    ensures unwritten { result ≢ Err CheckFault.Write }
-    ensures past { OfTask task.now (λ told s.
-        result ≡ Err (CheckFault.Wave WaveFault.TooManyRequests) → (o : OrderValue) × IsAllowed s.order o × IsSomeAnd (G.bound gate.now) (AreTooWide told s.matching o)) }
-    ensures passed { G.bound gate.now ≡ None → OfTask task.now (λ told s.
-        IfOk result (λ r. IfSome r.1 (AreGivenUp told s.matching s.limit))) }
-    ensures alone { most_of (G.bound gate.now) < 2 ^ 64 - 1 → result ≢ Err (CheckFault.Wave WaveFault.NoWorker) }
-{
-    match &task.settings.order {
-        Choice::One(order) => by_order(task, order, gate),
-        Choice::Best => by_best(task, gate),
+    let limit = task.settings.limit;
+    let mut trials = Vec::new(task.alloc);
+    let budget = FIRST_BUDGET.min(limit);
+    match try_first(task, declared, &mut trials, budget, gate)? {
+        Round::Decided(decided) => Ok(decided),
+        Round::GivenUp { full } if limit <= FIRST_BUDGET => Err(fault_of(full)),
+        Round::GivenUp { .. } => find_later(task, declared, trials, gate),
     }
 }

@@ -13,8 +13,8 @@ ghost use Rattle.check_report.specs.Devices.{HasFailedIn, told_by, told_of};
 ghost use Rattle.check_report.specs.Limits.{AreBeyond};
 ghost use Rattle.check_report.specs.Widths.{AreTooWide};
 
-use crate::attempts::decide;
 use crate::choice::Attempt;
+use crate::deciding::decide;
 use crate::fault::CheckFault;
 use crate::reading::{Netlists, read_netlists};
 use crate::report::text_of;

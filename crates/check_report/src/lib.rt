@@ -3,10 +3,12 @@
 
 mod arranging;
 mod attempts;
+mod bounded;
 mod checking;
 mod choice;
 mod compare;
 mod compared;
+mod deciding;
 mod fault;
 mod judging;
 pub mod laws;
@@ -17,6 +19,7 @@ mod settings;
 mod subject;
 mod task;
 mod telling;
+mod trials;
 
 pub use choice::{Attempt, Candidate, Choice};
 pub use fault::CheckFault;

@@ -16,8 +16,8 @@ ghost use Rattle.check_report.specs.Listing.{IsOrderPrinted};
 ghost use Rattle.check_report.specs.Tasks.{OfTask};
 ghost use Rattle.check_report.specs.Widths.{AreTooWide};
 
-use crate::attempts::find_best;
 use crate::choice::{Attempt, Choice};
+use crate::deciding::find_best;
 use crate::fault::CheckFault;
 use crate::reading::{Netlists, read_netlists};
 use crate::task::{Context, Task};
@@ -48,6 +48,7 @@ fn text_by<H>(task: &Task<'_, H>, order: &Order) -> Result<Vec<u8>, CheckFault>
     ensures text { OfTask task.now (λ told s. IfOk result (λ text. IsOrderPrinted told s.matching order.now text.items)) }
     ensures fault { OfTask task.now (λ told s. IfErr result (IsCheckFault told ⊥ ⊥ ⊥ s.matching order.now)) }
     ensures unbuilt { result ≢ Err (CheckFault.Wave Full) }
+    ensures kept { result ≢ Err CheckFault.GivenUp }
     ensures unbounded { result ≢ Err (CheckFault.Wave TooManyRequests) }
     ensures alone { result ≢ Err (CheckFault.Wave NoWorker) }
     ensures unwritten { result ≢ Err CheckFault.Write }
@@ -73,15 +74,36 @@ fn given_text<H>(
     ensures text { OfTask task.now (λ told s.
         IfOk result (λ r. (o : OrderValue) × IsOrderPrinted told s.matching o r.0.items
         × IsFound told s.matching (Choice.One order.now) s.limit r.1 o)) }
+    ensures untried { IfOk result (λ r. r.1 ≡ None) }
     ensures fault { OfTask task.now (λ told s.
         IfErr result (λ fault. (o : OrderValue) × IsAllowed (Choice.One order.now) o × IsCheckFault told ⊥ ⊥ ⊥ s.matching o fault)) }
     ensures unbuilt { result ≢ Err (CheckFault.Wave Full) }
+    ensures kept { result ≢ Err CheckFault.GivenUp }
     ensures unbounded { result ≢ Err (CheckFault.Wave TooManyRequests) }
-    ensures passed { OfTask task.now (λ told s. IfOk result (λ r. IfSome r.1 (AreGivenUp told s.matching s.limit))) }
     ensures alone { result ≢ Err (CheckFault.Wave NoWorker) }
     ensures unwritten { result ≢ Err CheckFault.Write }
 {
     match text_by(task, order) {
+        Ok(text) => Ok((text, None)),
+        Err(fault) => Err(fault),
+    }
+}
+
+/// The order file of the variables of two netlists, in declared order, in which a report is told where another order is found for it.
+fn auto_text<H>(task: &Task<'_, H>) -> Result<(Vec<u8>, Option<Attempt>), CheckFault>
+    ensures text { OfTask task.now (λ told s.
+        IfOk result (λ r. (o : OrderValue) × IsOrderPrinted told s.matching o r.0.items
+        × IsFound told s.matching Choice.Auto s.limit r.1 o)) }
+    ensures untried { IfOk result (λ r. r.1 ≡ None) }
+    ensures fault { OfTask task.now (λ told s.
+        IfErr result (λ fault. (o : OrderValue) × IsAllowed Choice.Auto o × IsCheckFault told ⊥ ⊥ ⊥ s.matching o fault)) }
+    ensures unbuilt { result ≢ Err (CheckFault.Wave Full) }
+    ensures kept { result ≢ Err CheckFault.GivenUp }
+    ensures unbounded { result ≢ Err (CheckFault.Wave TooManyRequests) }
+    ensures alone { result ≢ Err (CheckFault.Wave NoWorker) }
+    ensures unwritten { result ≢ Err CheckFault.Write }
+{
+    match text_by(task, &Order::Declared) {
         Ok(text) => Ok((text, None)),
         Err(fault) => Err(fault),
     }
@@ -97,14 +119,14 @@ fn best_text<H: Threads + Wait + Sync, G: Gate>(
         × IsFound told s.matching Choice.Best s.limit r.1 o)) }
     ensures full { OfTask task.now (λ told s.
         result ≡ Err (CheckFault.Wave Full) → (o : OrderValue) → IsAllowed Choice.Best o → AreBeyond told s.matching o s.limit) }
+    ensures given_up { OfTask task.now (λ told s.
+        result ≡ Err CheckFault.GivenUp → (o : OrderValue) → IsAllowed Choice.Best o → IsGivenUpWithin told s.matching s.limit (G.bound gate.now) o) }
     ensures fault { OfTask task.now (λ told s.
         IfErr result (λ fault. (o : OrderValue) × IsAllowed Choice.Best o × IsCheckFault told ⊥ ⊥ ⊥ s.matching o fault)) }
     ensures unwritten { result ≢ Err CheckFault.Write }
-    ensures past { OfTask task.now (λ told s.
-        result ≡ Err (CheckFault.Wave TooManyRequests) → (o : OrderValue) × IsAllowed Choice.Best o × IsSomeAnd (G.bound gate.now) (AreTooWide told s.matching o)) }
-    ensures passed { G.bound gate.now ≡ None → OfTask task.now (λ told s.
-        IfOk result (λ r. IfSome r.1 (AreGivenUp told s.matching s.limit))) }
-    ensures alone { most_of (G.bound gate.now) < 2 ^ 64 - 1 → result ≢ Err (CheckFault.Wave NoWorker) }
+    ensures unbounded { result ≢ Err (CheckFault.Wave TooManyRequests) }
+    ensures passed { OfTask task.now (λ told s. IfOk result (λ r. IfSome r.1 (AreGivenUp told s.matching s.limit (G.bound gate.now)))) }
+    ensures alone { result ≢ Err (CheckFault.Wave NoWorker) }
 {
     match find_best(task, gate) {
         Ok((verdicts, found)) => match text_of(task.alloc, verdicts.variables()) {
@@ -115,7 +137,7 @@ fn best_text<H: Threads + Wait + Sync, G: Gate>(
     }
 }
 
-/// The order file of the variables of two netlists, in the order that is asked for, or in the best.
+/// The order file of the variables of two netlists, in the order that is asked for, in the best, or in declared order.
 fn text_for<H: Threads + Wait + Sync, G: Gate>(
     task: &Task<'_, H>,
     gate: &G,
@@ -125,18 +147,21 @@ fn text_for<H: Threads + Wait + Sync, G: Gate>(
         × IsFound told s.matching s.order s.limit r.1 order)) }
     ensures full { OfTask task.now (λ told s.
         result ≡ Err (CheckFault.Wave Full) → (order : OrderValue) → IsAllowed s.order order → AreBeyond told s.matching order s.limit) }
+    ensures given_up { OfTask task.now (λ told s.
+        result ≡ Err CheckFault.GivenUp → AreTried s.order × ((order : OrderValue) → IsAllowed s.order order → IsGivenUpWithin told s.matching s.limit (G.bound gate.now) order)) }
+    ensures in_no_order { task.now.settings.now.order ≡ ChoiceValue.Auto → result ≢ Err (CheckFault.Wave Full) }
     ensures fault { OfTask task.now (λ told s.
         IfErr result (λ fault. (order : OrderValue) × IsAllowed s.order order × IsCheckFault told ⊥ ⊥ ⊥ s.matching order fault)) }
     ensures unwritten { result ≢ Err CheckFault.Write }
-    ensures past { OfTask task.now (λ told s.
-        result ≡ Err (CheckFault.Wave TooManyRequests) → (o : OrderValue) × IsAllowed s.order o × IsSomeAnd (G.bound gate.now) (AreTooWide told s.matching o)) }
-    ensures passed { G.bound gate.now ≡ None → OfTask task.now (λ told s.
-        IfOk result (λ r. IfSome r.1 (AreGivenUp told s.matching s.limit))) }
-    ensures alone { most_of (G.bound gate.now) < 2 ^ 64 - 1 → result ≢ Err (CheckFault.Wave NoWorker) }
+    ensures unbounded { result ≢ Err (CheckFault.Wave TooManyRequests) }
+    ensures passed { OfTask task.now (λ told s.
+        IfOk result (λ r. IfSome r.1 (AreGivenUp told s.matching s.limit (G.bound gate.now)))) }
+    ensures alone { result ≢ Err (CheckFault.Wave NoWorker) }
 {
     match &task.settings.order {
         Choice::One(order) => given_text(task, order),
         Choice::Best => best_text(task, gate),
+        Choice::Auto => auto_text(task),
     }
 }
 

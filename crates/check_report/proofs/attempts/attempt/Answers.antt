@@ -1,9 +1,12 @@
-use Rattle.net_bench.specs.Circuit.{circuit}
-use Rattle.net_order.specs.Order.{condition}
-use Rattle.check_report.proofs.Widening.{wide_given}
+use Rattle.check_report.specs.Best.{order_of}
+use Rattle.check_report.proofs.Reporting.{late_fault}
+use Rattle.check_report.proofs.Rounds.{accepted}
 use Rattle.check_report.proofs.attempts.attempt.Goals as goal
 
-pub returns-clause-past : goal.returns-clause-past
-returns-clause-past g c = λ told ga refused.
-    wide_given told c.args.task.now.settings.now.matching c.args.order.now (circuit c.args.task.now.first.now) (circuit c.args.task.now.second.now) (condition c.args.task.now.given) c.in-Ok.pairing
-    (record { netlists = ga; pairing = c.in-Ok.ensures.paired }) (g.G.Gate.bound c.args.gate.now) (c.compare.ensures.past refused)
+pub returns-in-Err-clause-fault : goal.returns-in-Err-clause-fault
+returns-in-Err-clause-fault g c = λ told ga.
+    let task = c.args.task.now in
+    let order = order_of c.args.trial.now.candidate in (
+      c.args.trial.now.candidate,
+      late_fault told ⊥ ⊥ ⊥ task.settings.now.matching order c.in-Err.fault (accepted task told ga order c.args.trial.now.pairing c.requires.trial) c.in-Err.ensures.err,
+    )

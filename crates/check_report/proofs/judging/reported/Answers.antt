@@ -2,10 +2,10 @@ use Rattle.std.proofs.Common.{◌∙◌, sym}
 use Rattle.std.specs.Prelude.{is_some}
 use Rattle.report_text.specs.Lines.{Found}
 use Rattle.check_report.specs.declared.settings.Settings.{Settings}
-use Rattle.check_report.specs.Best.{tried_order}
+use Rattle.check_report.specs.Best.{told_kind}
 use Rattle.check_report.specs.Devices.{Told, told_by, told_of}
 use Rattle.check_report.proofs.Reporting.{reported}
-use Rattle.check_report.proofs.Trying.{chosen_is, chosen_allowed, form_as, is_told}
+use Rattle.check_report.proofs.Trying.{chosen_allowed, form_as, is_told}
 use Rattle.check_report.proofs.judging.reported.Goals as goal
 
 pub returns-clause-report : goal.returns-clause-report
@@ -15,9 +15,9 @@ returns-clause-report g c =
     let found : Found = c.in-Ok.verdicts in
     let w = c.in-Ok.ensures.verdicts in (
       w.0,
-      reported s.json told s.matching w.0 s.sizes found c.outcome.result c.in-Ok-text_of.text.items w.1 c.outcome.ensures
-          (form_as s.json s.matching found c.in-Ok-text_of.text.items (tried_order s.order c.in-Ok.tried) w.0 c.is_some-conditional.result (is_some told.given) c.in-Ok-text_of.ensures
-          (chosen_is told s.matching s.order s.limit c.in-Ok.tried w.0 w.2) (c.is_some-conditional.ensures ∙ sym (is_told g.R3.Source.remaining c.args.given.now))),
+      reported s.json (told_kind s.order c.in-Ok.tried) told s.matching w.0 s.sizes found c.outcome.result c.in-Ok-text_of.text.items w.1 c.outcome.ensures
+          (form_as s.json s.matching (told_kind s.order c.in-Ok.tried) found c.in-Ok-text_of.text.items c.is_some-conditional.result (is_some told.given) c.in-Ok-text_of.ensures
+          (c.is_some-conditional.ensures ∙ sym (is_told g.R3.Source.remaining c.args.given.now))),
       w.2,
     )
 

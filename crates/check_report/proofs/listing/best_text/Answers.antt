@@ -1,8 +1,8 @@
 use Rattle.std.proofs.Common.{◌≡◌, ◌∙◌, ap, sym, subst, refl, Err}
-use Rattle.expand_work.specs.declared.fault.WaveFault.TheVariants.{Full, TooManyRequests}
+use Rattle.expand_work.specs.declared.fault.WaveFault.TheVariants.{Full}
 use Rattle.net_order.specs.OrderText.{order_text}
-use Rattle.check_report.specs.declared.fault.CheckFault.TheVariants.{Wave}
-use Rattle.check_report.specs.Best.{order_of}
+use Rattle.check_report.specs.declared.fault.CheckFault.TheVariants.{Wave, GivenUp}
+use Rattle.check_report.specs.Best.{IsGivenUpWithin, order_of}
 use Rattle.check_report.specs.Check.{IsCheckFault}
 use Rattle.check_report.specs.Limits.{AreBeyond}
 use Rattle.check_report.proofs.Printing.{printed}
@@ -34,8 +34,7 @@ returns-clause-fault g c = λ told ga.
     let w = c.in-Err.ensures.fault told ga in
     (order_of w.0, (w.0, refl), w.1)
 
-pub returns-clause-past : goal.returns-clause-past
-returns-clause-past g c = λ told ga e.
-    let same : c.in-Err.fault ≡ Wave TooManyRequests = cc in
-    let w = c.in-Err.ensures.past told ga (ap Err same) in
-    (order_of w.0, (w.0, refl), w.1)
+pub returns-clause-given_up : goal.returns-clause-given_up
+returns-clause-given_up g c = λ told ga e o allowed.
+    let same : c.in-Err.fault ≡ GivenUp = cc in
+    subst (IsGivenUpWithin told c.args.task.now.settings.now.matching c.args.task.now.settings.now.limit (g.G.Gate.bound c.args.gate.now)) (sym allowed.1) (c.in-Err.ensures.given_up told ga (ap Err same) allowed.0)

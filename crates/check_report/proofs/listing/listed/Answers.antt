@@ -19,7 +19,7 @@ pub returns-clause-fault : goal.returns-clause-fault
 returns-clause-fault g c = none_failed_in _ _ _ _ _ _ c.text_for.result (c.text_for.ensures.fault _ (given_as _ _ _ _ _ c.as_ref-condition.ensures.value c.in-Ok.ensures.read))
 
 pub returns-clause-passed : goal.returns-clause-passed
-returns-clause-passed g c = λ none. c.text_for.ensures.passed none _ (given_as _ _ _ _ _ c.as_ref-condition.ensures.value c.in-Ok.ensures.read)
+returns-clause-passed g c = c.text_for.ensures.passed _ (given_as _ _ _ _ _ c.as_ref-condition.ensures.value c.in-Ok.ensures.read)
 
-pub returns-clause-past : goal.returns-clause-past
-returns-clause-past g c = c.text_for.ensures.past _ (given_as _ _ _ _ _ c.as_ref-condition.ensures.value c.in-Ok.ensures.read)
+pub returns-clause-given_up : goal.returns-clause-given_up
+returns-clause-given_up g c = c.text_for.ensures.given_up _ (given_as _ _ _ _ _ c.as_ref-condition.ensures.value c.in-Ok.ensures.read)

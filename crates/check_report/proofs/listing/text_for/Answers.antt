@@ -1,3 +1,4 @@
+use Rattle.check_report.proofs.Printing.{never_tried}
 use Rattle.check_report.proofs.listing.text_for.Goals as goal
 
 pub returns-in-One-clause-text : goal.returns-in-One-clause-text
@@ -6,11 +7,20 @@ returns-in-One-clause-text g c = λ told ga. rw c.in-One.is (c.given_text.ensure
 pub returns-in-One-clause-fault : goal.returns-in-One-clause-fault
 returns-in-One-clause-fault g c = λ told ga. rw c.in-One.is (c.given_text.ensures.fault told ga)
 
+pub returns-in-One-clause-passed : goal.returns-in-One-clause-passed
+returns-in-One-clause-passed g c = λ told ga. never_tried _ c.given_text.result c.given_text.ensures.untried
+
 pub returns-in-Best-clause-text : goal.returns-in-Best-clause-text
 returns-in-Best-clause-text g c = λ told ga. rw c.in-Best.is (c.best_text.ensures.text told ga)
 
 pub returns-in-Best-clause-fault : goal.returns-in-Best-clause-fault
 returns-in-Best-clause-fault g c = λ told ga. rw c.in-Best.is (c.best_text.ensures.fault told ga)
 
-pub returns-in-Best-clause-past : goal.returns-in-Best-clause-past
-returns-in-Best-clause-past g c = λ told ga. rw c.in-Best.is (c.best_text.ensures.past told ga)
+pub returns-in-Auto-clause-text : goal.returns-in-Auto-clause-text
+returns-in-Auto-clause-text g c = λ told ga. rw c.in-Auto.is (c.auto_text.ensures.text told ga)
+
+pub returns-in-Auto-clause-fault : goal.returns-in-Auto-clause-fault
+returns-in-Auto-clause-fault g c = λ told ga. rw c.in-Auto.is (c.auto_text.ensures.fault told ga)
+
+pub returns-in-Auto-clause-passed : goal.returns-in-Auto-clause-passed
+returns-in-Auto-clause-passed g c = λ told ga. never_tried _ c.auto_text.result c.auto_text.ensures.untried

@@ -1,0 +1,172 @@
+//! A comparison in the order that is asked for, or in one that is found.
+ghost use Rattle.std.specs.Prelude.{◌≡◌, ◌≢◌, ◌<◌, ◌-◌, ◌^◌, false, None, Option, Some, IfOk, IfErr, IfSome, IsSomeAnd, Err};
+ghost use Rattle.expand_work.specs.Bounds.{most_of};
+ghost use Rattle.net_order.specs.declared.order.Order.{Order as OrderValue};
+ghost use Rattle.check_report.specs.declared.choice.Candidate.{Candidate as CandidateValue};
+ghost use Rattle.check_report.specs.declared.choice.Choice.{Choice as ChoiceValue};
+ghost use Rattle.check_report.specs.Best.{AreGivenUp, AreTried, IsAllowed, IsChosen, IsGivenUpWithin, order_of};
+ghost use Rattle.check_report.specs.Check.{IsJudged, IsCheckFault};
+ghost use Rattle.check_report.specs.Limits.{AreBeyond};
+ghost use Rattle.check_report.specs.Tasks.{OfTask};
+ghost use Rattle.check_report.specs.Widths.{AreTooWide};
+
+use crate::attempts::{Decided, find_attempt};
+use crate::checking::compare;
+use crate::choice::{Attempt, Choice};
+use crate::fault::CheckFault;
+use crate::task::Task;
+use crate::trials::{Trial, paired};
+use expand_work::{Gate, WaveFault};
+use net_order::order::Order;
+use report_text::Verdicts;
+use std::sync::Wait;
+use std::thread::Threads;
+
+/// Compares two netlists in this order.
+fn by_order<H: Threads + Wait + Sync, G: Gate>(
+    task: &Task<'_, H>,
+    order: &Order,
+    gate: &G,
+) -> Result<(Verdicts, Option<Attempt>), CheckFault>
+    ensures chosen { OfTask task.now (λ told s.
+        IfOk result (λ r. (o : OrderValue) × IsJudged told s.matching o s.sizes r.0
+        × IsChosen told s.matching (Choice.One order.now) s.limit r.1 o)) }
+    ensures full { OfTask task.now (λ told s.
+        result ≡ Err (CheckFault.Wave WaveFault.Full) → (o : OrderValue) → IsAllowed (Choice.One order.now) o → AreBeyond told s.matching o s.limit) }
+    ensures kept { result ≢ Err CheckFault.GivenUp }
+    ensures fault { OfTask task.now (λ told s.
+        IfErr result (λ fault. (o : OrderValue) × IsAllowed (Choice.One order.now) o × IsCheckFault told ⊥ ⊥ ⊥ s.matching o fault)) }
+    ensures unwritten { result ≢ Err CheckFault.Write }
+    ensures past { OfTask task.now (λ told s.
+        result ≡ Err (CheckFault.Wave WaveFault.TooManyRequests) → (o : OrderValue) × IsAllowed (Choice.One order.now) o × IsSomeAnd (G.bound gate.now) (AreTooWide told s.matching o)) }
+    ensures untried { IfOk result (λ r. r.1 ≡ None) }
+    ensures alone { most_of (G.bound gate.now) < 2 ^ 64 - 1 → result ≢ Err (CheckFault.Wave WaveFault.NoWorker) }
+{
+    let pairing = paired(task, order)?;
+    match compare(task, &pairing, task.settings.limit, gate) {
+        Ok(verdicts) => Ok((Verdicts::of(pairing, verdicts), None)),
+        Err(fault) => Err(fault),
+    }
+}
+
+/// Compares two netlists in the first of the candidates' orders that stays within a budget.
+pub fn find_best<H: Threads + Wait + Sync, G: Gate>(
+    task: &Task<'_, H>,
+    gate: &G,
+) -> Result<(Verdicts, Attempt), CheckFault>
+    ensures judged { OfTask task.now (λ told s. IfOk result (λ r. IsJudged told s.matching (order_of r.1.order) s.sizes r.0)) }
+    ensures chosen { OfTask task.now (λ told s.
+        IfOk result (λ r. IsChosen told s.matching Choice.Best s.limit (Some r.1) (order_of r.1.order))) }
+    ensures full { OfTask task.now (λ told s.
+        result ≡ Err (CheckFault.Wave WaveFault.Full) → (c : CandidateValue) → AreBeyond told s.matching (order_of c) s.limit) }
+    ensures given_up { OfTask task.now (λ told s.
+        result ≡ Err CheckFault.GivenUp → (c : CandidateValue) → IsGivenUpWithin told s.matching s.limit (G.bound gate.now) (order_of c)) }
+    ensures fault { OfTask task.now (λ told s.
+        IfErr result (λ fault. (c : CandidateValue) × IsCheckFault told ⊥ ⊥ ⊥ s.matching (order_of c) fault)) }
+    ensures unwritten { result ≢ Err CheckFault.Write }
+    ensures unbounded { result ≢ Err (CheckFault.Wave WaveFault.TooManyRequests) }
+    ensures passed { OfTask task.now (λ told s. IfOk result (λ r. AreGivenUp told s.matching s.limit (G.bound gate.now) r.1)) }
+    ensures alone { result ≢ Err (CheckFault.Wave WaveFault.NoWorker) }
+{
+    let Decided {
+        trial,
+        verdicts,
+        budget,
+    } = find_attempt(task, None, gate)?;
+    let Trial {
+        candidate, pairing, ..
+    } = trial;
+    let order = candidate;
+    Ok((
+        Verdicts::of(pairing, verdicts),
+        Attempt { order, budget },
+    ))
+}
+
+/// Compares two netlists as `find_best` does, and tells the verdicts in declared order.
+fn by_auto<H: Threads + Wait + Sync, G: Gate>(
+    task: &Task<'_, H>,
+    gate: &G,
+) -> Result<(Verdicts, Option<Attempt>), CheckFault>
+    requires { task.now.settings.now.sizes ≡ false }
+    ensures chosen { OfTask task.now (λ told s.
+        IfOk result (λ r. (o : OrderValue) × IsJudged told s.matching o s.sizes r.0
+        × IsChosen told s.matching Choice.Auto s.limit r.1 o)) }
+    ensures in_no_order { result ≢ Err (CheckFault.Wave WaveFault.Full) }
+    ensures given_up { OfTask task.now (λ told s.
+        result ≡ Err CheckFault.GivenUp → (o : OrderValue) → IsAllowed Choice.Auto o → IsGivenUpWithin told s.matching s.limit (G.bound gate.now) o) }
+    ensures fault { OfTask task.now (λ told s.
+        IfErr result (λ fault. (o : OrderValue) × IsAllowed Choice.Auto o × IsCheckFault told ⊥ ⊥ ⊥ s.matching o fault)) }
+    ensures unwritten { result ≢ Err CheckFault.Write }
+    ensures unbounded { result ≢ Err (CheckFault.Wave WaveFault.TooManyRequests) }
+    ensures passed { OfTask task.now (λ told s. IfOk result (λ r. IfSome r.1 (AreGivenUp told s.matching s.limit (G.bound gate.now)))) }
+    ensures alone { result ≢ Err (CheckFault.Wave WaveFault.NoWorker) }
+{
+    let declared = paired(task, &Order::Declared)?;
+    match find_attempt(task, Some(&declared), gate) {
+        Ok(decided) => {
+            let attempt = Attempt {
+                order: decided.trial.candidate,
+                budget: decided.budget,
+            };
+            let Decided { verdicts, .. } = decided;
+            Ok((Verdicts::of(declared, verdicts), Some(attempt)))
+        }
+        Err(CheckFault::Wave(WaveFault::Full)) => Err(CheckFault::GivenUp),
+        Err(fault) => Err(fault),
+    }
+}
+
+/// Compares two netlists in the best order.
+fn by_best<H: Threads + Wait + Sync, G: Gate>(
+    task: &Task<'_, H>,
+    gate: &G,
+) -> Result<(Verdicts, Option<Attempt>), CheckFault>
+    ensures chosen { OfTask task.now (λ told s.
+        IfOk result (λ r. (o : OrderValue) × IsJudged told s.matching o s.sizes r.0
+        × IsChosen told s.matching Choice.Best s.limit r.1 o)) }
+    ensures full { OfTask task.now (λ told s.
+        result ≡ Err (CheckFault.Wave WaveFault.Full) → (o : OrderValue) → IsAllowed Choice.Best o → AreBeyond told s.matching o s.limit) }
+    ensures given_up { OfTask task.now (λ told s.
+        result ≡ Err CheckFault.GivenUp → (o : OrderValue) → IsAllowed Choice.Best o → IsGivenUpWithin told s.matching s.limit (G.bound gate.now) o) }
+    ensures fault { OfTask task.now (λ told s.
+        IfErr result (λ fault. (o : OrderValue) × IsAllowed Choice.Best o × IsCheckFault told ⊥ ⊥ ⊥ s.matching o fault)) }
+    ensures unwritten { result ≢ Err CheckFault.Write }
+    ensures unbounded { result ≢ Err (CheckFault.Wave WaveFault.TooManyRequests) }
+    ensures passed { OfTask task.now (λ told s. IfOk result (λ r. IfSome r.1 (AreGivenUp told s.matching s.limit (G.bound gate.now)))) }
+    ensures alone { result ≢ Err (CheckFault.Wave WaveFault.NoWorker) }
+{
+    match find_best(task, gate) {
+        Ok((verdicts, found)) => Ok((verdicts, Some(found))),
+        Err(fault) => Err(fault),
+    }
+}
+
+/// Compares two netlists in the order that is asked for, or in one that is found; then says which attempt it was.
+pub fn decide<H: Threads + Wait + Sync, G: Gate>(
+    task: &Task<'_, H>,
+    gate: &G,
+) -> Result<(Verdicts, Option<Attempt>), CheckFault>
+    ensures chosen { OfTask task.now (λ told s.
+        IfOk result (λ r. (order : OrderValue) × IsJudged told s.matching order s.sizes r.0
+        × IsChosen told s.matching s.order s.limit r.1 order)) }
+    ensures full { OfTask task.now (λ told s.
+        result ≡ Err (CheckFault.Wave WaveFault.Full) → (order : OrderValue) → IsAllowed s.order order → AreBeyond told s.matching order s.limit) }
+    ensures given_up { OfTask task.now (λ told s.
+        result ≡ Err CheckFault.GivenUp → AreTried s.order × ((order : OrderValue) → IsAllowed s.order order → IsGivenUpWithin told s.matching s.limit (G.bound gate.now) order)) }
+    ensures in_no_order { task.now.settings.now.order ≡ ChoiceValue.Auto → result ≢ Err (CheckFault.Wave WaveFault.Full) }
+    ensures fault { OfTask task.now (λ told s.
+        IfErr result (λ fault. (order : OrderValue) × IsAllowed s.order order × IsCheckFault told ⊥ ⊥ ⊥ s.matching order fault)) }
+    ensures unwritten { result ≢ Err CheckFault.Write }
+    ensures past { OfTask task.now (λ told s.
+        result ≡ Err (CheckFault.Wave WaveFault.TooManyRequests) → (o : OrderValue) × IsAllowed s.order o × IsSomeAnd (G.bound gate.now) (AreTooWide told s.matching o)) }
+    ensures passed { OfTask task.now (λ told s.
+        IfOk result (λ r. IfSome r.1 (AreGivenUp told s.matching s.limit (G.bound gate.now)))) }
+    ensures alone { most_of (G.bound gate.now) < 2 ^ 64 - 1 → result ≢ Err (CheckFault.Wave WaveFault.NoWorker) }
+{
+    match &task.settings.order {
+        Choice::One(order) => by_order(task, order, gate),
+        Choice::Best => by_best(task, gate),
+        Choice::Auto => by_auto(task, gate),
+    }
+}
