@@ -171,6 +171,11 @@ module _ {H : Type 0} (task : Task H) where
     nodes = λ e. All-push (λ (t : Trial). NeedsMore task budget t.pairing) trials t (g.nodes (and_left all full e)) (w.nodes (and_right all full e));
   }
 
+  -- an attempt that was given up for its nodes, or for its requests
+  pub given_up_for : (budget : ℕ) (bound : Option ℕ) (full : Bool) (p : Paired) → (full ≡ true → NeedsMore task budget p) → (full ≡ false → AsksMore task budget bound p) → WasGivenUp task budget bound full p
+  given_up_for budget bound true p more wide = record { cause = inl (more refl); nodes = more }
+  given_up_for budget bound false p more wide = record { cause = inr (wide refl); nodes = more }
+
   -- the next place of a round
   pub causes_more : (budget : ℕ) (bound : Option ℕ) (full : Bool) (trials : List Trial) (i : ℕ) (t : Trial) → i < length trials → t ≡ get_or trials i t → WasGivenUp task budget bound full t.pairing →
       All (λ (t : Trial). NeedsMore task budget t.pairing ⊎ AsksMore task budget bound t.pairing) (take i trials) → All (λ (t : Trial). NeedsMore task budget t.pairing ⊎ AsksMore task budget bound t.pairing) (take (i + 1) trials)

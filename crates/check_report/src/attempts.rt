@@ -1,5 +1,5 @@
 //! The attempts of a comparison: an order, and the nodes within which it is to stay.
-ghost use Rattle.std.specs.Prelude.{◌≡◌, ◌≢◌, ◌≤◌, ◌<◌, ◌-◌, ◌^◌, ◌*◌, ◌⊎◌, ℕ, [], true, All, Option, Some, IfOk, IfErr, IsSomeAnd, OnOk, Err};
+ghost use Rattle.std.specs.Prelude.{◌≡◌, ◌≢◌, ◌≤◌, ◌<◌, ◌-◌, ◌^◌, ◌*◌, ◌⊎◌, ℕ, [], true, false, All, Option, Some, IfOk, IfErr, IsSomeAnd, OnOk, Err};
 ghost use Rattle.expand_work.specs.Bounds.{most_of};
 ghost use Rattle.net_bench.specs.Circuit.{circuit};
 ghost use Rattle.net_order.specs.declared.order.Order.{Order as OrderValue};
@@ -18,7 +18,7 @@ use crate::checking::{compare, compare_as_declared};
 use crate::choice::Candidate;
 use crate::fault::CheckFault;
 use crate::task::Task;
-use crate::trials::{Trial, is_tried, paired, put_furthest_first};
+use crate::trials::{Trial, is_tried, keep, paired, put_furthest_first};
 use expand_work::{Gate, WaveFault};
 use net_order::pairing::Pairing;
 use report_text::Verdict;
@@ -93,6 +93,20 @@ fn verdicts_by<H: Threads + Wait + Sync, G: Gate>(
     }
 }
 
+/// Whether an attempt with this fault is given up for its nodes, or for a wave's requests. Any other fault ends the search.
+fn cause_of(fault: CheckFault) -> Result<bool, CheckFault>
+    ensures full { IfOk result (λ full. full ≡ true → fault ≡ CheckFault.Wave WaveFault.Full) }
+    ensures wide { IfOk result (λ full. full ≡ false → fault ≡ CheckFault.Wave WaveFault.TooManyRequests) }
+    ensures same { IfErr result (λ f. f ≡ fault) }
+    ensures other { IfErr result (λ f. (f ≢ CheckFault.Wave WaveFault.Full) × (f ≢ CheckFault.Wave WaveFault.TooManyRequests)) }
+{
+    match fault {
+        CheckFault::Wave(WaveFault::Full) => Ok(true),
+        CheckFault::Wave(WaveFault::TooManyRequests) => Ok(false),
+        _ => Err(fault),
+    }
+}
+
 /// Compares in the order of a trial within so many nodes.
 fn attempt<H: Threads + Wait + Sync, G: Gate>(
     task: &Task<'_, H>,
@@ -115,9 +129,10 @@ fn attempt<H: Threads + Wait + Sync, G: Gate>(
     };
     match verdicts_by(task, declared, &trial.pairing, budget, &bounded) {
         Ok(verdicts) => Ok(Ended::Decided(verdicts)),
-        Err(CheckFault::Wave(WaveFault::Full)) => Ok(Ended::GivenUp { full: true }),
-        Err(CheckFault::Wave(WaveFault::TooManyRequests)) => Ok(Ended::GivenUp { full: false }),
-        Err(fault) => Err(fault),
+        Err(fault) => match cause_of(fault) {
+            Ok(full) => Ok(Ended::GivenUp { full }),
+            Err(fault) => Err(fault),
+        },
     }
 }
 
@@ -159,7 +174,7 @@ fn try_candidate<H: Threads + Wait + Sync, G: Gate>(
         }
         Ended::GivenUp { full } => full,
     };
-    match trials.push(trial) {
+    match keep(trials, trial) {
         Ok(()) => Ok(Round::GivenUp { full }),
         Err(_) => Err(CheckFault::OutOfMemory),
     }

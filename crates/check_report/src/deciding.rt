@@ -42,7 +42,10 @@ fn by_order<H: Threads + Wait + Sync, G: Gate>(
     ensures untried { IfOk result (λ r. r.1 ≡ None) }
     ensures alone { most_of (G.bound gate.now) < 2 ^ 64 - 1 → result ≢ Err (CheckFault.Wave WaveFault.NoWorker) }
 {
-    let pairing = paired(task, order)?;
+    let pairing = match paired(task, order) {
+        Ok(pairing) => pairing,
+        Err(fault) => return Err(fault),
+    };
     match compare(task, &pairing, task.settings.limit, gate) {
         Ok(verdicts) => Ok((Verdicts::of(pairing, verdicts), None)),
         Err(fault) => Err(fault),
@@ -68,19 +71,23 @@ pub fn find_best<H: Threads + Wait + Sync, G: Gate>(
     ensures passed { OfTask task.now (λ told s. IfOk result (λ r. AreGivenUp told s.matching s.limit (G.bound gate.now) r.1)) }
     ensures alone { result ≢ Err (CheckFault.Wave WaveFault.NoWorker) }
 {
-    let Decided {
-        trial,
-        verdicts,
-        budget,
-    } = find_attempt(task, None, gate)?;
-    let Trial {
-        candidate, pairing, ..
-    } = trial;
-    let order = candidate;
-    Ok((
-        Verdicts::of(pairing, verdicts),
-        Attempt { order, budget },
-    ))
+    match find_attempt(task, None, gate) {
+        Ok(decided) => {
+            let Decided {
+                trial,
+                verdicts,
+                budget,
+            } = decided;
+            let Trial {
+                candidate: order,
+                pairing,
+                ..
+            } = trial;
+            let found = Attempt { order, budget };
+            Ok((Verdicts::of(pairing, verdicts), found))
+        }
+        Err(fault) => Err(fault),
+    }
 }
 
 /// Compares two netlists as `find_best` does, and tells the verdicts in declared order.
@@ -102,7 +109,10 @@ fn by_auto<H: Threads + Wait + Sync, G: Gate>(
     ensures passed { OfTask task.now (λ told s. IfOk result (λ r. IfSome r.1 (AreGivenUp told s.matching s.limit (G.bound gate.now)))) }
     ensures alone { result ≢ Err (CheckFault.Wave WaveFault.NoWorker) }
 {
-    let declared = paired(task, &Order::Declared)?;
+    let declared = match paired(task, &Order::Declared) {
+        Ok(declared) => declared,
+        Err(fault) => return Err(fault),
+    };
     match find_attempt(task, Some(&declared), gate) {
         Ok(decided) => {
             let attempt = Attempt {

@@ -1,5 +1,5 @@
 //! The orders that are tried: a pairing for each that differs from the others.
-ghost use Rattle.std.specs.Prelude.{◌≡◌, ◌≢◌, ◌↔◌, bytes_eq, true, false, All, Contains, IfOk, IfErr, IsTrue};
+ghost use Rattle.std.specs.Prelude.{◌≡◌, ◌≢◌, ◌↔◌, bytes_eq, true, false, [], ◌∷◌, ◌++◌, All, Contains, IfOk, IfErr, OnOk, IsTrue};
 ghost use Rattle.std.specs.List.Sorted.{IsPermutation};
 ghost use Rattle.net_bench.specs.Circuit.{circuit};
 ghost use Rattle.net_order.specs.Order.{IsPairing, condition};
@@ -14,6 +14,7 @@ use crate::task::Task;
 use net_order::names::Names;
 use net_order::order::Order;
 use net_order::pairing::{Pairing, pair};
+use std::alloc::AllocError;
 use std::cmp::Reverse;
 use std::sync::atomic::{AtomicU32, Ordering};
 
@@ -78,6 +79,16 @@ pub fn is_tried(trials: &[Trial], names: &Names) -> bool
         }
     }
     false
+}
+
+/// Puts a trial behind the others.
+pub fn keep(trials: &mut Vec<Trial>, trial: Trial) -> Result<(), AllocError>
+    ensures { OnOk result (trials.new.items ≡ trials.old.items ++ trial ∷ []) }
+{
+    match trials.push(trial) {
+        Ok(()) => Ok(()),
+        Err(_) => Err(AllocError),
+    }
 }
 
 /// Puts the trials in falling order of how far they came, those that came as far in the order that they had. Five are sorted without

@@ -1,5 +1,5 @@
 use Rattle.std.proofs.Common.{◌<◌, ℕ, get_or}
-use Rattle.check_report.specs.declared.choice.Candidate.TheVariants.{Declared}
+use Rattle.check_report.specs.declared.choice.Candidate.TheVariants.{Interleave}
 use Rattle.check_report.specs.Trials.{AreGivenUpTrials, IsTried}
 use Rattle.check_report.proofs.Rounds.{candidates}
 use Rattle.check_report.proofs.attempts.try_first.Given as goal
@@ -7,5 +7,5 @@ use Rattle.check_report.proofs.attempts.try_first.Given as goal
 abbrev pub invariant-loop-candidate : goal.invariant-loop-candidate
 invariant-loop-candidate g l = record {
   given_up : AreGivenUpTrials l.task l.budget (g.G.Gate.bound l.gate) l.all_full l.trials.items;
-  tried : (j : ℕ) → j < l.candidate-index → IsTried l.task l.trials.items (get_or candidates j Declared);
+  tried : (j : ℕ) → j < l.candidate-index → IsTried l.task l.trials.items (get_or candidates j Interleave);
 }

@@ -1,0 +1,24 @@
+use Rattle.std.proofs.Common.{◌≡◌, ap, sym, subst, refl, Err}
+use Rattle.expand_work.specs.declared.fault.WaveFault.TheVariants.{Full}
+use Rattle.check_report.specs.declared.fault.CheckFault.TheVariants.{Wave, GivenUp}
+use Rattle.check_report.specs.Best.{IsGivenUpWithin, order_of}
+use Rattle.check_report.specs.Limits.{AreBeyond}
+use Rattle.check_report.proofs.deciding.by_best.Goals as goal
+
+pub returns-in-Ok-clause-chosen : goal.returns-in-Ok-clause-chosen
+returns-in-Ok-clause-chosen g c = λ told ga. (order_of c.in-Ok.found.order, c.in-Ok.ensures.judged told ga, c.in-Ok.ensures.chosen told ga)
+
+pub returns-in-Err-clause-full : goal.returns-in-Err-clause-full
+returns-in-Err-clause-full g c = λ told ga e o allowed.
+    let same : c.in-Err.fault ≡ Wave Full = cc in
+    subst (λ k. AreBeyond told c.args.task.now.settings.now.matching k c.args.task.now.settings.now.limit) (sym allowed.1) (c.in-Err.ensures.full told ga (ap Err same) allowed.0)
+
+pub returns-in-Err-clause-given_up : goal.returns-in-Err-clause-given_up
+returns-in-Err-clause-given_up g c = λ told ga e o allowed.
+    let same : c.in-Err.fault ≡ GivenUp = cc in
+    subst (IsGivenUpWithin told c.args.task.now.settings.now.matching c.args.task.now.settings.now.limit (g.G.Gate.bound c.args.gate.now)) (sym allowed.1) (c.in-Err.ensures.given_up told ga (ap Err same) allowed.0)
+
+pub returns-in-Err-clause-fault : goal.returns-in-Err-clause-fault
+returns-in-Err-clause-fault g c = λ told ga.
+    let w = c.in-Err.ensures.fault told ga in
+    (order_of w.0, (w.0, refl), w.1)
