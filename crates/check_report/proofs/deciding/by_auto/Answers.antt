@@ -23,15 +23,15 @@ returns-in-Ok-find_attempt-clause-passed g c = λ told ga. told_before c.args.ta
 pub returns-in-Err-clause-fault : goal.returns-in-Err-clause-fault
 returns-in-Err-clause-fault g c = λ told ga. (orders.Declared, (Declared, refl), c.in-Err.ensures.fault told ga)
 
-pub returns-clause-given_up : goal.returns-clause-given_up
-returns-clause-given_up g c = λ told ga e o allowed.
+pub returns-in-Err-find_attempt-clause-given_up : goal.returns-in-Err-find_attempt-clause-given_up
+returns-in-Err-find_attempt-clause-given_up g c = λ told ga e o allowed.
     let task = c.args.task.now in
     let bound = g.G.Gate.bound c.args.gate.now in
     let same : c.in_no_order.result ≡ GivenUp = cc in
     subst (IsGivenUpWithin told task.settings.now.matching task.settings.now.limit bound) (sym allowed.1)
     (given_up_or_full task told ga bound c.in-Err-find_attempt.fault (c.in_no_order.ensures.given_up same) (λ x. c.in-Err-find_attempt.ensures.given_up (ap Err x)) (λ x. c.in-Err-find_attempt.ensures.full (ap Err x)) allowed.0)
 
-pub returns-clause-fault : goal.returns-clause-fault
-returns-clause-fault g c = λ told ga.
+pub returns-in-Err-find_attempt-clause-fault : goal.returns-in-Err-find_attempt-clause-fault
+returns-in-Err-find_attempt-clause-fault g c = λ told ga.
     let w = c.in-Err-find_attempt.ensures.fault told ga in
     (order_of w.0, (w.0, refl), fault_in_no_order c.args.task.now told ga (order_of w.0) c.in-Err-find_attempt.fault c.in_no_order.result c.in_no_order.ensures.same w.1)
