@@ -113,6 +113,16 @@ module _ {H : Type 0} (task : Task H) (told : Told) (given : AreGiven told (circ
   pub told_full : (budget : ℕ) (c : Candidate) → IsFull task budget c → AreBeyond told task.settings.now.matching (order_of c) budget
   told_full budget c p = (circuit task.first.now, circuit task.second.now, condition task.given, p.pairing, record { netlists = given; pairing = p.paired }, p.exceeds)
 
+  -- the fault of a search that is told where the verdicts are those of declared order
+  pub given_up_or_full : (bound : Option ℕ) (fault : CheckFault) → (fault ≡ GivenUp) ⊎ (fault ≡ Wave Full) → (fault ≡ GivenUp → (c : Candidate) → IsPassed task task.settings.now.limit bound c) →
+      (fault ≡ Wave Full → (c : Candidate) → IsFull task task.settings.now.limit c) → (c : Candidate) → IsGivenUpWithin told task.settings.now.matching task.settings.now.limit bound (order_of c)
+  given_up_or_full bound fault (inl e) passed full c = told_passed task.settings.now.limit bound c (passed e c)
+  given_up_or_full bound fault (inr e) passed full c = inl (told_full task.settings.now.limit c (full e c))
+
+  pub fault_in_no_order : (o : Order) (fault result : CheckFault) → ((fault ≡ Wave Full) × (result ≡ GivenUp)) ⊎ (result ≡ fault) → IsCheckFault told ⊥ ⊥ ⊥ task.settings.now.matching o fault → IsCheckFault told ⊥ ⊥ ⊥ task.settings.now.matching o result
+  fault_in_no_order o fault result (inl (e, r)) h = subst (IsCheckFault told ⊥ ⊥ ⊥ task.settings.now.matching o) (sym r) (subst (IsCheckFault told ⊥ ⊥ ⊥ task.settings.now.matching o) e h)
+  fault_in_no_order o fault result (inr r) h = subst (IsCheckFault told ⊥ ⊥ ⊥ task.settings.now.matching o) (sym r) h
+
   pub told_before : (bound : Option ℕ) (t : Attempt) → ArePassedBefore task bound t → AreGivenUp told task.settings.now.matching task.settings.now.limit bound t
   told_before bound t p = record {
     smaller = λ budget is lt c. told_passed budget bound c (p.smaller budget is lt c);

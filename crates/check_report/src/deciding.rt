@@ -1,5 +1,5 @@
 //! A comparison in the order that is asked for, or in one that is found.
-ghost use Rattle.std.specs.Prelude.{◌≡◌, ◌≢◌, ◌<◌, ◌-◌, ◌^◌, false, None, Option, Some, IfOk, IfErr, IfSome, IsSomeAnd, Err};
+ghost use Rattle.std.specs.Prelude.{◌≡◌, ◌≢◌, ◌<◌, ◌-◌, ◌^◌, ◌⊎◌, false, None, Option, Some, IfOk, IfErr, IfSome, IsSomeAnd, Err};
 ghost use Rattle.expand_work.specs.Bounds.{most_of};
 ghost use Rattle.net_order.specs.declared.order.Order.{Order as OrderValue};
 ghost use Rattle.check_report.specs.declared.choice.Candidate.{Candidate as CandidateValue};
@@ -90,6 +90,19 @@ pub fn find_best<H: Threads + Wait + Sync, G: Gate>(
     }
 }
 
+/// The fault of a search as it is told where the verdicts are those of declared order: that every order needs more nodes is that each
+/// attempt was given up.
+fn in_no_order(fault: CheckFault) -> CheckFault
+    ensures full { result ≢ CheckFault.Wave WaveFault.Full }
+    ensures given_up { result ≡ CheckFault.GivenUp → (fault ≡ CheckFault.GivenUp) ⊎ (fault ≡ CheckFault.Wave WaveFault.Full) }
+    ensures same { (fault ≡ CheckFault.Wave WaveFault.Full) × (result ≡ CheckFault.GivenUp) ⊎ (result ≡ fault) }
+{
+    match fault {
+        CheckFault::Wave(WaveFault::Full) => CheckFault::GivenUp,
+        _ => fault,
+    }
+}
+
 /// Compares two netlists as `find_best` does, and tells the verdicts in declared order.
 fn by_auto<H: Threads + Wait + Sync, G: Gate>(
     task: &Task<'_, H>,
@@ -122,8 +135,7 @@ fn by_auto<H: Threads + Wait + Sync, G: Gate>(
             let Decided { verdicts, .. } = decided;
             Ok((Verdicts::of(declared, verdicts), Some(attempt)))
         }
-        Err(CheckFault::Wave(WaveFault::Full)) => Err(CheckFault::GivenUp),
-        Err(fault) => Err(fault),
+        Err(fault) => Err(in_no_order(fault)),
     }
 }
 

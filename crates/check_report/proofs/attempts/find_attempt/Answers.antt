@@ -10,7 +10,7 @@ use Rattle.check_report.proofs.attempts.find_attempt.Goals as goal
 pub returns-in-Decided-clause-budget : goal.returns-in-Decided-clause-budget
 returns-in-Decided-clause-budget g c =
     let d : Decides c.args.task.now c.args.declared c.min-budget.result c.in-Decided.decided =
-        subst (IsRound c.args.task.now c.args.declared c.min-budget.result (g.G.Gate.bound c.args.gate.now) c.try_first.new.trials.items) c.in-Decided.is c.in_ok-decided.ensures.round in
+    subst (IsRound c.args.task.now c.args.declared c.min-budget.result (g.G.Gate.bound c.args.gate.now) c.try_first.new.trials.items) c.in-Decided.is c.in_ok-decided.ensures.round in
     first_is_one c.args.task.now.settings.now.limit c.in-Decided.decided.budget (d.1 ∙ c.min-budget.ensures)
 
 pub returns-in-Decided-clause-passed : goal.returns-in-Decided-clause-passed
@@ -19,7 +19,7 @@ returns-in-Decided-clause-passed g c =
     let bound = g.G.Gate.bound c.args.gate.now in
     let t = c.in-Decided.decided in
     let d : Decides task c.args.declared c.min-budget.result t =
-        subst (IsRound task c.args.declared c.min-budget.result bound c.try_first.new.trials.items) c.in-Decided.is c.in_ok-decided.ensures.round in
+    subst (IsRound task c.args.declared c.min-budget.result bound c.try_first.new.trials.items) c.in-Decided.is c.in_ok-decided.ensures.round in
     let before : AllBefore t.trial.candidate (IsPassed task c.min-budget.result bound) = subst (IsFirstRound task c.min-budget.result bound) c.in-Decided.is c.in_ok-decided.ensures.first in
     passed_first task bound (record { order = t.trial.candidate; budget = t.budget }) (d.1 ∙ c.min-budget.ensures)
     (subst (λ n. AllBefore t.trial.candidate (IsPassed task n bound)) (sym d.1) before)
@@ -29,5 +29,5 @@ returns-in-GivenUp-clause-fault g c = λ told ga.
     let task = c.args.task.now in
     let bound = g.G.Gate.bound c.args.gate.now in
     let r : ArePassed task c.min-budget.result bound c.in-GivenUp.full c.try_first.new.trials.items =
-        subst (IsRound task c.args.declared c.min-budget.result bound c.try_first.new.trials.items) c.in-GivenUp.is c.in_ok-decided.ensures.round in
+    subst (IsRound task c.args.declared c.min-budget.result bound c.try_first.new.trials.items) c.in-GivenUp.is c.in_ok-decided.ensures.round in
     (Interleave, given_up_fault task told ga (order_of Interleave) (r.each Interleave).pairing c.fault_of.result (r.each Interleave).paired c.fault_of.ensures.which)

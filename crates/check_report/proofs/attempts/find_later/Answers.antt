@@ -18,7 +18,7 @@ pub returns-in-Decided-clause-passed : goal.returns-in-Decided-clause-passed
 returns-in-Decided-clause-passed g c =
     let p = c.loop-budget.invariant.power in
     let d : Decides c.args.task.now c.args.declared c.loop-budget.budget c.in-Decided.decided =
-        subst (IsRound c.args.task.now c.args.declared c.loop-budget.budget (g.G.Gate.bound c.args.gate.now) c.try_again.new.trials.items) c.in-Decided.is c.in_ok-decided.ensures.round in
+    subst (IsRound c.args.task.now c.args.declared c.loop-budget.budget (g.G.Gate.bound c.args.gate.now) c.try_again.new.trials.items) c.in-Decided.is c.in_ok-decided.ensures.round in
     passed_at c.args.task.now (g.G.Gate.bound c.args.gate.now) p.0 c.loop-budget.budget (record { order = c.in-Decided.decided.trial.candidate; budget = c.in-Decided.decided.budget })
     (let e = p.1 in omega arith) (let lt = c.loop-budget-test.true in omega arith) c.loop-budget.invariant.more p.2 d.1
 
@@ -28,7 +28,7 @@ loop-budget-preserved g c =
     let more = c.loop-budget.invariant.more in
     let bound = g.G.Gate.bound c.args.gate.now in
     let r : ArePassed c.args.task.now c.loop-budget.budget bound c.in-GivenUp.full c.try_again.new.trials.items =
-        subst (IsRound c.args.task.now c.args.declared c.loop-budget.budget bound c.try_again.new.trials.items) c.in-GivenUp.is c.in_ok-decided.ensures.round in
+    subst (IsRound c.args.task.now c.args.declared c.loop-budget.budget bound c.try_again.new.trials.items) c.in-GivenUp.is c.in_ok-decided.ensures.round in
     record {
       trials = r.trials_of;
       power = (
@@ -44,7 +44,7 @@ returns-in-Decided-2-clause-passed g c =
     let p = c.loop-budget.invariant.power in
     let limit = c.args.task.now.settings.now.limit in
     let d : Decides c.args.task.now c.args.declared limit c.in-Decided-2.decided =
-        subst (IsRound c.args.task.now c.args.declared limit (g.G.Gate.bound c.args.gate.now) c.try_again-2.new.trials.items) c.in-Decided-2.is c.in_ok-decided-2.ensures.round in
+    subst (IsRound c.args.task.now c.args.declared limit (g.G.Gate.bound c.args.gate.now) c.try_again-2.new.trials.items) c.in-Decided-2.is c.in_ok-decided-2.ensures.round in
     passed_at c.args.task.now (g.G.Gate.bound c.args.gate.now) p.0 limit (record { order = c.in-Decided-2.decided.trial.candidate; budget = c.in-Decided-2.decided.budget })
     (let e = p.1 in omega arith) (omega arith) c.requires.more p.2 d.1
 
@@ -53,5 +53,5 @@ returns-clause-fault g c = λ told ga.
     let limit = c.args.task.now.settings.now.limit in
     let bound = g.G.Gate.bound c.args.gate.now in
     let r : ArePassed c.args.task.now limit bound c.in-GivenUp-2.full c.try_again-2.new.trials.items =
-        subst (IsRound c.args.task.now c.args.declared limit bound c.try_again-2.new.trials.items) c.in-GivenUp-2.is c.in_ok-decided-2.ensures.round in
+    subst (IsRound c.args.task.now c.args.declared limit bound c.try_again-2.new.trials.items) c.in-GivenUp-2.is c.in_ok-decided-2.ensures.round in
     (Interleave, given_up_fault c.args.task.now told ga (order_of Interleave) (r.each Interleave).pairing c.fault_of.result (r.each Interleave).paired c.fault_of.ensures.which)

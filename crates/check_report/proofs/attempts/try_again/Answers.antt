@@ -16,7 +16,7 @@ loop-place-preserved g c =
     let bound = g.G.Gate.bound c.args.gate.now in
     let lt : c.loop-place.place < length trials = omega arith in
     let w : WasGivenUp c.args.task.now c.args.budget bound c.in-GivenUp.full c.index.result.now.pairing =
-        subst (IsEnded c.args.task.now c.args.declared c.args.budget bound c.index.result.now) c.in-GivenUp.is c.in_ok-verdicts.ensures.ended in
+    subst (IsEnded c.args.task.now c.args.declared c.args.budget bound c.index.result.now) c.in-GivenUp.is c.in_ok-verdicts.ensures.ended in
     record {
       trials = c.loop-place.invariant.trials;
       causes = causes_more c.args.task.now c.args.budget bound c.in-GivenUp.full trials c.loop-place.place c.index.result.now lt c.index.ensures w c.loop-place.invariant.causes;

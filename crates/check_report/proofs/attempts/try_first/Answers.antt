@@ -16,7 +16,7 @@ returns-in-Decided-clause-first g c =
     let inv = c.loop-candidate.invariant in
     let P : Candidate → Type 0 = IsPassed task c.args.budget bound in
     let turn : IsTurn task c.args.declared c.args.budget bound (get_or candidates here Interleave) old c.try_candidate.new.trials.items (Decided c.in-Decided.decided) =
-        subst (IsTurn task c.args.declared c.args.budget bound (get_or candidates here Interleave) old c.try_candidate.new.trials.items) c.in-Decided.is c.in_ok-decided.ensures.turn in
+    subst (IsTurn task c.args.declared c.args.budget bound (get_or candidates here Interleave) old c.try_candidate.new.trials.items) c.in-Decided.is c.in_ok-decided.ensures.turn in
     let lt : here < 5 = omega (arith, c.loop-candidate-test.true) in
     subst (λ k. AllBefore k P) (sym turn.1)
     (before_at P here Interleave lt (λ j less. passed_by task c.args.budget bound c.loop-candidate.all_full old (get_or candidates j Interleave) inv.given_up (inv.tried j less)))
@@ -30,7 +30,7 @@ loop-candidate-preserved g c =
     let new = c.try_candidate.new.trials.items in
     let inv = c.loop-candidate.invariant in
     let turn : IsTurn task c.args.declared c.args.budget bound (get_or candidates here Interleave) old new (GivenUp c.in-GivenUp.full) =
-        subst (IsTurn task c.args.declared c.args.budget bound (get_or candidates here Interleave) old new) c.in-GivenUp.is c.in_ok-decided.ensures.turn in
+    subst (IsTurn task c.args.declared c.args.budget bound (get_or candidates here Interleave) old new) c.in-GivenUp.is c.in_ok-decided.ensures.turn in
     record {
       given_up = turn.0 c.loop-candidate.all_full inv.given_up;
       tried = below_more (λ j. IsTried task new (get_or candidates j Interleave)) here (λ j less. turn.2 (get_or candidates j Interleave) (inv.tried j less)) turn.1;
