@@ -8,7 +8,6 @@ pub mod Tasks
 pub mod Limits
 pub mod Widths
 pub mod Best
-pub mod Arranging
 pub mod Trials
 pub mod Texts
 pub mod Listing
