@@ -1,6 +1,7 @@
 -- What clap finds where there are no words.
-use Rattle.std.proofs.Common.{Bool, true, false, ◌≡◌, ◌∙◌, refl, ap, subst, ℕ, List, [], Bor, Option, Some, None, rules}
-use Rattle.std.specs.Prelude.{codes}
+use Rattle.std.proofs.Common.{Bool, true, false, ◌≡◌, ◌∙◌, inl, inr, refl, ap, ap₂, sym, subst, ℕ, ◌*◌, ◌^◌, List, [], ◌∷◌, Bor, Option, Some, None, rules}
+use Rattle.std.specs.Prelude.{codes, IfSome}
+use Rattle.std.specs.Str.Parse.{digits_value, without_leading_plus}
 use Rattle.clap.specs.Words.{first_of, one_of, matches_of}
 use Rattle.clap.specs.declared.builder.value_parser.ValueParser.{ValueParser}
 use Rattle.clap.proofs.OnLiterals.{clap_on_literals}
@@ -8,16 +9,17 @@ use Rattle.net_order.specs.declared.order.Match.{Match}
 use Rattle.net_order.specs.declared.order.Match.TheVariants.{Name, Position}
 use Rattle.command_line.specs.declared.options.Options.{Options}
 use Rattle.command_line.specs.declared.options.OrderChoice.{OrderChoice}
-use Rattle.command_line.specs.declared.options.OrderChoice.TheVariants.{Declared, Depth, Interleave, Index, Force, Best, File}
-use Rattle.command_line.specs.Words.{tool_app, AreTexts, AskFor, IsChoice, IsFile, IsFlag, IsForm, IsMatching, IsNumberIn}
+use Rattle.command_line.specs.declared.options.OrderChoice.TheVariants.{Auto}
+use Rattle.command_line.specs.Words.{tool_app, AreTexts, AskFor, IsChoice, unnamed_order, flag_of, IsFile, IsForm, IsMatching, IsMemory, IsNumberIn, IsLimit}
 use Rattle.command_line.specs.Defaults.{AreDefaults}
+use Rattle.command_line.proofs.Sizing.{one_size}
 
 module _ (matching order format : Option ValueParser) where
   matching_found : first_of (codes "match") (matches_of (tool_app matching order format) []) ≡ Some (codes "name")
   unfolding clap_on_literals
   matching_found = refl
 
-  order_found : first_of (codes "order") (matches_of (tool_app matching order format) []) ≡ Some (codes "declared")
+  order_found : first_of (codes "order") (matches_of (tool_app matching order format) []) ≡ None
   unfolding clap_on_literals
   order_found = refl
 
@@ -33,15 +35,23 @@ module _ (matching order format : Option ValueParser) where
   unfolding clap_on_literals
   workers_found = refl
 
-  limit_found : one_of (codes "limit") (matches_of (tool_app matching order format) []) ≡ Some (codes "67108864")
+  limit_word : first_of (codes "limit") (matches_of (tool_app matching order format) []) ≡ None
+  unfolding clap_on_literals
+  limit_word = refl
+
+  limit_found : one_of (codes "limit") (matches_of (tool_app matching order format) []) ≡ None
   unfolding clap_on_literals
   limit_found = refl
 
-  sizes_found : one_of (codes "sizes") (matches_of (tool_app matching order format) []) ≡ Some (codes "false")
+  memory_found : first_of (codes "memory") (matches_of (tool_app matching order format) []) ≡ Some (codes "4G")
+  unfolding clap_on_literals
+  memory_found = refl
+
+  sizes_found : first_of (codes "sizes") (matches_of (tool_app matching order format) []) ≡ Some (codes "false")
   unfolding clap_on_literals
   sizes_found = refl
 
-  print_order_found : one_of (codes "print-order") (matches_of (tool_app matching order format) []) ≡ Some (codes "false")
+  print_order_found : first_of (codes "print-order") (matches_of (tool_app matching order format) []) ≡ Some (codes "false")
   unfolding clap_on_literals
   print_order_found = refl
 
@@ -49,7 +59,7 @@ module _ (matching order format : Option ValueParser) where
   unfolding clap_on_literals
   format_found = refl
 
-  verbose_found : one_of (codes "verbose") (matches_of (tool_app matching order format) []) ≡ Some (codes "false")
+  verbose_found : first_of (codes "verbose") (matches_of (tool_app matching order format) []) ≡ Some (codes "false")
   unfolding clap_on_literals
   verbose_found = refl
 
@@ -65,15 +75,6 @@ by_name : (how : Match) → IsMatching (Some (codes "name")) how → how ≡ Nam
 by_name Name is = refl
 by_name Position is = cc
 
-as_declared : (choice : OrderChoice) → IsChoice None (Some (codes "declared")) choice → choice ≡ Declared
-as_declared Declared is = refl
-as_declared Depth is = cc
-as_declared Interleave is = cc
-as_declared Index is = cc
-as_declared Force is = cc
-as_declared Best is = cc
-as_declared (File path) is = absurd is
-
 no_file : (path : Option (Bor (List ℕ))) → IsFile None path → path ≡ None
 no_file None is = refl
 no_file (Some path) is = cc
@@ -85,26 +86,38 @@ as_text true is = cc
 four : (n : ℕ) → IsNumberIn 1 16 (Some (codes "4")) n → n ≡ 4
 four n is = is (search rules)
 
-most : (n : ℕ) → IsNumberIn 1 4294967295 (Some (codes "67108864")) n → n ≡ 67108864
-most n is = is (search rules)
+-- 4 GiB
+much : (n : ℕ) → IsMemory (codes "4G") n → n ≡ 4294967296
+much n is = one_size (codes "4G") n (codes "4") (codes "G") (1024 ^ 3) is.0 (inr (inr (refl, refl))) refl
+
+-- where nothing is given, the order is auto
+choose : (choice : OrderChoice) (file word limit sizes print_order : Option (List ℕ)) → file ≡ None → word ≡ None → limit ≡ None → sizes ≡ Some (codes "false") → print_order ≡ Some (codes "false")
+    → IsChoice file word (unnamed_order limit (flag_of sizes) (flag_of print_order)) choice → choice ≡ Auto
+choose choice file word limit sizes print_order no_path no_word no_limit no_sizes no_print is =
+    let plain : unnamed_order limit (flag_of sizes) (flag_of print_order) ≡ Auto = rw (no_limit, no_sizes, no_print) refl in
+    subst (λ f. IsChoice f word (unnamed_order limit (flag_of sizes) (flag_of print_order)) choice → choice ≡ Auto) (sym no_path)
+    (subst (λ w. IsChoice None w (unnamed_order limit (flag_of sizes) (flag_of print_order)) choice → choice ≡ Auto) (sym no_word) (λ e. e ∙ plain)) is
 
 pub defaults : (o : Options) → AskFor [] o → AreDefaults o
-defaults o (rows, found, one, are) =
+defaults o (rows, found, agreed, are) =
     let m = found.0 in
     let d = found.1 in
     let f = found.2 in
     let e = found.7 in
+    let order : o.order ≡ Auto = choose o.order (first_of (codes "order-file") rows) (first_of (codes "order") rows) (first_of (codes "limit") rows) (first_of (codes "sizes") rows) (first_of (codes "print-order") rows)
+    (ap (first_of (codes "order-file")) e ∙ file_found m d f) (ap (first_of (codes "order")) e ∙ order_found m d f) (ap (first_of (codes "limit")) e ∙ limit_word m d f)
+    (ap (first_of (codes "sizes")) e ∙ sizes_found m d f) (ap (first_of (codes "print-order")) e ∙ print_order_found m d f) are.order in
     record {
       matching = by_name o.matching (subst (λ w. IsMatching w o.matching) (ap (first_of (codes "match")) e ∙ matching_found m d f) are.matching);
-      order = as_declared o.order (subst (λ w. IsChoice w (Some (codes "declared")) o.order) (ap (first_of (codes "order-file")) e ∙ file_found m d f)
-          (subst (λ w. IsChoice (first_of (codes "order-file") rows) w o.order) (ap (first_of (codes "order")) e ∙ order_found m d f) are.order));
+      order = order;
       given = no_file o.given (subst (λ w. IsFile w o.given) (ap (first_of (codes "given")) e ∙ given_found m d f) are.given);
       workers = four o.workers (subst (λ w. IsNumberIn 1 16 w o.workers) (ap (one_of (codes "workers")) e ∙ workers_found m d f) are.workers);
-      limit = most o.limit (subst (λ w. IsNumberIn 1 4294967295 w o.limit) (ap (one_of (codes "limit")) e ∙ limit_found m d f) are.limit);
-      sizes = (subst (λ w. IsFlag w o.sizes) (ap (one_of (codes "sizes")) e ∙ sizes_found m d f) are.sizes).1 refl;
-      print_order = (subst (λ w. IsFlag w o.print_order) (ap (one_of (codes "print-order")) e ∙ print_order_found m d f) are.print_order).1 refl;
+      limit = subst (λ c. IsLimit None c o.limit) order (subst (λ w. IsLimit w o.order o.limit) (ap (one_of (codes "limit")) e ∙ limit_found m d f) are.limit);
+      memory = much o.memory (subst (λ w. IfSome w (λ text. IsMemory text o.memory)) (ap (first_of (codes "memory")) e ∙ memory_found m d f) are.memory);
+      sizes = are.sizes ∙ ap flag_of (ap (first_of (codes "sizes")) e ∙ sizes_found m d f);
+      print_order = are.print_order ∙ ap flag_of (ap (first_of (codes "print-order")) e ∙ print_order_found m d f);
       json = as_text o.json (subst (λ w. IsForm w o.json) (ap (first_of (codes "format")) e ∙ format_found m d f) are.json);
-      verbose = (subst (λ w. IsFlag w o.verbose) (ap (one_of (codes "verbose")) e ∙ verbose_found m d f) are.verbose).1 refl;
+      verbose = are.verbose ∙ ap flag_of (ap (first_of (codes "verbose")) e ∙ verbose_found m d f);
       texts = subst (λ w. AreTexts w None o.texts) (ap (first_of (codes "FIRST")) e ∙ first_found m d f)
           (subst (λ w. AreTexts (first_of (codes "FIRST") rows) w o.texts) (ap (first_of (codes "SECOND")) e ∙ second_found m d f) are.texts);
     }

@@ -1,9 +1,9 @@
 -- What a parse of the command finds, and what it has against the words.
-use Rattle.std.proofs.Common.{◌≡◌, ◌∙◌, inl, inr, ap, sym, refl, ℕ, true, List, [], Option, Some, None, arith, ◌<◌, ◌^◌, Result, Ok, Err}
+use Rattle.std.proofs.Common.{◌≡◌, ◌∙◌, inl, inr, ap, sym, refl, ℕ, true, List, [], Option, Some, None, arith, ◌<◌, ◌≤◌, ◌^◌, Result, Ok, Err}
 use Rattle.std.specs.Prelude.{find, min, max, unwrap_or, option_and_then, option_map}
 use Rattle.std.specs.Str.{bytes_eq}
 use Rattle.std.specs.Str.Parse.{ParsesUnsigned, digits_value, without_leading_plus}
-use Rattle.clap.specs.Words.{App, Row, HasMatchesOf, IsUnsignedIn, ReadsOne, found_of, fault_of, is_simple, is_simple_and_free, kind_of, matched_of, matches_of, rows_of}
+use Rattle.clap.specs.Words.{App, Row, HasMatchesOf, IsUnsignedIn, ReadsOne, first_of, first_value, found_of, fault_of, is_simple, is_simple_and_free, kind_of, matched_of, matches_of, rows_of}
 use Rattle.clap.specs.Facts.{Entry}
 use Rattle.clap.specs.Kinds.{HasKind}
 use Rattle.clap.specs.Walk.{row_of}
@@ -14,10 +14,11 @@ use Rattle.clap.specs.declared.error.kind.ErrorKind.TheVariants.{OutOfMemory as 
 use Rattle.clap.specs.declared.parser.matches.ArgMatches.{ArgMatches}
 use Rattle.clap.specs.declared.parser.matches.Found.{Found}
 use Rattle.clap.proofs.OnLiterals.{clap_on_literals}
-use Rattle.clap.proofs.WalkLemmas.{find_row}
+use Rattle.clap.proofs.WalkLemmas.{find_row, first_value-rows}
 use Rattle.command_line.specs.declared.reading.Refused.{Refused}
 use Rattle.command_line.specs.declared.reading.Refused.TheVariants.{Help, Mistake, OutOfMemory}
-use Rattle.command_line.specs.Words.{tool_app, IsTool, IsNumberIn, AreFound, IsToldAs, IsRefusal}
+use Rattle.command_line.specs.declared.options.OrderChoice.{OrderChoice}
+use Rattle.command_line.specs.Words.{tool_app, IsTool, IsNumberIn, usual_limit, IsLimit, AreFound, IsToldAs, IsRefusal}
 
 tool_is_simple : (matching order format : Option ValueParser) → is_simple (tool_app matching order format) ≡ true
 unfolding clap_on_literals
@@ -43,7 +44,7 @@ starved kind (Mistake text) e t = absurd (t.2 e)
 starved kind OutOfMemory e t = refl
 
 pub refused : (a : App) (words : List (List ℕ)) (e : Error) (r : Refused) → IsTool a → HasKind (fault_of a words) e → IsToldAs (kind_of e) r → IsRefusal words r
-refused a words e r t (inl none) told = inr (inr (starved (kind_of e) r none told))
+refused a words e r t (inl none) told = inr (inr (inr (starved (kind_of e) r none told)))
 refused a words e r t (inr among) told = inl (fault_of a words, kind_of e, (t.0, t.1, t.2, t.3, t.4, t.5, ap (λ x. fault_of x words) t.6), among, told)
 
 -- the number of a text is read, where it is in a range that fits
@@ -60,6 +61,15 @@ number_read {E} G k low high (Some t) r d n read only fits is = by r (read t ref
         omega arith
     by None h e range = let below = range.3 in absurd (only t (Err h.0) h.1 (range.0, omega arith))
 
+-- the same of a limit, which is the usual one where no text stands
+pub limit_read : {E : Type 0} (G : List ℕ → Result ℕ E → Type 0) (choice : OrderChoice) (word : Option (List ℕ)) (r : Option ℕ) (d n : ℕ) → (word ≡ None → r ≡ None) → ((t : List ℕ) → word ≡ Some t → ReadsOne G t r)
+    → ((u : List ℕ) (x : Result ℕ E) → G u x → ParsesUnsigned 64 10 u x) → d ≡ usual_limit choice → 1 ≤ d → d ≤ 4294967295 → n ≡ max 1 (min (unwrap_or r d) 4294967295) → IsLimit word choice n
+limit_read {E} G choice (Some t) r d n none read only usual some few is = number_read G 64 1 4294967295 (Some t) r d n read only (omega arith) is
+limit_read {E} G choice None r d n none read only usual some few is =
+    let same : unwrap_or r d ≡ d = ap (λ o. unwrap_or o d) (none refl) in
+    let n_is : n ≡ d = omega arith in
+    n_is ∙ usual
+
 -- the source of an argument's row is that of its entry
 pub source_row : (f : Found) (id : List ℕ) → option_and_then (λ a. a.source) (matched_of f id) ≡ option_and_then (λ (r : Row). r.source) (find (λ r. bytes_eq r.id id) (rows_of f))
 source_row f id = go (find (λ (e : Entry). bytes_eq e.0.now id) f.entries.items) ∙ ap (option_and_then (λ (r : Row). r.source)) (sym (find_row f.entries.items id))
@@ -67,3 +77,7 @@ source_row f id = go (find (λ (e : Entry). bytes_eq e.0.now id) f.entries.items
     go : (o : Option Entry) → option_and_then (λ a. a.source) (option_map (λ e. e.1) o) ≡ option_and_then (λ (r : Row). r.source) (option_map row_of o)
     go None = refl
     go (Some e) = refl
+
+-- the first value of an argument is that of its row
+pub word_row : (f : Found) (id : List ℕ) → first_value f id ≡ first_of id (rows_of f)
+word_row f id = first_value-rows f id

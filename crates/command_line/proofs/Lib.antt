@@ -1,3 +1,4 @@
 pub mod Found
+pub mod Sizing
 pub mod Defaulting
 pub mod Versioning

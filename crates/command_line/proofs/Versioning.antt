@@ -35,7 +35,8 @@ found kinds some none = cc
 pub refused : (r : Refused) → IsRefusal (codes "--version" ∷ []) r → TellsVersion r
 refused r (inl f) = told f.1 r (of_kind f.0 f.1 (f.2.6 ∙ fault_found f.2.0 f.2.1 f.2.2) f.3) f.4
 refused r (inr (inl f)) = absurd (found (fault_of (tool_app f.1.0 f.1.1 f.1.2) (codes "--version" ∷ [])) (fault_found f.1.0 f.1.1 f.1.2) f.1.6)
-refused r (inr (inr none)) = subst TellsVersion (sym none) tt
+refused r (inr (inr (inl f))) = absurd (found (fault_of (tool_app f.1.0 f.1.1 f.1.2) (codes "--version" ∷ [])) (fault_found f.1.0 f.1.1 f.1.2) f.1.6)
+refused r (inr (inr (inr none))) = subst TellsVersion (sym none) tt
 
 pub alone : (o : Options) → AskFor (codes "--version" ∷ []) o → ⊥
 alone o a = found (fault_of (tool_app a.1.0 a.1.1 a.1.2) (codes "--version" ∷ [])) (fault_found a.1.0 a.1.1 a.1.2) a.1.6

@@ -1,21 +1,21 @@
 -- What the words of the command line ask for, by clap's matches of the command's arguments.
-use Rattle.std.specs.Prelude.{◌≡◌, ◌≢◌, ◌⊎◌, ℕ, pos, Bool, true, false, List, [], ◌∷◌, map, codes, Option, Some, None, IfSome, ⊤, find, option_and_then, option_map, string_bytes}
+use Rattle.std.specs.Prelude.{◌≡◌, ◌≢◌, ◌⊎◌, ◌<◌, ◌≤◌, ◌*◌, ◌^◌, ℕ, pos, Bool, true, false, List, [], ◌∷◌, ◌++◌, map, codes, Option, Some, None, IfSome, IsSomeAnd, ⊤, find, option_and_then, option_map, string_bytes}
 use Rattle.std.specs.Borrow.{Bor}
 use Rattle.std.specs.Str.{bytes_eq}
-use Rattle.std.specs.Str.Parse.{digits_value, without_leading_plus}
+use Rattle.std.specs.Str.Parse.{IsNumeral, digits_value, without_leading_plus}
 use Rattle.clap.specs.Words.{App, Row, Rule, Text, Kinds, IsAmong, IsUnsignedIn, fault_of, first_of, one_of, matches_of, new_app, new_rule, with_rule}
 use Rattle.clap.specs.Simple.{on_top}
 use Rattle.clap.specs.declared.builder.action.ArgAction.TheVariants.{SetTrue}
 use Rattle.clap.specs.declared.builder.value_parser.ValueParser.{ValueParser}
 use Rattle.clap.specs.declared.builder.value_parser.ValueParser.TheVariants.{Names, Signed, Unsigned}
 use Rattle.clap.specs.declared.error.kind.ErrorKind.{ErrorKind}
-use Rattle.clap.specs.declared.error.kind.ErrorKind.TheVariants.{ArgumentConflict, DisplayHelp, DisplayVersion, OutOfMemory as NoMemory}
+use Rattle.clap.specs.declared.error.kind.ErrorKind.TheVariants.{ArgumentConflict, ValueValidation, DisplayHelp, DisplayVersion, OutOfMemory as NoMemory}
 use Rattle.clap.specs.declared.parser.matches.ValueSource.TheVariants.{CommandLine}
 use Rattle.net_order.specs.declared.order.Match.{Match}
 use Rattle.net_order.specs.declared.order.Match.TheVariants.{Name, Position}
 use Rattle.command_line.specs.declared.options.Options.{Options}
 use Rattle.command_line.specs.declared.options.OrderChoice.{OrderChoice}
-use Rattle.command_line.specs.declared.options.OrderChoice.TheVariants.{Declared, Depth, Interleave, Index, Force, Best, File}
+use Rattle.command_line.specs.declared.options.OrderChoice.TheVariants.{Declared, Depth, Interleave, Index, Force, Best, Auto, File}
 use Rattle.command_line.specs.declared.options.Texts.{Texts}
 use Rattle.command_line.specs.declared.options.Texts.TheVariants.{Input, Files, InputAndFile, FileAndInput, InputTwice, One}
 use Rattle.command_line.specs.declared.reading.Refused.{Refused}
@@ -34,7 +34,7 @@ abbrev pub match_rule : Option ValueParser → Rule
 match_rule parser = value_rule (codes "match") (codes "name" ∷ []) parser
 
 abbrev pub order_rule : Option ValueParser → Rule
-order_rule parser = value_rule (codes "order") (codes "declared" ∷ []) parser
+order_rule parser = value_rule (codes "order") [] parser
 
 abbrev pub order_file_rule : Rule
 order_file_rule = value_rule (codes "order-file") [] None
@@ -48,7 +48,11 @@ workers_rule = value_rule (codes "workers") (codes "4" ∷ []) (Some (Signed (po
 
 -- 1 to 4294967295 nodes
 abbrev pub limit_rule : Rule
-limit_rule = value_rule (codes "limit") (codes "67108864" ∷ []) (Some (Unsigned 1 4294967295))
+limit_rule = value_rule (codes "limit") [] (Some (Unsigned 1 4294967295))
+
+-- a size, of 4 GiB where the words give none
+abbrev pub memory_rule : Rule
+memory_rule = value_rule (codes "memory") (codes "4G" ∷ []) None
 
 abbrev pub sizes_rule : Rule
 sizes_rule = record (new_rule (codes "sizes")) { long = Some (codes "sizes"); action = Some SetTrue }
@@ -74,7 +78,7 @@ abbrev pub TakesMatches : Option ValueParser → Type 0
 TakesMatches = TakesOnly (codes "name" ∷ codes "position" ∷ [])
 
 abbrev pub TakesOrders : Option ValueParser → Type 0
-TakesOrders = TakesOnly (codes "declared" ∷ codes "depth" ∷ codes "interleave" ∷ codes "index" ∷ codes "force" ∷ codes "best" ∷ [])
+TakesOrders = TakesOnly (codes "auto" ∷ codes "declared" ∷ codes "depth" ∷ codes "interleave" ∷ codes "index" ∷ codes "force" ∷ codes "best" ∷ [])
 
 abbrev pub TakesFormats : Option ValueParser → Type 0
 TakesFormats = TakesOnly (codes "text" ∷ codes "json" ∷ [])
@@ -82,7 +86,7 @@ TakesFormats = TakesOnly (codes "text" ∷ codes "json" ∷ [])
 -- The command with its arguments. The parsers of three lists of words are named apart.
 abbrev pub tool_app : (matching order format : Option ValueParser) → App
 tool_app matching order format =
-    with_rule (with_rule (with_rule (with_rule (with_rule (with_rule (with_rule (with_rule (with_rule (with_rule (with_rule (with_rule bare_app (match_rule matching)) (order_rule order)) order_file_rule) given_rule) workers_rule) limit_rule) sizes_rule) print_order_rule) (format_rule format)) verbose_rule) (new_rule (codes "FIRST"))) (new_rule (codes "SECOND"))
+    with_rule (with_rule (with_rule (with_rule (with_rule (with_rule (with_rule (with_rule (with_rule (with_rule (with_rule (with_rule (with_rule bare_app (match_rule matching)) (order_rule order)) order_file_rule) given_rule) workers_rule) limit_rule) memory_rule) sizes_rule) print_order_rule) (format_rule format)) verbose_rule) (new_rule (codes "FIRST"))) (new_rule (codes "SECOND"))
 
 -- the command has these arguments
 abbrev pub IsTool : App → Type 0
@@ -95,29 +99,46 @@ IsMatching (Some word) Name = bytes_eq word (codes "position") ≡ false
 IsMatching None Position = ⊥
 IsMatching None Name = ⊤
 
--- the file of the order where one is given, else the order that the word names, and declared order for any other word
-abbrev pub IsChoice : Option (List ℕ) → Option (List ℕ) → OrderChoice → Type 0
-IsChoice (Some path) word (File p) = p.now ≡ path
-IsChoice (Some path) word Declared = ⊥
-IsChoice (Some path) word Depth = ⊥
-IsChoice (Some path) word Interleave = ⊥
-IsChoice (Some path) word Index = ⊥
-IsChoice (Some path) word Force = ⊥
-IsChoice (Some path) word Best = ⊥
-IsChoice None word (File p) = ⊥
-IsChoice None (Some word) Depth = bytes_eq word (codes "depth") ≡ true
-IsChoice None (Some word) Interleave = bytes_eq word (codes "interleave") ≡ true
-IsChoice None (Some word) Index = bytes_eq word (codes "index") ≡ true
-IsChoice None (Some word) Force = bytes_eq word (codes "force") ≡ true
-IsChoice None (Some word) Best = bytes_eq word (codes "best") ≡ true
-IsChoice None (Some word) Declared =
-    (bytes_eq word (codes "depth") ≡ false) × (bytes_eq word (codes "interleave") ≡ false) × (bytes_eq word (codes "index") ≡ false) × (bytes_eq word (codes "force") ≡ false) × (bytes_eq word (codes "best") ≡ false)
-IsChoice None None Depth = ⊥
-IsChoice None None Interleave = ⊥
-IsChoice None None Index = ⊥
-IsChoice None None Force = ⊥
-IsChoice None None Best = ⊥
-IsChoice None None Declared = ⊤
+-- whether a flag is asked for, whose text is `true` then
+abbrev pub flag_of : Option (List ℕ) → Bool
+flag_of (Some word) = bytes_eq word (codes "true")
+flag_of None = false
+
+-- The order where the words name none: auto, but declared where they ask for what auto does not do or for what had declared order before it,
+-- a limit, the sizes of diagrams, or an order in print.
+abbrev pub unnamed_order : (limit : Option (List ℕ)) → (sizes print_order : Bool) → OrderChoice
+unnamed_order (Some limit) sizes print_order = Declared
+unnamed_order None true print_order = Declared
+unnamed_order None false true = Declared
+unnamed_order None false false = Auto
+
+-- the file of the order where one is given, else the order that the word names, and declared order for any other word; and where there is
+-- no word, the order of words that name none
+abbrev pub IsChoice : (file order : Option (List ℕ)) → (unnamed : OrderChoice) → OrderChoice → Type 0
+IsChoice (Some path) word unnamed (File p) = p.now ≡ path
+IsChoice (Some path) word unnamed Declared = ⊥
+IsChoice (Some path) word unnamed Depth = ⊥
+IsChoice (Some path) word unnamed Interleave = ⊥
+IsChoice (Some path) word unnamed Index = ⊥
+IsChoice (Some path) word unnamed Force = ⊥
+IsChoice (Some path) word unnamed Best = ⊥
+IsChoice (Some path) word unnamed Auto = ⊥
+IsChoice None (Some word) unnamed (File p) = ⊥
+IsChoice None (Some word) unnamed Depth = bytes_eq word (codes "depth") ≡ true
+IsChoice None (Some word) unnamed Interleave = bytes_eq word (codes "interleave") ≡ true
+IsChoice None (Some word) unnamed Index = bytes_eq word (codes "index") ≡ true
+IsChoice None (Some word) unnamed Force = bytes_eq word (codes "force") ≡ true
+IsChoice None (Some word) unnamed Best = bytes_eq word (codes "best") ≡ true
+IsChoice None (Some word) unnamed Auto = bytes_eq word (codes "auto") ≡ true
+IsChoice None (Some word) unnamed Declared =
+    (bytes_eq word (codes "depth") ≡ false) × (bytes_eq word (codes "interleave") ≡ false) × (bytes_eq word (codes "index") ≡ false) × (bytes_eq word (codes "force") ≡ false) × (bytes_eq word (codes "best") ≡ false) × (bytes_eq word (codes "auto") ≡ false)
+IsChoice None None unnamed choice = choice ≡ unnamed
+
+-- the order that was found for the arguments
+abbrev pub IsOrderIn : List Row → OrderChoice → Type 0
+IsOrderIn rows choice =
+    IsChoice (first_of (codes "order-file") rows) (first_of (codes "order") rows)
+    (unnamed_order (first_of (codes "limit") rows) (flag_of (first_of (codes "sizes") rows)) (flag_of (first_of (codes "print-order") rows))) choice
 
 -- the word for standard input in place of a file
 abbrev pub IsDash : List ℕ → Type 0
@@ -148,13 +169,45 @@ abbrev pub IsForm : Option (List ℕ) → Bool → Type 0
 IsForm (Some word) json = bytes_eq word (codes "json") ≡ json
 IsForm None json = json ≡ false
 
--- what a flag asks for, whose text is one of two
-abbrev pub IsFlag : Option (List ℕ) → Bool → Type 0
-IsFlag word asked = (word ≡ Some (codes "true") → asked ≡ true) × (word ≡ Some (codes "false") → asked ≡ false)
-
 -- the number is that of the text, where this is a number of the range
 abbrev pub IsNumberIn : ℕ → ℕ → Option Text → ℕ → Type 0
 IsNumberIn low high word n = IfSome word (λ text. IsUnsignedIn low high text → n ≡ digits_value 10 (without_leading_plus text))
+
+-- the limit of nodes where the words give none: of auto what a store may have
+abbrev pub usual_limit : OrderChoice → ℕ
+usual_limit Auto = 4294967295
+usual_limit Declared = 67108864
+usual_limit Depth = 67108864
+usual_limit Interleave = 67108864
+usual_limit Index = 67108864
+usual_limit Force = 67108864
+usual_limit Best = 67108864
+usual_limit (File path) = 67108864
+
+-- the limit is that of the text, or the usual one where there is none
+abbrev pub IsLimit : Option Text → OrderChoice → ℕ → Type 0
+IsLimit (Some text) choice n = IsUnsignedIn 1 4294967295 text → n ≡ digits_value 10 (without_leading_plus text)
+IsLimit None choice n = n ≡ usual_limit choice
+
+-- the unit of a size, and the bytes that it stands for
+abbrev pub IsUnit : Text → ℕ → Type 0
+IsUnit unit bytes = ((unit ≡ codes "K") × (bytes ≡ 1024)) ⊎ ((unit ≡ codes "M") × (bytes ≡ 1024 ^ 2)) ⊎ ((unit ≡ codes "G") × (bytes ≡ 1024 ^ 3))
+
+-- a text ends in no unit
+abbrev pub HasNoUnit : Text → Type 0
+HasNoUnit text = (front unit : Text) (bytes : ℕ) → IsUnit unit bytes → text ≢ front ++ unit
+
+-- a text is a number and its unit, which is a byte where none is named
+abbrev pub IsInUnits : Text → (number : Text) → (bytes : ℕ) → Type 0
+IsInUnits text number bytes = ((unit : Text) × IsUnit unit bytes × (text ≡ number ++ unit)) ⊎ (HasNoUnit text × (number ≡ text) × (bytes ≡ 1))
+
+-- the number of bytes that a text says: a decimal number, with K, M or G behind it for 1,024, its square and its cube
+abbrev pub IsSize : Text → ℕ → Type 0
+IsSize text n = (number : Text) × (bytes : ℕ) × IsInUnits text number bytes × IsNumeral 10 (without_leading_plus number) × (n ≡ digits_value 10 (without_leading_plus number) * bytes)
+
+-- the same from 16 MiB on, which a 64 bit number can hold
+abbrev pub IsMemory : Text → ℕ → Type 0
+IsMemory text n = IsSize text n × (16777216 ≤ n) × (n < 2 ^ 64)
 
 -- the words give the argument, so that its value is no default
 abbrev pub IsGiven : Text → List Row → Type 0
@@ -164,6 +217,22 @@ IsGiven id rows = option_and_then (λ r. r.source) (find (λ r. bytes_eq r.id id
 abbrev pub GiveTwoOrders : List Row → Type 0
 GiveTwoOrders rows = IsGiven (codes "order") rows × IsGiven (codes "order-file") rows
 
+-- the words give the order auto by its name, and this flag, which asks for what auto does not do
+abbrev pub GiveAutoWith : Text → List Row → Type 0
+GiveAutoWith id rows = IsSomeAnd (first_of (codes "order") rows) (λ word. bytes_eq word (codes "auto") ≡ true) × (flag_of (first_of id rows) ≡ true)
+
+-- the words give memory to an order other than auto, which would have no use for it
+abbrev pub GiveIdleMemory : List Row → Type 0
+GiveIdleMemory rows = IsGiven (codes "memory") rows × (IsOrderIn rows Auto → ⊥)
+
+-- the words give two arguments that exclude each other
+abbrev pub AreAtOdds : List Row → Type 0
+AreAtOdds rows = GiveTwoOrders rows ⊎ GiveAutoWith (codes "sizes") rows ⊎ GiveAutoWith (codes "print-order") rows ⊎ GiveIdleMemory rows
+
+-- the words give a memory that is none, or out of its range
+abbrev pub GiveBadMemory : List Row → Type 0
+GiveBadMemory rows = IsSomeAnd (first_of (codes "memory") rows) (λ text. (n : ℕ) → IsMemory text n → ⊥)
+
 -- the path of a file that is the word, where there is one
 abbrev pub IsFile : Option (List ℕ) → Option (Bor (List ℕ)) → Type 0
 IsFile word path = option_map (λ (p : Bor (List ℕ)). p.now) path ≡ word
@@ -171,15 +240,16 @@ IsFile word path = option_map (λ (p : Bor (List ℕ)). p.now) path ≡ word
 -- The options say what was found for the arguments.
 pub record AreOptions (rows : List Row) (o : Options) : Type 0 where
   pub matching : IsMatching (first_of (codes "match") rows) o.matching
-  pub order : IsChoice (first_of (codes "order-file") rows) (first_of (codes "order") rows) o.order
+  pub order : IsOrderIn rows o.order
   pub given : IsFile (first_of (codes "given") rows) o.given
   pub workers : IsNumberIn 1 16 (one_of (codes "workers") rows) o.workers
-  pub limit : IsNumberIn 1 4294967295 (one_of (codes "limit") rows) o.limit
+  pub limit : IsLimit (one_of (codes "limit") rows) o.order o.limit
+  pub memory : IfSome (first_of (codes "memory") rows) (λ text. IsMemory text o.memory)
   pub texts : AreTexts (first_of (codes "FIRST") rows) (first_of (codes "SECOND") rows) o.texts
-  pub sizes : IsFlag (one_of (codes "sizes") rows) o.sizes
+  pub sizes : o.sizes ≡ flag_of (first_of (codes "sizes") rows)
   pub json : IsForm (first_of (codes "format") rows) o.json
-  pub print_order : IsFlag (one_of (codes "print-order") rows) o.print_order
-  pub verbose : IsFlag (one_of (codes "verbose") rows) o.verbose
+  pub print_order : o.print_order ≡ flag_of (first_of (codes "print-order") rows)
+  pub verbose : o.verbose ≡ flag_of (first_of (codes "verbose") rows)
 
 -- the kinds of the first fault that clap finds in the words; none where it takes them
 abbrev pub AreFaults : List Text → Kinds → Type 0
@@ -192,9 +262,9 @@ AreFound words rows =
     (matching order format : Option ValueParser) × TakesMatches matching × TakesOrders order × TakesFormats format
     × (fault_of (tool_app matching order format) words ≡ []) × (rows ≡ matches_of (tool_app matching order format) words)
 
--- The words ask for these options, by clap's matches of the command. They give one order.
+-- The words ask for these options, by clap's matches of the command. No two of them exclude each other.
 abbrev pub AskFor : List Text → Options → Type 0
-AskFor words o = (rows : List Row) × AreFound words rows × (GiveTwoOrders rows → ⊥) × AreOptions rows o
+AskFor words o = (rows : List Row) × AreFound words rows × (AreAtOdds rows → ⊥) × AreOptions rows o
 
 -- the version's line is told, or that there was no memory for it
 abbrev pub TellsVersion : Refused → Type 0
@@ -208,9 +278,11 @@ IsToldAs kind (Help text) = (kind ≡ DisplayHelp) ⊎ ((kind ≡ DisplayVersion
 IsToldAs kind (Mistake text) = (kind ≢ DisplayHelp) × (kind ≢ DisplayVersion) × (kind ≢ NoMemory)
 IsToldAs kind OutOfMemory = ⊤
 
--- The words are refused for the first fault that clap finds in them, or for two orders, or for want of memory.
+-- The words are refused for the first fault that clap finds in them, or for two arguments that exclude each other, or else for a memory that
+-- is none, or for want of memory.
 abbrev pub IsRefusal : List Text → Refused → Type 0
 IsRefusal words refused =
     ((kinds : Kinds) × (kind : ErrorKind) × AreFaults words kinds × IsAmong kind kinds × IsToldAs kind refused)
-    ⊎ (((rows : List Row) × AreFound words rows × GiveTwoOrders rows × IsToldAs ArgumentConflict refused)
-    ⊎ (refused ≡ OutOfMemory))
+    ⊎ (((rows : List Row) × AreFound words rows × AreAtOdds rows × IsToldAs ArgumentConflict refused)
+    ⊎ (((rows : List Row) × AreFound words rows × (AreAtOdds rows → ⊥) × GiveBadMemory rows × IsToldAs ValueValidation refused)
+    ⊎ (refused ≡ OutOfMemory)))

@@ -1,14 +1,22 @@
 //! The command of the program, as clap knows it.
 ghost use Rattle.std.specs.Prelude.{◌≡◌, false, codes, IfOk};
 ghost use Rattle.clap.specs.Words.{app_of, new_rule, rule_of};
-ghost use Rattle.command_line.specs.Words.{TakesMatches, TakesOrders, match_rule, order_rule, order_file_rule, given_rule, workers_rule, limit_rule, sizes_rule, print_order_rule, TakesFormats, format_rule, verbose_rule, bare_app, IsTool};
+ghost use Rattle.command_line.specs.Words.{TakesMatches, TakesOrders, match_rule, order_rule, order_file_rule, given_rule, workers_rule, limit_rule, memory_rule, sizes_rule, print_order_rule, TakesFormats, format_rule, verbose_rule, bare_app, IsTool};
 
 use clap::{Arg, ArgAction, Command, value_parser};
 use std::alloc::{AllocError, Global};
 
 static MATCHES: [&str; 2] = ["name", "position"];
 
-static ORDERS: [&str; 6] = ["declared", "depth", "interleave", "index", "force", "best"];
+static ORDERS: [&str; 7] = [
+    "auto",
+    "declared",
+    "depth",
+    "interleave",
+    "index",
+    "force",
+    "best",
+];
 
 static FORMATS: [&str; 2] = ["text", "json"];
 
@@ -49,9 +57,8 @@ fn order<'a>(alloc: Global) -> Arg<'a>
         .long("order")
         .value_name("ORDER")
         .value_parser(ORDERS.as_slice())
-        .default_value("declared")
         .help(
-            "Order the variables as declared, by depth: as met below the outputs, interleaved: each behind what was met before it, by index: the number at the end of its name, by force: drawn to what it is joined with, or by the best of the first three, found by trying: take this first",
+            "Order the variables as declared, by depth: as met below the outputs, interleaved: each behind what was met before it, by index: the number at the end of its name, by force: drawn to what it is joined with, or by the best of these, found by trying; or auto: find one by trying, and report as by declared [default: auto, but declared with --limit, --sizes or --print-order]",
         )
 }
 
@@ -95,8 +102,22 @@ fn limit<'a>(alloc: Global) -> Arg<'a>
         .long("limit")
         .value_name("N")
         .value_parser(value_parser!(u64).range(1..=4_294_967_295))
-        .default_value("67108864")
-        .help("Give up where the diagrams have more nodes, 1 to 4294967295")
+        .help(
+            "Give up where the diagrams have more nodes, 1 to 4294967295 [default: 67108864, for auto what --memory holds]",
+        )
+}
+
+fn memory<'a>(alloc: Global) -> Arg<'a>
+    ensures rule { rule_of result ≡ memory_rule }
+    ensures local { result.global ≡ false }
+{
+    Arg::new(alloc, "memory")
+        .long("memory")
+        .value_name("SIZE")
+        .default_value("4G")
+        .help(
+            "Let auto try no more nodes than so many bytes hold, 16M at least; K, M and G stand for powers of 1024",
+        )
 }
 
 fn sizes<'a>(alloc: Global) -> Arg<'a>
@@ -142,7 +163,7 @@ fn verbose<'a>(alloc: Global) -> Arg<'a>
         .long("verbose")
         .action(ArgAction::SetTrue)
         .help(
-            "Tell on standard error how far the building is, which of the best order's attempts it was, and behind a fault where it stands and what helps",
+            "Tell on standard error how far the building is, which attempt it ended with where orders were tried, and behind a fault where it stands and what helps",
         )
 }
 
@@ -185,6 +206,7 @@ pub fn command<'a>(alloc: Global) -> Result<Command<'a>, AllocError>
     let command = command
         .arg(workers(alloc))?
         .arg(limit(alloc))?
+        .arg(memory(alloc))?
         .arg(sizes(alloc))?
         .arg(print_order(alloc))?;
     let command = command

@@ -5,6 +5,7 @@ mod command;
 pub mod laws;
 mod options;
 mod reading;
+mod size;
 
 pub use options::{Options, OrderChoice, Texts};
 pub use reading::{Refused, read_options};

@@ -1,5 +1,6 @@
 //! What a command line asks for.
-ghost use Rattle.std.specs.Prelude.{◌≤◌};
+ghost use Rattle.std.specs.Prelude.{◌≡◌, ◌≤◌, false};
+ghost use Rattle.command_line.specs.declared.options.OrderChoice.TheVariants.{Auto};
 
 use net_order::order::Match;
 
@@ -11,8 +12,10 @@ pub enum OrderChoice<'a> {
     Interleave,
     Index,
     Force,
-    /// The best of the first three is to be found.
+    /// The best of these is to be found.
     Best,
+    /// One of these is to be found, and the report is as by declared order.
+    Auto,
     /// The path of a file with the names.
     File(&'a str),
 }
@@ -42,7 +45,11 @@ pub struct Options<'a> {
     /// The path of the condition's file, where there is a condition.
     pub given: Option<&'a str>,
     pub workers: u32,
+    /// The most nodes. For the order auto that is the last of its budgets, unless the memory ends them before.
     pub limit: u64,
+    /// How many bytes of memory the order auto may take.
+    pub memory: u64,
+    /// Whether the report says the sizes of the diagrams, which are no part of a report by auto.
     pub sizes: bool,
     /// Whether the order of the variables is printed, and nothing compared.
     pub print_order: bool,
@@ -55,4 +62,6 @@ pub struct Options<'a> {
     ghost few_workers: { workers ≤ 16 },
     ghost some_nodes: { 1 ≤ limit },
     ghost few_nodes: { limit ≤ 4294967295 },
+    ghost some_memory: { 16777216 ≤ memory },
+    ghost no_sizes: { order ≡ Auto → sizes ≡ false },
 }
