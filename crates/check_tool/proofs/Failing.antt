@@ -2,7 +2,7 @@
 use Rattle.std.proofs.Common.{◌≡◌, ◌⊎◌, inl, inr, ℕ, Bool, false, List, Option, Some, None, ◌∙◌, sym, subst, IsTrue}
 use Rattle.std.specs.Prelude.{IfSome}
 use Rattle.check_report.specs.declared.fault.CheckFault.{CheckFault}
-use Rattle.check_report.specs.declared.fault.CheckFault.TheVariants.{First, Second, Given, GivenOutputs, Order as OrderRefused, Wave, Write, OutOfMemory}
+use Rattle.check_report.specs.declared.fault.CheckFault.TheVariants.{First, Second, Given, GivenOutputs, Order as OrderRefused, Wave, GivenUp, Write, OutOfMemory}
 use Rattle.check_report.specs.Check.{IsCheckFault}
 use Rattle.net_order.specs.declared.order.Match.{Match}
 use Rattle.net_order.specs.declared.order.Order.{Order}
@@ -25,6 +25,7 @@ check_fault one two (Some told) first_failed second_failed given_failed first se
 check_fault one two given first_failed second_failed given_failed first second condition how order f g h GivenOutputs c = c
 check_fault one two given first_failed second_failed given_failed first second condition how order f g h (OrderRefused fault) c = c
 check_fault one two given first_failed second_failed given_failed first second condition how order f g h (Wave fault) c = c
+check_fault one two given first_failed second_failed given_failed first second condition how order f g h GivenUp c = c
 check_fault one two given first_failed second_failed given_failed first second condition how order f g h Write c = c
 check_fault one two given first_failed second_failed given_failed first second condition how order f g h OutOfMemory c = c
 

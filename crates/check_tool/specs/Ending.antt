@@ -4,13 +4,14 @@ use Rattle.std.specs.Io.KnownBytes.{Appends, Keeps}
 use Rattle.report_text.specs.declared.outcome.Outcome.{Outcome}
 use Rattle.check_report.specs.declared.choice.Attempt.{Attempt}
 use Rattle.check_report.specs.Best.{candidate_text}
-use Rattle.check_report.specs.declared.fault.CheckFault.TheVariants.{Wave, Write}
+use Rattle.check_report.specs.declared.fault.CheckFault.TheVariants.{Wave, GivenUp, Write}
 use Rattle.report_text.specs.Writing.{AppendsFront}
 use Rattle.command_line.specs.declared.options.Options.{Options}
+use Rattle.command_line.specs.declared.options.OrderChoice.TheVariants.{Auto}
 use Rattle.command_line.specs.declared.reading.Refused.{Refused}
 use Rattle.command_line.specs.declared.reading.Refused.TheVariants.{Help, Mistake, OutOfMemory as NoWordMemory}
 use Rattle.command_line.specs.Words.{AskFor, IsRefusal}
-use Rattle.expand_work.specs.declared.fault.WaveFault.TheVariants.{Full}
+use Rattle.expand_work.specs.declared.fault.WaveFault.TheVariants.{Full, TooManyRequests}
 use Rattle.check_tool.specs.declared.done.Done.{Done}
 use Rattle.check_tool.specs.declared.done.Done.TheVariants.{Compared, OrderPrinted}
 use Rattle.check_tool.specs.declared.fault.ToolFault.{ToolFault}
@@ -20,7 +21,7 @@ use Rattle.check_tool.specs.declared.process.NoWords.TheVariants.{OutOfMemory as
 use Rattle.check_tool.specs.Faults.{fault_line, fault_status}
 use Rattle.check_tool.specs.Helping.{IsHelp, refused_paths}
 use Rattle.check_tool.specs.Opening.{Try, Extends, AreTried, opened}
-use Rattle.check_tool.specs.Running.{paths_of, HasReported, HasReportedFront, IsBeyond, IsToolFault, StandOnInput}
+use Rattle.check_tool.specs.Running.{paths_of, HasReported, HasReportedFront, IsBeyond, IsGivenUp, IsToolFault, StandOnInput}
 
 -- what a device held and holds now, and whether it has failed by now, and whether a write has taken nothing of some bytes
 pub record Written : Type 0 where
@@ -81,7 +82,7 @@ asked_again true o fault = refused_paths o fault
 abbrev pub attempt_line : Attempt → List ℕ
 attempt_line t = codes "bddcheck: order " ++ candidate_text t.order ++ codes ", budget " ++ decimal t.budget ++ codes "\n"
 
--- what is said of the attempt that a run ended with, where the best order was to be found
+-- what is said of the attempt that a run ended with, where orders were tried
 abbrev pub IsAttemptSaid : Option Attempt → Written → Type 0
 IsAttemptSaid None w = Keeps w.held w.holds
 IsAttemptSaid (Some t) w = MaySay w (attempt_line t)
@@ -146,6 +147,9 @@ pub record Refuses (broken : List ℕ → Type 0) (s : Scene) (o : Options) (fau
   pub cause : IsToolFault s.told broken (IsTrue s.input_failed) s.input o tries fault
   pub unread : fault ≡ InputUnread → IsTrue s.input_failed
   pub full : fault ≡ Check (Wave Full) → IsBeyond s.told s.input o
+  pub given_up : fault ≡ Check GivenUp → IsGivenUp s.told s.input o
+  pub in_no_order : o.order ≡ Auto → fault ≢ Check (Wave Full)
+  pub unbounded : fault ≢ Check (Wave TooManyRequests)
   pub line : IsSaidOf o.verbose s.told o s.errors fault status
   pub front : fault ≡ Check Write → HasReportedFront s.told s.input o s.output.held s.output.holds s.output.has_failed s.output.has_stopped
   pub nothing : fault ≢ Check Write → Keeps s.output.held s.output.holds

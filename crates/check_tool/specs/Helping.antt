@@ -8,10 +8,10 @@ use Rattle.net_order.specs.declared.order.OrderFault.TheVariants.{CountsDiffer, 
 use Rattle.expand_work.specs.declared.fault.WaveFault.{WaveFault}
 use Rattle.expand_work.specs.declared.fault.WaveFault.TheVariants.{OutOfMemory as NoWaveMemory, NoWorker, Full, TooManyRequests}
 use Rattle.check_report.specs.declared.fault.CheckFault.{CheckFault}
-use Rattle.check_report.specs.declared.fault.CheckFault.TheVariants.{First, Second, Given, GivenOutputs, Order, Wave, Write, OutOfMemory as NoCheckMemory}
+use Rattle.check_report.specs.declared.fault.CheckFault.TheVariants.{First, Second, Given, GivenOutputs, Order, Wave, GivenUp, Write, OutOfMemory as NoCheckMemory}
 use Rattle.command_line.specs.declared.options.Options.{Options}
 use Rattle.command_line.specs.declared.options.OrderChoice.{OrderChoice}
-use Rattle.command_line.specs.declared.options.OrderChoice.TheVariants.{Declared, Depth, Interleave, Index, Force, Best, File}
+use Rattle.command_line.specs.declared.options.OrderChoice.TheVariants.{Declared, Depth, Interleave, Index, Force, Best, Auto, File}
 use Rattle.command_line.specs.declared.options.Texts.{Texts}
 use Rattle.command_line.specs.declared.options.Texts.TheVariants.{Input, Files, InputAndFile, FileAndInput, InputTwice, One}
 use Rattle.check_tool.specs.declared.fault.Place.TheVariants.{First as FirstFile, Second as SecondFile, Given as GivenFile, Order as OrderFile}
@@ -89,6 +89,7 @@ order_spot Interleave fault = None
 order_spot Index fault = None
 order_spot Force fault = None
 order_spot Best fault = None
+order_spot Auto fault = None
 
 -- where the condition is at fault: in the line of a refused text, or as a whole
 abbrev pub given_spot : Option (Bor (List ℕ)) → BenchFault → Where
@@ -108,6 +109,7 @@ fault_spot texts given choice (Check (Given fault)) = given_spot given fault
 fault_spot texts given choice (Check GivenOutputs) = given_spot given ReadFailed
 fault_spot texts given choice (Check (Order fault)) = order_spot choice fault
 fault_spot texts given choice (Check (Wave fault)) = None
+fault_spot texts given choice (Check GivenUp) = None
 fault_spot texts given choice (Check Write) = None
 fault_spot texts given choice (Check NoCheckMemory) = None
 fault_spot texts given choice OneFile = None
@@ -143,13 +145,14 @@ order_help OrderReadFailed = codes "the device failed, or is a folder"
 
 -- what helps where diagrams grow too large in this order
 abbrev pub fewer_nodes : OrderChoice → List ℕ
-fewer_nodes Best = codes "interleave, depth and declared were tried; a list by --order-file may need fewer nodes"
-fewer_nodes Declared = codes "another order may need fewer nodes: try --order best"
-fewer_nodes Depth = codes "another order may need fewer nodes: try --order best"
-fewer_nodes Interleave = codes "another order may need fewer nodes: try --order best"
-fewer_nodes Index = codes "another order may need fewer nodes: try --order best"
-fewer_nodes Force = codes "another order may need fewer nodes: try --order best"
-fewer_nodes (File path) = codes "another order may need fewer nodes: try --order best"
+fewer_nodes Best = codes "interleave, force, index, depth and declared are tried; a list by --order-file may need fewer nodes"
+fewer_nodes Auto = codes "interleave, force, index, depth and declared are tried; another --memory, or a list by --order-file, may help"
+fewer_nodes Declared = codes "another order may need fewer nodes: try --order auto"
+fewer_nodes Depth = codes "another order may need fewer nodes: try --order auto"
+fewer_nodes Interleave = codes "another order may need fewer nodes: try --order auto"
+fewer_nodes Index = codes "another order may need fewer nodes: try --order auto"
+fewer_nodes Force = codes "another order may need fewer nodes: try --order auto"
+fewer_nodes (File path) = codes "another order may need fewer nodes: try --order auto"
 
 -- what helps where they are not built
 abbrev pub wave_help : OrderChoice → WaveFault → List ℕ
@@ -174,6 +177,7 @@ check_help choice (Given fault) = text_help fault
 check_help choice GivenOutputs = codes "a condition is a netlist of one output"
 check_help choice (Order fault) = order_help fault
 check_help choice (Wave fault) = wave_help choice fault
+check_help choice GivenUp = fewer_nodes choice
 check_help choice Write = codes "standard output is full, or closed"
 check_help choice NoCheckMemory = fewer_nodes choice
 
@@ -217,6 +221,7 @@ refused_paths o (Check (Given fault)) = path_in o.given
 refused_paths o (Check GivenOutputs) = []
 refused_paths o (Check (Order fault)) = []
 refused_paths o (Check (Wave fault)) = []
+refused_paths o (Check GivenUp) = []
 refused_paths o (Check Write) = []
 refused_paths o (Check NoCheckMemory) = []
 refused_paths o (CannotOpen place obstacle) = []

@@ -1,5 +1,5 @@
 -- What a run compares, what it writes, and why it writes no report.
-use Rattle.std.specs.Prelude.{◌≡◌, ◌<◌, ◌≤◌, ◌⊎◌, ℕ, Bool, true, false, List, [], ◌∷◌, ◌++◌, length, Option, Some, None, IfSome, ⊤}
+use Rattle.std.specs.Prelude.{◌≡◌, ◌<◌, ◌≤◌, ◌⊎◌, ◌/◌, ℕ, min, Bool, true, false, List, [], ◌∷◌, ◌++◌, length, Option, Some, None, IfSome, ⊤}
 use Rattle.std.specs.Borrow.{Bor}
 use Rattle.std.specs.Io.KnownBytes.{Appends}
 use Rattle.report_text.specs.Writing.{AppendsFront}
@@ -13,12 +13,12 @@ use Rattle.check_report.specs.Check.{IsChecked, IsCheckFault}
 use Rattle.check_report.specs.Devices.{told_of}
 use Rattle.check_report.specs.declared.fault.CheckFault.{CheckFault}
 use Rattle.check_report.specs.Limits.{AreBeyond}
-use Rattle.check_report.specs.Best.{IsAllowed, IsChosen, IsFound}
+use Rattle.check_report.specs.Best.{AreTried, IsAllowed, IsChosen, IsFound, IsGivenUpWithin, told_kind}
 use Rattle.check_report.specs.declared.choice.Choice.{Choice}
-use Rattle.check_report.specs.declared.choice.Choice.TheVariants.{One as Ordered, Best as TheBest}
+use Rattle.check_report.specs.declared.choice.Choice.TheVariants.{One as Ordered, Best as TheBest, Auto as Found}
 use Rattle.command_line.specs.declared.options.Options.{Options}
 use Rattle.command_line.specs.declared.options.OrderChoice.{OrderChoice}
-use Rattle.command_line.specs.declared.options.OrderChoice.TheVariants.{Declared, Depth, Interleave, Index, Force, Best, File}
+use Rattle.command_line.specs.declared.options.OrderChoice.TheVariants.{Declared, Depth, Interleave, Index, Force, Best, Auto, File}
 use Rattle.command_line.specs.declared.options.Texts.{Texts}
 use Rattle.command_line.specs.declared.options.Texts.TheVariants.{Input, Files, InputAndFile, FileAndInput, InputTwice, One}
 use Rattle.check_tool.specs.declared.done.Done.{Done}
@@ -75,6 +75,7 @@ order_paths Interleave = []
 order_paths Index = []
 order_paths Force = []
 order_paths Best = []
+order_paths Auto = []
 
 -- the file that is opened for the condition
 abbrev pub given_paths : Option (Bor (List ℕ)) → List (List ℕ)
@@ -116,7 +117,7 @@ abbrev pub IsGivenFrom : Option (Bor (List ℕ)) → Option (Option (List ℕ)) 
 IsGivenFrom None origin = origin ≡ None
 IsGivenFrom (Some path) origin = (from : Option (List ℕ)) × (origin ≡ Some from) × IfSome from (λ p. p ≡ path.now)
 
--- the order that is asked for, or the best; a file of names has been read
+-- the order that is asked for, or that one is to be found; a file of names has been read
 abbrev pub IsOrderOf : (List ℕ → Option (List ℕ)) → OrderChoice → Choice → Type 0
 IsOrderOf told Declared choice = choice ≡ Ordered declared
 IsOrderOf told Depth choice = choice ≡ Ordered depth
@@ -124,15 +125,36 @@ IsOrderOf told Interleave choice = choice ≡ Ordered interleave
 IsOrderOf told Index choice = choice ≡ Ordered index
 IsOrderOf told Force choice = choice ≡ Ordered force
 IsOrderOf told Best choice = choice ≡ TheBest
+IsOrderOf told Auto choice = choice ≡ Found
 IsOrderOf told (File path) choice = (names : List (List ℕ)) × (choice ≡ Ordered (Listed names)) × IfSome (told path.now) (λ text. IsOrderText text names)
+
+-- The bytes of memory that are reckoned for each node of an attempt: what the store takes for it, and what a wave takes for eight requests.
+abbrev pub node_bytes : ℕ
+node_bytes = NODE_BYTES
+
+-- the most nodes in this order: of auto as many as the memory holds, where the limit is not less
+abbrev pub limit_in : OrderChoice → (limit memory : ℕ) → ℕ
+limit_in Auto limit memory = min limit (memory / node_bytes)
+limit_in Declared limit memory = limit
+limit_in Depth limit memory = limit
+limit_in Interleave limit memory = limit
+limit_in Index limit memory = limit
+limit_in Force limit memory = limit
+limit_in Best limit memory = limit
+limit_in (File path) limit memory = limit
+
+-- the most nodes that the options allow
+abbrev pub limit_of : Options → ℕ
+limit_of o = limit_in o.order o.limit o.memory
 
 -- The bytes are what the options ask for of these two texts, and the condition's, in an order of this choice: the report in the form that they ask for, with its counts, or the order
 -- itself. The nodes that are needed in this order are within the limit of the options.
 abbrev pub IsMade : (one two : Option (List ℕ)) → (given : Option (Option (List ℕ))) → Options → Choice → Done → (bytes : List ℕ) → Type 0
 IsMade one two given o choice (Compared outcome tried) bytes =
-    (o.print_order ≡ false) × (order : Order) × IsChecked o.json (told_of one two given) o.matching order o.sizes outcome bytes × IsChosen (told_of one two given) o.matching choice o.limit tried order
+    (o.print_order ≡ false) × (order : Order) × IsChecked o.json (told_kind choice tried) (told_of one two given) o.matching order o.sizes outcome bytes
+    × IsChosen (told_of one two given) o.matching choice (limit_of o) tried order
 IsMade one two given o choice (OrderPrinted tried) bytes =
-    (o.print_order ≡ true) × (order : Order) × IsOrderPrinted (told_of one two given) o.matching order bytes × IsFound (told_of one two given) o.matching choice o.limit tried order
+    (o.print_order ≡ true) × (order : Order) × IsOrderPrinted (told_of one two given) o.matching order bytes × IsFound (told_of one two given) o.matching choice (limit_of o) tried order
 
 -- the bytes are what the options ask for of these two texts
 pub record IsCompared (told : List ℕ → Option (List ℕ)) (one two : Option (List ℕ)) (o : Options) (done : Done) (bytes : List ℕ) : Type 0 where
@@ -165,7 +187,11 @@ AreNamed told input o P =
 
 -- the nodes that the texts need are not within the limit of the options, in any order that is asked for
 abbrev pub IsBeyond : (List ℕ → Option (List ℕ)) → Option (List ℕ) → Options → Type 0
-IsBeyond told input o = AreNamed told input o (λ one two given choice. (order : Order) → IsAllowed choice order → AreBeyond (told_of one two given) o.matching order o.limit)
+IsBeyond told input o = AreNamed told input o (λ one two given choice. (order : Order) → IsAllowed choice order → AreBeyond (told_of one two given) o.matching order (limit_of o))
+
+-- orders are tried, and in each of them the attempt within the limit of the options was given up
+abbrev pub IsGivenUp : (List ℕ → Option (List ℕ)) → Option (List ℕ) → Options → Type 0
+IsGivenUp told input o = AreNamed told input o (λ one two given choice. AreTried choice × ((order : Order) → IsAllowed choice order → IsGivenUpWithin (told_of one two given) o.matching (limit_of o) None order))
 
 -- why the check of two texts failed, in an order of this choice
 abbrev pub IsFailedCheck : (one two : Option (List ℕ)) → (given : Option (Option (List ℕ))) → (first_failed second_failed given_failed : Type 0) → Options → Choice → CheckFault → Type 0

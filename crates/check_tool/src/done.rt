@@ -2,7 +2,7 @@
 
 use check_report::{Attempt, Outcome};
 
-/// What was written, and the attempt that it comes from where the best order was to be found.
+/// What was written, and the attempt that it comes from where orders were tried.
 #[derive(Clone, Copy, Drop, Debug, PartialEq, Eq)]
 pub enum Done {
     /// The report of a comparison.

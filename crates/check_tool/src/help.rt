@@ -210,8 +210,10 @@ fn help_by_order(choice: OrderChoice<'_>) -> &'static str
 {
     match choice {
         OrderChoice::Best =>
-            "interleave, depth and declared were tried; a list by --order-file may need fewer nodes",
-        _ => "another order may need fewer nodes: try --order best",
+            "interleave, force, index, depth and declared are tried; a list by --order-file may need fewer nodes",
+        OrderChoice::Auto =>
+            "interleave, force, index, depth and declared are tried; another --memory, or a list by --order-file, may help",
+        _ => "another order may need fewer nodes: try --order auto",
     }
 }
 
@@ -250,7 +252,7 @@ fn help_in_check(choice: OrderChoice<'_>, fault: CheckFault) -> &'static str
         CheckFault::Order(fault) => help_in_order(fault),
         CheckFault::Wave(fault) => help_in_building(choice, fault),
         CheckFault::Write => "standard output is full, or closed",
-        CheckFault::OutOfMemory => help_by_order(choice),
+        CheckFault::GivenUp | CheckFault::OutOfMemory => help_by_order(choice),
     }
 }
 

@@ -1,17 +1,18 @@
 //! A run with its options, over any folder, input and output.
-ghost use Rattle.std.specs.Prelude.{◌≡◌, ◌≢◌, ◌⊎◌, ℕ, ◌∷◌, [], List, Option, IfOk, IfErr, OnOk, OnErr, IfSome, IsTrue, Some, Err, is_ok};
+ghost use Rattle.std.specs.Prelude.{◌≡◌, ◌≢◌, ◌⊎◌, ℕ, ◌≤◌, ◌∷◌, [], false, List, Option, None, IfOk, IfErr, OnOk, OnErr, IfSome, IsTrue, Some, Err, is_ok};
 ghost use Rattle.std.specs.Io.KnownBytes.{Appends};
-ghost use Rattle.check_report.specs.declared.fault.CheckFault.TheVariants.{Wave, Write};
+ghost use Rattle.check_report.specs.declared.fault.CheckFault.TheVariants.{Wave, GivenUp, Write};
 ghost use Rattle.check_tool.specs.declared.done.Done.{Done};
 ghost use Rattle.check_report.specs.declared.choice.Choice.{Choice as ChoiceValue};
-ghost use Rattle.check_report.specs.Best.{IsAllowed};
+ghost use Rattle.command_line.specs.declared.options.OrderChoice.TheVariants.{Auto};
+ghost use Rattle.check_report.specs.Best.{AreTried, IsAllowed, IsGivenUpWithin};
 ghost use Rattle.check_report.specs.Devices.{told_by, told_of};
 ghost use Rattle.check_report.specs.Limits.{AreBeyond};
 ghost use Rattle.report_text.specs.Writing.{AppendsFront};
-ghost use Rattle.expand_work.specs.declared.fault.WaveFault.TheVariants.{Full};
+ghost use Rattle.expand_work.specs.declared.fault.WaveFault.TheVariants.{Full, TooManyRequests};
 ghost use Rattle.net_order.specs.declared.order.Order.{Order};
 ghost use Rattle.check_tool.specs.Opening.{Extends, HasFailedAt, Try, opened};
-ghost use Rattle.check_tool.specs.Running.{IsOpenFault, order_paths, given_paths, later_paths, paths_of, IsShort, IsGivenOf, IsGivenFrom, IsOrderOf, IsOrderFault, IsGivenFault, IsLaterFault, IsCompared, IsCompareFault, IsInputFault, IsToolFault, HasReported, HasReportedFront, IsBeyond, StandOnInput};
+ghost use Rattle.check_tool.specs.Running.{IsOpenFault, order_paths, given_paths, later_paths, paths_of, IsShort, IsGivenOf, IsGivenFrom, IsOrderOf, IsOrderFault, IsGivenFault, IsLaterFault, IsCompared, IsCompareFault, IsInputFault, IsToolFault, HasReported, HasReportedFront, IsBeyond, IsGivenUp, StandOnInput, limit_of};
 
 use crate::done::Done;
 use crate::fault::{Place, ToolFault};
@@ -30,6 +31,21 @@ use std::thread::Threads;
 
 /// The most bytes that standard input has: two texts and the line between them.
 const INPUT_LIMIT: usize = 134_221_824;
+
+/// The bytes of memory that are reckoned for each node of an attempt.
+const NODE_BYTES: u64 = NODE_BYTES_VALUE;
+
+/// The most nodes that the options allow: of auto as many as the memory holds.
+fn limit_of(options: &Options<'_>) -> u64
+    ensures limit { result ≡ limit_of options.now }
+    ensures some { 1 ≤ result }
+    ensures few { result ≤ 4294967295 }
+{
+    match options.order {
+        OrderChoice::Auto => options.limit.min(options.memory / NODE_BYTES),
+        _ => options.limit,
+    }
+}
 
 /// Opens a file.
 fn open<F: Folder>(folder: &mut F, path: &str, place: Place) -> Result<F::File, ToolFault>
@@ -53,6 +69,7 @@ fn order_of<F: Folder>(
     choice: OrderChoice<'_>,
 ) -> Result<Choice, ToolFault>
     ensures order { IfOk result (IsOrderOf (F.told folder.old) choice.entry) }
+    ensures auto { IfOk result (λ c. c ≡ ChoiceValue.Auto → choice.entry ≡ Auto) }
     ensures opened { OnOk result (Extends (F.tries folder.old) (F.tries folder.new) (opened (order_paths choice.entry))) }
     ensures kept { F.told folder.new ≡ F.told folder.old }
     ensures fault { IfErr result (λ fault. (tries : List Try) × Extends (F.tries folder.old) (F.tries folder.new) tries × IsOrderFault (F.told folder.old) (HasFailedAt F.File.origin F.File.has_failed) choice.entry tries fault) }
@@ -64,6 +81,7 @@ fn order_of<F: Folder>(
         OrderChoice::Index => Ok(Choice::One(Order::Index)),
         OrderChoice::Force => Ok(Choice::One(Order::Force)),
         OrderChoice::Best => Ok(Choice::Best),
+        OrderChoice::Auto => Ok(Choice::Auto),
         OrderChoice::File(path) => {
             let mut file = open(folder, path, Place::Order)?;
             match read_order(alloc, &mut file) {
@@ -100,6 +118,7 @@ fn prepare<F: Folder>(
     ensures given { IfOk result (λ r. IsGivenOf (F.told folder.old) options.now.given (told_by F.File.remaining r.0)) }
     ensures named { IfOk result (λ r. IsGivenFrom options.now.given (told_by F.File.origin r.0)) }
     ensures order { IfOk result (λ r. IsOrderOf (F.told folder.old) options.now.order r.1) }
+    ensures auto { IfOk result (λ r. r.1 ≡ ChoiceValue.Auto → options.now.order ≡ Auto) }
     ensures opened { OnOk result (Extends (F.tries folder.old) (F.tries folder.new) (opened (later_paths options.now))) }
     ensures kept { F.told folder.new ≡ F.told folder.old }
     ensures fault { IfErr result (λ fault. (tries : List Try) × Extends (F.tries folder.old) (F.tries folder.new) tries × IsLaterFault (F.told folder.old) (HasFailedAt F.File.origin F.File.has_failed) options.now tries fault) }
@@ -130,7 +149,11 @@ fn compare<
     ensures fault { IfErr result (λ fault. (tries : List Try) × Extends (F.tries folder.old) (F.tries folder.new) tries ×
         IsCompareFault (F.told folder.old) (HasFailedAt F.File.origin F.File.has_failed) (R1.remaining first.old) (R2.remaining second.old) (IsTrue (R1.has_failed first.new)) (IsTrue (R2.has_failed second.new)) options.now tries fault) }
     ensures full { result ≡ Err (ToolFault.Check (Wave Full)) → (given : Option (Option (List ℕ))) × (choice : ChoiceValue) × IsGivenOf (F.told folder.old) options.now.given given × IsOrderOf (F.told folder.old) options.now.order choice
-        × ((order : Order) → IsAllowed choice order → AreBeyond (told_of (R1.remaining first.old) (R2.remaining second.old) given) options.now.matching order options.now.limit) }
+        × ((order : Order) → IsAllowed choice order → AreBeyond (told_of (R1.remaining first.old) (R2.remaining second.old) given) options.now.matching order (limit_of options.now)) }
+    ensures given_up { result ≡ Err (ToolFault.Check GivenUp) → (given : Option (Option (List ℕ))) × (choice : ChoiceValue) × IsGivenOf (F.told folder.old) options.now.given given × IsOrderOf (F.told folder.old) options.now.order choice
+        × AreTried choice × ((order : Order) → IsAllowed choice order → IsGivenUpWithin (told_of (R1.remaining first.old) (R2.remaining second.old) given) options.now.matching (limit_of options.now) None order) }
+    ensures in_no_order { options.now.order ≡ Auto → result ≢ Err (ToolFault.Check (Wave Full)) }
+    ensures unbounded { result ≢ Err (ToolFault.Check (Wave TooManyRequests)) }
     ensures unwritten { result ≡ Err (ToolFault.Check Write) → (done : Done) × (bytes : List ℕ) × IsCompared (F.told folder.old) (R1.remaining first.old) (R2.remaining second.old) options.now done bytes × AppendsFront (W.contents out.old) (W.contents out.new) (W.has_failed out.new) (W.has_stopped out.new) bytes }
     ensures untouched { OnErr result (result ≢ Err (ToolFault.Check Write) → out.new ≡ out.old) }
     ensures written { OnOk result ((W.has_failed out.new ≡ W.has_failed out.old) × (W.has_stopped out.new ≡ W.has_stopped out.old)) }
@@ -142,7 +165,7 @@ fn compare<
         matching: options.matching,
         order,
         workers: options.workers,
-        limit: options.limit,
+        limit: limit_of(options),
         sizes: options.sizes,
         json: options.json,
     };
@@ -154,12 +177,16 @@ fn compare<
         gate: &progress,
     };
     if options.print_order {
-        return match print_order(&context, first, second, &mut given, out) {
+        let printed = print_order(&context, first, second, &mut given, out);
+        progress.end();
+        return match printed {
             Ok(tried) => Ok(Done::OrderPrinted(tried)),
             Err(fault) => Err(ToolFault::Check(fault)),
         };
     }
-    match check(&context, first, second, &mut given, out) {
+    let checked = check(&context, first, second, &mut given, out);
+    progress.end();
+    match checked {
         Ok((outcome, tried)) => Ok(Done::Compared(outcome, tried)),
         Err(fault) => Err(ToolFault::Check(fault)),
     }
@@ -202,6 +229,12 @@ pub fn run_options<
     // The nodes that the texts need are within the limit where there is a report, and Full comes only where they are not, in any order
     // that is asked for.
     ensures full { result ≡ Err (ToolFault.Check (Wave Full)) → IsBeyond (F.told folder.old) (R.remaining input.old) options.now }
+    // GivenUp comes only where orders are tried, and each attempt within the limit was given up; where one is to be found, it comes in the
+    // place of Full.
+    ensures given_up { result ≡ Err (ToolFault.Check GivenUp) → IsGivenUp (F.told folder.old) (R.remaining input.old) options.now }
+    ensures in_no_order { options.now.order ≡ Auto → result ≢ Err (ToolFault.Check (Wave Full)) }
+    // No wave of a run of the program is given up for its requests but within an attempt.
+    ensures unbounded { result ≢ Err (ToolFault.Check (Wave TooManyRequests)) }
     // A fault has its cause, what comes before it was accepted, and no file was tried beyond it.
     ensures fault { IfErr result (λ fault. (tries : List Try) × Extends (F.tries folder.old) (F.tries folder.new) tries × IsToolFault (F.told folder.old) (HasFailedAt F.File.origin F.File.has_failed) (IsTrue (R.has_failed input.new)) (R.remaining input.old) options.now tries fault) }
     // Where the writing failed, a front part of the report was written, and the device has failed or taken nothing of the rest.
