@@ -7,7 +7,7 @@ use Rattle.std.proofs.lemmas.List.{append_assoc}
 use Rattle.check_tool.specs.declared.done.Done.{Done}
 use Rattle.check_report.specs.Devices.{told_of}
 use Rattle.check_report.specs.Limits.{AreBeyond}
-use Rattle.check_report.specs.Best.{AreTried, IsAllowed, IsGivenUpWithin}
+use Rattle.check_report.specs.Best.{AreTried as TriesOrders, IsAllowed, IsGivenUpWithin}
 use Rattle.check_report.specs.declared.choice.Choice.{Choice}
 use Rattle.report_text.specs.Writing.{AppendsFront}
 use Rattle.net_order.specs.declared.order.Order.{Order}
@@ -123,7 +123,7 @@ module _ (told : List ℕ → Option (List ℕ)) (input : Option (List ℕ)) (o 
   whole_beyond told' e h = (one, two, h.0, h.1, texts, subst (λ t. IsGivenOf t o.given h.0) e h.2, subst (λ t. IsOrderOf t o.order h.1) e h.3, h.4)
 
   pub whole_given_up : (told' : List ℕ → Option (List ℕ)) → told' ≡ told → (given : Option (Option (List ℕ))) × (choice : Choice) × IsGivenOf told' o.given given × IsOrderOf told' o.order choice
-      × AreTried choice × ((order : Order) → IsAllowed choice order → IsGivenUpWithin (told_of one two given) o.matching (limit_of o) None order) → IsGivenUp told input o
+      × TriesOrders choice × ((order : Order) → IsAllowed choice order → IsGivenUpWithin (told_of one two given) o.matching (limit_of o) None order) → IsGivenUp told input o
   whole_given_up told' e h = (one, two, h.0, h.1, texts, subst (λ t. IsGivenOf t o.given h.0) e h.2, subst (λ t. IsOrderOf t o.order h.1) e h.3, (h.4, h.5))
 
   module _ (broken : List ℕ → Type 0) (input_broken first_failed second_failed : Type 0) (first : first_failed → HasFirstFailed broken input_broken o.texts) (second : second_failed → HasSecondFailed broken input_broken o.texts) where

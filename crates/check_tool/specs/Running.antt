@@ -13,7 +13,7 @@ use Rattle.check_report.specs.Check.{IsChecked, IsCheckFault}
 use Rattle.check_report.specs.Devices.{told_of}
 use Rattle.check_report.specs.declared.fault.CheckFault.{CheckFault}
 use Rattle.check_report.specs.Limits.{AreBeyond}
-use Rattle.check_report.specs.Best.{AreTried, IsAllowed, IsChosen, IsFound, IsGivenUpWithin, told_kind}
+use Rattle.check_report.specs.Best.{AreTried as TriesOrders, IsAllowed, IsChosen, IsFound, IsGivenUpWithin, told_kind}
 use Rattle.check_report.specs.declared.choice.Choice.{Choice}
 use Rattle.check_report.specs.declared.choice.Choice.TheVariants.{One as Ordered, Best as TheBest, Auto as Found}
 use Rattle.command_line.specs.declared.options.Options.{Options}
@@ -130,7 +130,7 @@ IsOrderOf told (File path) choice = (names : List (List ℕ)) × (choice ≡ Ord
 
 -- The bytes of memory that are reckoned for each node of an attempt: what the store takes for it, and what a wave takes for eight requests.
 abbrev pub node_bytes : ℕ
-node_bytes = NODE_BYTES
+node_bytes = 512
 
 -- the most nodes in this order: of auto as many as the memory holds, where the limit is not less
 abbrev pub limit_in : OrderChoice → (limit memory : ℕ) → ℕ
@@ -191,7 +191,7 @@ IsBeyond told input o = AreNamed told input o (λ one two given choice. (order :
 
 -- orders are tried, and in each of them the attempt within the limit of the options was given up
 abbrev pub IsGivenUp : (List ℕ → Option (List ℕ)) → Option (List ℕ) → Options → Type 0
-IsGivenUp told input o = AreNamed told input o (λ one two given choice. AreTried choice × ((order : Order) → IsAllowed choice order → IsGivenUpWithin (told_of one two given) o.matching (limit_of o) None order))
+IsGivenUp told input o = AreNamed told input o (λ one two given choice. TriesOrders choice × ((order : Order) → IsAllowed choice order → IsGivenUpWithin (told_of one two given) o.matching (limit_of o) None order))
 
 -- why the check of two texts failed, in an order of this choice
 abbrev pub IsFailedCheck : (one two : Option (List ℕ)) → (given : Option (Option (List ℕ))) → (first_failed second_failed given_failed : Type 0) → Options → Choice → CheckFault → Type 0

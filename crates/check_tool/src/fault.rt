@@ -108,10 +108,8 @@ fn status_of_check(fault: CheckFault) -> u8
         }
         CheckFault::GivenOutputs => 2,
         CheckFault::Order(fault) => status_of_order(fault),
-        CheckFault::Wave(_)
-        | CheckFault::GivenUp
-        | CheckFault::Write
-        | CheckFault::OutOfMemory => 3,
+        CheckFault::Wave(_) | CheckFault::GivenUp | CheckFault::Write | CheckFault::OutOfMemory =>
+            3,
     }
 }
 

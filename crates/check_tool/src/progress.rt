@@ -70,10 +70,7 @@ impl fmt::Display for Stand {
         write!(
             f,
             "rank {} of {}, {} nodes, {} requests",
-            self.rank,
-            self.ranks,
-            self.nodes,
-            self.requests
+            self.rank, self.ranks, self.nodes, self.requests
         )?;
         match self.memory {
             Some(memory) => write!(f, ", {memory} MB"),

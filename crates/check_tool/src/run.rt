@@ -5,7 +5,7 @@ ghost use Rattle.check_report.specs.declared.fault.CheckFault.TheVariants.{Wave,
 ghost use Rattle.check_tool.specs.declared.done.Done.{Done};
 ghost use Rattle.check_report.specs.declared.choice.Choice.{Choice as ChoiceValue};
 ghost use Rattle.command_line.specs.declared.options.OrderChoice.TheVariants.{Auto};
-ghost use Rattle.check_report.specs.Best.{AreTried, IsAllowed, IsGivenUpWithin};
+ghost use Rattle.check_report.specs.Best.{AreTried as TriesOrders, IsAllowed, IsGivenUpWithin};
 ghost use Rattle.check_report.specs.Devices.{told_by, told_of};
 ghost use Rattle.check_report.specs.Limits.{AreBeyond};
 ghost use Rattle.report_text.specs.Writing.{AppendsFront};
@@ -33,7 +33,7 @@ use std::thread::Threads;
 const INPUT_LIMIT: usize = 134_221_824;
 
 /// The bytes of memory that are reckoned for each node of an attempt.
-const NODE_BYTES: u64 = NODE_BYTES_VALUE;
+const NODE_BYTES: u64 = 512;
 
 /// The most nodes that the options allow: of auto as many as the memory holds.
 fn limit_of(options: &Options<'_>) -> u64
@@ -151,7 +151,7 @@ fn compare<
     ensures full { result ≡ Err (ToolFault.Check (Wave Full)) → (given : Option (Option (List ℕ))) × (choice : ChoiceValue) × IsGivenOf (F.told folder.old) options.now.given given × IsOrderOf (F.told folder.old) options.now.order choice
         × ((order : Order) → IsAllowed choice order → AreBeyond (told_of (R1.remaining first.old) (R2.remaining second.old) given) options.now.matching order (limit_of options.now)) }
     ensures given_up { result ≡ Err (ToolFault.Check GivenUp) → (given : Option (Option (List ℕ))) × (choice : ChoiceValue) × IsGivenOf (F.told folder.old) options.now.given given × IsOrderOf (F.told folder.old) options.now.order choice
-        × AreTried choice × ((order : Order) → IsAllowed choice order → IsGivenUpWithin (told_of (R1.remaining first.old) (R2.remaining second.old) given) options.now.matching (limit_of options.now) None order) }
+        × TriesOrders choice × ((order : Order) → IsAllowed choice order → IsGivenUpWithin (told_of (R1.remaining first.old) (R2.remaining second.old) given) options.now.matching (limit_of options.now) None order) }
     ensures in_no_order { options.now.order ≡ Auto → result ≢ Err (ToolFault.Check (Wave Full)) }
     ensures unbounded { result ≢ Err (ToolFault.Check (Wave TooManyRequests)) }
     ensures unwritten { result ≡ Err (ToolFault.Check Write) → (done : Done) × (bytes : List ℕ) × IsCompared (F.told folder.old) (R1.remaining first.old) (R2.remaining second.old) options.now done bytes × AppendsFront (W.contents out.old) (W.contents out.new) (W.has_failed out.new) (W.has_stopped out.new) bytes }
