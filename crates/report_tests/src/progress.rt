@@ -9,12 +9,13 @@ use std::sync::atomic::{AtomicU64, Ordering};
 use std::test::Fail;
 use std::time::Duration;
 
-/// A runtime whose clock goes on by 400 milliseconds at each look, whose memory is what it was made with, and which counts the lines
-/// that it is told, and of these the ones that it waits for.
+/// A runtime whose clock goes on by 400 milliseconds at each look, whose memory and terminal are what it was made with, and which counts the
+/// lines that it is told, and of these the ones that it waits for.
 #[derive(Drop)]
 struct Ticks<'a> {
     alloc: Global,
     megabytes: Option<u64>,
+    seen: bool,
     wanted: &'a str,
     looks: AtomicU64,
     lines: AtomicU64,
@@ -26,6 +27,7 @@ impl<'a> Ticks<'a> {
         Ticks {
             alloc,
             megabytes,
+            seen: false,
             wanted,
             looks: AtomicU64::new(0),
             lines: AtomicU64::new(0),
@@ -48,6 +50,10 @@ impl Clock for Ticks<'_> {
 impl Meter for Ticks<'_> {
     fn megabytes(&self, _alloc: Global) -> Option<u64> {
         self.megabytes
+    }
+
+    fn is_seen(&self) -> bool {
+        self.seen
     }
 }
 
@@ -116,6 +122,28 @@ fn line_of_progress(rt: HostRuntime) -> Result<(), Fail> {
         assert!(rt; ticks.lines.load(Ordering::SeqCst) == 1);
         assert!(rt; ticks.as_wanted.load(Ordering::SeqCst) == 1);
     }
+    Ok(())
+}
+
+// On a terminal the line is written in place, and taken away before the last rank, behind which a report may come, or at the end.
+#[test]
+fn line_in_place(rt: HostRuntime) -> Result<(), Fail> {
+    let wanted = "\rbddcheck: attempt 2, rank 2 of 7, 90 nodes, 12 requests, 41 MB\u{1b}[K";
+    let mut ticks = Ticks::new(rt.alloc(), Some(41), wanted);
+    ticks.seen = true;
+    let progress = Progress::new(&ticks, rt.alloc(), false);
+    progress.at_requests(12);
+    progress.at_rank(1, 7, 2);
+    progress.at_rank(1, 7, 40);
+    progress.at_rank(2, 7, 90);
+    assert!(rt; ticks.lines.load(Ordering::SeqCst) == 1);
+    assert!(rt; ticks.as_wanted.load(Ordering::SeqCst) == 1);
+    for (rank, lines) in [(7, 2), (7, 2)] {
+        progress.at_rank(rank, 7, 100);
+        assert!(rt; ticks.lines.load(Ordering::SeqCst) == lines);
+    }
+    progress.end();
+    assert!(rt; ticks.lines.load(Ordering::SeqCst) == 2);
     Ok(())
 }
 

@@ -1,0 +1,71 @@
+//! Reports by an order that is found, and what is told where none is.
+use crate::devices::{End, new_page};
+use crate::failing::AMPLE;
+use check_report::{CheckFault, Choice, Context, Settings, check};
+use expand_work::Free;
+use net_bench::device::Through;
+use net_order::order::{Match, Order};
+use std::sync::Wait;
+use std::test::Fail;
+use std::thread::Threads;
+
+static CROSSED: &str = "INPUT(a)\nINPUT(b)\nOUTPUT(o)\no = XOR(b, a)\n";
+
+/// The same inputs, and an output that is never 1.
+static NEVER: &str = "INPUT(a)\nINPUT(b)\nOUTPUT(o)\no = XOR(b, b)\n";
+
+static AS_DECLARED: &str =
+    "DIFFER o at a=0 b=1 first=1 second=0\n0 equal, 1 different, 0 unmatched\n";
+
+static INTERLEAVED: &str =
+    "DIFFER o at b=0 a=1 first=1 second=0\n0 equal, 1 different, 0 unmatched\n";
+
+/// The report of the two netlists within so many nodes, or why there is none.
+fn reported<R: AllocGlobal + Threads + Wait + Sync>(
+    rt: &R,
+    order: Choice,
+    limit: u32,
+) -> Result<Vec<u8>, CheckFault> {
+    let settings = Settings {
+        matching: Match::Name,
+        order,
+        workers: 1,
+        limit: u64::from(limit.max(1)),
+        sizes: false,
+        json: false,
+    };
+    let context = Context {
+        rt,
+        alloc: rt.alloc(),
+        settings: &settings,
+        gate: &Free,
+    };
+    let mut first = Through::new(CROSSED.as_bytes());
+    let mut second = Through::new(NEVER.as_bytes());
+    let mut nothing: Option<Through<&[u8]>> = None;
+    let mut out = new_page(rt.alloc(), AMPLE, End::Fails, true);
+    check(&context, &mut first, &mut second, &mut nothing, &mut out)?;
+    Ok(out.held)
+}
+
+// The first order that is tried is another than the declared one, and the least difference is another in it.
+#[test]
+fn found_order_and_declared_report(rt: HostRuntime) -> Result<(), Fail> {
+    for (order, wanted) in [
+        (Choice::One(Order::Interleave), INTERLEAVED),
+        (Choice::Best, INTERLEAVED),
+        (Choice::One(Order::Declared), AS_DECLARED),
+        (Choice::Auto, AS_DECLARED),
+    ] {
+        let report = reported(&rt, order, 1_000)?;
+        assert!(rt; report.as_slice() == wanted.as_bytes());
+    }
+    Ok(())
+}
+
+// Two variables alone are two nodes.
+#[test]
+fn no_order_is_found(rt: HostRuntime) -> Result<(), Fail> {
+    assert!(rt; reported(&rt, Choice::Auto, 1).err() == Some(CheckFault::GivenUp));
+    Ok(())
+}
