@@ -55,13 +55,40 @@ class Devices:
         self.check("a long run, and what is told of it", Run(seen.status, seen.out, b""), silent)
         self.tally.check("lines of progress", is_told and len(told) <= seconds, seen)
 
+    def terminal(self):
+        """On a terminal one line is written in place, and gone at the end."""
+        chain = self.file("chain", products(21, "chain"))
+        ours, theirs = os.openpty()
+        child = subprocess.Popen(
+            [self.program, "--order", "declared", chain, chain], stdin=subprocess.DEVNULL, stdout=subprocess.PIPE, stderr=theirs
+        )
+        os.close(theirs)
+        told = b""
+        # What is read of a terminal that nobody has open fails.
+        while part := self.front_of(ours):
+            told += part
+        os.close(ours)
+        out = child.communicate()[0]
+        place = rb"\rbddcheck: attempt 1, rank \d+ of \d+, \d+ nodes, \d+ requests, \d+ MB\x1b\[K"
+        right = (child.returncode, out) == (0, lines("EQUAL o", "1 equal, 0 different, 0 unmatched"))
+        self.tally.check("a line on a terminal", right and re.fullmatch(rb"(?:(?:" + place + rb")+\r\x1b\[K)+", told), (out, told))
+        seen = run(["script", "-qec", f"{self.program} --verbose {self.c17} {self.c17}", "/dev/null"]) if shutil.which("script") else None
+        self.tally.check("no line of a short run on a terminal", seen is None or b"\x1b" not in seen.out, seen)
+
+    @staticmethod
+    def front_of(terminal):
+        try:
+            return os.read(terminal, 4096)
+        except OSError:
+            return b""
+
     def late_progress(self):
         """The clock of the progress starts before the texts are read: a rank that begins over a second later is told."""
         late = self.fifo("late", C17B, len(C17B), wait=1.2)
         seen = self.run("--verbose", self.c17, late)
         told = seen.err.decode()
         self.check("a report behind a late text", Run(seen.status, seen.out, b""), Run(1, C17_DIFFERS, b""))
-        self.tally.check("a rank behind a late text", re.fullmatch(r"bddcheck: rank 1 of 3, 5 nodes, 0 requests, \d+ MB\n", told), seen)
+        self.tally.check("a rank behind a late text", re.fullmatch(r"bddcheck: rank 1 of 3, 5 nodes, 0 requests, \d+ MB\nbddcheck: order interleave, budget 16384\n", told), seen)
 
     def full_disk(self):
         for words in (["--sizes"], ["--workers", 1], ["--format", "json"]):
@@ -305,6 +332,7 @@ def main():
     with kit.folder() as place:
         devices = Devices(sys.argv[1], place, tally)
         devices.progress()
+        devices.terminal()
         devices.late_progress()
         devices.full_disk()
         devices.closed_output()

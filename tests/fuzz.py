@@ -15,7 +15,7 @@ import time
 from dataclasses import replace
 
 import kit
-from judging import CANDIDATES, ORDERS, Case, answer
+from judging import CANDIDATES, ORDERS, TRIED, Case, answers
 from kit import FEATURES, Tally, run, say
 
 WORDS = ["AND", "NAND", "OR", "NOR", "XOR", "XNOR", "NOT", "BUFF", "BUF"]
@@ -249,7 +249,9 @@ def make_case(kind, rng):
         case.order = listed(rng, first, second, match)
     if kind in ("sizes", "given"):
         case.order = rng.choice(list(ORDERS))
-    case.sizes = kind == "sizes" or rng.random() < 0.3
+    if case.order == "auto" and kind in ("sizes", "print"):
+        case.order = "declared"
+    case.sizes = kind == "sizes" or (rng.random() < 0.3 and case.order != "auto")
     case.print_order = kind == "print"
     if kind == "damaged":
         damage(rng, case)
@@ -288,6 +290,11 @@ if FEATURES["given"]:
 # Running.
 
 
+def default_of(case):
+    """The order where no word and no file names one."""
+    return "declared" if case.sizes or case.print_order or case.limit is not None else "auto"
+
+
 def words_of(program, case, place):
     """The words of the case, whose files are written."""
     words = [program, "--workers", str(case.workers)]
@@ -295,7 +302,10 @@ def words_of(program, case, place):
         words += ["--match", case.match]
     if isinstance(case.order, bytes):
         words += ["--order-file", kit.written(place, "order", case.order)]
-    elif case.order != "declared":
+    elif case.order != default_of(case):
+        words += ["--order", case.order]
+    elif case.workers == 1:
+        # The default by its name.
         words += ["--order", case.order]
     if case.sizes:
         words.append("--sizes")
@@ -315,9 +325,8 @@ def limits_of(case):
     from judging import Refusal, judged
 
     try:
-        needs = [judged(case).nodes]
-        if case.order == "best":
-            needs = sorted({judged(replace(case, order=order)).nodes for order in CANDIDATES})
+        orders = CANDIDATES if case.order in TRIED else [case.order]
+        needs = sorted({judged(replace(case, order=order)).nodes for order in orders})
     except Refusal:
         return [None]
     return [limit for need in needs for limit in (need, need - 1) if limit >= 1] or [1]
@@ -336,13 +345,14 @@ def try_case(program, seed, kind, index, place):
     case = make_case(kind, random.Random(f"{seed}:{kind}:{index}"))
     for limit in limits_of(case) if kind == "limit" else [None]:
         case.limit = limit
-        wanted = answer(case)
+        wanted = answers(case)
         words = words_of(program, case, place)
         given = b"" if case.divider is None else case.first + case.divider + case.second
         seen = run(words, given)
-        if case.print_order and seen == wanted and seen.status == 0:
-            wanted, seen = taken_again(program, case, seen.out, place)
-        if seen != wanted:
+        if case.print_order and seen in wanted and seen.status == 0:
+            again, seen = taken_again(program, case, seen.out, place)
+            wanted = [again]
+        if seen not in wanted:
             files = {"first.bench": case.first, "second.bench": case.second, "input": given}
             if isinstance(case.order, bytes):
                 files["order"] = case.order

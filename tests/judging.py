@@ -204,12 +204,14 @@ def leaves(net, roots, rank=None):
 ORDERS = {"declared": Paired.declared, "depth": Paired.by_depth, "best": Paired.interleaved}
 if FEATURES["interleave"]:
     ORDERS["interleave"] = Paired.interleaved
-ORDERS |= {"index": Paired.by_index, "force": Paired.by_force}
+ORDERS |= {"index": Paired.by_index, "force": Paired.by_force, "auto": Paired.declared}
 
 
 # The best of these, in this order, is the first whose nodes are within the budget: the cases here are far below the first one, so only
-# the limit counts.
-CANDIDATES = ["interleave", "depth", "declared"]
+# the limit counts. Auto takes the same for the diagrams, and reports as by declared order.
+CANDIDATES = ["interleave", "force", "index", "depth", "declared"]
+TRIED = ("best", "auto")
+GIVEN_UP = "build: given up in each order; more memory, or a good order by --order-file, may help"
 
 
 def levels(paired, order):
@@ -405,39 +407,55 @@ def paired_of(case):
     return Paired(*nets, case.match, given), order
 
 
-def judged_best(paired, case):
-    """The first of the candidates that needs no more nodes than the limit; where each needs more, the last."""
+def is_within(case, result):
+    return case.limit is None or result.nodes <= case.limit
+
+
+def tried(paired, case):
+    """What may come of a case whose order is to be found: for each order within the limit, the first one first, the order and the report;
+    and last that there is none, which also comes where an attempt was given up for the requests of a wave."""
     for order in CANDIDATES:
         result = judge(paired, order, case.sizes)
-        if case.limit is None or result.nodes <= case.limit:
-            break
-    return result, order
+        if is_within(case, result):
+            told = "declared" if case.order == "auto" else order
+            yield told, result if told == order else judge(paired, told, case.sizes)
+    if case.limit is not None:
+        if case.order == "best":
+            yield None, Refusal("build: more nodes than the limit", 3)
+        yield None, Refusal(GIVEN_UP, 3)
 
 
 def judged(case):
-    """What the case must give; a refusal where it must be refused."""
+    """What the case must give in one order; a refusal where it must be refused."""
     paired, order = paired_of(case)
-    if order == "best":
-        result, _ = judged_best(paired, case)
-    else:
-        result = judge(paired, order, case.sizes)
-    if case.limit is not None and result.nodes > case.limit:
+    result = judge(paired, order, case.sizes)
+    if not is_within(case, result):
         raise Refusal("build: more nodes than the limit", 3)
     return result
 
 
-def answer(case):
-    """The run that the program must make of the case."""
-    try:
-        if case.print_order:
-            paired, order = paired_of(case)
-            if order == "best":
-                result, order = judged_best(paired, case)
-                if case.limit is not None and result.nodes > case.limit:
-                    raise Refusal("build: more nodes than the limit", 3)
-            names = levels(paired, order)
-            return Run(0, "".join(name + "\n" for name in names).encode(), b"")
-        result = judged(case)
-    except Refusal as refusal:
-        return Run(refusal.status, b"", f"bddcheck: {refusal}\n".encode())
+def run_of(refusal):
+    return Run(refusal.status, b"", f"bddcheck: {refusal}\n".encode())
+
+
+def report_of(result):
     return Run(0 if result.is_equal else 1, "".join(text + "\n" for text in result.lines).encode(), b"")
+
+
+def order_of(paired, order):
+    return Run(0, "".join(name + "\n" for name in levels(paired, order)).encode(), b"")
+
+
+def answers(case):
+    """The runs that the program may make of the case: one, and more where the order is to be found within a limit."""
+    try:
+        paired, order = paired_of(case)
+        if order in TRIED:
+            found = list(tried(paired, case))
+            return [
+                run_of(result) if order is None else order_of(paired, order) if case.print_order else report_of(result)
+                for order, result in found
+            ]
+        return [order_of(paired, order) if case.print_order else report_of(judged(case))]
+    except Refusal as refusal:
+        return [run_of(refusal)]

@@ -49,7 +49,8 @@ def settings_of(words):
     """What the report must say of the words."""
     words = [str(word) for word in words]
     after = lambda word, other: words[words.index(word) + 1] if word in words else other
-    return after("--match", "name"), "file" if "--order-file" in words else after("--order", "declared")
+    usual = "declared" if "--sizes" in words else "auto"
+    return after("--match", "name"), "file" if "--order-file" in words else after("--order", usual)
 
 
 def fits(value, schema, top):

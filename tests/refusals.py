@@ -80,8 +80,14 @@ def rows(place):
     order = written(place, "order", lines("7 6 3", "2 1"))
     chain, tree = written(place, "chain", parity("chain", 24)), written(place, "tree", parity("tree", 24))
     one, folded = written(place, "one", products(13)), written(place, "folded", products(13, "chain"))
+    declared = ["--order", "declared"]
     for workers in (1, 2, 4):
-        yield Row(f"c17 by {workers}", ["--workers", workers, c17, c17b], (EACH, EACH_START, STARTS_FROM))
+        yield Row(f"c17 by {workers}", [*declared, "--workers", workers, c17, c17b], (EACH, EACH_START, STARTS_FROM))
+    # Attempts, the first of which are given up: interleaved the pair needs 20 nodes, by force 15.
+    yield Row("auto", [c17, c17b], (EACH,))
+    yield Row("auto in a second attempt", ["--order", "auto", "--limit", 18, c17, c17b], (EACH,))
+    yield Row("auto given up", ["--order", "auto", "--limit", 12, c17, c17b], (EACH,))
+    yield Row("auto, products", [one, folded])
     yield Row("c17 on standard input", ["--workers", 2, "--sizes"], (), C17 + b"%%\n" + C17B)
     yield Row("first on standard input", ["--workers", 2, "-", c17b], (), C17)
     yield Row("second on standard input", ["--workers", 2, "--sizes", c17, "-"], (), C17B)
@@ -96,7 +102,7 @@ def rows(place):
     yield Row("help", ["--help"])
     yield Row("version", ["--version"])
     for workers in (1, 2, 4):
-        yield Row(f"parity by {workers}", ["--workers", workers, chain, tree])
+        yield Row(f"parity by {workers}", [*declared, "--workers", workers, chain, tree])
         yield Row(f"products by {workers}", ["--workers", workers, "--sizes", one, folded])
     yield wide_row(place, 2)
 
@@ -104,7 +110,7 @@ def rows(place):
 def wide_row(place, workers):
     """Products whose first waves stay on the caller's thread, and whose later ones call so many workers in."""
     wider = written(place, f"wider{workers}", products(CALLED_IN))
-    return Row(f"wider products by {workers}", ["--workers", workers, wider, wider], draws=2, counts=1)
+    return Row(f"wider products by {workers}", ["--order", "declared", "--workers", workers, wider, wider], draws=2, counts=1)
 
 
 @dataclass

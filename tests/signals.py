@@ -22,7 +22,7 @@ def heed_interrupts():
 def long_run(program, workers, place, out):
     """A run that takes seconds; it is seen to be at work before this returns."""
     wide = written(place, "wide", products(21))
-    words = [program, "--workers", str(workers), wide, wide]
+    words = [program, "--order", "declared", "--workers", str(workers), wide, wide]
     child = subprocess.Popen(words, stdout=out, stderr=subprocess.PIPE, preexec_fn=heed_interrupts)
     begun = time.monotonic()
     while processor_time(child.pid) < 0.2 and child.poll() is None and time.monotonic() - begun < 60:

@@ -12,8 +12,9 @@ The file has sections, each begun by a line `== ..`. Lines before the first one,
                                `status N`. `! ..` alone stands for any text, one line or more, and `! .. WORD` for any that has WORD
     == ways WORDS NAME NAME    four such runs on two files, by 1 and 3 workers, and by 2 and 16 with both on standard input
     == order WORDS             a run with --print-order, whose names follow on one line
-    == best N N N WORDS        with --order best at each limit from 1 to 49 the answer is that of the first of interleave, depth and declared
-                               that is within the limit, and --verbose says which. They need N nodes each
+    == best N N N N N WORDS    with --order best at each limit from 1 to 49 the answer is that of the first of interleave, force, index, depth
+                               and declared that is within the limit, and --verbose says which. They need N nodes each. With --order auto it
+                               is the answer of declared order without a limit, by the same attempt
     == texts                   lines `TEXT => SAID`: the text, written as in Python, is refused beside itself by the line SAID, or where that
                                is `netlist` it is equal to itself
     == when FEATURE            the runs from here on are made where FEATURES of kit.py has this on; `when not FEATURE`
@@ -95,17 +96,28 @@ def best_of(program, place, tally, name, limit, needs, words):
         tally.check(f"{name}: {order}", (single.status != 3) == (need <= limit), single)
         if wanted is None and single.status != 3:
             wanted = single.status, single.out, joined([f"bddcheck: order {order}, budget {limit}"])
-    tried = "interleave, depth and declared were tried; a list by --order-file may need fewer nodes"
+    tried = "interleave, force, index, depth and declared are tried; a list by --order-file may need fewer nodes"
     return wanted or (3, b"", joined(["bddcheck: build: more nodes than the limit", f"bddcheck: {tried}"]))
 
 
+CANDIDATES = ("interleave", "force", "index", "depth", "declared")
+GIVEN_UP = [
+    "bddcheck: build: given up in each order; more memory, or a good order by --order-file, may help",
+    f"bddcheck: {', '.join(CANDIDATES[:-1])} and declared are tried; another --memory, or a list by --order-file, may help",
+]
+
+
 def try_best(program, tally, place, _files, head, _body):
-    *needs, words = head.split(" ", 4)[1:]
+    *needs, words = head.split(" ", 6)[1:]
     words = shlex.split(words)
+    plain = [word for word in words if word != "--sizes"]
+    as_declared = run([program, "--order", "declared", *plain], cwd=place)
     for limit in range(1, 50):
         name = f"{head}, limit {limit}"
-        wanted = best_of(program, place, tally, name, limit, list(zip(("interleave", "depth", "declared"), map(int, needs))), words)
+        wanted = best_of(program, place, tally, name, limit, list(zip(CANDIDATES, map(int, needs))), words)
         tally.same(name, run([program, "--verbose", "--order", "best", "--limit", limit, *words], cwd=place), *wanted)
+        found = (3, b"", joined(GIVEN_UP)) if wanted[0] == 3 else (as_declared.status, as_declared.out, wanted[2])
+        tally.same(f"{name}, auto", run([program, "--verbose", "--order", "auto", "--limit", limit, *plain], cwd=place), *found)
 
 
 def try_texts(program, tally, place, _files, _head, body):

@@ -9,16 +9,16 @@ use std::sync::Wait;
 use std::test::Fail;
 use std::thread::Threads;
 
-static CROSSED: &str = "INPUT(a)\nINPUT(b)\nOUTPUT(o)\no = XOR(b, a)\n";
+static CROSSED: &str = "INPUT(a)\nINPUT(b)\nINPUT(c)\nOUTPUT(o)\no = XOR(b, c, a)\n";
 
 /// The same inputs, and an output that is never 1.
-static NEVER: &str = "INPUT(a)\nINPUT(b)\nOUTPUT(o)\no = XOR(b, b)\n";
+static NEVER: &str = "INPUT(a)\nINPUT(b)\nINPUT(c)\nOUTPUT(o)\no = XOR(b, b)\n";
 
 static AS_DECLARED: &str =
-    "DIFFER o at a=0 b=1 first=1 second=0\n0 equal, 1 different, 0 unmatched\n";
+    "DIFFER o at a=0 b=0 c=1 first=1 second=0\n0 equal, 1 different, 0 unmatched\n";
 
 static INTERLEAVED: &str =
-    "DIFFER o at b=0 a=1 first=1 second=0\n0 equal, 1 different, 0 unmatched\n";
+    "DIFFER o at b=0 c=0 a=1 first=1 second=0\n0 equal, 1 different, 0 unmatched\n";
 
 /// The report of the two netlists within so many nodes, or why there is none.
 fn reported<R: AllocGlobal + Threads + Wait + Sync>(
@@ -63,7 +63,7 @@ fn found_order_and_declared_report(rt: HostRuntime) -> Result<(), Fail> {
     Ok(())
 }
 
-// Two variables alone are two nodes.
+// Three variables alone are three nodes.
 #[test]
 fn no_order_is_found(rt: HostRuntime) -> Result<(), Fail> {
     assert!(rt; reported(&rt, Choice::Auto, 1).err() == Some(CheckFault::GivenUp));
