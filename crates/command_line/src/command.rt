@@ -33,7 +33,7 @@ Status:
   0  all outputs and next states are paired and equal
   1  some are different, or have no partner
   2  the command line, a file, a netlist or the order was refused
-  3  out of memory, more nodes than the limit, no worker, or the report could not be written";
+  3  out of memory, more nodes than the limit, no order within it, no worker, or the report could not be written";
 
 fn matching<'a>(alloc: Global) -> Arg<'a>
     ensures rule { rule_of result ≡ match_rule result.value_parser }
