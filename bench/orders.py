@@ -1,10 +1,10 @@
 #!/usr/bin/env python3
-"""Time and memory of pairs of netlists by each order of the variables, and what `best` costs over the best of the three.
+"""Time and memory of pairs of netlists by each order of the variables, and what `best` costs over the best of the others.
 
 usage: bench/orders.py PROGRAM FOLDER .. [--limit N] [--workers N] [--seconds S] [--repeats R]
 
 Each FOLDER has two files *.bench, or pairs of them in folders of its own. A run that is over its limit of nodes or its seconds is
-`-`. The last line is the sum over all pairs that some order ends: of `best`, and of the best of the three in hindsight.
+`-`. The last line is the sum over all pairs that some order ends: of `best`, and of the best of the others in hindsight.
 """
 import argparse
 import os
@@ -14,7 +14,7 @@ import subprocess
 import sys
 import time
 
-ORDERS = ["declared", "depth", "interleave", "best"]
+ORDERS = ["interleave", "force", "index", "depth", "declared", "best"]
 
 
 def pairs_in(folders):
@@ -67,12 +67,12 @@ def main():
             row[order] = least([run_once(list(map(str, words)), settings.seconds) for _ in range(settings.repeats)])
         cells = [f"{run[0]:.3f} | {run[1]:.1f}" if run else "- | -" for run in row.values()]
         print(f"| {name} | " + " | ".join(cells) + " |", flush=True)
-        ended = [row[order][0] for order in ORDERS[:3] if row[order]]
+        ended = [row[order][0] for order in ORDERS[:-1] if row[order]]
         if ended and row["best"]:
             best += row["best"][0]
             hindsight += min(ended)
     if hindsight:
-        print(f"\nbest {best:.2f} s, the best of the three in hindsight {hindsight:.2f} s: {best / hindsight:.2f} times")
+        print(f"\nbest {best:.2f} s, the best of the others in hindsight {hindsight:.2f} s: {best / hindsight:.2f} times")
 
 
 if __name__ == "__main__":

@@ -69,7 +69,7 @@ def wave_rows(folder, settings):
         cells = [str(levels)]
         for workers in WAVE_WORKERS:
             long, short = (
-                answered([settings.program, "--workers", str(workers), str(path), str(path)], settings) for path in paths
+                answered([settings.program, "--order", "declared", "--workers", str(workers), str(path), str(path)], settings) for path in paths
             )
             known = long.seconds is not None and short.seconds is not None
             waves = gates - gates // 2
@@ -105,7 +105,7 @@ def memory_rows(folder, settings):
         nodes = needed_nodes(settings.program, str(path), settings.limit)
         cells = [f"{count} pairs", str(nodes)]
         for workers in WORKERS:
-            one = answered([settings.program, "--workers", str(workers), str(path), str(path)], settings)
+            one = answered([settings.program, "--order", "declared", "--workers", str(workers), str(path), str(path)], settings)
             cells += [shown(one.clock), shown(one.megabytes, 0), shown(one.megabytes * 2**20 / nodes, 0)]
         print(" ".join(cells), file=sys.stderr, flush=True)
         yield cells

@@ -73,7 +73,7 @@ pair() {
     rtl2bench ${liberty:+--liberty "$liberty"} ${macro:+-D "$macro"} ${undefined:+--undefined 0} --like "$golden" \
         "$1" -o 'made of/second.bench' || return
     rtl2bench --compare --match "$match" ${left:+--leave-out "$left"} "$golden" 'made of/second.bench' &&
-        bddcheck --match "$match" --order best "$golden" 'made of/second.bench'
+        bddcheck --match "$match" "$golden" 'made of/second.bench'
 }
 refused() {
     echo old >'made of/refused.bench'
