@@ -23,6 +23,8 @@ WIDE = WORDS[:6]
 OPPOSITE = {"AND": "NAND", "NAND": "AND", "OR": "NOR", "NOR": "OR", "XOR": "XNOR", "XNOR": "XOR"}
 OPPOSITE |= {"NOT": "BUFF", "BUFF": "NOT", "BUF": "NOT"}
 ODD_NAMES = ["INPUT", "OUTPUT", "and", "NOT", "DFF", "x[0]", "x[1]", "%%", "a.b", "~", "0", "_", "!", "NEXT", "-", "\\q"]
+# Numbers past what 64 bits hold, and equal ones.
+ODD_NAMES += ["n18446744073709551616", "m18446744073709551615", "k99999999999999999999", "k7", "j7", "j007"]
 
 
 # Netlists as lists of statements: ("INPUT", name), ("OUTPUT", name) or (word, name, operands).

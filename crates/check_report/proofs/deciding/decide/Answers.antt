@@ -24,3 +24,12 @@ returns-in-Auto-clause-chosen g c = λ told ga. rw c.in-Auto.is (c.by_auto.ensur
 
 pub returns-in-Auto-clause-fault : goal.returns-in-Auto-clause-fault
 returns-in-Auto-clause-fault g c = λ told ga. rw c.in-Auto.is (c.by_auto.ensures.fault told ga)
+
+pub returns-in-One-clause-given_up : goal.returns-in-One-clause-given_up
+returns-in-One-clause-given_up g c = λ told ga e. absurd (c.by_order.ensures.kept e)
+
+pub returns-in-Best-clause-given_up : goal.returns-in-Best-clause-given_up
+returns-in-Best-clause-given_up g c = λ told ga. rw c.in-Best.is (λ e. (tt, c.by_best.ensures.given_up told ga e))
+
+pub returns-in-Auto-clause-given_up : goal.returns-in-Auto-clause-given_up
+returns-in-Auto-clause-given_up g c = λ told ga. rw c.in-Auto.is (λ e. (tt, c.by_auto.ensures.given_up told ga e))
