@@ -9,22 +9,14 @@ use std::sync::Wait;
 use std::test::Fail;
 use std::thread::Threads;
 
-<<<<<<< HEAD
-static CROSSED: &str = "INPUT(a)\nINPUT(b)\nINPUT(c)\nOUTPUT(o)\no = XOR(b, c, a)\n";
-=======
 static CROSSED: &str =
     "INPUT(a)\nINPUT(b)\nINPUT(c)\nOUTPUT(o)\nx = XOR(b, c, a)\nn = NOT(c)\no = AND(x, n)\n";
->>>>>>> 62263420671fef977f550b5c5570d3a47b334c6b
 
 /// The same inputs, and an output that is never 1.
 static NEVER: &str = "INPUT(a)\nINPUT(b)\nINPUT(c)\nOUTPUT(o)\no = XOR(b, b)\n";
 
 static AS_DECLARED: &str =
-<<<<<<< HEAD
-    "DIFFER o at a=0 b=0 c=1 first=1 second=0\n0 equal, 1 different, 0 unmatched\n";
-=======
     "DIFFER o at a=0 b=1 c=0 first=1 second=0\n0 equal, 1 different, 0 unmatched\n";
->>>>>>> 62263420671fef977f550b5c5570d3a47b334c6b
 
 static INTERLEAVED: &str =
     "DIFFER o at b=0 c=0 a=1 first=1 second=0\n0 equal, 1 different, 0 unmatched\n";
@@ -57,11 +49,7 @@ fn reported<R: AllocGlobal + Threads + Wait + Sync>(
     Ok(out.held)
 }
 
-<<<<<<< HEAD
-// The first order that is tried is another than the declared one, and the least difference is another in it.
-=======
 // The first order that is tried is another than the declared one, and the least difference in it another assignment.
->>>>>>> 62263420671fef977f550b5c5570d3a47b334c6b
 #[test]
 fn found_order_and_declared_report(rt: HostRuntime) -> Result<(), Fail> {
     for (order, wanted) in [
