@@ -3,6 +3,6 @@ use Rattle.wave_tests.proofs.FourParts.{ready_four}
 use Rattle.wave_tests.proofs.stores.make_four.Goals as goal
 
 pub make_by-made-requires-clause-ready : goal.make_by-made-requires-clause-ready
-make_by-made-requires-clause-ready g c =
+make_by-made-requires-clause-ready g c κs within =
     let r = c.requires in
     rw c.as_slice.ensures.value (ready_four c.args.store.now c.args.b (all_at c.in_ok-parts.parts.items) r.levels r.here r.top r.shard c.in_ok-parts.ensures.only)
