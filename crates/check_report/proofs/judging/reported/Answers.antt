@@ -1,6 +1,7 @@
-use Rattle.std.proofs.Common.{◌∙◌, sym}
+use Rattle.std.proofs.Common.{◌≡◌, ◌∙◌, ap, sym, Err}
 use Rattle.std.specs.Prelude.{is_some}
 use Rattle.report_text.specs.Lines.{Found}
+use Rattle.check_report.specs.declared.fault.CheckFault.TheVariants.{GivenUp}
 use Rattle.check_report.specs.declared.settings.Settings.{Settings}
 use Rattle.check_report.specs.Best.{told_kind}
 use Rattle.check_report.specs.Devices.{Told, told_by, told_of}
@@ -25,3 +26,8 @@ pub returns-in_default-clause-fault : goal.returns-in_default-clause-fault
 returns-in_default-clause-fault g c =
     let w = c.in-Ok.ensures.verdicts in
     (w.0, chosen_allowed _ _ _ _ c.in-Ok.tried w.0 w.2, (w.1.a, w.1.b, w.1.c, w.1.p, w.1.paired))
+
+pub returns-in-Err-clause-given_up : goal.returns-in-Err-clause-given_up
+returns-in-Err-clause-given_up g c = λ e.
+    let same : c.in-Err.fault ≡ GivenUp = cc in
+    c.in-Err.ensures.given_up (ap Err same)

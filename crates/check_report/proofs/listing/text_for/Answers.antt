@@ -24,3 +24,6 @@ returns-in-Auto-clause-fault g c = λ told ga. rw c.in-Auto.is (c.auto_text.ensu
 
 pub returns-in-Auto-clause-passed : goal.returns-in-Auto-clause-passed
 returns-in-Auto-clause-passed g c = λ told ga. never_tried _ c.auto_text.result c.auto_text.ensures.untried
+
+pub returns-in-Best-clause-given_up : goal.returns-in-Best-clause-given_up
+returns-in-Best-clause-given_up g c = λ told ga. rw c.in-Best.is (λ e. (tt, c.best_text.ensures.given_up told ga e))
