@@ -15,7 +15,7 @@ use Rattle.net_cone.specs.Cones.{AreNames, IsBelow, IsCone, IsCopy, gate_name, l
 use Rattle.net_cone.specs.Walk.{AreBelow, IsDrawn, IsMarked, IsNumbering, cone_names, has_mark, marked_gates, renamed}
 use Rattle.net_cone.proofs.Lists.{all_map, filter_after_map, in_filter, in_first, in_map, in_second, map_alike, map_itself, map_twice, none_of, one_of}
 use Rattle.net_cone.proofs.Names.{AreApart, apart_append, apart_map, at_two, counted, new_map, none_map}
-use Rattle.net_cone.proofs.Numbered.{no_gate}
+use Rattle.net_cone.proofs.Numbered.{no_gate, one_name}
 
 -- what cones are made of
 pub record IsReady (n : Net) (root : ℕ) (given : List (List ℕ)) (marks : List Bool) (k : Numbers) (cone : Net) : Type 0 where
@@ -226,22 +226,13 @@ module _ (n : Net) (root : ℕ) (given : List (List ℕ)) (marks : List Bool) (k
       let many : length outs ≡ length gates = outs_count in
       once (k.variables + i) (k.variables + j) (omega arith) (omega arith) (sym (out_at i (omega arith)) ∙ same ∙ out_at j (omega arith))
 
-  one_name : (s t : ℕ) → s < length n.names → t < length n.names → get_or n.names s [] ≡ get_or n.names t [] → s ≡ t
-  one_name s t low less same = elim (cases_lt s t) [
-    | inl before ↦ absurd (r.sound.names s t before less same)
-    | inr behind ↦ elim (cases_lt t s) [
-      | inl after ↦ absurd (r.sound.names t s after low (sym same))
-      | inr equal ↦ omega arith
-    ]
-  ]
-
   out_low : (i : ℕ) → i < length outs → slice_index outs i < length n.names
   out_low i low = all_map (λ (g : GateLine). g.out) (λ s. s < length n.names) gates
       (λ j d less. at_contained (λ g. g.out < length n.names) n.gates (get_or gates j d) r.sound.outs (met j d less).0) i 0 low
 
   back_apart : AreApart back
   back_apart = apart_map (gate_name n) outs out_once
-      (λ i j low less same. one_name (slice_index outs i) (slice_index outs j) (out_low i low) (out_low j less) (same_rest 103 (get_or n.names (slice_index outs i) []) (get_or n.names (slice_index outs j) []) same))
+      (λ i j low less same. one_name n r.sound (slice_index outs i) (slice_index outs j) (out_low i low) (out_low j less) (same_rest 103 (get_or n.names (slice_index outs i) []) (get_or n.names (slice_index outs j) []) same))
 
   both_apart : AreApart (front ++ back)
   both_apart = apart_append front back front_apart back_apart

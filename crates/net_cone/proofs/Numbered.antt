@@ -1,12 +1,14 @@
 -- One signal more gets a number.
-use Rattle.std.proofs.Common.{◌≡◌, ◌≢◌, ℕ, zero, suc, ◌<◌, List, [], ◌∷◌, ◌++◌, Bool, refl, sym, ap, ◌∙◌, subst, map, take, length, get_or, arith}
+use Rattle.std.proofs.Common.{◌≡◌, ◌≢◌, inl, inr, ℕ, zero, suc, ◌<◌, List, [], ◌∷◌, ◌++◌, Bool, refl, sym, ap, ◌∙◌, subst, map, take, length, get_or, arith}
 use Rattle.std.specs.Prelude.{All, Some, filter, slice_get}
 use Rattle.std.proofs.lemmas.List.{get_or-map, get_or-take, get_or_default}
 use Rattle.std.proofs.lemmas.List.Elements.{All-append, All-filter}
+use Rattle.std.proofs.lemmas.Bool.{cases_lt}
+use Rattle.net_bench.proofs.OneLabelling.{at_contained}
 use Rattle.std.proofs.lemmas.Option.{get_or_from_slice_get}
 use Rattle.net_bench.specs.declared.netlist.GateLine.{GateLine}
 use Rattle.net_bench.specs.Circuit.{AreOnce, IsNet, Net, circuit, variables_of}
-use Rattle.net_cone.specs.Cones.{last_gate}
+use Rattle.net_cone.specs.Cones.{AreNames, last_gate}
 use Rattle.net_cone.specs.Walk.{has_mark}
 
 pub name_at : (n : Net) (s : ℕ) (name : List ℕ) → slice_get n.names s ≡ Some name → name ≡ get_or n.names s []
@@ -70,3 +72,21 @@ module _ (n : Net) (sound : IsNet n) (outs : List ℕ) (is : outs ≡ map (λ g.
       (λ k e low. subst (All (λ t. t ≢ get_or (map (λ g. g.out) n.gates) k e)) (sym all)
       (All-filter (has_mark marks) (λ t. t ≢ get_or (map (λ g. g.out) n.gates) k e) (variables_of (circuit n))
       (λ i d less same. sound.apart i d less k no_gate (subst (λ l. k < l) (length_outs n.gates) low) (sym (out_at n.gates k e low) ∙ sym same))))
+
+-- ---- names
+
+pub one_name : (n : Net) → IsNet n → (s t : ℕ) → s < length n.names → t < length n.names → get_or n.names s [] ≡ get_or n.names t [] → s ≡ t
+one_name n sound s t low less same = elim (cases_lt s t) [
+  | inl before ↦ absurd (sound.names s t before less same)
+  | inr behind ↦ elim (cases_lt t s) [
+    | inl after ↦ absurd (sound.names t s after low (sym same))
+    | inr equal ↦ omega arith
+  ]
+]
+
+pub own_named : (n : Net) → IsNet n → (names : List (List ℕ)) → names ≡ n.names → AreNames n names
+own_named n sound names is = subst (AreNames n) (sym is) (record {
+  each = refl;
+  apart = λ s t one two same. one_name n sound s t (at_contained (λ v. v < length n.names) (variables_of (circuit n)) s sound.variables one)
+      (at_contained (λ v. v < length n.names) (variables_of (circuit n)) t sound.variables two) same;
+})

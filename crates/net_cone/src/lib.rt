@@ -8,3 +8,4 @@ mod naming;
 mod numbering;
 
 pub use cone::{Cone, cone_of};
+pub use naming::own_names;

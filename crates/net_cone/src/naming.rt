@@ -1,8 +1,9 @@
 // The names of a cone's signals.
 ghost use Rattle.std.specs.Prelude.{◌≡◌, ◌<◌, ℕ, ◌++◌, ◌∷◌, [], fold, map, length, slice_index_or, All, IfOk, OnOk};
 ghost use Rattle.net_bench.specs.Circuit.{IsNet, with_name};
-ghost use Rattle.net_cone.specs.Cones.{gate_name, variable_name};
+ghost use Rattle.net_cone.specs.Cones.{AreNames, gate_name, variable_name};
 
+use crate::numbering::narrow;
 use net_bench::name_table::NameTable;
 use net_bench::netlist::Signal;
 use net_bench::reader::Netlist;
@@ -59,4 +60,18 @@ pub fn count_gates(
         count(alloc, names, b'g', name_of(net, signals[place]))?;
     }
     Ok(())
+}
+
+/// The netlist's own names, by signal.
+#[tactic(auto, using(crate::proofs::Numbered::own_named))]
+pub fn own_names(alloc: Global, net: &Netlist) -> Result<Vec<Vec<u8>>, AllocError>
+    ensures names { IfOk result (λ v. map (λ w. w.items) v.items ≡ net.now.names) }
+    ensures named { IfOk result (λ v. AreNames net.now (map (λ w. w.items) v.items)) }
+{
+    let mut names = Vec::new(alloc);
+    for number in 0..net.count() {
+        let name = name_of(net, Signal::of(narrow(number)?));
+        names.push(Vec::from_slice(alloc, name)?)?;
+    }
+    Ok(names)
 }
