@@ -1,6 +1,8 @@
-//! Tests of the reader and of the orders, by their public calls. They stand apart, since a crate with tests is proved twice.
+//! Tests of the reader, of the orders and of cones, by their public calls. They stand apart, since a crate with tests is proved twice.
 #![tactic(auto)]
 
+#[cfg(test)]
+mod cones;
 #[cfg(test)]
 mod devices;
 #[cfg(test)]

@@ -1,0 +1,152 @@
+-- A walk below a root, one signal at a time.
+use Rattle.std.proofs.Common.{◌≡◌, ◌⊎◌, inl, inr, ℕ, zero, suc, ◌<◌, List, [], ◌∷◌, ◌++◌, Bool, false, refl, sym, ap, ◌∙◌, subst, length, get_or, arith}
+use Rattle.std.specs.Prelude.{Contains, All, Some, None, IsTrue, slice_get, replicate}
+use Rattle.net_bench.specs.Statement.{takes_one}
+use Rattle.net_bench.proofs.OneLabelling.{at_contained}
+use Rattle.std.proofs.lemmas.Option.{slice_get-get_or, slice_get_within, get_or_from_slice_get}
+use Rattle.std.proofs.lemmas.List.{get_or_default}
+use Rattle.net_bench.specs.declared.netlist.GateLine.{GateLine}
+use Rattle.net_bench.specs.declared.netlist.Role.{Role}
+use Rattle.net_bench.specs.declared.netlist.Role.TheVariants.{Gate as gate, Undefined, Input, Register}
+use Rattle.net_bench.specs.Circuit.{Net, IsNet, circuit, gate_by, gate_of}
+use Rattle.net_bench.proofs.Built.{role_gate}
+use Rattle.net_cone.specs.Cones.{IsBelow, here, deeper}
+use Rattle.net_cone.specs.Walk.{AreBelow, IsMarked, IsWalking, KeepsMarks}
+
+pub contained_at : (xs : List ℕ) (i d : ℕ) → i < length xs → Contains xs (get_or xs i d)
+contained_at xs i d low = (i, low, get_or_default xs i (get_or xs i d) d low)
+
+-- the gates' signals are apart
+pub gate_found : (n : Net) → IsNet n → (g : GateLine) → Contains n.gates g → gate_of n.gates g.out ≡ Some g
+gate_found n sound g (i, low, at) =
+    let is : slice_get n.gates i ≡ Some g = slice_get-get_or n.gates i g low ∙ ap (λ x. Some x) at in
+    role_gate n sound g.out (gate i) (g, is, refl) ∙ is
+
+-- the last one of those that wait, or one of the others
+last_or : (xs : List ℕ) (y s : ℕ) → Contains (xs ++ y ∷ []) s → (y ≡ s) ⊎ Contains xs s
+last_or [] y s (zero, low, at) = inl at
+last_or [] y s (suc i, low, at) = absurd (omega arith)
+last_or (x ∷ xs) y s (zero, low, at) = inr (0, omega arith, at)
+last_or (x ∷ xs) y s (suc i, low, at) = elim (last_or xs y s (i, omega arith, at)) [
+  | inl is ↦ inl is
+  | inr (j, less, is) ↦ inr (suc j, omega arith, is)
+]
+
+shorter : (P : ℕ → Type 0) (xs : List ℕ) (y : ℕ) → All P (xs ++ y ∷ []) → All P xs
+shorter P [] y all i d low = absurd (omega arith)
+shorter P (x ∷ xs) y all zero d low = all zero d (omega arith)
+shorter P (x ∷ xs) y all (suc i) d low = shorter P xs y (λ j e less. all (suc j) e (omega arith)) i d (omega arith)
+
+last_of : (P : ℕ → Type 0) (xs : List ℕ) (y : ℕ) → All P (xs ++ y ∷ []) → P y
+last_of P [] y all = all 0 0 (omega arith)
+last_of P (x ∷ xs) y all = last_of P xs y (λ j e less. all (suc j) e (omega arith))
+
+module _ (n : Net) (sound : IsNet n) (root s : ℕ) (old new : List Bool) (before after : List ℕ) (w : IsWalking n root old (before ++ s ∷ [])) where
+  -- a variable is passed
+  pub pass_variable : gate_of n.gates s ≡ None → IsWalking n root old before
+  pass_variable none = record {
+    each = w.each;
+    start = w.start;
+    below = w.below;
+    waits = shorter (IsMarked old) before s w.waits;
+    done = λ g among marked. elim (w.done g among marked) [
+      | inl waits ↦ elim (last_or before s g.out waits) [
+        | inl is ↦ let found : gate_of n.gates s ≡ Some g = subst (λ t. gate_of n.gates t ≡ Some g) (sym is) (gate_found n sound g among) in cc
+        | inr rest ↦ inl rest
+      ]
+      | inr all ↦ inr all
+    ];
+  }
+
+  -- the operands of its gate are visited
+  pub pass_gate : (g : GateLine) → Contains n.gates g → g.out ≡ s → length new ≡ length n.names → All (IsMarked new) g.operands → KeepsMarks old new →
+      ((t : ℕ) → IsMarked new t → IsMarked old t ⊎ (Contains g.operands t × Contains after t)) → ((t : ℕ) → Contains before t → Contains after t) →
+      (All (IsMarked old) before → All (IsMarked new) after) → IsWalking n root new after
+  pass_gate g there out each operands kept only stay marked = record {
+    each = each;
+    start = kept root w.start;
+    below = λ t now. elim (only t now) [
+      | inl was ↦ w.below t was
+      | inr (among, waits) ↦ deeper (w.below s (last_of (IsMarked old) before s w.waits)) (g, there, out, among)
+    ];
+    waits = marked (shorter (IsMarked old) before s w.waits);
+    done = λ h among now. elim (only h.out now) [
+      | inl was ↦ elim (w.done h among was) [
+        | inl waits ↦ elim (last_or before s h.out waits) [
+          | inl is ↦
+              let one : gate_of n.gates s ≡ Some g = subst (λ t. gate_of n.gates t ≡ Some g) out (gate_found n sound g there) in
+              let two : gate_of n.gates s ≡ Some h = subst (λ t. gate_of n.gates t ≡ Some h) (sym is) (gate_found n sound h among) in
+              let same : g ≡ h = cc in
+              inr (subst (λ (x : GateLine). All (IsMarked new) x.operands) same operands)
+          | inr rest ↦ inl (stay h.out rest)
+        ]
+        | inr all ↦ inr (λ i d low. kept (get_or h.operands i d) (all i d low))
+      ]
+      | inr (o, waits) ↦ inl waits
+    ];
+  }
+
+pub taken : (n : Net) (root s : ℕ) (marks : List Bool) (old rest : List ℕ) → old ≡ rest ++ s ∷ [] → IsWalking n root marks old → IsWalking n root marks (rest ++ s ∷ [])
+taken n root s marks old rest is w = subst (IsWalking n root marks) is w
+
+pub taken_low : (n : Net) → IsNet n → (root s : ℕ) (marks : List Bool) (rest : List ℕ) → IsWalking n root marks (rest ++ s ∷ []) → s < length n.names
+taken_low n sound root s marks rest w = inside marks s (length n.names) w.each (last_of (IsMarked marks) rest s w.waits)
+  where
+    inside : (ms : List Bool) (i bound : ℕ) → length ms ≡ bound → IsMarked ms i → i < bound
+    inside [] i bound is marked = cc
+    inside (m ∷ ms) zero bound is marked = omega arith
+    inside (m ∷ ms) (suc i) zero is marked = absurd (omega arith)
+    inside (m ∷ ms) (suc i) (suc bound) is marked = let more : i < bound = inside ms i bound (omega arith) marked in omega arith
+
+pub begun : (n : Net) (root : ℕ) (old new : List Bool) (waiting : List ℕ) → length new ≡ length n.names → ((s : ℕ) → IsMarked old s → ⊥) → IsMarked new root →
+    ((s : ℕ) → IsMarked new s → IsMarked old s ⊎ ((s ≡ root) × Contains waiting s)) → All (IsMarked new) waiting → IsWalking n root new waiting
+begun n root old new waiting each none marked only all = record {
+  each = each;
+  start = marked;
+  below = λ s now. elim (only s now) [
+    | inl was ↦ absurd (none s was)
+    | inr (is, waits) ↦ subst (IsBelow (circuit n) root) (sym is) here
+  ];
+  waits = all;
+  done = λ g among now. elim (only g.out now) [
+    | inl was ↦ absurd (none g.out was)
+    | inr (is, waits) ↦ inl waits
+  ];
+}
+
+pub ended : (n : Net) (root : ℕ) (marks : List Bool) (waiting : List ℕ) → waiting ≡ [] → IsWalking n root marks waiting → AreBelow n root marks
+ended n root marks [] e w = record {
+  each = w.each;
+  start = w.start;
+  below = w.below;
+  closed = λ g among marked. elim (w.done g among marked) [
+    | inl (i, low, at) ↦ absurd (omega arith)
+    | inr all ↦ all
+  ];
+}
+ended n root marks (x ∷ xs) e w = cc
+
+pub no_marks : (count s : ℕ) → IsMarked (replicate count false) s → ⊥
+no_marks zero s e = cc
+no_marks (suc n) zero e = cc
+no_marks (suc n) (suc s) e = no_marks n s e
+
+pub no_gate_by : (gates : List GateLine) (r : Role) → ((p : ℕ) → r ≡ gate p → ⊥) → gate_by gates r ≡ None
+no_gate_by gates Undefined none = refl
+no_gate_by gates Input none = refl
+no_gate_by gates (gate p) none = absurd (none p refl)
+no_gate_by gates (Register p) none = refl
+
+pub gate_here : (gates read : List GateLine) (p : ℕ) (g h : GateLine) → read ≡ gates → slice_get gates p ≡ Some g → h ≡ get_or read p h → h ≡ g
+gate_here gates read p g h is at read_is = read_is ∙ ap (λ gs. get_or gs p h) is ∙ get_or_from_slice_get gates p g h at
+
+pub gate_among : (gates : List GateLine) (p : ℕ) (g : GateLine) → slice_get gates p ≡ Some g → Contains gates g
+gate_among gates p g at = (p, slice_get_within gates p g at, get_or_from_slice_get gates p g g at)
+
+pub operands_low : (n : Net) → IsNet n → (g : GateLine) → Contains n.gates g → (bound : ℕ) → bound ≡ length n.names → All (λ t. t < bound) g.operands
+operands_low n sound g among bound is = subst (λ b. All (λ t. t < b) g.operands) (sym is)
+    (at_contained (λ g. All (λ s. s < length n.names) g.operands × (0 < length g.operands) × (IsTrue (takes_one g.kind) → length g.operands ≡ 1)) n.gates g sound.operands among).0
+
+pub none_in : (P : ℕ → Type 0) (xs : List ℕ) → xs ≡ [] → All P xs
+none_in P [] e = λ i d low. absurd (omega arith)
+none_in P (x ∷ xs) e = cc

@@ -1,0 +1,67 @@
+-- What holds while a cone is made: the marks of its signals, and their numbers in it.
+use Rattle.std.specs.Prelude.{◌≡◌, ◌⊎◌, ◌<◌, ◌≤◌, ◌+◌, ℕ, Bool, true, false, if◌then◌else◌, List, [], ◌∷◌, ◌++◌, filter, fold, map, length, take, drop, slice_index, slice_index_or, Contains, All}
+use Rattle.net_bench.specs.declared.netlist.GateLine.{GateLine}
+use Rattle.net_bench.specs.Circuit.{Net, circuit, with_name}
+use Rattle.net_cone.specs.declared.cone.Numbers.{Numbers}
+use Rattle.net_cone.specs.Cones.{IsBelow, gate_name, last_gate, variable_name}
+
+-- the signal has a mark
+abbrev pub has_mark : List Bool → ℕ → Bool
+has_mark marks s = slice_index_or marks s false
+
+abbrev pub IsMarked : List Bool → ℕ → Type 0
+IsMarked marks s = has_mark marks s ≡ true
+
+-- how many signals have none
+abbrev pub unmarked : List Bool → ℕ
+unmarked [] = 0
+unmarked (b ∷ bs) = if b then unmarked bs else unmarked bs + 1
+
+-- no mark is lost
+abbrev pub KeepsMarks : List Bool → List Bool → Type 0
+KeepsMarks old new = (s : ℕ) → IsMarked old s → IsMarked new s
+
+-- the marked signals are below the root, and those that wait are marked; the others' operands are marked
+pub record IsWalking (n : Net) (root : ℕ) (marks : List Bool) (waiting : List ℕ) : Type 0 where
+  pub each : length marks ≡ length n.names
+  pub start : IsMarked marks root
+  pub below : (s : ℕ) → IsMarked marks s → IsBelow (circuit n) root s
+  pub waits : All (λ s. IsMarked marks s) waiting
+  pub done : (g : GateLine) → Contains n.gates g → IsMarked marks g.out → Contains waiting g.out ⊎ All (λ t. IsMarked marks t) g.operands
+
+-- the marked signals are those below the root
+pub record AreBelow (n : Net) (root : ℕ) (marks : List Bool) : Type 0 where
+  pub each : length marks ≡ length n.names
+  pub start : IsMarked marks root
+  pub below : (s : ℕ) → IsMarked marks s → IsBelow (circuit n) root s
+  pub closed : (g : GateLine) → Contains n.gates g → IsMarked marks g.out → All (λ t. IsMarked marks t) g.operands
+
+-- each signal of the list has its place as its number
+pub record IsNumbering (from to : List ℕ) : Type 0 where
+  pub inside : All (λ s. s < length to) from
+  pub place : (i : ℕ) → i < length from → slice_index to (slice_index from i) ≡ i
+
+-- a gate by the cone's numbers
+abbrev pub renamed : List ℕ → GateLine → GateLine
+renamed to g = record { out = slice_index to g.out; kind = g.kind; operands = map (slice_index to) g.operands; line = g.line }
+
+-- the gates whose signals are marked
+abbrev pub marked_gates : List Bool → List GateLine → List GateLine
+marked_gates marks gates = filter (λ g. has_mark marks g.out) gates
+
+-- ---- the cone
+
+-- the names of a cone's signals, the variables first
+abbrev pub cone_names : Net → List (List ℕ) → ℕ → List ℕ → List (List ℕ)
+cone_names n given variables from = (map (variable_name given) (take variables from) ++ map (gate_name n) (drop variables from)) ++ (111 ∷ []) ∷ []
+
+-- the parts of the cone are made as they are to be
+pub record IsDrawn (n : Net) (root : ℕ) (given : List (List ℕ)) (marks : List Bool) (numbers : Numbers) (cone : Net) : Type 0 where
+  pub names : cone.names ≡ fold with_name [] (cone_names n given numbers.variables numbers.from.items)
+  pub few : length cone.names ≤ 1000000
+  pub inputs : length cone.inputs ≡ numbers.variables
+  pub input : (i d : ℕ) → i < numbers.variables → slice_index_or cone.inputs i d ≡ i
+  pub outputs : cone.outputs ≡ length numbers.from.items ∷ []
+  pub gates : cone.gates ≡ map (renamed numbers.to.items) (marked_gates marks n.gates) ++ last_gate (length numbers.from.items) (slice_index numbers.to.items root) ∷ []
+  pub registers : cone.registers ≡ []
+  pub ranks : cone.ranks ≡ map (slice_index n.ranks) numbers.from.items ++ (slice_index n.ranks root + 1) ∷ []

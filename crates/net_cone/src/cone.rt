@@ -1,0 +1,171 @@
+// The cone of a signal.
+ghost use Rattle.std.specs.Prelude.{◌≡◌, ◌<◌, ◌≤◌, ℕ, ◌++◌, ◌∷◌, [], filter, fold, map, length, slice_index, All, IfOk, OnOk};
+ghost use Rattle.net_bench.specs.Assembly.{whole};
+ghost use Rattle.net_bench.specs.Circuit.{IsNet, circuit, variables_of, with_name};
+ghost use Rattle.net_cone.specs.Cones.{AreNames, IsCone};
+ghost use Rattle.net_cone.specs.Walk.{AreBelow, IsDrawn, IsNumbering, cone_names, has_mark};
+
+use crate::below::marks_below;
+use crate::naming::{count_gates, count_variables};
+use crate::numbering::{
+    first_numbers, last_gate, narrow, number_marked, ranks_of, renamed_gates, signals_of,
+};
+use net_bench::assembly::Parts;
+use net_bench::name_table::NameTable;
+use net_bench::netlist::Signal;
+use net_bench::reader::{Netlist, netlist_of_parts};
+use std::alloc::{AllocError, Global};
+
+/// The most signals of a netlist.
+const MAX_SIGNALS: usize = 1_000_000;
+
+/// The cone of a signal: what a walk below it meets, as a netlist of its own. The variables that are met are its inputs, in their
+/// order; the gates that are met are its gates, in text order; and a last gate, BUFF of the signal, is its one output.
+#[derive(Drop)]
+pub struct Cone {
+    pub net: Netlist,
+    from: Vec<Signal>,
+}
+
+impl Cone {
+    /// By signal of the cone but the last, the signal of the netlist that it stands for.
+    pub fn sources(&self) -> &[Signal]
+        ensures { result.now ≡ self.now.from.items }
+    {
+        self.from.as_slice()
+    }
+}
+
+/// The signals of a cone but the last, its variables first; their numbers by signal of the netlist; and how many are variables.
+#[derive(Drop)]
+pub struct Numbers {
+    pub from: Vec<Signal>,
+    pub to: Vec<u32>,
+    pub variables: usize,
+}
+
+/// Numbers the marked signals, the variables first, and answers how many of these there are.
+fn number_all(
+    net: &Netlist,
+    marks: &[bool],
+    outs: &[Signal],
+    from: &mut Vec<Signal>,
+    to: &mut [u32],
+) -> Result<usize, AllocError>
+    requires marks { length marks.now ≡ length to.old }
+    requires each { length to.old ≡ length net.now.names }
+    requires outs { outs.now ≡ map (λ g. g.out) net.now.gates }
+    requires none { from.old.items ≡ [] }
+    ensures numbered { OnOk result (IsNumbering from.new.items to.new) }
+    ensures variables { IfOk result (λ n. n ≡ length (filter (has_mark marks.now) (variables_of (circuit net.now)))) }
+    ensures from { OnOk result (from.new.items ≡ filter (has_mark marks.now) (variables_of (circuit net.now)) ++ filter (has_mark marks.now) outs.now) }
+{
+    number_marked(marks, net.variables(), from, to)?;
+    let variables = from.len();
+    number_marked(marks, outs, from, to)?;
+    Ok(variables)
+}
+
+/// The numbers of the marked signals.
+fn numbers_of(alloc: Global, net: &Netlist, marks: &[bool]) -> Result<Numbers, AllocError>
+    requires { length marks.now ≡ length net.now.names }
+    ensures each { IfOk result (λ v. length v.to.items ≡ length net.now.names) }
+    ensures numbered { IfOk result (λ v. IsNumbering v.from.items v.to.items) }
+    ensures variables { IfOk result (λ v. v.variables ≡ length (filter (has_mark marks.now) (variables_of (circuit net.now)))) }
+    ensures from { IfOk result (λ v. v.from.items ≡ filter (has_mark marks.now) (variables_of (circuit net.now)) ++ filter (has_mark marks.now) (map (λ g. g.out) net.now.gates)) }
+{
+    let outs = signals_of(alloc, net.gates())?;
+    let mut to = Vec::from_elem(alloc, 0u32, net.count())?;
+    let mut from = Vec::new(alloc);
+    let variables = number_all(net, marks, outs.as_slice(), &mut from, to.as_mut_slice())?;
+    Ok(Numbers {
+        from,
+        to,
+        variables,
+    })
+}
+
+/// The names of a cone's signals. More than a netlist may have are refused.
+fn names_of(
+    alloc: Global,
+    net: &Netlist,
+    from: &[Signal],
+    variables: usize,
+    given: &[Vec<u8>],
+) -> Result<NameTable, AllocError>
+    requires variables { variables ≤ length from.now }
+    requires given { length given.now ≡ length net.now.names }
+    requires known { All (λ s. s < length net.now.names) from.now }
+    ensures names { IfOk result (λ v. v ≡ fold with_name [] (cone_names net.now (map (λ w. w.items) given.now) variables from.now)) }
+    ensures few { IfOk result (λ v. length v ≤ 1000000) }
+{
+    let mut names = NameTable::new(alloc);
+    let (inputs, gates) = from.split_at(variables);
+    count_variables(alloc, &mut names, inputs, given)?;
+    count_gates(alloc, &mut names, net, gates)?;
+    names.count(alloc, b"o")?;
+    if names.len() > MAX_SIGNALS {
+        return Err(AllocError);
+    }
+    Ok(names)
+}
+
+/// The parts of a cone.
+fn parts_of(
+    alloc: Global,
+    net: &Netlist,
+    root: Signal,
+    given: &[Vec<u8>],
+    marks: &[bool],
+    numbers: &Numbers,
+) -> Result<Parts, AllocError>
+    requires root { root < length net.now.names }
+    requires given { length given.now ≡ length net.now.names }
+    requires marks { length marks.now ≡ length net.now.names }
+    requires to { length numbers.now.to.items ≡ length net.now.names }
+    requires known { All (λ s. s < length net.now.names) numbers.now.from.items }
+    requires variables { numbers.now.variables ≤ length numbers.now.from.items }
+    ensures { IfOk result (λ p. IsDrawn net.now root (map (λ w. w.items) given.now) marks.now numbers.now (whole p)) }
+{
+    let from = numbers.from.as_slice();
+    let to = numbers.to.as_slice();
+    let names = names_of(alloc, net, from, numbers.variables, given)?;
+    let mut gates = renamed_gates(alloc, net, marks, to)?;
+    let out = Signal::of(narrow(from.len())?);
+    gates.push(last_gate(alloc, out, to, root)?)?;
+    let mut outputs = Vec::new(alloc);
+    outputs.push(out)?;
+    Ok(Parts {
+        names,
+        inputs: first_numbers(alloc, numbers.variables)?,
+        outputs,
+        gates,
+        registers: Vec::new(alloc),
+        ranks: ranks_of(alloc, net, from, root)?,
+    })
+}
+
+/// The cone of a signal of the netlist. Its variables get the names that are given by signal behind a 'v', and its gates their own
+/// names behind a 'g'; its output is "o". Time and memory are linear in the netlist. A cone of more signals than a netlist may have is
+/// refused like memory.
+
+pub fn cone_of(
+    alloc: Global,
+    net: &Netlist,
+    root: Signal,
+    names: &[Vec<u8>],
+) -> Result<Cone, AllocError>
+    requires inside { root < length net.now.names }
+    requires names { AreNames net.now (map (λ w. w.items) names.now) }
+    ensures { IfOk result (λ c. IsCone net.now root (map (λ w. w.items) names.now) c.net c.from.items) }
+{
+    let below = marks_below(alloc, net, root)?;
+    let marks = below.as_slice();
+    let numbers = numbers_of(alloc, net, marks)?;
+    let parts = parts_of(alloc, net, root, names, marks, &numbers)?;
+    let Numbers { from, .. } = numbers;
+    Ok(Cone {
+        net: netlist_of_parts(alloc, parts)?,
+        from,
+    })
+}

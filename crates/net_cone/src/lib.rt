@@ -1,0 +1,11 @@
+//! The cone of a signal: what a walk below it meets, as a netlist of its own.
+#![tactic(auto)]
+
+mod below;
+mod cone;
+pub mod laws;
+mod naming;
+mod numbering;
+
+pub use cone::{Cone, cone_of};
+pub use naming::own_names;

@@ -1,0 +1,171 @@
+// The numbers of signals in a cone, and its gates by these numbers.
+ghost use Rattle.std.specs.Prelude.{◌≡◌, ◌≢◌, ◌<◌, ℕ, ◌++◌, ◌∷◌, [], filter, map, length, slice_index, slice_index_or, ◌+◌, All, IfOk, OnOk};
+ghost use Rattle.net_bench.specs.Circuit.{AreOnce, IsNet};
+ghost use Rattle.net_cone.specs.Cones.{last_gate};
+ghost use Rattle.net_cone.specs.Walk.{IsNumbering, has_mark, marked_gates, renamed};
+
+use net_bench::netlist::{GateLine, Kind, Operands, Signal};
+use net_bench::reader::Netlist;
+use std::alloc::{AllocError, Global};
+
+/// A number of 32 bits, where it is one.
+pub fn narrow(number: usize) -> Result<u32, AllocError>
+    ensures { IfOk result (λ n. n ≡ number) }
+{
+    match u32::try_from(number) {
+        Ok(narrow) => Ok(narrow),
+        Err(_) => Err(AllocError),
+    }
+}
+
+/// Gives a signal the next number.
+
+fn number(signal: Signal, from: &mut Vec<Signal>, to: &mut [u32]) -> Result<(), AllocError>
+    requires inside { signal < length to.old }
+    requires fresh { All (λ s. s ≢ signal) from.old.items }
+    requires numbered { IsNumbering from.old.items to.old }
+    ensures numbered { OnOk result (IsNumbering from.new.items to.new) }
+    ensures added { OnOk result (from.new.items ≡ from.old.items ++ signal ∷ []) }
+{
+    let next = narrow(from.len())?;
+    from.push(signal)?;
+    to[signal.number() as usize] = next;
+    Ok(())
+}
+
+/// Gives the marked ones of these signals the next numbers, in their order.
+pub fn number_marked(
+    marks: &[bool],
+    signals: &[Signal],
+    from: &mut Vec<Signal>,
+    to: &mut [u32],
+) -> Result<(), AllocError>
+    requires marks { length marks.now ≡ length to.old }
+    requires inside { All (λ s. s < length to.old) signals.now }
+    requires once { AreOnce signals.now }
+    requires fresh { All (λ s. All (λ t. t ≢ s) from.old.items) signals.now }
+    requires numbered { IsNumbering from.old.items to.old }
+    ensures numbered { OnOk result (IsNumbering from.new.items to.new) }
+    ensures added { OnOk result (from.new.items ≡ from.old.items ++ filter (has_mark marks.now) signals.now) }
+{
+    for place in 0..signals.len() {
+        let signal = signals[place];
+        if marks[signal.number() as usize] {
+            number(signal, from, to)?;
+        }
+    }
+    Ok(())
+}
+
+/// The signals of gates.
+pub fn signals_of(alloc: Global, gates: &[GateLine]) -> Result<Vec<Signal>, AllocError>
+    ensures { IfOk result (λ v. v.items ≡ map (λ g. g.out) gates.now) }
+{
+    let mut signals = Vec::new(alloc);
+    for gate in gates {
+        signals.push(gate.out)?;
+    }
+    Ok(signals)
+}
+
+/// The number of a signal.
+fn number_of(to: &[u32], signal: Signal) -> Signal
+    requires { signal < length to.now }
+    ensures { result ≡ slice_index to.now signal }
+{
+    Signal::of(to[signal.number() as usize])
+}
+
+/// A gate by numbers.
+fn renamed(alloc: Global, gate: &GateLine, to: &[u32]) -> Result<GateLine, AllocError>
+    requires out { gate.now.out < length to.now }
+    requires operands { All (λ s. s < length to.now) gate.now.operands }
+    ensures { IfOk result (λ g. g ≡ renamed to.now gate.now) }
+{
+    let mut operands = Vec::new(alloc);
+    let signals = gate.operands.as_slice();
+    for signal in signals {
+        operands.push(number_of(to, *signal))?;
+    }
+    Ok(GateLine {
+        out: number_of(to, gate.out),
+        kind: gate.kind,
+        operands: Operands::of(operands),
+        line: gate.line,
+    })
+}
+
+/// The gates whose signals are marked, by numbers.
+pub fn renamed_gates(
+    alloc: Global,
+    net: &Netlist,
+    marks: &[bool],
+    to: &[u32],
+) -> Result<Vec<GateLine>, AllocError>
+    requires marks { length marks.now ≡ length net.now.names }
+    requires numbers { length to.now ≡ length net.now.names }
+    ensures { IfOk result (λ v. v.items ≡ map (renamed to.now) (marked_gates marks.now net.now.gates)) }
+{
+    let mut copies = Vec::new(alloc);
+    let gates = net.gates();
+    for gate in gates {
+        if marks[gate.out.number() as usize] {
+            copies.push(renamed(alloc, gate, to)?)?;
+        }
+    }
+    Ok(copies)
+}
+
+/// The ranks of a cone's signals.
+pub fn ranks_of(
+    alloc: Global,
+    net: &Netlist,
+    from: &[Signal],
+    root: Signal,
+) -> Result<Vec<u32>, AllocError>
+    requires from { All (λ s. s < length net.now.names) from.now }
+    requires root { root < length net.now.names }
+    ensures { IfOk result (λ v. v.items ≡ map (slice_index net.now.ranks) from.now ++ (slice_index net.now.ranks root + 1) ∷ []) }
+{
+    let mut ranks = Vec::new(alloc);
+    for signal in from {
+        ranks.push(net.rank(*signal))?;
+    }
+    match net.rank(root).checked_add(1) {
+        Some(rank) => ranks.push(rank)?,
+        None => return Err(AllocError),
+    }
+    Ok(ranks)
+}
+
+/// The first numbers.
+pub fn first_numbers(alloc: Global, count: usize) -> Result<Vec<Signal>, AllocError>
+    ensures count { IfOk result (λ v. length v.items ≡ count) }
+    ensures each { IfOk result (λ v. (i d : ℕ) → i < count → slice_index_or v.items i d ≡ i) }
+{
+    let mut signals = Vec::new(alloc);
+    for place in 0..count {
+        signals.push(Signal::of(narrow(place)?))?;
+    }
+    Ok(signals)
+}
+
+/// The last gate of a cone: a copy of the root.
+pub fn last_gate(
+    alloc: Global,
+    out: Signal,
+    to: &[u32],
+    root: Signal,
+) -> Result<GateLine, AllocError>
+    requires { root < length to.now }
+    ensures { IfOk result (λ g. g ≡ last_gate out (slice_index to.now root)) }
+{
+    let mut operands = Vec::new(alloc);
+    operands.push(number_of(to, root))?;
+    Ok(GateLine {
+        out,
+        kind: Kind::Buff,
+        operands: Operands::of(operands),
+        line: 0,
+    })
+}

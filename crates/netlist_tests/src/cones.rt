@@ -1,0 +1,76 @@
+// Of cones, what no contract says: that they are made with ample memory. And their signals by name, for a few netlists.
+use crate::netlists::C17;
+use net_bench::netlist::Signal;
+use net_bench::reader::{Netlist, parse_bench};
+use net_cone::{Cone, cone_of, own_names};
+use std::alloc::{AllocError, Global};
+use std::test::Fail;
+
+/// A register behind an input, and an output behind the register.
+static REGISTER: &str = "INPUT(a)\nOUTPUT(y)\nq = DFF(d)\nd = AND(a, q)\ny = NOT(q)\n";
+
+/// An output that is an input, and one that is 0 whatever the input is.
+static PLAIN: &str = "INPUT(a)\nINPUT(b)\nOUTPUT(a)\nOUTPUT(k)\nk = AND(a, n)\nn = NOT(a)\n";
+
+/// The cone of the signal of this name. Variables go by their own names.
+fn cone_by_name(alloc: Global, net: &Netlist, name: &str) -> Result<Cone, AllocError> {
+    let names = own_names(alloc, net)?;
+    match net.find(name.as_bytes()) {
+        Some(root) if (root.number() as usize) < net.count() => {
+            cone_of(alloc, net, root, names.as_slice())
+        }
+        _ => Err(AllocError),
+    }
+}
+
+/// The names of the netlist's signals in their order, a blank behind each.
+fn names_of(alloc: Global, net: &Netlist) -> Result<Vec<u8>, AllocError> {
+    let mut names = Vec::new(alloc);
+    for number in 0..net.count() {
+        let Ok(signal) = u32::try_from(number) else {
+            return Err(AllocError);
+        };
+        names.extend_from_slice(net.name(Signal::of(signal)))?;
+        names.push(b' ')?;
+    }
+    Ok(names)
+}
+
+#[test]
+fn cones_of_outputs(rt: HostRuntime) -> Result<(), Fail> {
+    let net = parse_bench(rt.alloc(), C17.as_bytes())?;
+    let first = cone_by_name(rt.alloc(), &net, "22")?;
+    let names = names_of(rt.alloc(), &first.net)?;
+    assert!(rt; names.as_slice() == b"v1 v2 v3 v6 g10 g11 g16 g22 o ".as_slice());
+    assert!(rt; first.net.inputs().len() == 4 && first.net.gates().len() == 5);
+    assert!(rt; first.sources().len() == 8);
+    let second = cone_by_name(rt.alloc(), &net, "23")?;
+    let names = names_of(rt.alloc(), &second.net)?;
+    assert!(rt; names.as_slice() == b"v2 v3 v6 v7 g11 g16 g19 g23 o ".as_slice());
+    Ok(())
+}
+
+#[test]
+fn cones_end_at_registers(rt: HostRuntime) -> Result<(), Fail> {
+    let net = parse_bench(rt.alloc(), REGISTER.as_bytes())?;
+    let output = cone_by_name(rt.alloc(), &net, "y")?;
+    let names = names_of(rt.alloc(), &output.net)?;
+    assert!(rt; names.as_slice() == b"vq gy o ".as_slice());
+    assert!(rt; output.net.registers().len() == 0 && output.net.variables().len() == 1);
+    let next = cone_by_name(rt.alloc(), &net, "d")?;
+    let names = names_of(rt.alloc(), &next.net)?;
+    assert!(rt; names.as_slice() == b"va vq gd o ".as_slice());
+    Ok(())
+}
+
+#[test]
+fn cones_without_depth(rt: HostRuntime) -> Result<(), Fail> {
+    let net = parse_bench(rt.alloc(), PLAIN.as_bytes())?;
+    let input = cone_by_name(rt.alloc(), &net, "a")?;
+    let names = names_of(rt.alloc(), &input.net)?;
+    assert!(rt; names.as_slice() == b"va o ".as_slice());
+    let constant = cone_by_name(rt.alloc(), &net, "k")?;
+    let names = names_of(rt.alloc(), &constant.net)?;
+    assert!(rt; names.as_slice() == b"va gk gn o ".as_slice());
+    Ok(())
+}
