@@ -1,6 +1,7 @@
-use Rattle.std.proofs.Common.{subst}
+use Rattle.std.proofs.Common.{◌≡◌, ap, subst, Err}
 use Rattle.std.specs.Io.KnownBytes.{Appends}
 use Rattle.report_text.specs.Writing.{AppendsFront}
+use Rattle.check_report.specs.declared.fault.CheckFault.TheVariants.{GivenUp}
 use Rattle.check_report.proofs.Printing.{found_allowed}
 use Rattle.check_report.proofs.listing.print_order.Goals as goal
 
@@ -18,3 +19,8 @@ pub returns-clause-unwritten : goal.returns-clause-unwritten
 returns-clause-unwritten g c = λ _.
     let w = c.in-Ok.ensures.text in
     (c.in-Ok.tried, w.0, c.in-Ok.text.items, w.1, w.2, subst (AppendsFront _ _ _ _) c.as_slice.ensures.value c.in-Err-write_whole.ensures.err)
+
+pub returns-in-Err-clause-given_up : goal.returns-in-Err-clause-given_up
+returns-in-Err-clause-given_up g c = λ e.
+    let same : c.in-Err.fault ≡ GivenUp = cc in
+    c.in-Err.ensures.given_up (ap Err same)
