@@ -108,9 +108,6 @@ module _ (n : Net) (root : ℕ) (given : List (List ℕ)) (marks : List Bool) (k
 
   -- ---- gates
 
-  abbrev Met : GateLine → Type 0
-  Met g = Contains n.gates g × IsMarked marks g.out
-
   met : All (λ g. Contains n.gates g × IsMarked marks g.out) gates
   met i d low = (
     All-filter (λ g. has_mark marks g.out) (Contains n.gates) n.gates (All-contains_itself n.gates) i d low,

@@ -36,11 +36,6 @@ in_map f [] x (i, low, at) = absurd (omega arith)
 in_map f (y ∷ xs) x (zero, low, at) = (0, omega arith, ap f at)
 in_map f (y ∷ xs) x (suc i, low, at) = let there : Contains (map f xs) (f x) = in_map f xs x (i, omega arith, at) in (suc there.0, omega (arith, there.1), there.2)
 
-pub all_in : {X : Type 0} (P : X → Type 0) (xs : List X) → ((x : X) → Contains xs x → P x) → All P xs
-all_in P [] each i d low = absurd (omega arith)
-all_in P (x ∷ xs) each zero d low = each x (0, omega arith, refl)
-all_in P (x ∷ xs) each (suc i) d low = all_in P xs (λ y among. each y (suc among.0, omega (arith, among.1), among.2)) i d (omega arith)
-
 pub all_map : {X Y : Type 0} (f : X → Y) (P : Y → Type 0) (xs : List X) → All (λ x. P (f x)) xs → All P (map f xs)
 all_map f P [] all i d low = absurd (omega arith)
 all_map f P (x ∷ xs) all zero d low = all zero x (omega arith)

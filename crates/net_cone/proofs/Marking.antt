@@ -26,11 +26,6 @@ last_in : (xs : List ℕ) (y : ℕ) → Contains (xs ++ y ∷ []) y
 last_in [] y = (0, omega arith, refl)
 last_in (x ∷ xs) y = let (i, low, at) = last_in xs y in (suc i, omega arith, at)
 
-pub front_in : (xs : List ℕ) (y s : ℕ) → Contains xs s → Contains (xs ++ y ∷ []) s
-front_in [] y s (i, low, at) = absurd (omega arith)
-front_in (x ∷ xs) y s (zero, low, at) = (0, omega arith, at)
-front_in (x ∷ xs) y s (suc i, low, at) = let (j, less, is) = front_in xs y s (i, omega arith, at) in (suc j, omega arith, is)
-
 pub only_set : (ms : List Bool) (i : ℕ) (xs : List ℕ) (s : ℕ) → IsMarked (set ms i true) s → IsMarked ms s ⊎ ((s ≡ i) × Contains (xs ++ i ∷ []) s)
 only_set ms i xs s now = elim (split ms i s) [
   | inl same ↦ inr (same, subst (Contains (xs ++ i ∷ [])) (sym same) (last_in xs i))
