@@ -14,8 +14,11 @@ import threading
 import time
 
 import kit
-from kit import C17, C17_DIFFERS, C17_EQUAL, C17B, Run, Tally, lines, netlist, run, written
+from kit import C17, C17_DIFFERS, C17_EQUAL, C17B, TOP, Run, Tally, lines, netlist, run, written
 from refusals import products
+
+sys.path.append(str(TOP / "bench"))
+import circuits  # noqa: E402
 
 TEXT_LIMIT = 67_108_864
 INPUT_LIMIT = 134_221_824
@@ -89,6 +92,19 @@ class Devices:
         told = seen.err.decode()
         self.check("a report behind a late text", Run(seen.status, seen.out, b""), Run(1, C17_DIFFERS, b""))
         self.tally.check("a rank behind a late text", re.fullmatch(r"bddcheck: rank 1 of 3, 5 nodes, 0 requests, \d+ MB\nbddcheck: order interleave, budget 16384\n", told), seen)
+
+    def later_attempts(self):
+        """Within a later budget that order is tried first which came furthest within the one before, and no other byte tells of it."""
+        texts = []
+        for name, multiply in (("array", circuits.array), ("wallace", circuits.wallace)):
+            net = circuits.Netlist()
+            circuits.multiplier(net, 9, multiply)
+            texts.append(self.file(name, net.text().encode()))
+        seen = self.run("--verbose", *texts, seconds=240)
+        told = [line for line in seen.err.decode().splitlines() if "budget" in line]
+        self.check("the attempt that came furthest goes first", told, ["bddcheck: order declared, budget 4194304"])
+        first = self.run("--order", "interleave", "--limit", 4194304, *texts, seconds=240)
+        self.check("the first candidate would have ended there too", first, Run(seen.status, seen.out, b""))
 
     def full_disk(self):
         for words in (["--sizes"], ["--workers", 1], ["--format", "json"]):
@@ -334,6 +350,7 @@ def main():
         devices.progress()
         devices.terminal()
         devices.late_progress()
+        devices.later_attempts()
         devices.full_disk()
         devices.closed_output()
         devices.closed_errors()
