@@ -414,15 +414,18 @@ def is_within(case, result):
 def tried(paired, case):
     """What may come of a case whose order is to be found: for each order within the limit, the first one first, the order and the report;
     and last that there is none, which also comes where an attempt was given up for the requests of a wave."""
+    if case.limit is None:
+        told = "declared" if case.order == "auto" else CANDIDATES[0]
+        yield told, judge(paired, told, case.sizes)
+        return
     for order in CANDIDATES:
         result = judge(paired, order, case.sizes)
         if is_within(case, result):
             told = "declared" if case.order == "auto" else order
             yield told, result if told == order else judge(paired, told, case.sizes)
-    if case.limit is not None:
-        if case.order == "best":
-            yield None, Refusal("build: more nodes than the limit", 3)
-        yield None, Refusal(GIVEN_UP, 3)
+    if case.order == "best":
+        yield None, Refusal("build: more nodes than the limit", 3)
+    yield None, Refusal(GIVEN_UP, 3)
 
 
 def judged(case):
