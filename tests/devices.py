@@ -59,12 +59,10 @@ class Devices:
         self.tally.check("lines of progress", is_told and len(told) <= seconds, seen)
 
     def terminal(self):
-        """On a terminal one line is written in place, and gone at the end."""
-        chain = self.file("chain", products(21, "chain"))
+        """On a terminal one line is written in place where a rank begins over a second after the start, and gone at the end."""
+        late = self.fifo("slow", C17, len(C17), wait=1.2)
         ours, theirs = os.openpty()
-        child = subprocess.Popen(
-            [self.program, "--order", "declared", chain, chain], stdin=subprocess.DEVNULL, stdout=subprocess.PIPE, stderr=theirs
-        )
+        child = subprocess.Popen([self.program, self.c17, late], stdin=subprocess.DEVNULL, stdout=subprocess.PIPE, stderr=theirs)
         os.close(theirs)
         told = b""
         # What is read of a terminal that nobody has open fails.
@@ -73,7 +71,7 @@ class Devices:
         os.close(ours)
         out = child.communicate()[0]
         place = rb"\rbddcheck: attempt 1, rank \d+ of \d+, \d+ nodes, \d+ requests, \d+ MB\x1b\[K"
-        right = (child.returncode, out) == (0, lines("EQUAL o", "1 equal, 0 different, 0 unmatched"))
+        right = (child.returncode, out) == (0, C17_EQUAL)
         self.tally.check("a line on a terminal", right and re.fullmatch(rb"(?:(?:" + place + rb")+\r\x1b\[K)+", told), (out, told))
         seen = run(["script", "-qec", f"{self.program} --verbose {self.c17} {self.c17}", "/dev/null"]) if shutil.which("script") else None
         self.tally.check("no line of a short run on a terminal", seen is None or b"\x1b" not in seen.out, seen)
