@@ -11,7 +11,7 @@ ghost use Rattle.check_report.specs.Limits.{FitsWithin, Exceeds};
 ghost use Rattle.report_text.specs.Lines.{Found};
 ghost use Rattle.check_report.specs.Report.{IsReport};
 
-/// What two netlists need, with a condition or without, is within a limit or beyond it, and never both.
+/// What two netlists need, with a condition or without, is never both within a limit and beyond it.
 pub fn limits()
     ensures { (limit : ℕ) (a b : Circuit) (given : Option Circuit) (p : Paired) → FitsWithin limit a b given p → Exceeds limit a b given p → ⊥ }
 {}
