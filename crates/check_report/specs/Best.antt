@@ -9,7 +9,7 @@ use Rattle.report_text.specs.declared.kind.OrderKind.TheVariants as kinds
 use Rattle.report_text.specs.Json.{kind_of}
 use Rattle.check_report.specs.Devices.{Told}
 use Rattle.check_report.specs.declared.choice.Choice.{Choice}
-use Rattle.check_report.specs.declared.choice.Choice.TheVariants.{One, Best, Auto}
+use Rattle.check_report.specs.declared.choice.Choice.TheVariants.{One, Best, Auto, Cones}
 use Rattle.check_report.specs.declared.choice.Candidate.{Candidate}
 use Rattle.check_report.specs.declared.choice.Candidate.TheVariants.{Interleave, Force, Index, Depth, Declared}
 use Rattle.check_report.specs.declared.choice.Attempt.{Attempt}
@@ -29,12 +29,21 @@ abbrev pub IsAllowed : Choice → Order → Type 0
 IsAllowed (One o) order = order ≡ o
 IsAllowed Best order = (c : Candidate) × (order ≡ order_of c)
 IsAllowed Auto order = (c : Candidate) × (order ≡ order_of c)
+IsAllowed Cones order = order ≡ orders.Declared
 
--- orders are tried for a choice
+-- orders are tried for a choice, and nothing else
 abbrev pub AreTried : Choice → Type 0
 AreTried (One o) = ⊥
 AreTried Best = ⊤
-AreTried Auto = ⊤
+AreTried Auto = ⊥
+AreTried Cones = ⊥
+
+-- pairs may be judged by their cones for a choice
+abbrev pub MayGoByCones : Choice → Type 0
+MayGoByCones (One o) = ⊥
+MayGoByCones Best = ⊥
+MayGoByCones Auto = ⊤
+MayGoByCones Cones = ⊤
 
 -- this holds of all candidates that are tried before this one, within the first budget
 abbrev pub AllBefore : Candidate → (Candidate → Type 0) → Type 0
@@ -52,6 +61,10 @@ first_budget limit = min 16384 limit
 abbrev pub IsBudget : (limit budget : ℕ) → Type 0
 IsBudget limit budget = ((k : ℕ) × (budget ≡ 16384 * 16 ^ k) × (budget < limit)) ⊎ (budget ≡ limit)
 
+-- Where each pair can be judged by its cones, the whole is tried within 2^18 nodes at most.
+abbrev pub whole_limit : (limit : ℕ) → ℕ
+whole_limit limit = min 262144 limit
+
 -- An attempt in this order within so many nodes was given up: a comparison in it needs more, or one wave of it reaches more requests than
 -- eight for each of them, or than the gate's bound where that is less.
 abbrev pub IsGivenUpWithin : Told → Match → (budget : ℕ) → (bound : Option ℕ) → Order → Type 0
@@ -65,7 +78,8 @@ IsChosen told how (One o) limit (Some t) order = ⊥
 IsChosen told how Best limit None order = ⊥
 IsChosen told how Best limit (Some t) order = (order ≡ order_of t.order) × IsBudget limit t.budget × AreWithin told how order t.budget
 IsChosen told how Auto limit None order = ⊥
-IsChosen told how Auto limit (Some t) order = (order ≡ orders.Declared) × IsBudget limit t.budget × AreWithin told how (order_of t.order) t.budget
+IsChosen told how Auto limit (Some t) order = (order ≡ orders.Declared) × IsBudget (whole_limit limit) t.budget × AreWithin told how (order_of t.order) t.budget
+IsChosen told how Cones limit tried order = ⊥
 
 -- The attempts before this one were given up: those of all candidates within smaller budgets, and within the first budget those before
 -- it. Within a later one the candidates are tried by how far the budget before took them, which is told to nobody.
@@ -73,12 +87,20 @@ pub record AreGivenUp (told : Told) (how : Match) (limit : ℕ) (bound : Option 
   pub smaller : (budget : ℕ) → IsBudget limit budget → budget < t.budget → (c : Candidate) → IsGivenUpWithin told how budget bound (order_of c)
   pub first : t.budget ≡ first_budget limit → AllBefore t.order (λ c. IsGivenUpWithin told how t.budget bound (order_of c))
 
+-- The last budget of the attempts that a choice makes of the whole.
+abbrev pub last_budget : Choice → (limit : ℕ) → ℕ
+last_budget (One o) limit = limit
+last_budget Best limit = limit
+last_budget Auto limit = whole_limit limit
+last_budget Cones limit = limit
+
 -- where an order comes from, as a report tells it
 abbrev pub told_kind : Choice → Option Attempt → OrderKind
 told_kind (One o) tried = kind_of o
 told_kind Best (Some t) = kind_of (order_of t.order)
 told_kind Best None = kinds.Declared
 told_kind Auto tried = kinds.Auto
+told_kind Cones tried = kinds.Cones
 
 -- The same as IsChosen where the order alone is wanted: nothing is built for an order that is given. Where an order would be found
 -- for a report as by declared order, that is the order.
@@ -86,6 +108,7 @@ abbrev pub IsFound : Told → Match → Choice → (limit : ℕ) → Option Atte
 IsFound told how (One o) limit tried order = (tried ≡ None) × (order ≡ o)
 IsFound told how Best limit tried order = IsChosen told how Best limit tried order
 IsFound told how Auto limit tried order = (tried ≡ None) × (order ≡ orders.Declared)
+IsFound told how Cones limit tried order = (tried ≡ None) × (order ≡ orders.Declared)
 
 -- what a candidate is called in print
 abbrev pub candidate_text : Candidate → List ℕ

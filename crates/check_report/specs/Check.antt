@@ -11,7 +11,7 @@ use Rattle.net_order.specs.Order.{Paired, IsPairing, IsRefused}
 use Rattle.report_text.specs.declared.outcome.Outcome.{Outcome}
 use Rattle.check_report.specs.Devices.{Told}
 use Rattle.check_report.specs.declared.fault.CheckFault.{CheckFault}
-use Rattle.check_report.specs.declared.fault.CheckFault.TheVariants.{First, Second, Given, GivenOutputs, Order as OrderRefused, Wave, GivenUp, Write, OutOfMemory}
+use Rattle.check_report.specs.declared.fault.CheckFault.TheVariants.{First, Second, Given, GivenOutputs, Order as OrderRefused, Only, Wave, GivenUp, Write, OutOfMemory}
 use Rattle.check_report.specs.Conditions.{HasOneOutput}
 use Rattle.report_text.specs.declared.kind.OrderKind.{OrderKind}
 use Rattle.report_text.specs.Json.{form_text}
@@ -49,15 +49,6 @@ pub record IsJudged (told : Told) (how : Match) (order : Order) (sizes : Bool) (
   pub paired : ArePaired told how order a b c p
   pub verdicts : AreVerdicts sizes a b c p found
 
--- The bytes are the report of what the devices gave, as JSON, which tells this kind of order, or by lines, and these are its counts.
-pub record IsChecked (json : Bool) (kind : OrderKind) (told : Told) (how : Match) (order : Order) (sizes : Bool) (o : Outcome) (bytes : List ℕ) : Type 0 where
-  pub a : Circuit
-  pub b : Circuit
-  pub c : Option Circuit
-  pub p : Paired
-  pub paired : ArePaired told how order a b c p
-  pub report : IsReport (form_text json how kind (is_some told.given)) sizes a b c p o bytes
-
 -- Why a text was not accepted: want of memory, a device that has failed, or the text's first fault.
 pub record IsUnread (told : Option (List ℕ)) (has_failed : Type 0) (fault : BenchFault) : Type 0 where
   pub cause : (fault ≡ NoTextMemory) ⊎ (fault ≡ ReadFailed) ⊎ IfSome told (λ text. IsTextRefused text fault)
@@ -70,6 +61,7 @@ IsConditionFault given has_failed (Second fault) = ⊥
 IsConditionFault given has_failed (Given fault) = IsSomeAnd given (λ told. IsUnread told has_failed fault)
 IsConditionFault given has_failed GivenOutputs = (c : Circuit) × IsSomeAnd given (λ told. Gives told c) × (HasOneOutput c → ⊥)
 IsConditionFault given has_failed (OrderRefused fault) = ⊥
+IsConditionFault given has_failed Only = ⊥
 IsConditionFault given has_failed (Wave fault) = ⊥
 IsConditionFault given has_failed GivenUp = ⊥
 IsConditionFault given has_failed Write = ⊥
@@ -86,6 +78,7 @@ IsEarly (Second fault) = Unit {0}
 IsEarly (Given fault) = Unit {0}
 IsEarly GivenOutputs = Unit {0}
 IsEarly (OrderRefused fault) = ⊥
+IsEarly Only = ⊥
 IsEarly (Wave fault) = ⊥
 IsEarly GivenUp = ⊥
 IsEarly Write = ⊥
@@ -98,6 +91,7 @@ IsLate (Second fault) = ⊥
 IsLate (Given fault) = ⊥
 IsLate GivenOutputs = ⊥
 IsLate (OrderRefused fault) = ⊥
+IsLate Only = ⊥
 IsLate (Wave fault) = Unit {0}
 IsLate GivenUp = ⊥
 IsLate Write = ⊥
@@ -114,6 +108,7 @@ IsCheckFault told first_failed second_failed given_failed how order GivenOutputs
     (a b : Circuit) × Gives told.first a × Gives told.second b × IsConditionFault told.given given_failed GivenOutputs
 IsCheckFault told first_failed second_failed given_failed how order (OrderRefused fault) =
     (a b : Circuit) × (c : Option Circuit) × AreGiven told a b c × ((fault ≡ NoOrderMemory) ⊎ IsRefused how a b c order fault)
+IsCheckFault told first_failed second_failed given_failed how order Only = AreAccepted told how order
 IsCheckFault told first_failed second_failed given_failed how order (Wave fault) = AreAccepted told how order
 IsCheckFault told first_failed second_failed given_failed how order GivenUp = AreAccepted told how order
 IsCheckFault told first_failed second_failed given_failed how order Write = AreAccepted told how order

@@ -52,8 +52,11 @@ pub enum Choice {
     One(Order),
     /// The first of the candidates whose diagrams stay within a budget that grows from attempt to attempt.
     Best,
-    /// The same attempts, with the report of declared order, whichever of them decides.
+    /// The first of the candidates within small budgets, and where each was given up, each pair by its cones. The report is that of declared
+    /// order, whatever decides.
     Auto,
+    /// Each pair by its cones, in orders of their own. The report is that of declared order.
+    Cones,
 }
 
 impl Choice {
@@ -66,6 +69,7 @@ impl Choice {
             (Choice::Best, Some(attempt)) => OrderKind::of(&attempt.order.order()),
             (Choice::Best, None) => OrderKind::Declared,
             (Choice::Auto, _) => OrderKind::Auto,
+            (Choice::Cones, _) => OrderKind::Cones,
         }
     }
 }

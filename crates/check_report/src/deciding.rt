@@ -169,21 +169,20 @@ pub fn decide<H: Threads + Wait + Sync, G: Gate>(
     task: &Task<'_, H>,
     gate: &G,
 ) -> Result<(Verdicts, Option<Attempt>), CheckFault>
-    ensures chosen { OfTask task.now (λ told s.
-        IfOk result (λ r. (order : OrderValue) × IsJudged told s.matching order s.sizes r.0
-        × IsChosen told s.matching s.order s.limit r.1 order)) }
+    ensures found { OfTask task.now (λ told s. IfOk result (λ r. IsFoundBy told s (G.bound gate.now) r.0 r.1)) }
     ensures full { OfTask task.now (λ told s.
         result ≡ Err (CheckFault.Wave WaveFault.Full) → (order : OrderValue) → IsAllowed s.order order → AreBeyond told s.matching order s.limit) }
     ensures given_up { OfTask task.now (λ told s.
         result ≡ Err CheckFault.GivenUp → AreTried s.order × ((order : OrderValue) → IsAllowed s.order order → IsGivenUpWithin told s.matching s.limit (G.bound gate.now) order)) }
-    ensures in_no_order { task.now.settings.now.order ≡ ChoiceValue.Auto → result ≢ Err (CheckFault.Wave WaveFault.Full) }
+    ensures by_cones { MayGoByCones task.now.settings.now.order → (result ≢ Err (CheckFault.Wave WaveFault.Full)) × (result ≢ Err CheckFault.GivenUp) }
+    ensures only { OfTask task.now (λ told s. result ≡ Err CheckFault.Only → IsUnknown told s.picked) }
     ensures fault { OfTask task.now (λ told s.
         IfErr result (λ fault. (order : OrderValue) × IsAllowed s.order order × IsCheckFault told ⊥ ⊥ ⊥ s.matching order fault)) }
     ensures unwritten { result ≢ Err CheckFault.Write }
     ensures past { OfTask task.now (λ told s.
         result ≡ Err (CheckFault.Wave WaveFault.TooManyRequests) → (o : OrderValue) × IsAllowed s.order o × IsSomeAnd (G.bound gate.now) (AreTooWide told s.matching o)) }
     ensures passed { OfTask task.now (λ told s.
-        IfOk result (λ r. IfSome r.1 (AreGivenUp told s.matching s.limit (G.bound gate.now)))) }
+        IfOk result (λ r. IfSome r.1 (AreGivenUp told s.matching (last_budget s.order s.limit) (G.bound gate.now)))) }
     ensures alone { most_of (G.bound gate.now) < 2 ^ 64 - 1 → result ≢ Err (CheckFault.Wave WaveFault.NoWorker) }
 {
     match &task.settings.order {

@@ -21,6 +21,8 @@ pub enum CheckFault {
     GivenOutputs,
     /// The netlists have no pairing.
     Order(OrderFault),
+    /// Some pairs are asked for by names, and the first netlist has no output and no register of one of these names.
+    Only,
     /// The diagrams were not built.
     Wave(WaveFault),
     /// Orders were tried, and every attempt was given up, not all of them for their nodes.
@@ -41,6 +43,7 @@ impl fmt::Display for CheckFault {
             CheckFault::Given(fault) => write!(f, "given: {fault}"),
             CheckFault::GivenOutputs => write!(f, "given: not exactly one output"),
             CheckFault::Order(fault) => write!(f, "order: {fault}"),
+            CheckFault::Only => write!(f, "only: no such output or register"),
             CheckFault::Wave(fault) => write!(f, "build: {fault}"),
             CheckFault::GivenUp => write!(
                 f,

@@ -6,9 +6,9 @@ ghost use Rattle.net_order.specs.declared.order.Order.{Order as OrderValue};
 ghost use Rattle.report_text.specs.declared.outcome.Outcome.{Outcome};
 ghost use Rattle.report_text.specs.Writing.{AppendsFront};
 ghost use Rattle.check_report.specs.declared.choice.Attempt.{Attempt as AttemptValue};
-ghost use Rattle.check_report.specs.declared.choice.Choice.{Choice as ChoiceValue};
-ghost use Rattle.check_report.specs.Best.{AreGivenUp, AreTried, IsAllowed, IsChosen, IsGivenUpWithin, told_kind};
-ghost use Rattle.check_report.specs.Check.{IsChecked, IsJudged, IsCheckFault};
+ghost use Rattle.check_report.specs.Best.{AreGivenUp, AreTried, IsAllowed, IsGivenUpWithin, MayGoByCones, last_budget};
+ghost use Rattle.check_report.specs.Check.{IsCheckFault};
+ghost use Rattle.check_report.specs.Deciding.{IsFoundBy, IsReportBy, IsUnknown};
 ghost use Rattle.check_report.specs.Devices.{HasFailedIn, told_by, told_of};
 ghost use Rattle.check_report.specs.Limits.{AreBeyond};
 ghost use Rattle.check_report.specs.Widths.{AreTooWide};
@@ -34,25 +34,29 @@ pub fn judge<H: Threads + Wait + Sync, R1: Source, R2: Source, R3: Source, G: Ga
     second: &mut R2,
     given: &mut Option<R3>,
 ) -> Result<(Verdicts, Option<Attempt>), CheckFault>
-    // The verdicts are those of what was read, in an order that the settings allow. In them two outputs, or the next states of two
-    // registers, are called equal exactly where their functions agree wherever the condition holds. The nodes that are needed in this
-    // order are within the limit, and within the budget of the attempt.
+    // The verdicts are those of what was read, in an order that the settings allow, or of each pair by its cones. In them two outputs, or
+    // the next states of two registers, are called equal exactly where their functions agree wherever the condition holds. The nodes that
+    // are needed in this order are within the limit, and within the budget of the attempt. A pair is undecided only where each attempt
+    // of its cones was given up.
     ensures verdicts { let told = told_of (R1.remaining first.old) (R2.remaining second.old) (told_by R3.remaining given.old) in
         let s = context.now.settings.now in
-        IfOk result (λ r. (order : OrderValue) × IsJudged told s.matching order s.sizes r.0 × IsChosen told s.matching s.order s.limit r.1 order) }
+        IfOk result (λ r. IsFoundBy told s (G.bound context.now.gate.now) r.0 r.1) }
     // Each attempt within a smaller budget than that of the one that is told was given up, and within the first budget each before it.
     ensures passed { let told = told_of (R1.remaining first.old) (R2.remaining second.old) (told_by R3.remaining given.old) in
         let s = context.now.settings.now in
-        IfOk result (λ r. IfSome r.1 (AreGivenUp told s.matching s.limit (G.bound context.now.gate.now))) }
+        IfOk result (λ r. IfSome r.1 (AreGivenUp told s.matching (last_budget s.order s.limit) (G.bound context.now.gate.now))) }
     // Full comes only where they are not within the limit, in each order that the settings allow.
     ensures full { let told = told_of (R1.remaining first.old) (R2.remaining second.old) (told_by R3.remaining given.old) in
         let s = context.now.settings.now in
         result ≡ Err (CheckFault.Wave WaveFault.Full) → (order : OrderValue) → IsAllowed s.order order → AreBeyond told s.matching order s.limit }
-    // GivenUp comes only where orders are tried and each attempt within the limit was given up, by declared order in place of Full.
+    // GivenUp comes only where orders are tried, and no cones, and each attempt within the limit was given up.
     ensures given_up { let told = told_of (R1.remaining first.old) (R2.remaining second.old) (told_by R3.remaining given.old) in
         let s = context.now.settings.now in
         result ≡ Err CheckFault.GivenUp → AreTried s.order × ((order : OrderValue) → IsAllowed s.order order → IsGivenUpWithin told s.matching s.limit (G.bound context.now.gate.now) order) }
-    ensures in_no_order { context.now.settings.now.order ≡ ChoiceValue.Auto → result ≢ Err (CheckFault.Wave WaveFault.Full) }
+    // Where pairs may be judged by their cones, no nodes and no requests are wanted.
+    ensures by_cones { MayGoByCones context.now.settings.now.order → (result ≢ Err (CheckFault.Wave WaveFault.Full)) × (result ≢ Err CheckFault.GivenUp) }
+    // A name that is picked is refused only where the first netlist has no such output or register.
+    ensures only { result ≡ Err CheckFault.Only → IsUnknown (told_of (R1.remaining first.old) (R2.remaining second.old) (told_by R3.remaining given.old)) context.now.settings.now.picked }
     // TooManyRequests comes only where one wave reaches more than the gate allows, in an order that the settings allow.
     ensures past { let told = told_of (R1.remaining first.old) (R2.remaining second.old) (told_by R3.remaining given.old) in
         let s = context.now.settings.now in
@@ -96,17 +100,20 @@ fn reported<H: Threads + Wait + Sync, R1: Source, R2: Source, R3: Source, G: Gat
 ) -> Result<(Vec<u8>, Outcome, Option<Attempt>), CheckFault>
     ensures report { let told = told_of (R1.remaining first.old) (R2.remaining second.old) (told_by R3.remaining given.old) in
         let s = context.now.settings.now in
-        IfOk result (λ r. (order : OrderValue) × IsChecked s.json (told_kind s.order r.2) told s.matching order s.sizes r.1 r.0.items × IsChosen told s.matching s.order s.limit r.2 order) }
+        IfOk result (λ r. IsReportBy told s (G.bound context.now.gate.now) r.2 r.1 r.0.items) }
     ensures passed { let told = told_of (R1.remaining first.old) (R2.remaining second.old) (told_by R3.remaining given.old) in
         let s = context.now.settings.now in
-        IfOk result (λ r. IfSome r.2 (AreGivenUp told s.matching s.limit (G.bound context.now.gate.now))) }
+        IfOk result (λ r. IfSome r.2 (AreGivenUp told s.matching (last_budget s.order s.limit) (G.bound context.now.gate.now))) }
     ensures full { let told = told_of (R1.remaining first.old) (R2.remaining second.old) (told_by R3.remaining given.old) in
         let s = context.now.settings.now in
         result ≡ Err (CheckFault.Wave WaveFault.Full) → (order : OrderValue) → IsAllowed s.order order → AreBeyond told s.matching order s.limit }
     ensures given_up { let told = told_of (R1.remaining first.old) (R2.remaining second.old) (told_by R3.remaining given.old) in
         let s = context.now.settings.now in
         result ≡ Err CheckFault.GivenUp → AreTried s.order × ((order : OrderValue) → IsAllowed s.order order → IsGivenUpWithin told s.matching s.limit (G.bound context.now.gate.now) order) }
-    ensures in_no_order { context.now.settings.now.order ≡ ChoiceValue.Auto → result ≢ Err (CheckFault.Wave WaveFault.Full) }
+    // Where pairs may be judged by their cones, no nodes and no requests are wanted.
+    ensures by_cones { MayGoByCones context.now.settings.now.order → (result ≢ Err (CheckFault.Wave WaveFault.Full)) × (result ≢ Err CheckFault.GivenUp) }
+    // A name that is picked is refused only where the first netlist has no such output or register.
+    ensures only { result ≡ Err CheckFault.Only → IsUnknown (told_of (R1.remaining first.old) (R2.remaining second.old) (told_by R3.remaining given.old)) context.now.settings.now.picked }
     ensures past { let told = told_of (R1.remaining first.old) (R2.remaining second.old) (told_by R3.remaining given.old) in
         let s = context.now.settings.now in
         result ≡ Err (CheckFault.Wave WaveFault.TooManyRequests) → (order : OrderValue) × IsAllowed s.order order × IsSomeAnd (G.bound context.now.gate.now) (AreTooWide told s.matching order) }
@@ -142,26 +149,29 @@ pub fn check<H: Threads + Wait + Sync, R1: Source, R2: Source, R3: Source, G: Ga
     given: &mut Option<R3>,
     out: &mut W,
 ) -> Result<(Outcome, Option<Attempt>), CheckFault>
-    // What was written is the report of what was read, in an order that the settings allow, and nothing else. In it two outputs, or the
-    // next states of two registers, are called equal exactly where their functions agree wherever the condition holds. The nodes that
-    // are needed in this order are within the limit, and within the budget of the attempt.
+    // What was written is the report of what was read, in an order that the settings allow, or of each pair by its cones, and nothing
+    // else. In it two outputs, or the next states of two registers, are called equal exactly where their functions agree wherever the
+    // condition holds. The nodes that are needed in this order are within the limit, and within the budget of the attempt. A pair is
+    // undecided only where each attempt of its cones was given up.
     ensures report { let told = told_of (R1.remaining first.old) (R2.remaining second.old) (told_by R3.remaining given.old) in
         let s = context.now.settings.now in
-        IfOk result (λ r. (order : OrderValue) × (bytes : List ℕ) × IsChecked s.json (told_kind s.order r.1) told s.matching order s.sizes r.0 bytes
-        × IsChosen told s.matching s.order s.limit r.1 order × Appends (W.contents out.old) (W.contents out.new) bytes) }
+        IfOk result (λ r. (bytes : List ℕ) × IsReportBy told s (G.bound context.now.gate.now) r.1 r.0 bytes × Appends (W.contents out.old) (W.contents out.new) bytes) }
     // Each attempt within a smaller budget than that of the one that is told was given up, and within the first budget each before it.
     ensures passed { let told = told_of (R1.remaining first.old) (R2.remaining second.old) (told_by R3.remaining given.old) in
         let s = context.now.settings.now in
-        IfOk result (λ r. IfSome r.1 (AreGivenUp told s.matching s.limit (G.bound context.now.gate.now))) }
+        IfOk result (λ r. IfSome r.1 (AreGivenUp told s.matching (last_budget s.order s.limit) (G.bound context.now.gate.now))) }
     // Full comes only where they are not within the limit, in each order that the settings allow.
     ensures full { let told = told_of (R1.remaining first.old) (R2.remaining second.old) (told_by R3.remaining given.old) in
         let s = context.now.settings.now in
         result ≡ Err (CheckFault.Wave WaveFault.Full) → (order : OrderValue) → IsAllowed s.order order → AreBeyond told s.matching order s.limit }
-    // GivenUp comes only where orders are tried and each attempt within the limit was given up, by declared order in place of Full.
+    // GivenUp comes only where orders are tried, and no cones, and each attempt within the limit was given up.
     ensures given_up { let told = told_of (R1.remaining first.old) (R2.remaining second.old) (told_by R3.remaining given.old) in
         let s = context.now.settings.now in
         result ≡ Err CheckFault.GivenUp → AreTried s.order × ((order : OrderValue) → IsAllowed s.order order → IsGivenUpWithin told s.matching s.limit (G.bound context.now.gate.now) order) }
-    ensures in_no_order { context.now.settings.now.order ≡ ChoiceValue.Auto → result ≢ Err (CheckFault.Wave WaveFault.Full) }
+    // Where pairs may be judged by their cones, no nodes and no requests are wanted.
+    ensures by_cones { MayGoByCones context.now.settings.now.order → (result ≢ Err (CheckFault.Wave WaveFault.Full)) × (result ≢ Err CheckFault.GivenUp) }
+    // A name that is picked is refused only where the first netlist has no such output or register.
+    ensures only { result ≡ Err CheckFault.Only → IsUnknown (told_of (R1.remaining first.old) (R2.remaining second.old) (told_by R3.remaining given.old)) context.now.settings.now.picked }
     // TooManyRequests comes only where one wave reaches more than the gate allows, in an order that the settings allow.
     ensures past { let told = told_of (R1.remaining first.old) (R2.remaining second.old) (told_by R3.remaining given.old) in
         let s = context.now.settings.now in
@@ -175,8 +185,8 @@ pub fn check<H: Threads + Wait + Sync, R1: Source, R2: Source, R3: Source, G: Ga
     // Where the writing failed, a front part of the report was written, and the device has failed or taken nothing of the rest.
     ensures unwritten { let told = told_of (R1.remaining first.old) (R2.remaining second.old) (told_by R3.remaining given.old) in
         let s = context.now.settings.now in
-        result ≡ Err CheckFault.Write → (o : Outcome) × (tried : Option AttemptValue) × (order : OrderValue) × (bytes : List ℕ)
-        × IsChecked s.json (told_kind s.order tried) told s.matching order s.sizes o bytes × IsChosen told s.matching s.order s.limit tried order
+        result ≡ Err CheckFault.Write → (o : Outcome) × (tried : Option AttemptValue) × (bytes : List ℕ)
+        × IsReportBy told s (G.bound context.now.gate.now) tried o bytes
         × AppendsFront (W.contents out.old) (W.contents out.new) (W.has_failed out.new) (W.has_stopped out.new) bytes }
     // At any other fault nothing was written.
     ensures untouched { OnErr result (result ≢ Err CheckFault.Write → out.new ≡ out.old) }

@@ -13,6 +13,7 @@ mod fault;
 mod judging;
 pub mod laws;
 mod listing;
+mod picked;
 mod reading;
 mod report;
 mod settings;
@@ -26,7 +27,8 @@ pub use fault::CheckFault;
 pub use judging::{check, judge};
 pub use listing::print_order;
 pub use report_text::{
-    Bits, Name, Outcome, Role, Side, Verdict, Verdicts, json_of, report_of, write_whole,
+    Bits, Name, Outcome, Role, Share, Side, Verdict, Verdicts, json_of, report_of, write_whole,
 };
+pub use picked::Picked;
 pub use settings::Settings;
 pub use task::Context;

@@ -1,6 +1,7 @@
 //! What a comparison found as the bytes of a report, in the form that is asked for.
 ghost use Rattle.std.specs.Prelude.{◌≡◌, IfOk};
 ghost use Rattle.check_report.specs.Best.{told_kind};
+ghost use Rattle.check_report.specs.Picking.{share_of};
 ghost use Rattle.report_text.specs.Json.{form_text};
 
 use crate::choice::Attempt;
@@ -16,12 +17,13 @@ pub(crate) fn text_of(
     given: bool,
     verdicts: &Verdicts,
 ) -> Result<Vec<u8>, AllocError>
-    ensures { IfOk result (λ text. text.items ≡ form_text settings.now.json settings.now.matching (told_kind settings.now.order tried) given verdicts.now) }
+    ensures { IfOk result (λ text. text.items ≡ form_text settings.now.json settings.now.matching (told_kind settings.now.order tried) given (share_of settings.now.picked) verdicts.now) }
 {
+    let share = settings.picked.share();
     if settings.json {
         let kind = settings.order.kind(tried);
-        json_of(alloc, settings.matching, kind, given, verdicts)
+        json_of(alloc, settings.matching, kind, given, share, verdicts)
     } else {
-        report_of(alloc, verdicts)
+        report_of(alloc, share, verdicts)
     }
 }

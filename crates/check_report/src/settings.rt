@@ -1,8 +1,10 @@
 //! What a comparison is asked for.
-ghost use Rattle.std.specs.Prelude.{◌≡◌, ◌≤◌, false};
-ghost use Rattle.check_report.specs.declared.choice.Choice.TheVariants.{Auto};
+ghost use Rattle.std.specs.Prelude.{◌≡◌, ◌≢◌, ◌≤◌, false};
+ghost use Rattle.check_report.specs.declared.choice.Choice.TheVariants.{Auto, Cones};
+ghost use Rattle.check_report.specs.declared.picked.Picked.TheVariants.{All};
 
 use crate::choice::Choice;
+use crate::picked::Picked;
 use net_order::order::Match;
 
 /// How two netlists are compared.
@@ -11,7 +13,9 @@ pub struct Settings {
     pub matching: Match,
     /// The order of the variables, or that one is to be found.
     pub order: Choice,
-    /// The number of worker threads.
+    /// Which pairs are compared.
+    pub picked: Picked,
+    /// The number of worker threads; of auto and of cones, of those that judge pairs.
     pub workers: u32,
     /// The most nodes that the store may hold; where orders are tried, the last of their budgets.
     pub limit: u64,
@@ -24,4 +28,6 @@ pub struct Settings {
     ghost some_nodes: { 1 ≤ limit },
     ghost few_nodes: { limit ≤ 4294967295 },
     ghost no_sizes: { order ≡ Auto → sizes ≡ false },
+    ghost no_cones_sizes: { order ≡ Cones → sizes ≡ false },
+    ghost picks_by_cones: { picked ≢ All → order ≡ Cones },
 }

@@ -1,5 +1,5 @@
 -- What a comparison found as one JSON object: its tokens, and their text.
-use Rattle.std.specs.Prelude.{◌≡◌, ℕ, Bool, true, false, List, [], ◌∷◌, ◌++◌, Option, Some, None, Result, OnOk, codes, decimal, if◌then◌else◌}
+use Rattle.std.specs.Prelude.{◌≡◌, ℕ, zero, suc, Bool, true, false, List, [], ◌∷◌, ◌++◌, Option, Some, None, Result, OnOk, codes, decimal, if◌then◌else◌}
 use Rattle.std.specs.Str.{is_utf8}
 use Rattle.json.specs.Print.{print}
 use Rattle.json.specs.Token.{Token, begin_object, end_object, begin_array, end_array, key, string, number, boolean}
@@ -9,14 +9,15 @@ use Rattle.net_order.specs.declared.order.Match.TheVariants.{Name, Position}
 use Rattle.net_order.specs.declared.order.Order.{Order}
 use Rattle.net_order.specs.declared.order.Order.TheVariants as orders
 use Rattle.report_text.specs.declared.kind.OrderKind.{OrderKind}
-use Rattle.report_text.specs.declared.kind.OrderKind.TheVariants.{Declared, Depth, Interleave, Index, Force, File, Auto}
+use Rattle.report_text.specs.declared.kind.OrderKind.TheVariants.{Declared, Depth, Interleave, Index, Force, File, Auto, Cones}
 use Rattle.report_text.specs.declared.outcome.Outcome.{Outcome}
 use Rattle.report_text.specs.declared.outcome.Role.{Role}
 use Rattle.report_text.specs.declared.outcome.Role.TheVariants.{Output, NextState}
 use Rattle.report_text.specs.declared.outcome.Side.{Side}
 use Rattle.report_text.specs.declared.outcome.Side.TheVariants.{First, Second}
 use Rattle.report_text.specs.declared.verdict.Verdict.{Verdict}
-use Rattle.report_text.specs.declared.verdict.Verdict.TheVariants.{Equal, Differs, Lone}
+use Rattle.report_text.specs.declared.outcome.Share.{Share}
+use Rattle.report_text.specs.declared.verdict.Verdict.TheVariants.{Equal, Differs, Lone, Undecided}
 use Rattle.report_text.specs.Lines.{Found, counted, report_text}
 
 -- how inputs, outputs and registers are paired
@@ -42,6 +43,7 @@ order_word Index = codes "index"
 order_word Force = codes "force"
 order_word File = codes "file"
 order_word Auto = codes "auto"
+order_word Cones = codes "cones"
 
 -- A name as a text. The names of a netlist are ASCII, so each of them is its own text; bytes that are none have the empty one.
 abbrev pub shown : List ℕ → List ℕ
@@ -89,6 +91,7 @@ verdict_members variables (Differs role name at first second sizes) =
     key (codes "verdict") ∷ string (codes "DIFFER") ∷ (subject_tokens role name
     ++ (key (codes "at") ∷ begin_object ∷ (assignment_tokens variables at ++ (end_object ∷ (values_tokens first second ++ sizes_tokens sizes)))))
 verdict_members variables (Lone side role name) = key (codes "verdict") ∷ string (codes "ONLY") ∷ key (codes "side") ∷ string (side_word side) ∷ subject_tokens role name
+verdict_members variables (Undecided role name) = key (codes "verdict") ∷ string (codes "UNDECIDED") ∷ subject_tokens role name
 
 -- an object for each verdict
 abbrev pub verdicts_tokens : List (List ℕ) → List Verdict → List Token
@@ -103,9 +106,20 @@ names_tokens (v ∷ vs) = string (shown v) ∷ names_tokens vs
 abbrev pub settings_tokens : Match → OrderKind → List Token
 settings_tokens how kind = key (codes "match") ∷ string (match_kind how) ∷ key (codes "order") ∷ string (order_word kind) ∷ []
 
+-- how many pairs are undecided, where some are
+abbrev pub undecided_tokens : ℕ → List Token
+undecided_tokens zero = []
+undecided_tokens (suc k) = key (codes "undecided") ∷ number (decimal (suc k)) ∷ []
+
+-- which share of the pairs it is, where it is of one
+abbrev pub share_tokens : Option Share → List Token
+share_tokens None = []
+share_tokens (Some s) = key (codes "share") ∷ begin_array ∷ number (decimal s.number) ∷ number (decimal s.of) ∷ end_array ∷ []
+
 abbrev pub counts_tokens : Outcome → List Token
 counts_tokens o =
-    key (codes "equal") ∷ number (decimal o.equal) ∷ key (codes "different") ∷ number (decimal o.different) ∷ key (codes "unmatched") ∷ number (decimal o.unmatched) ∷ []
+    key (codes "equal") ∷ number (decimal o.equal) ∷ key (codes "different") ∷ number (decimal o.different) ∷ key (codes "unmatched") ∷ number (decimal o.unmatched)
+    ∷ undecided_tokens o.undecided
 
 -- an array behind its key
 abbrev pub array_tokens : List ℕ → List Token → List Token
@@ -116,20 +130,20 @@ abbrev pub given_tokens : Bool → List Token
 given_tokens true = key (codes "given") ∷ boolean true ∷ []
 given_tokens false = []
 
--- the whole object: the settings, the variables, the verdicts, the counts
-abbrev pub report_tokens : Match → OrderKind → (given : Bool) → Found → List Token
-report_tokens how kind given found =
+-- the whole object: the settings, the variables, the verdicts, the counts, the share
+abbrev pub report_tokens : Match → OrderKind → (given : Bool) → Option Share → Found → List Token
+report_tokens how kind given share found =
     begin_object ∷ (settings_tokens how kind ++ (given_tokens given ++ (array_tokens (codes "variables") (names_tokens found.variables)
-    ++ (array_tokens (codes "verdicts") (verdicts_tokens found.variables found.verdicts) ++ (counts_tokens (counted found.verdicts) ++ end_object ∷ [])))))
+    ++ (array_tokens (codes "verdicts") (verdicts_tokens found.variables found.verdicts) ++ (counts_tokens (counted found.verdicts) ++ (share_tokens share ++ end_object ∷ []))))))
 
 -- its text, on one line
-abbrev pub json_text : Match → OrderKind → (given : Bool) → Found → List ℕ
-json_text how kind given found = print (report_tokens how kind given found) ++ 10 ∷ []
+abbrev pub json_text : Match → OrderKind → (given : Bool) → Option Share → Found → List ℕ
+json_text how kind given share found = print (report_tokens how kind given share found) ++ 10 ∷ []
 
 -- the bytes of a report in the form that is asked for: as JSON, which tells of a condition, or as lines
-abbrev pub form_text : (json : Bool) → Match → OrderKind → (given : Bool) → Found → List ℕ
-form_text true how kind given = json_text how kind given
-form_text false how kind given = report_text
+abbrev pub form_text : (json : Bool) → Match → OrderKind → (given : Bool) → Option Share → Found → List ℕ
+form_text true how kind given share = json_text how kind given share
+form_text false how kind given share = report_text share
 
 -- a writer has taken these tokens, where it has taken all
 abbrev pub Adds : {E : Type 0} → Result (Unit {0}) E → (old new : Written) → List Token → Type 0

@@ -1,12 +1,13 @@
 -- The verdicts of a comparison, and the bytes of their lines in a report. A name is a list of bytes.
-use Rattle.std.specs.Prelude.{ℕ, Bool, true, false, List, [], ◌∷◌, ◌++◌, Option, Some, None, codes, decimal, count_by}
+use Rattle.std.specs.Prelude.{ℕ, zero, suc, Bool, true, false, List, [], ◌∷◌, ◌++◌, Option, Some, None, codes, decimal, count_by}
 use Rattle.report_text.specs.declared.outcome.Outcome.{Outcome}
 use Rattle.report_text.specs.declared.outcome.Role.{Role}
 use Rattle.report_text.specs.declared.outcome.Role.TheVariants.{Output, NextState}
 use Rattle.report_text.specs.declared.outcome.Side.{Side}
 use Rattle.report_text.specs.declared.outcome.Side.TheVariants.{First, Second}
 use Rattle.report_text.specs.declared.verdict.Verdict.{Verdict}
-use Rattle.report_text.specs.declared.verdict.Verdict.TheVariants.{Equal, Differs, Lone}
+use Rattle.report_text.specs.declared.outcome.Share.{Share}
+use Rattle.report_text.specs.declared.verdict.Verdict.TheVariants.{Equal, Differs, Lone, Undecided}
 
 -- What a comparison found: the variables by level, and the verdicts in the order of the report.
 pub record Found : Type 0 where
@@ -49,6 +50,7 @@ line_text variables (Equal role name size) = codes "EQUAL " ++ (subject_text rol
 line_text variables (Differs role name at first second sizes) =
     codes "DIFFER " ++ (subject_text role name ++ (codes " at" ++ (assignment_text variables at ++ (codes " first=" ++ (bit_text first ++ (codes " second=" ++ (bit_text second ++ sizes_text sizes)))))))
 line_text variables (Lone side role name) = codes "ONLY " ++ (side_text side ++ (codes " " ++ subject_text role name))
+line_text variables (Undecided role name) = codes "UNDECIDED " ++ subject_text role name
 
 -- lines, each with its end
 abbrev pub lines_text : List (List ℕ) → List Verdict → List ℕ
@@ -60,25 +62,45 @@ abbrev pub is_equal : Verdict → Bool
 is_equal (Equal role name size) = true
 is_equal (Differs role name at first second sizes) = false
 is_equal (Lone side role name) = false
+is_equal (Undecided role name) = false
 
 abbrev pub is_different : Verdict → Bool
 is_different (Equal role name size) = false
 is_different (Differs role name at first second sizes) = true
 is_different (Lone side role name) = false
+is_different (Undecided role name) = false
 
 abbrev pub is_lone : Verdict → Bool
 is_lone (Equal role name size) = false
 is_lone (Differs role name at first second sizes) = false
 is_lone (Lone side role name) = true
+is_lone (Undecided role name) = false
+
+abbrev pub is_undecided : Verdict → Bool
+is_undecided (Equal role name size) = false
+is_undecided (Differs role name at first second sizes) = false
+is_undecided (Lone side role name) = false
+is_undecided (Undecided role name) = true
 
 -- how many verdicts of each kind there are
 abbrev pub counted : List Verdict → Outcome
-counted vs = record { equal = count_by is_equal vs; different = count_by is_different vs; unmatched = count_by is_lone vs }
+counted vs = record { equal = count_by is_equal vs; different = count_by is_different vs; unmatched = count_by is_lone vs; undecided = count_by is_undecided vs }
+
+-- how many pairs are undecided, where some are
+abbrev pub undecided_text : ℕ → List ℕ
+undecided_text zero = []
+undecided_text (suc k) = codes ", " ++ (decimal (suc k) ++ codes " undecided")
+
+-- which share of the pairs a report is of, where it is of one
+abbrev pub share_text : Option Share → List ℕ
+share_text None = []
+share_text (Some s) = codes ", share " ++ (decimal s.number ++ (codes " of " ++ decimal s.of))
 
 -- the last line, without its end
-abbrev pub counts_text : Outcome → List ℕ
-counts_text o = decimal o.equal ++ (codes " equal, " ++ (decimal o.different ++ (codes " different, " ++ (decimal o.unmatched ++ codes " unmatched"))))
+abbrev pub counts_text : Option Share → Outcome → List ℕ
+counts_text share o =
+    decimal o.equal ++ (codes " equal, " ++ (decimal o.different ++ (codes " different, " ++ (decimal o.unmatched ++ (codes " unmatched" ++ (undecided_text o.undecided ++ share_text share))))))
 
 -- the bytes of the report of what a comparison found: its lines, and last their counts
-abbrev pub report_text : Found → List ℕ
-report_text found = lines_text found.variables found.verdicts ++ (counts_text (counted found.verdicts) ++ 10 ∷ [])
+abbrev pub report_text : Option Share → Found → List ℕ
+report_text share found = lines_text found.variables found.verdicts ++ (counts_text share (counted found.verdicts) ++ 10 ∷ [])

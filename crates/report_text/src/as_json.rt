@@ -1,10 +1,10 @@
 //! What a comparison found as one JSON object.
 ghost use Rattle.std.specs.Prelude.{◌≡◌, ◌∷◌, [], ◌++◌, IfOk, codes, decimal};
 ghost use Rattle.json.specs.Token.{begin_object, end_object, key, string, number, boolean};
-ghost use Rattle.report_text.specs.Json.{Adds, shown, match_kind, order_word, role_text, side_word, bit_token, subject_tokens, size_tokens, sizes_tokens, assignment_tokens, values_tokens, verdict_members, verdicts_tokens, names_tokens, settings_tokens, given_tokens, counts_tokens, array_tokens, json_text};
+ghost use Rattle.report_text.specs.Json.{Adds, shown, match_kind, order_word, role_text, side_word, bit_token, subject_tokens, size_tokens, sizes_tokens, assignment_tokens, values_tokens, verdict_members, verdicts_tokens, names_tokens, settings_tokens, given_tokens, undecided_tokens, share_tokens, counts_tokens, array_tokens, json_text};
 
 use crate::kind::OrderKind;
-use crate::outcome::{Outcome, Role, Side};
+use crate::outcome::{Outcome, Role, Share, Side};
 use crate::verdict::Verdict;
 use crate::verdicts::Verdicts;
 use json::Writer;
@@ -44,6 +44,7 @@ fn order_word(kind: OrderKind) -> &'static str
         OrderKind::Force => "force",
         OrderKind::File => "file",
         OrderKind::Auto => "auto",
+        OrderKind::Cones => "cones",
     }
 }
 
@@ -179,6 +180,10 @@ fn add_members(out: &mut Writer, names: &Names, verdict: &Verdict) -> Result<(),
             add_text(out, "side", side_name(*side))?;
             add_subject(out, *role, name.as_slice())
         }
+        Verdict::Undecided { role, name } => {
+            add_text(out, "verdict", "UNDECIDED")?;
+            add_subject(out, *role, name.as_slice())
+        }
     }
 }
 
@@ -251,25 +256,51 @@ fn add_given(out: &mut Writer, given: bool) -> Result<(), AllocError>
     }
 }
 
+/// Adds how many pairs are undecided, where some are.
+fn add_undecided(out: &mut Writer, undecided: u64) -> Result<(), AllocError>
+    ensures { Adds result out.old out.new (undecided_tokens undecided) }
+{
+    if undecided == 0 {
+        return Ok(());
+    }
+    add_number(out, "undecided", undecided)
+}
+
 /// Adds the counts.
 fn add_counts(out: &mut Writer, outcome: Outcome) -> Result<(), AllocError>
     ensures { Adds result out.old out.new (counts_tokens outcome) }
 {
     add_number(out, "equal", outcome.equal)?;
     add_number(out, "different", outcome.different)?;
-    add_number(out, "unmatched", outcome.unmatched)
+    add_number(out, "unmatched", outcome.unmatched)?;
+    add_undecided(out, outcome.undecided)
+}
+
+/// Adds which share of the pairs it is, where it is of one.
+fn add_share(out: &mut Writer, share: Option<Share>) -> Result<(), AllocError>
+    ensures { Adds result out.old out.new (share_tokens share) }
+{
+    let Some(share) = share else {
+        return Ok(());
+    };
+    out.key("share")?;
+    out.begin_array()?;
+    out.u64(u64::from(share.number))?;
+    out.u64(u64::from(share.of))?;
+    out.end_array()
 }
 
 /// What a comparison found as the text of one JSON object, on a line: the settings, that there was a condition, the variables by level,
-/// the verdicts as in the report by lines, and their counts. docs/report.schema.json describes it.
+/// the verdicts as in the report by lines, their counts, and the share that it is of. docs/report.schema.json describes it.
 pub fn json_of(
     alloc: Global,
     matching: Match,
     kind: OrderKind,
     given: bool,
+    share: Option<Share>,
     found: &Verdicts,
 ) -> Result<Vec<u8>, AllocError>
-    ensures { IfOk result (λ text. text.items ≡ json_text matching kind given found.now) }
+    ensures { IfOk result (λ text. text.items ≡ json_text matching kind given share found.now) }
 {
     let mut out = Writer::new(Vec::new(alloc));
     out.begin_object()?;
@@ -278,6 +309,7 @@ pub fn json_of(
     add_variables(&mut out, found.variables())?;
     add_judged(&mut out, found)?;
     add_counts(&mut out, found.outcome())?;
+    add_share(&mut out, share)?;
     out.end_object()?;
     let mut text = out.into_inner();
     text.push(b'\n')?;

@@ -4,7 +4,8 @@ ghost use Rattle.report_text.specs.Json.{kind_of};
 
 use net_order::order::Order;
 
-/// Where the order of the variables comes from: one of the orders, a file, or that the attempt that ended is told to no one.
+/// Where the order of the variables comes from: one of the orders, a file, that the attempt that ended is told to no one, or that each
+/// pair has orders of its own.
 #[derive(Clone, Copy, Drop, Debug, PartialEq, Eq)]
 pub enum OrderKind {
     Declared,
@@ -14,6 +15,7 @@ pub enum OrderKind {
     Force,
     File,
     Auto,
+    Cones,
 }
 
 impl OrderKind {

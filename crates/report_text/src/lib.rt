@@ -12,7 +12,7 @@ mod write;
 
 pub use as_json::json_of;
 pub use kind::OrderKind;
-pub use outcome::{Outcome, Role, Side};
+pub use outcome::{Outcome, Role, Share, Side};
 pub use report::report_of;
 pub use verdict::{Bits, Name, Verdict};
 pub use verdicts::Verdicts;

@@ -1,8 +1,8 @@
 //! The lines of a report as bytes.
 ghost use Rattle.std.specs.Prelude.{◌≡◌, ◌++◌, ℕ, List, [], ◌∷◌, OnOk, codes};
-ghost use Rattle.report_text.specs.Lines.{line_text, assignment_text, bit_text, side_text, sizes_text, subject_text, counts_text};
+ghost use Rattle.report_text.specs.Lines.{line_text, assignment_text, bit_text, side_text, sizes_text, subject_text, undecided_text, share_text, counts_text};
 
-use crate::outcome::{Outcome, Role, Side};
+use crate::outcome::{Outcome, Role, Share, Side};
 use crate::verdict::Verdict;
 use net_order::names::Names;
 use std::alloc::{AllocError, Global};
@@ -147,6 +147,16 @@ fn add_lone(text: &mut Vec<u8>, side: Side, label: Label<'_>) -> Result<(), Allo
     Ok(())
 }
 
+/// Adds the line of a pair that no attempt has decided.
+fn add_undecided(text: &mut Vec<u8>, label: Label<'_>) -> Result<(), AllocError>
+    ensures { OnOk result (text.new.items ≡ text.old.items ++ (line_text [] (Verdict.Undecided label.entry.role label.entry.name.now) ++ 10 ∷ [])) }
+{
+    text.extend_from_slice(b"UNDECIDED ")?;
+    add_label(text, label)?;
+    text.extend_from_slice(b"\n")?;
+    Ok(())
+}
+
 /// Adds the line of a verdict.
 pub fn add_line(
     alloc: Global,
@@ -190,19 +200,60 @@ pub fn add_line(
             };
             add_lone(text, *side, label)
         }
+        Verdict::Undecided { role, name } => {
+            let label = Label {
+                role: *role,
+                name: name.as_slice(),
+            };
+            add_undecided(text, label)
+        }
     }
 }
 
+/// Adds how many pairs are undecided, where some are.
+fn add_undecided_count(alloc: Global, text: &mut Vec<u8>, undecided: u64) -> Result<(), AllocError>
+    ensures { OnOk result (text.new.items ≡ text.old.items ++ undecided_text undecided) }
+{
+    if undecided == 0 {
+        return Ok(());
+    }
+    let shown = format!(in alloc; ", {undecided} undecided")?;
+    text.extend_from_slice(shown.as_bytes())?;
+    Ok(())
+}
+
+/// Adds which share of the pairs a report is of, where it is of one.
+fn add_share(alloc: Global, text: &mut Vec<u8>, share: Option<Share>) -> Result<(), AllocError>
+    ensures { OnOk result (text.new.items ≡ text.old.items ++ share_text share) }
+{
+    let Some(share) = share else {
+        return Ok(());
+    };
+    let Share { number, of } = share;
+    let shown = format!(in alloc; ", share {number} of {of}")?;
+    text.extend_from_slice(shown.as_bytes())?;
+    Ok(())
+}
+
 /// Adds the last line.
-pub fn add_counts(alloc: Global, text: &mut Vec<u8>, outcome: Outcome) -> Result<(), AllocError>
-    ensures { OnOk result (text.new.items ≡ text.old.items ++ (counts_text outcome ++ 10 ∷ [])) }
+pub fn add_counts(
+    alloc: Global,
+    text: &mut Vec<u8>,
+    share: Option<Share>,
+    outcome: Outcome,
+) -> Result<(), AllocError>
+    ensures { OnOk result (text.new.items ≡ text.old.items ++ (counts_text share outcome ++ 10 ∷ [])) }
 {
     let Outcome {
         equal,
         different,
         unmatched,
+        undecided,
     } = outcome;
-    let line = format!(in alloc; "{equal} equal, {different} different, {unmatched} unmatched\n")?;
+    let line = format!(in alloc; "{equal} equal, {different} different, {unmatched} unmatched")?;
     text.extend_from_slice(line.as_bytes())?;
+    add_undecided_count(alloc, text, undecided)?;
+    add_share(alloc, text, share)?;
+    text.extend_from_slice(b"\n")?;
     Ok(())
 }

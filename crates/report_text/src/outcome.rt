@@ -1,11 +1,23 @@
 //! What a comparison compares, and what it counts.
+ghost use Rattle.std.specs.Prelude.{◌≤◌};
 
-/// How many pairs of outputs and of next states are equal, how many are different, and how many outputs and registers have no partner.
+/// How many pairs of outputs and of next states are equal, how many are different, how many outputs and registers have no partner, and
+/// how many pairs no attempt has decided.
 #[derive(Clone, Copy, Drop, Debug, PartialEq, Eq)]
 pub struct Outcome {
     pub equal: u64,
     pub different: u64,
     pub unmatched: u64,
+    pub undecided: u64,
+}
+
+/// A share of the pairs, and of how many shares it is one.
+#[derive(Clone, Copy, Drop, Debug, PartialEq, Eq)]
+pub struct Share {
+    pub number: u32,
+    pub of: u32,
+    ghost first: { 1 ≤ number },
+    ghost last: { number ≤ of },
 }
 
 /// One of the two netlists.

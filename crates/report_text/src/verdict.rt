@@ -90,4 +90,6 @@ pub enum Verdict {
         role: Role,
         name: Name,
     },
+    /// No attempt has decided whether the two functions are equal.
+    Undecided { role: Role, name: Name },
 }

@@ -61,12 +61,14 @@ fn outcome_of(verdicts: &[Verdict]) -> Outcome
         equal: 0,
         different: 0,
         unmatched: 0,
+        undecided: 0,
     };
     for verdict in verdicts {
         match verdict {
             Verdict::Equal { .. } => outcome.equal += 1,
             Verdict::Differs { .. } => outcome.different += 1,
             Verdict::Lone { .. } => outcome.unmatched += 1,
+            Verdict::Undecided { .. } => outcome.undecided += 1,
         }
     }
     outcome

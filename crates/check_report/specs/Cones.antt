@@ -1,0 +1,94 @@
+-- Pairs that are judged alone, each by its cones.
+use Rattle.std.specs.Prelude.{◌≡◌, ◌⊎◌, ◌↔◌, ℕ, min, max, ◌*◌, ◌++◌, Bool, false, List, [], Option, Some, None, length, slice_index, All, ⊤}
+use Rattle.std.specs.Math.Nat.{_div}
+use Rattle.std.specs.List.{AllZip, slice_index_or}
+use Rattle.expand_work.specs.Bounds.{most_of}
+use Rattle.net_bench.specs.Circuit.{Circuit, Net, circuit, variables_of}
+use Rattle.net_cone.specs.Cones.{IsCone}
+use Rattle.net_order.specs.declared.order.Match.TheVariants.{Name}
+use Rattle.net_order.specs.Order.{Paired, IsPairing}
+use Rattle.report_text.specs.declared.verdict.Verdict.{Verdict}
+use Rattle.report_text.specs.declared.verdict.Verdict.TheVariants.{Undecided}
+use Rattle.report_text.specs.Lines.{Found}
+use Rattle.check_report.specs.declared.choice.Candidate.{Candidate}
+use Rattle.check_report.specs.declared.subject.Subject.{Subject}
+use Rattle.check_report.specs.Best.{IsBudget, order_of}
+use Rattle.check_report.specs.Conditions.{AgreeWhere, HoldsWhere, output_of}
+use Rattle.check_report.specs.Limits.{Exceeds}
+use Rattle.check_report.specs.Report.{AreFunctions, CallsEqual, Compared, IsVerdictOf}
+use Rattle.check_report.specs.Widths.{IsTooWide}
+
+-- ---- cones
+
+-- the names of a netlist's variables, by signal, are those that a pairing gives to their levels
+pub record AreNamed (c : Circuit) (levels : List ℕ) (p : Paired) (names : List (List ℕ)) : Type 0 where
+  pub each : length names ≡ length c.names
+  pub variables : All (λ s. slice_index_or names s [] ≡ slice_index_or p.names (slice_index levels s) []) (variables_of c)
+
+-- This is the cone of a signal, whose variables have the names of a pairing.
+pub record IsConeIn (c : Circuit) (levels : List ℕ) (p : Paired) (root : ℕ) (cone : Circuit) : Type 0 where
+  pub whole : Net
+  pub part : Net
+  pub names : List (List ℕ)
+  pub from : List ℕ
+  pub is_whole : circuit whole ≡ c
+  pub is_part : circuit part ≡ cone
+  pub named : AreNamed c levels p names
+  pub cone_of : IsCone whole root names part from
+
+-- the cone of the condition's output, where there is a condition
+abbrev pub IsConditionCone : Option Circuit → Paired → Option Circuit → Type 0
+IsConditionCone None p None = ⊤
+IsConditionCone None p (Some w) = ⊥
+IsConditionCone (Some c) p None = ⊥
+IsConditionCone (Some c) p (Some w) = IsConeIn c p.given p (output_of c) w
+
+-- the cones of a pair, and of the condition
+pub record AreCones (a b : Circuit) (given : Option Circuit) (p : Paired) (s : Subject) (k m : Circuit) (w : Option Circuit) : Type 0 where
+  pub first : IsConeIn a p.first p s.first k
+  pub second : IsConeIn b p.second p s.second m
+  pub condition : IsConditionCone given p w
+
+-- ---- attempts
+
+-- The most nodes that a pair may need by its cones: a quarter of the limit, so that four pairs are judged at once within it.
+abbrev pub cone_limit : (limit : ℕ) → ℕ
+cone_limit limit = max 1 (limit _div 4)
+
+-- Within so many nodes a pair is not decided by its cones: in each candidate's order of their variables an attempt was given up, as they
+-- need more, or one wave reaches more requests than eight for each of these nodes, or than the gate's bound where that is less.
+pub record IsLeftWithin (budget : ℕ) (bound : Option ℕ) (a b : Circuit) (given : Option Circuit) (p : Paired) (s : Subject) : Type 0 where
+  pub first : Circuit
+  pub second : Circuit
+  pub condition : Option Circuit
+  pub cones : AreCones a b given p s first second condition
+  pub each : (c : Candidate) → (q : Paired) × IsPairing Name first second condition (order_of c) q
+      × (Exceeds budget first second condition q ⊎ IsTooWide (min (budget * 8) (most_of bound)) first second condition q)
+
+-- No budget up to the cones' limit decides a pair.
+abbrev pub IsLeft : (limit : ℕ) → (bound : Option ℕ) → Circuit → Circuit → Option Circuit → Paired → Subject → Type 0
+IsLeft limit bound a b given p s = (budget : ℕ) → IsBudget (cone_limit limit) budget → IsLeftWithin budget bound a b given p s
+
+-- ---- verdicts
+
+-- The verdict of a pair over the variables of the pairing: that of its functions where the condition holds, or Undecided where this says
+-- that no attempt decides it.
+pub data IsToldOf (n : ℕ) (left : Type 0) (holds : List Bool → Bool) (c : Compared) : Verdict → Type 0 where
+  decided : {v : Verdict} → IsVerdictOf n false holds c v → (CallsEqual v ↔ AgreeWhere n holds c.first c.second) → IsToldOf n left holds c v
+  undecided : left → IsToldOf n left holds c (Undecided c.role c.name)
+
+-- The same of the pair that is meant.
+pub record IsTold (left : Subject → Type 0) (a b : Circuit) (given : Option Circuit) (p : Paired) (s : Subject) (v : Verdict) : Type 0 where
+  pub holds : List Bool → Bool
+  pub condition : HoldsWhere given p holds
+  pub compared : Compared
+  pub functions : AreFunctions a b p s compared
+  pub verdict : IsToldOf (length p.names) (left s) holds compared v
+
+-- What a comparison by cones finds: a verdict for each pair that is picked, then these lines of what has no partner. The variables stand by
+-- level.
+pub record AreTold (left : Subject → Type 0) (a b : Circuit) (given : Option Circuit) (p : Paired) (pairs : List Subject) (lone : List Verdict) (found : Found) : Type 0 where
+  pub variables : found.variables ≡ p.names
+  pub of_pairs : List Verdict
+  pub told : AllZip (IsTold left a b given p) pairs of_pairs
+  pub all : found.verdicts ≡ of_pairs ++ lone

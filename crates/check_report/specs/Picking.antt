@@ -1,0 +1,89 @@
+-- Which pairs are picked: all, those of some names, or those of one share.
+use Rattle.std.specs.Prelude.{◌≡◌, ◌+◌, ◌<◌, ◌==◌, ◌⊎◌, ◌↔◌, ℕ, suc, Bool, true, false, List, [], ◌∷◌, map, filter, fold, length, count_by, zip, Option, Some, None, IsTrue, if◌then◌else◌, nat_lt, slice_index, bytes_eq, ⊤}
+use Rattle.std.specs.Math.Nat.{_div, _mod}
+use Rattle.std.specs.List.{AllZip, list_any}
+use Rattle.std.specs.List.Sorted.{IsPermutation}
+use Rattle.net_bench.specs.Circuit.{Circuit}
+use Rattle.net_cone.specs.Cones.{IsBelow}
+use Rattle.net_order.specs.Order.{Paired, name_of, registers_of}
+use Rattle.report_text.specs.declared.outcome.Role.TheVariants.{Output, NextState}
+use Rattle.report_text.specs.declared.outcome.Share.{Share}
+use Rattle.report_text.specs.declared.outcome.Side.TheVariants.{First, Second}
+use Rattle.report_text.specs.declared.verdict.Verdict.{Verdict}
+use Rattle.report_text.specs.declared.verdict.Verdict.TheVariants.{Equal, Differs, Lone, Undecided}
+use Rattle.check_report.specs.declared.picked.Picked.{Picked}
+use Rattle.check_report.specs.declared.picked.Picked.TheVariants.{All, Only, Share as InShare}
+use Rattle.check_report.specs.declared.subject.Subject.{Subject}
+use Rattle.check_report.specs.Report.{lone_side, lone_verdicts, subjects}
+
+-- a name is one of these
+abbrev pub is_among : List (List ℕ) → List ℕ → Bool
+is_among names n = list_any (bytes_eq n) names
+
+-- the first netlist has an output or a register of this name
+abbrev pub IsNamedIn : Circuit → List ℕ → Type 0
+IsNamedIn a n = IsTrue (is_among (map (name_of a) (a.outputs)) n) ⊎ IsTrue (is_among (map (name_of a) (registers_of a)) n)
+
+-- ---- shares
+
+-- the gates below a signal are so many
+pub record HasGates (c : Circuit) (root : ℕ) (n : ℕ) : Type 0 where
+  pub met : ℕ → Bool
+  pub are_met : (s : ℕ) → IsTrue (met s) ↔ IsBelow c root s
+  pub count : n ≡ count_by (λ g. met g.out) c.gates
+
+-- the gates of a pair's two cones are so many
+pub record HasWeight (a b : Circuit) (s : Subject) (w : ℕ) : Type 0 where
+  pub first_gates : ℕ
+  pub second_gates : ℕ
+  pub first : HasGates a s.first first_gates
+  pub second : HasGates b s.second second_gates
+  pub sum : w ≡ first_gates + second_gates
+
+-- the pair at place i comes before that at place j: it has more gates, or as many and stands before it
+abbrev pub ComesBefore : (weights : List ℕ) → (i j : ℕ) → Type 0
+ComesBefore weights i j = (slice_index weights j < slice_index weights i) ⊎ ((slice_index weights i ≡ slice_index weights j) × (i < j))
+
+-- shares are dealt to and fro: 1, 2 .. n, n .. 2, 1, 1, 2 .., so this one is the share of the pair that so many come before
+abbrev pub dealt : (n turn : ℕ) → ℕ
+dealt n turn = if (turn _div n) _mod 2 == 0 then suc (turn _mod n) else n - (turn _mod n)
+
+-- The share of each pair of so many shares.
+pub record AreShares (a b : Circuit) (p : Paired) (n : ℕ) (shares : List ℕ) : Type 0 where
+  pub weights : List ℕ
+  pub weighed : AllZip (HasWeight a b) (subjects a b p) weights
+  pub order : List ℕ
+  pub places : IsPermutation (map (λ i. i) (upto (length weights))) order
+  pub falls : (t u : ℕ) → t < u → u < length order → ComesBefore weights (slice_index order t) (slice_index order u)
+  pub each : length shares ≡ length weights
+  pub share : (t : ℕ) → t < length order → slice_index shares (slice_index order t) ≡ dealt n t
+
+-- ---- what is picked
+
+-- A pair of one of these names.
+abbrev pub is_pair_of : Circuit → List (List ℕ) → Subject → Bool
+is_pair_of a names s = is_among names (name_of a s.named)
+
+-- What has no partner in the second netlist, of one of these names.
+abbrev pub is_lone_of : List (List ℕ) → Verdict → Bool
+is_lone_of names (Equal role name size) = false
+is_lone_of names (Differs role name at first second sizes) = false
+is_lone_of names (Lone side role name) = is_among names name
+is_lone_of names (Undecided role name) = false
+
+-- the pairs whose share is this one
+abbrev pub of_share : ℕ → List (Subject × ℕ) → List Subject
+of_share k dealt_out = map (λ s. s.0) (filter (λ s. s.1 == k) dealt_out)
+
+-- These pairs are picked, in their order, and these lines of what has no partner: of a share those of the first one have them all.
+pub data ArePicked (a b : Circuit) (p : Paired) : Picked → List Subject → List Verdict → Type 0 where
+  all : ArePicked a b p All (subjects a b p) (lone_verdicts a b p)
+  named : {names : Vec Name} → ArePicked a b p (Only names) (filter (is_pair_of a names.items) (subjects a b p)) (filter (is_lone_of names.items) (lone_side First a p.outputs.only_first p.registers.only_first))
+  shared : {share : Share} {shares : List ℕ} → AreShares a b p share.of shares →
+      ArePicked a b p (InShare share) (of_share share.number (zip (subjects a b p) shares)) (if share.number == 1 then lone_verdicts a b p else [])
+
+-- the share that a report is of, where it is of one
+abbrev pub share_of : Picked → Option Share
+share_of All = None
+share_of (Only names) = None
+share_of (InShare share) = Some share
