@@ -1,7 +1,6 @@
 -- What clap finds where there are no words.
-use Rattle.std.proofs.Common.{Bool, true, false, ◌≡◌, ◌∙◌, inl, inr, refl, ap, ap₂, sym, subst, ℕ, ◌*◌, ◌^◌, List, [], ◌∷◌, Bor, Option, Some, None, rules}
+use Rattle.std.proofs.Common.{Bool, true, false, ◌≡◌, ◌∙◌, inr, refl, ap, sym, subst, ℕ, ◌^◌, List, [], Bor, Option, Some, None, rules}
 use Rattle.std.specs.Prelude.{codes, IfSome}
-use Rattle.std.specs.Str.Parse.{digits_value, without_leading_plus}
 use Rattle.clap.specs.Words.{first_of, one_of, matches_of}
 use Rattle.clap.specs.declared.builder.value_parser.ValueParser.{ValueParser}
 use Rattle.clap.proofs.OnLiterals.{clap_on_literals}
@@ -10,7 +9,9 @@ use Rattle.net_order.specs.declared.order.Match.TheVariants.{Name, Position}
 use Rattle.command_line.specs.declared.options.Options.{Options}
 use Rattle.command_line.specs.declared.options.OrderChoice.{OrderChoice}
 use Rattle.command_line.specs.declared.options.OrderChoice.TheVariants.{Auto}
-use Rattle.command_line.specs.Words.{tool_app, AreTexts, AskFor, IsChoice, unnamed_order, flag_of, IsFile, IsForm, IsMatching, IsMemory, IsNumberIn, IsLimit}
+use Rattle.command_line.specs.declared.options.Picks.{Picks}
+use Rattle.command_line.specs.declared.options.Picks.TheVariants.{All}
+use Rattle.command_line.specs.Words.{tool_app, ArePicks, AreTexts, AskFor, IsChoice, IsOrderWhere, are_picked, names_in, share_in, unnamed_order, flag_of, IsFile, IsForm, IsMatching, IsMemory, IsNumberIn, IsLimit}
 use Rattle.command_line.specs.Defaults.{AreDefaults}
 use Rattle.command_line.proofs.Sizing.{one_size}
 
@@ -30,6 +31,14 @@ module _ (matching order format : Option ValueParser) where
   given_found : first_of (codes "given") (matches_of (tool_app matching order format) []) ≡ None
   unfolding clap_on_literals
   given_found = refl
+
+  only_found : names_in (matches_of (tool_app matching order format) []) ≡ []
+  unfolding clap_on_literals
+  only_found = refl
+
+  share_found : share_in (matches_of (tool_app matching order format) []) ≡ None
+  unfolding clap_on_literals
+  share_found = refl
 
   workers_found : one_of (codes "workers") (matches_of (tool_app matching order format) []) ≡ Some (codes "4")
   unfolding clap_on_literals
@@ -90,6 +99,16 @@ four n is = is (search rules)
 much : (n : ℕ) → IsMemory (codes "4G") n → n ≡ 4294967296
 much n is = one_size (codes "4G") n (codes "4") (codes "G") (1024 ^ 3) is.0 (inr (inr (refl, refl))) refl
 
+-- where none are picked, all are
+pick : (picks : Picks) (names : List (List ℕ)) (share : Option (List ℕ)) → names ≡ [] → share ≡ None → ArePicks names share picks → picks ≡ All
+pick picks names share no_names no_share = subst (λ n. ArePicks n share picks → picks ≡ All) (sym no_names) (subst (λ s. ArePicks [] s picks → picks ≡ All) (sym no_share) (λ e. e))
+
+-- and the order is that of the words
+unpicked : (names : List (List ℕ)) (share file word : Option (List ℕ)) (unnamed choice : OrderChoice) → names ≡ [] → share ≡ None → IsOrderWhere (are_picked names share) file word unnamed choice → IsChoice file word unnamed choice
+unpicked names share file word unnamed choice no_names no_share =
+    let none : are_picked names share ≡ false = rw (no_names, no_share) refl in
+    subst (λ p. IsOrderWhere p file word unnamed choice → IsChoice file word unnamed choice) (sym none) (λ is. is)
+
 -- where nothing is given, the order is auto
 choose : (choice : OrderChoice) (file word limit sizes print_order : Option (List ℕ)) → file ≡ None → word ≡ None → limit ≡ None → sizes ≡ Some (codes "false") → print_order ≡ Some (codes "false")
     → IsChoice file word (unnamed_order limit (flag_of sizes) (flag_of print_order)) choice → choice ≡ Auto
@@ -104,12 +123,16 @@ defaults o (rows, found, agreed, are) =
     let d = found.1 in
     let f = found.2 in
     let e = found.7 in
+    let no_names : names_in rows ≡ [] = ap names_in e ∙ only_found m d f in
+    let no_share : share_in rows ≡ None = ap share_in e ∙ share_found m d f in
     let order : o.order ≡ Auto = choose o.order (first_of (codes "order-file") rows) (first_of (codes "order") rows) (first_of (codes "limit") rows) (first_of (codes "sizes") rows) (first_of (codes "print-order") rows)
     (ap (first_of (codes "order-file")) e ∙ file_found m d f) (ap (first_of (codes "order")) e ∙ order_found m d f) (ap (first_of (codes "limit")) e ∙ limit_word m d f)
-    (ap (first_of (codes "sizes")) e ∙ sizes_found m d f) (ap (first_of (codes "print-order")) e ∙ print_order_found m d f) are.order in
+    (ap (first_of (codes "sizes")) e ∙ sizes_found m d f) (ap (first_of (codes "print-order")) e ∙ print_order_found m d f)
+    (unpicked (names_in rows) (share_in rows) _ _ _ o.order no_names no_share are.order) in
     record {
       matching = by_name o.matching (subst (λ w. IsMatching w o.matching) (ap (first_of (codes "match")) e ∙ matching_found m d f) are.matching);
       order = order;
+      picks = pick o.picks (names_in rows) (share_in rows) no_names no_share are.picks;
       given = no_file o.given (subst (λ w. IsFile w o.given) (ap (first_of (codes "given")) e ∙ given_found m d f) are.given);
       workers = four o.workers (subst (λ w. IsNumberIn 1 16 w o.workers) (ap (one_of (codes "workers")) e ∙ workers_found m d f) are.workers);
       limit = subst (λ c. IsLimit None c o.limit) order (subst (λ w. IsLimit w o.order o.limit) (ap (one_of (codes "limit")) e ∙ limit_found m d f) are.limit);

@@ -3,7 +3,7 @@ use Rattle.std.proofs.Common.{◌≡◌, ◌∙◌, inl, inr, ap, sym, refl, ℕ
 use Rattle.std.specs.Prelude.{find, min, max, unwrap_or, option_and_then, option_map}
 use Rattle.std.specs.Str.{bytes_eq}
 use Rattle.std.specs.Str.Parse.{ParsesUnsigned, digits_value, without_leading_plus}
-use Rattle.clap.specs.Words.{App, Row, HasMatchesOf, IsUnsignedIn, ReadsOne, first_of, first_value, found_of, fault_of, is_simple, is_simple_and_free, kind_of, matched_of, matches_of, rows_of}
+use Rattle.clap.specs.Words.{App, Row, HasMatchesOf, IsUnsignedIn, ReadsOne, first_of, first_value, found_of, fault_of, is_simple, is_simple_and_free, kind_of, all_of, matched_of, matches_of, raw_values, rows_of}
 use Rattle.clap.specs.Facts.{Entry}
 use Rattle.clap.specs.Kinds.{HasKind}
 use Rattle.clap.specs.Walk.{row_of}
@@ -14,7 +14,7 @@ use Rattle.clap.specs.declared.error.kind.ErrorKind.TheVariants.{OutOfMemory as 
 use Rattle.clap.specs.declared.parser.matches.ArgMatches.{ArgMatches}
 use Rattle.clap.specs.declared.parser.matches.Found.{Found}
 use Rattle.clap.proofs.OnLiterals.{clap_on_literals}
-use Rattle.clap.proofs.WalkLemmas.{find_row, first_value-rows}
+use Rattle.clap.proofs.WalkLemmas.{find_row, first_value-rows, raw_values-rows}
 use Rattle.command_line.specs.declared.reading.Refused.{Refused}
 use Rattle.command_line.specs.declared.reading.Refused.TheVariants.{Help, Mistake, OutOfMemory}
 use Rattle.command_line.specs.declared.options.OrderChoice.{OrderChoice}
@@ -81,3 +81,7 @@ source_row f id = go (find (λ (e : Entry). bytes_eq e.0.now id) f.entries.items
 -- the first value of an argument is that of its row
 pub word_row : (f : Found) (id : List ℕ) → first_value f id ≡ first_of id (rows_of f)
 word_row f id = first_value-rows f id
+
+-- the values of an argument are those of its row
+pub names_row : (f : Found) (id : List ℕ) → option_map raw_values (matched_of f id) ≡ all_of id (rows_of f)
+names_row f id = raw_values-rows f id

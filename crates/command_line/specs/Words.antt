@@ -1,11 +1,11 @@
 -- What the words of the command line ask for, by clap's matches of the command's arguments.
-use Rattle.std.specs.Prelude.{◌≡◌, ◌≢◌, ◌⊎◌, ◌<◌, ◌≤◌, ◌*◌, ◌^◌, ℕ, pos, Bool, true, false, List, [], ◌∷◌, ◌++◌, map, codes, Option, Some, None, IfSome, IsSomeAnd, ⊤, find, option_and_then, option_map, string_bytes}
+use Rattle.std.specs.Prelude.{◌≡◌, ◌≢◌, ◌⊎◌, ◌<◌, ◌≤◌, ◌*◌, ◌^◌, ℕ, pos, Bool, true, false, List, [], ◌∷◌, ◌++◌, map, codes, Option, Some, None, IfSome, IsSome, IsSomeAnd, ⊤, find, option_and_then, option_map, string_bytes, unwrap_or, length, get_or}
 use Rattle.std.specs.Borrow.{Bor}
 use Rattle.std.specs.Str.{bytes_eq}
 use Rattle.std.specs.Str.Parse.{IsNumeral, digits_value, without_leading_plus}
-use Rattle.clap.specs.Words.{App, Row, Rule, Text, Kinds, IsAmong, IsUnsignedIn, fault_of, first_of, one_of, matches_of, new_app, new_rule, with_rule}
+use Rattle.clap.specs.Words.{App, Row, Rule, Text, Kinds, IsAmong, IsUnsignedIn, all_of, fault_of, first_of, one_of, matches_of, new_app, new_rule, with_rule}
 use Rattle.clap.specs.Simple.{on_top}
-use Rattle.clap.specs.declared.builder.action.ArgAction.TheVariants.{SetTrue}
+use Rattle.clap.specs.declared.builder.action.ArgAction.TheVariants.{Append, SetTrue}
 use Rattle.clap.specs.declared.builder.value_parser.ValueParser.{ValueParser}
 use Rattle.clap.specs.declared.builder.value_parser.ValueParser.TheVariants.{Names, Signed, Unsigned}
 use Rattle.clap.specs.declared.error.kind.ErrorKind.{ErrorKind}
@@ -13,9 +13,12 @@ use Rattle.clap.specs.declared.error.kind.ErrorKind.TheVariants.{ArgumentConflic
 use Rattle.clap.specs.declared.parser.matches.ValueSource.TheVariants.{CommandLine}
 use Rattle.net_order.specs.declared.order.Match.{Match}
 use Rattle.net_order.specs.declared.order.Match.TheVariants.{Name, Position}
+use Rattle.report_text.specs.declared.outcome.Share.{Share}
 use Rattle.command_line.specs.declared.options.Options.{Options}
 use Rattle.command_line.specs.declared.options.OrderChoice.{OrderChoice}
-use Rattle.command_line.specs.declared.options.OrderChoice.TheVariants.{Declared, Depth, Interleave, Index, Force, Best, Auto, File}
+use Rattle.command_line.specs.declared.options.OrderChoice.TheVariants.{Declared, Depth, Interleave, Index, Force, Best, Auto, Cones, File}
+use Rattle.command_line.specs.declared.options.Picks.{Picks}
+use Rattle.command_line.specs.declared.options.Picks.TheVariants.{All, Only, Share as InShare}
 use Rattle.command_line.specs.declared.options.Texts.{Texts}
 use Rattle.command_line.specs.declared.options.Texts.TheVariants.{Input, Files, InputAndFile, FileAndInput, InputTwice, One}
 use Rattle.command_line.specs.declared.reading.Refused.{Refused}
@@ -41,6 +44,13 @@ order_file_rule = value_rule (codes "order-file") [] None
 
 abbrev pub given_rule : Rule
 given_rule = value_rule (codes "given") [] None
+
+-- names, one for each time that the option is given
+abbrev pub only_rule : Rule
+only_rule = record (value_rule (codes "only") [] None) { action = Some Append }
+
+abbrev pub share_rule : Rule
+share_rule = value_rule (codes "share") [] None
 
 -- 1 to 16 threads
 abbrev pub workers_rule : Rule
@@ -78,7 +88,7 @@ abbrev pub TakesMatches : Option ValueParser → Type 0
 TakesMatches = TakesOnly (codes "name" ∷ codes "position" ∷ [])
 
 abbrev pub TakesOrders : Option ValueParser → Type 0
-TakesOrders = TakesOnly (codes "auto" ∷ codes "declared" ∷ codes "depth" ∷ codes "interleave" ∷ codes "index" ∷ codes "force" ∷ codes "best" ∷ [])
+TakesOrders = TakesOnly (codes "auto" ∷ codes "cones" ∷ codes "declared" ∷ codes "depth" ∷ codes "interleave" ∷ codes "index" ∷ codes "force" ∷ codes "best" ∷ [])
 
 abbrev pub TakesFormats : Option ValueParser → Type 0
 TakesFormats = TakesOnly (codes "text" ∷ codes "json" ∷ [])
@@ -86,7 +96,7 @@ TakesFormats = TakesOnly (codes "text" ∷ codes "json" ∷ [])
 -- The command with its arguments. The parsers of three lists of words are named apart.
 abbrev pub tool_app : (matching order format : Option ValueParser) → App
 tool_app matching order format =
-    with_rule (with_rule (with_rule (with_rule (with_rule (with_rule (with_rule (with_rule (with_rule (with_rule (with_rule (with_rule (with_rule bare_app (match_rule matching)) (order_rule order)) order_file_rule) given_rule) workers_rule) limit_rule) memory_rule) sizes_rule) print_order_rule) (format_rule format)) verbose_rule) (new_rule (codes "FIRST"))) (new_rule (codes "SECOND"))
+    with_rule (with_rule (with_rule (with_rule (with_rule (with_rule (with_rule (with_rule (with_rule (with_rule (with_rule (with_rule (with_rule (with_rule (with_rule bare_app (match_rule matching)) (order_rule order)) order_file_rule) given_rule) only_rule) share_rule) workers_rule) limit_rule) memory_rule) sizes_rule) print_order_rule) (format_rule format)) verbose_rule) (new_rule (codes "FIRST"))) (new_rule (codes "SECOND"))
 
 -- the command has these arguments
 abbrev pub IsTool : App → Type 0
@@ -123,6 +133,7 @@ IsChoice (Some path) word unnamed Index = ⊥
 IsChoice (Some path) word unnamed Force = ⊥
 IsChoice (Some path) word unnamed Best = ⊥
 IsChoice (Some path) word unnamed Auto = ⊥
+IsChoice (Some path) word unnamed Cones = ⊥
 IsChoice None (Some word) unnamed (File p) = ⊥
 IsChoice None (Some word) unnamed Depth = bytes_eq word (codes "depth") ≡ true
 IsChoice None (Some word) unnamed Interleave = bytes_eq word (codes "interleave") ≡ true
@@ -130,14 +141,66 @@ IsChoice None (Some word) unnamed Index = bytes_eq word (codes "index") ≡ true
 IsChoice None (Some word) unnamed Force = bytes_eq word (codes "force") ≡ true
 IsChoice None (Some word) unnamed Best = bytes_eq word (codes "best") ≡ true
 IsChoice None (Some word) unnamed Auto = bytes_eq word (codes "auto") ≡ true
+IsChoice None (Some word) unnamed Cones = bytes_eq word (codes "cones") ≡ true
 IsChoice None (Some word) unnamed Declared =
-    (bytes_eq word (codes "depth") ≡ false) × (bytes_eq word (codes "interleave") ≡ false) × (bytes_eq word (codes "index") ≡ false) × (bytes_eq word (codes "force") ≡ false) × (bytes_eq word (codes "best") ≡ false) × (bytes_eq word (codes "auto") ≡ false)
+    (bytes_eq word (codes "depth") ≡ false) × (bytes_eq word (codes "interleave") ≡ false) × (bytes_eq word (codes "index") ≡ false) × (bytes_eq word (codes "force") ≡ false) × (bytes_eq word (codes "best") ≡ false) × (bytes_eq word (codes "auto") ≡ false) × (bytes_eq word (codes "cones") ≡ false)
 IsChoice None None unnamed choice = choice ≡ unnamed
 
--- the order that was found for the arguments
+-- ---- pairs that are picked
+
+-- no slash stands in a text
+abbrev pub HasNoSlash : Text → Type 0
+HasNoSlash text = (i : ℕ) → i < length text → get_or text i 0 ≢ 47
+
+-- the number that a text says
+abbrev pub IsDecimal : Text → ℕ → Type 0
+IsDecimal text n = IsNumeral 10 (without_leading_plus text) × (n ≡ digits_value 10 (without_leading_plus text))
+
+-- a share of this number of so many shares
+abbrev pub IsInRange : (number count : ℕ) → Type 0
+IsInRange number count = (1 ≤ number) × (number ≤ count) × (count ≤ 1000000)
+
+-- the share that a text says: its number, and of how many shares it is one, which are 1,000,000 at most
+pub record IsShare (text : Text) (s : Share) : Type 0 where
+  pub number : Text
+  pub count : Text
+  pub parts : text ≡ number ++ 47 ∷ count
+  pub is_number : IsDecimal number s.number
+  pub is_count : IsDecimal count s.of
+  pub range : IsInRange s.number s.of
+
+-- the names that the words pick
+abbrev pub names_in : List Row → List Text
+names_in rows = unwrap_or (all_of (codes "only") rows) []
+
+-- the share that they pick
+abbrev pub share_in : List Row → Option Text
+share_in rows = first_of (codes "share") rows
+
+-- some pairs are picked, by these names or by a share
+abbrev pub are_picked : List Text → Option Text → Bool
+are_picked (n ∷ ns) share = true
+are_picked [] (Some text) = true
+are_picked [] None = false
+
+-- what is picked: the pairs of the names where there are names, else those of a share where there is one, else all
+abbrev pub ArePicks : List Text → Option Text → Picks → Type 0
+ArePicks (n ∷ ns) share (Only names) = map (λ s. s.now) names.items ≡ n ∷ ns
+ArePicks (n ∷ ns) share (InShare s) = ⊥
+ArePicks (n ∷ ns) share All = ⊥
+ArePicks [] (Some text) (InShare s) = IsShare text s
+ArePicks [] (Some text) (Only names) = ⊥
+ArePicks [] (Some text) All = ⊥
+ArePicks [] None picks = picks ≡ All
+
+-- the order that was found for the arguments, which is that of cones where pairs are picked
+abbrev pub IsOrderWhere : (picked : Bool) → (file order : Option (List ℕ)) → (unnamed : OrderChoice) → OrderChoice → Type 0
+IsOrderWhere true file word unnamed choice = choice ≡ Cones
+IsOrderWhere false file word unnamed choice = IsChoice file word unnamed choice
+
 abbrev pub IsOrderIn : List Row → OrderChoice → Type 0
 IsOrderIn rows choice =
-    IsChoice (first_of (codes "order-file") rows) (first_of (codes "order") rows)
+    IsOrderWhere (are_picked (names_in rows) (share_in rows)) (first_of (codes "order-file") rows) (first_of (codes "order") rows)
     (unnamed_order (first_of (codes "limit") rows) (flag_of (first_of (codes "sizes") rows)) (flag_of (first_of (codes "print-order") rows))) choice
 
 -- the word for standard input in place of a file
@@ -173,9 +236,10 @@ IsForm None json = json ≡ false
 abbrev pub IsNumberIn : ℕ → ℕ → Option Text → ℕ → Type 0
 IsNumberIn low high word n = IfSome word (λ text. IsUnsignedIn low high text → n ≡ digits_value 10 (without_leading_plus text))
 
--- the limit of nodes where the words give none: of auto what a store may have
+-- the limit of nodes where the words give none: of auto and cones what a store may have
 abbrev pub usual_limit : OrderChoice → ℕ
 usual_limit Auto = 4294967295
+usual_limit Cones = 4294967295
 usual_limit Declared = 67108864
 usual_limit Depth = 67108864
 usual_limit Interleave = 67108864
@@ -217,21 +281,46 @@ IsGiven id rows = option_and_then (λ r. r.source) (find (λ r. bytes_eq r.id id
 abbrev pub GiveTwoOrders : List Row → Type 0
 GiveTwoOrders rows = IsGiven (codes "order") rows × IsGiven (codes "order-file") rows
 
--- the words give the order auto by its name, and this flag, which asks for what auto does not do
-abbrev pub GiveAutoWith : Text → List Row → Type 0
-GiveAutoWith id rows = IsSomeAnd (first_of (codes "order") rows) (λ word. bytes_eq word (codes "auto") ≡ true) × (flag_of (first_of id rows) ≡ true)
+-- the words pick pairs by names and by a share
+abbrev pub GiveTwoPicks : List Row → Type 0
+GiveTwoPicks rows = IsGiven (codes "only") rows × IsGiven (codes "share") rows
 
--- the words give memory to an order other than auto, which would have no use for it
+-- a word names an order that is to be found, auto or cones
+abbrev pub IsFoundName : Text → Type 0
+IsFoundName word = (bytes_eq word (codes "auto") ≡ true) ⊎ (bytes_eq word (codes "cones") ≡ true)
+
+-- the words give such an order by its name, or pick pairs
+abbrev pub GiveFound : List Row → Type 0
+GiveFound rows = IsSomeAnd (first_of (codes "order") rows) IsFoundName ⊎ (are_picked (names_in rows) (share_in rows) ≡ true)
+
+-- the same, and this flag, which asks for what no such order does
+abbrev pub GiveFoundWith : Text → List Row → Type 0
+GiveFoundWith id rows = GiveFound rows × (flag_of (first_of id rows) ≡ true)
+
+-- the words give a file of an order, or another order by its name
+abbrev pub GiveOther : List Row → Type 0
+GiveOther rows = IsSome (first_of (codes "order-file") rows) ⊎ IsSomeAnd (first_of (codes "order") rows) (λ word. IsFoundName word → ⊥)
+
+-- the words pick pairs, and give such an order, in which all pairs are compared
+abbrev pub GivePicksInOrder : List Row → Type 0
+GivePicksInOrder rows = (are_picked (names_in rows) (share_in rows) ≡ true) × GiveOther rows
+
+-- the words give memory to an order other than auto and cones, which would have no use for it
 abbrev pub GiveIdleMemory : List Row → Type 0
-GiveIdleMemory rows = IsGiven (codes "memory") rows × (IsOrderIn rows Auto → ⊥)
+GiveIdleMemory rows = IsGiven (codes "memory") rows × (IsOrderIn rows Auto → ⊥) × (IsOrderIn rows Cones → ⊥)
 
 -- the words give two arguments that exclude each other
 abbrev pub AreAtOdds : List Row → Type 0
-AreAtOdds rows = GiveTwoOrders rows ⊎ GiveAutoWith (codes "sizes") rows ⊎ GiveAutoWith (codes "print-order") rows ⊎ GiveIdleMemory rows
+AreAtOdds rows =
+    GiveTwoOrders rows ⊎ GiveTwoPicks rows ⊎ GiveFoundWith (codes "sizes") rows ⊎ GiveFoundWith (codes "print-order") rows ⊎ GivePicksInOrder rows ⊎ GiveIdleMemory rows
 
 -- the words give a memory that is none, or out of its range
 abbrev pub GiveBadMemory : List Row → Type 0
 GiveBadMemory rows = IsSomeAnd (first_of (codes "memory") rows) (λ text. (n : ℕ) → IsMemory text n → ⊥)
+
+-- the words give a share that is none
+abbrev pub GiveBadShare : List Row → Type 0
+GiveBadShare rows = IsSomeAnd (share_in rows) (λ text. (s : Share) → IsShare text s → ⊥)
 
 -- the path of a file that is the word, where there is one
 abbrev pub IsFile : Option (List ℕ) → Option (Bor (List ℕ)) → Type 0
@@ -241,6 +330,7 @@ IsFile word path = option_map (λ (p : Bor (List ℕ)). p.now) path ≡ word
 pub record AreOptions (rows : List Row) (o : Options) : Type 0 where
   pub matching : IsMatching (first_of (codes "match") rows) o.matching
   pub order : IsOrderIn rows o.order
+  pub picks : ArePicks (names_in rows) (share_in rows) o.picks
   pub given : IsFile (first_of (codes "given") rows) o.given
   pub workers : IsNumberIn 1 16 (one_of (codes "workers") rows) o.workers
   pub limit : IsLimit (one_of (codes "limit") rows) o.order o.limit
@@ -278,11 +368,11 @@ IsToldAs kind (Help text) = (kind ≡ DisplayHelp) ⊎ ((kind ≡ DisplayVersion
 IsToldAs kind (Mistake text) = (kind ≢ DisplayHelp) × (kind ≢ DisplayVersion) × (kind ≢ NoMemory)
 IsToldAs kind OutOfMemory = ⊤
 
--- The words are refused for the first fault that clap finds in them, or for two arguments that exclude each other, or else for a memory that
--- is none, or for want of memory.
+-- The words are refused for the first fault that clap finds in them, or for two arguments that exclude each other, or else for a memory or a
+-- share that is none, or for want of memory.
 abbrev pub IsRefusal : List Text → Refused → Type 0
 IsRefusal words refused =
     ((kinds : Kinds) × (kind : ErrorKind) × AreFaults words kinds × IsAmong kind kinds × IsToldAs kind refused)
     ⊎ (((rows : List Row) × AreFound words rows × AreAtOdds rows × IsToldAs ArgumentConflict refused)
-    ⊎ (((rows : List Row) × AreFound words rows × (AreAtOdds rows → ⊥) × GiveBadMemory rows × IsToldAs ValueValidation refused)
+    ⊎ (((rows : List Row) × AreFound words rows × (AreAtOdds rows → ⊥) × (GiveBadMemory rows ⊎ GiveBadShare rows) × IsToldAs ValueValidation refused)
     ⊎ (refused ≡ OutOfMemory)))

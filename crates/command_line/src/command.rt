@@ -1,15 +1,16 @@
 //! The command of the program, as clap knows it.
 ghost use Rattle.std.specs.Prelude.{◌≡◌, false, codes, IfOk};
 ghost use Rattle.clap.specs.Words.{app_of, new_rule, rule_of};
-ghost use Rattle.command_line.specs.Words.{TakesMatches, TakesOrders, match_rule, order_rule, order_file_rule, given_rule, workers_rule, limit_rule, memory_rule, sizes_rule, print_order_rule, TakesFormats, format_rule, verbose_rule, bare_app, IsTool};
+ghost use Rattle.command_line.specs.Words.{TakesMatches, TakesOrders, match_rule, order_rule, order_file_rule, given_rule, only_rule, share_rule, workers_rule, limit_rule, memory_rule, sizes_rule, print_order_rule, TakesFormats, format_rule, verbose_rule, bare_app, IsTool};
 
 use clap::{Arg, ArgAction, Command, value_parser};
 use std::alloc::{AllocError, Global};
 
 static MATCHES: [&str; 2] = ["name", "position"];
 
-static ORDERS: [&str; 7] = [
+static ORDERS: [&str; 8] = [
     "auto",
+    "cones",
     "declared",
     "depth",
     "interleave",
@@ -26,14 +27,15 @@ static ABOUT: &str =
 static MORE: &str = "\
 For each pair of outputs a line EQUAL or DIFFER is printed, the latter with the least assignment on which the two differ;
 the next states of each pair of registers are compared in the same way (NEXT); then come the outputs and registers without
-a partner (ONLY), and last the counts. Without FIRST and SECOND both netlists are read from standard input, with a line
+a partner (ONLY), and last the counts. A pair that no attempt decides has a line UNDECIDED. Without FIRST and SECOND both netlists are read from standard input, with a line
 `%%` between them.
 
 Status:
   0  all outputs and next states are paired and equal
   1  some are different, or have no partner
   2  the command line, a file, a netlist or the order was refused
-  3  out of memory, more nodes than the limit, no order within it, no worker, or the report could not be written";
+  3  some pairs are undecided, and none is different or has no partner; or out of memory, more nodes than the limit, no order
+     within it, no worker, or the report could not be written";
 
 fn matching<'a>(alloc: Global) -> Arg<'a>
     ensures rule { rule_of result ≡ match_rule result.value_parser }
@@ -58,7 +60,7 @@ fn order<'a>(alloc: Global) -> Arg<'a>
         .value_name("ORDER")
         .value_parser(ORDERS.as_slice())
         .help(
-            "Order the variables as declared, by depth: as met below the outputs, interleaved: each behind what was met before it, by index: the number at the end of its name, by force: drawn to what it is joined with, or by the best of these, found by trying; or auto: find one by trying, and report as by declared [default: auto, but declared with --limit, --sizes or --print-order]",
+            "Order the variables as declared, by depth: as met below the outputs, interleaved: each behind what was met before it, by index: the number at the end of its name, by force: drawn to what it is joined with, or by the best of these, found by trying; by cones: judge each pair alone, in orders that are found for it, and report as by declared; or auto: find one by trying, else go by cones, and report as by declared [default: auto, but declared with --limit, --sizes or --print-order, and cones with --only or --share]",
         )
 }
 
@@ -82,6 +84,29 @@ fn given<'a>(alloc: Global) -> Arg<'a>
         .help("Compare outputs and next states only where the one output of this netlist is 1")
 }
 
+fn only<'a>(alloc: Global) -> Arg<'a>
+    ensures rule { rule_of result ≡ only_rule }
+    ensures local { result.global ≡ false }
+{
+    Arg::new(alloc, "only")
+        .long("only")
+        .value_name("NAME")
+        .action(ArgAction::Append)
+        .help(
+            "Judge only the output and the register of this name of the first netlist, by their cones; may be given more than once",
+        )
+}
+
+fn share<'a>(alloc: Global) -> Arg<'a>
+    ensures rule { rule_of result ≡ share_rule }
+    ensures local { result.global ≡ false }
+{
+    Arg::new(alloc, "share")
+        .long("share")
+        .value_name("K/N")
+        .help("Judge only the pairs of the K-th of N shares, by their cones")
+}
+
 fn workers<'a>(alloc: Global) -> Arg<'a>
     ensures rule { rule_of result ≡ workers_rule }
     ensures local { result.global ≡ false }
@@ -91,7 +116,9 @@ fn workers<'a>(alloc: Global) -> Arg<'a>
         .value_name("N")
         .value_parser(value_parser!(u32).range(1..=16))
         .default_value("4")
-        .help("Build the diagrams by this many workers, 1 to 16")
+        .help(
+            "Build the diagrams by this many workers, 1 to 16; by auto and by cones as many pairs are judged at once",
+        )
 }
 
 fn limit<'a>(alloc: Global) -> Arg<'a>
@@ -103,7 +130,7 @@ fn limit<'a>(alloc: Global) -> Arg<'a>
         .value_name("N")
         .value_parser(value_parser!(u64).range(1..=4_294_967_295))
         .help(
-            "Give up where the diagrams have more nodes, 1 to 4294967295 [default: 67108864, for auto what --memory holds]",
+            "Give up where the diagrams have more nodes, 1 to 4294967295 [default: 67108864, for auto and cones what --memory holds]",
         )
 }
 
@@ -116,7 +143,7 @@ fn memory<'a>(alloc: Global) -> Arg<'a>
         .value_name("SIZE")
         .default_value("4G")
         .help(
-            "Let auto try no more nodes than so many bytes hold, 16M at least; K, M and G stand for powers of 1024",
+            "Let auto and cones try no more nodes than so many bytes hold, 16M at least; K, M and G stand for powers of 1024",
         )
 }
 
@@ -163,7 +190,7 @@ fn verbose<'a>(alloc: Global) -> Arg<'a>
         .long("verbose")
         .action(ArgAction::SetTrue)
         .help(
-            "Tell on standard error how far the building is, which attempt it ended with where orders were tried, and behind a fault where it stands and what helps",
+            "Tell on standard error how far the building is, what it ended with where orders were tried, how many pairs are undecided, and behind a fault where it stands and what helps",
         )
 }
 
@@ -202,7 +229,9 @@ pub fn command<'a>(alloc: Global) -> Result<Command<'a>, AllocError>
         .arg(matching(alloc))?
         .arg(order(alloc))?
         .arg(order_file(alloc))?
-        .arg(given(alloc))?;
+        .arg(given(alloc))?
+        .arg(only(alloc))?
+        .arg(share(alloc))?;
     let command = command
         .arg(workers(alloc))?
         .arg(limit(alloc))?

@@ -1,8 +1,10 @@
 //! What a command line asks for.
-ghost use Rattle.std.specs.Prelude.{◌≡◌, ◌≤◌, false};
-ghost use Rattle.command_line.specs.declared.options.OrderChoice.TheVariants.{Auto};
+ghost use Rattle.std.specs.Prelude.{◌≡◌, ◌≢◌, ◌≤◌, false};
+ghost use Rattle.command_line.specs.declared.options.OrderChoice.TheVariants.{Auto, Cones};
+ghost use Rattle.command_line.specs.declared.options.Picks.TheVariants.{All};
 
 use net_order::order::Match;
+use report_text::Share;
 
 /// Where the order of the variables comes from.
 #[derive(Clone, Copy, Drop, Debug, PartialEq, Eq)]
@@ -14,10 +16,22 @@ pub enum OrderChoice<'a> {
     Force,
     /// The best of these is to be found.
     Best,
-    /// One of these is to be found, and the report is as by declared order.
+    /// One of these is to be found, or else orders for each pair; the report is as by declared order.
     Auto,
+    /// Orders are to be found for each pair; the report is as by declared order.
+    Cones,
     /// The path of a file with the names.
     File(&'a str),
+}
+
+/// Which pairs of outputs and of registers are compared.
+#[derive(Drop, Debug)]
+pub enum Picks<'a> {
+    All,
+    /// Those of these names.
+    Only(Vec<&'a str>),
+    /// Those of one share of all.
+    Share(Share),
 }
 
 /// Where the netlists come from.
@@ -38,18 +52,19 @@ pub enum Texts<'a> {
 }
 
 /// What the command line asks for.
-#[derive(Clone, Copy, Drop, Debug, PartialEq, Eq)]
+#[derive(Drop, Debug)]
 pub struct Options<'a> {
     pub matching: Match,
     pub order: OrderChoice<'a>,
+    pub picks: Picks<'a>,
     /// The path of the condition's file, where there is a condition.
     pub given: Option<&'a str>,
     pub workers: u32,
-    /// The most nodes. For the order auto that is the last of its budgets, unless the memory ends them before.
+    /// The most nodes, where the memory of the orders auto and cones does not hold fewer.
     pub limit: u64,
-    /// How many bytes of memory the order auto may take.
+    /// How many bytes of memory the orders auto and cones may take.
     pub memory: u64,
-    /// Whether the report says the sizes of the diagrams, which are no part of a report by auto.
+    /// Whether the report says the sizes of the diagrams, which are no part of a report by auto or by cones.
     pub sizes: bool,
     /// Whether the order of the variables is printed, and nothing compared.
     pub print_order: bool,
@@ -64,4 +79,7 @@ pub struct Options<'a> {
     ghost few_nodes: { limit ≤ 4294967295 },
     ghost some_memory: { 16777216 ≤ memory },
     ghost no_sizes: { order ≡ Auto → sizes ≡ false },
+    ghost no_cones_sizes: { order ≡ Cones → sizes ≡ false },
+    ghost no_cones_in_print: { order ≡ Cones → print_order ≡ false },
+    ghost picks_by_cones: { picks ≢ All → order ≡ Cones },
 }

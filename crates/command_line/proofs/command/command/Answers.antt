@@ -7,14 +7,16 @@ returns c =
     let one = c.in_ok-arg.ensures.shape c.matching.ensures.local ∙ ap₂ with_rule c.bare.ensures c.matching.ensures.rule in
     let two = c.in_ok-arg-2.ensures.shape c.order.ensures.local ∙ ap₂ with_rule one c.order.ensures.rule in
     let three = c.in_ok-arg-3.ensures.shape c.order_file.ensures.local ∙ ap₂ with_rule two c.order_file.ensures.rule in
-    let four = c.in_ok-command.ensures.shape c.given.ensures.local ∙ ap₂ with_rule three c.given.ensures.rule in
-    let five = c.in_ok-arg-4.ensures.shape c.workers.ensures.local ∙ ap₂ with_rule four c.workers.ensures.rule in
-    let six = c.in_ok-arg-5.ensures.shape c.limit.ensures.local ∙ ap₂ with_rule five c.limit.ensures.rule in
-    let seven = c.in_ok-arg-6.ensures.shape c.memory.ensures.local ∙ ap₂ with_rule six c.memory.ensures.rule in
-    let eight = c.in_ok-arg-7.ensures.shape c.sizes.ensures.local ∙ ap₂ with_rule seven c.sizes.ensures.rule in
-    let nine = c.in_ok-command-2.ensures.shape c.print_order.ensures.local ∙ ap₂ with_rule eight c.print_order.ensures.rule in
-    let ten = c.in_ok-arg-8.ensures.shape c.format.ensures.local ∙ ap₂ with_rule nine c.format.ensures.rule in
-    let eleven = c.in_ok-arg-9.ensures.shape c.verbose.ensures.local ∙ ap₂ with_rule ten c.verbose.ensures.rule in
-    let twelve = c.in_ok-arg-10.ensures.shape c.first.ensures.local ∙ ap₂ with_rule eleven c.first.ensures.rule in
-    let thirteen = c.in_ok-command-3.ensures.shape c.second.ensures.local ∙ ap₂ with_rule twelve c.second.ensures.rule in
-    (c.matching.result.value_parser, c.order.result.value_parser, c.format.result.value_parser, c.matching.ensures.parser, c.order.ensures.parser, c.format.ensures.parser, thirteen)
+    let four = c.in_ok-arg-4.ensures.shape c.given.ensures.local ∙ ap₂ with_rule three c.given.ensures.rule in
+    let five = c.in_ok-arg-5.ensures.shape c.only.ensures.local ∙ ap₂ with_rule four c.only.ensures.rule in
+    let six = c.in_ok-command.ensures.shape c.share.ensures.local ∙ ap₂ with_rule five c.share.ensures.rule in
+    let seven = c.in_ok-arg-6.ensures.shape c.workers.ensures.local ∙ ap₂ with_rule six c.workers.ensures.rule in
+    let eight = c.in_ok-arg-7.ensures.shape c.limit.ensures.local ∙ ap₂ with_rule seven c.limit.ensures.rule in
+    let nine = c.in_ok-arg-8.ensures.shape c.memory.ensures.local ∙ ap₂ with_rule eight c.memory.ensures.rule in
+    let ten = c.in_ok-arg-9.ensures.shape c.sizes.ensures.local ∙ ap₂ with_rule nine c.sizes.ensures.rule in
+    let eleven = c.in_ok-command-2.ensures.shape c.print_order.ensures.local ∙ ap₂ with_rule ten c.print_order.ensures.rule in
+    let twelve = c.in_ok-arg-10.ensures.shape c.format.ensures.local ∙ ap₂ with_rule eleven c.format.ensures.rule in
+    let thirteen = c.in_ok-arg-11.ensures.shape c.verbose.ensures.local ∙ ap₂ with_rule twelve c.verbose.ensures.rule in
+    let fourteen = c.in_ok-arg-12.ensures.shape c.first.ensures.local ∙ ap₂ with_rule thirteen c.first.ensures.rule in
+    let fifteen = c.in_ok-command-3.ensures.shape c.second.ensures.local ∙ ap₂ with_rule fourteen c.second.ensures.rule in
+    (c.matching.result.value_parser, c.order.result.value_parser, c.format.result.value_parser, c.matching.ensures.parser, c.order.ensures.parser, c.format.ensures.parser, fifteen)

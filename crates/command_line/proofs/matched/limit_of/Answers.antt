@@ -1,10 +1,10 @@
-use Rattle.std.proofs.Common.{rules, ◌∙◌, arith, codes, List, ℕ, Result}
+use Rattle.std.proofs.Common.{rules, ◌∙◌, codes, List, ℕ, Result}
 use Rattle.std.specs.Str.Parse.{ParsesUnsigned, ExplainsUnsignedError, HasUnsignedDigitsIfOk}
 use Rattle.std.specs.declared.num.ParseIntError.{ParseIntError}
 use Rattle.clap.specs.Words.{found_of, one_of, rows_of}
 use Rattle.clap.proofs.WalkLemmas.{one_text-rows}
 use Rattle.command_line.proofs.Found.{limit_read}
-use Rattle.command_line.proofs.reading.limit_of.Goals as goal
+use Rattle.command_line.proofs.matched.limit_of.Goals as goal
 
 pub returns-clause-number : goal.returns-clause-number
 returns-clause-number c =

@@ -4,7 +4,7 @@ use Rattle.std.specs.declared.num.ParseIntError.{ParseIntError}
 use Rattle.clap.specs.Words.{found_of, one_of, rows_of}
 use Rattle.clap.proofs.WalkLemmas.{one_text-rows}
 use Rattle.command_line.proofs.Found.{number_read}
-use Rattle.command_line.proofs.reading.workers_of.Goals as goal
+use Rattle.command_line.proofs.matched.workers_of.Goals as goal
 
 pub returns-clause-number : goal.returns-clause-number
 returns-clause-number c =

@@ -1,4 +1,4 @@
-use Rattle.std.proofs.Common.{◌≡◌, ℕ, inl, inr, subst, refl}
+use Rattle.std.proofs.Common.{ℕ, Err, ap, inl, inr, subst, refl}
 use Rattle.std.specs.Prelude.{IsSomeAnd}
 use Rattle.clap.specs.Words.{found_of, rows_of}
 use Rattle.command_line.specs.Words.{IsMemory}
@@ -6,18 +6,28 @@ use Rattle.command_line.proofs.reading.read_options.Goals as goal
 
 pub returns-in-Some-clause-refused : goal.returns-in-Some-clause-refused
 returns-in-Some-clause-refused c =
-    inr (inl (rows_of (found_of c.in_ok-matches.matches), c.in_ok-matches.ensures.found, c.in-Some.ensures, c.mistake.ensures))
+    inr (inl (rows_of (found_of c.in_ok-matches.matches), c.in_ok-matches.ensures.found, c.in-Some.ensures, c.conflict.ensures))
 
-pub returns-in-Some-memory_in-clause-options : goal.returns-in-Some-memory_in-clause-options
-returns-in-Some-memory_in-clause-options c =
-    (rows_of (found_of c.in_ok-matches.matches), c.in_ok-matches.ensures.found, c.in_default-odds_in.ensures, c.options_of.ensures)
-
-pub returns-clause-refused : goal.returns-clause-refused
-returns-clause-refused c =
+pub returns-in_default-memory_in-clause-refused : goal.returns-in_default-memory_in-clause-refused
+returns-in_default-memory_in-clause-refused c =
     inr (inr (inl (
       rows_of (found_of c.in_ok-matches.matches),
       c.in_ok-matches.ensures.found,
       c.in_default-odds_in.ensures,
-      subst (λ w. IsSomeAnd w (λ text. (n : ℕ) → IsMemory text n → ⊥)) c.word_of-word.ensures (c.in-None.ensures.none refl),
+      inl (subst (λ w. IsSomeAnd w (λ text. (n : ℕ) → IsMemory text n → ⊥)) c.word_of-word.ensures (c.in_default-memory_in.ensures.none refl)),
       c.bad_memory.ensures,
+    )))
+
+pub returns-in-Ok-picks_in-clause-options : goal.returns-in-Ok-picks_in-clause-options
+returns-in-Ok-picks_in-clause-options c =
+    (rows_of (found_of c.in_ok-matches.matches), c.in_ok-matches.ensures.found, c.in_default-odds_in.ensures, c.options_of.ensures)
+
+pub returns-in-Err-Share-clause-refused : goal.returns-in-Err-Share-clause-refused
+returns-in-Err-Share-clause-refused c =
+    inr (inr (inl (
+      rows_of (found_of c.in_ok-matches.matches),
+      c.in_ok-matches.ensures.found,
+      c.in_default-odds_in.ensures,
+      inr (c.in-Err-Share.ensures.share (ap Err c.in-Err-Share.field-0-is)),
+      c.bad_share.ensures,
     )))

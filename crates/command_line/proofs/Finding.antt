@@ -1,0 +1,87 @@
+-- Orders that are to be found, and what the words do not ask for beside them.
+use Rattle.std.proofs.Common.{◌≡◌, ◌∙◌, ◌⊎◌, inl, inr, refl, sym, subst, Bool, true, false, List, [], ◌∷◌, Option, Some, None, IsTrue}
+use Rattle.std.specs.Prelude.{◌↔◌, IsSomeAnd, codes}
+use Rattle.clap.specs.Words.{Row, Text, first_of}
+use Rattle.command_line.specs.declared.options.OrderChoice.{OrderChoice}
+use Rattle.command_line.specs.declared.options.OrderChoice.TheVariants.{Auto, Cones}
+use Rattle.command_line.specs.declared.options.Picks.{Picks}
+use Rattle.command_line.specs.declared.options.Picks.TheVariants.{All}
+use Rattle.command_line.specs.Words.{IsChoice, IsOrderWhere, IsOrderIn, IsFoundName, GiveTwoOrders, GiveTwoPicks, GiveFound, GiveFoundWith, GivePicksInOrder, GiveIdleMemory, AreAtOdds, ArePicks, are_picked, flag_of, names_in, share_in, unnamed_order}
+
+-- ---- tests
+
+pub passes : {A : Type 0} (b : Bool) → b ≡ true → (IsTrue b ↔ A) → A
+passes b is test = test.0 is
+
+pub fails : {A : Type 0} (b : Bool) → b ≡ false → (IsTrue b ↔ A) → A → ⊥
+fails b is test a =
+    let no : b ≡ true = test.1 a in
+    let bad : false ≡ true = sym is ∙ no in
+    cc
+
+-- nothing is at odds where no test says so
+pub none_at_odds : (rows : List Row) → (GiveTwoOrders rows → ⊥) → (GiveTwoPicks rows → ⊥) → (GiveFoundWith (codes "sizes") rows → ⊥) → (GiveFoundWith (codes "print-order") rows → ⊥)
+    → (GivePicksInOrder rows → ⊥) → (GiveIdleMemory rows → ⊥) → AreAtOdds rows → ⊥
+none_at_odds rows a b c d e f (inl x) = a x
+none_at_odds rows a b c d e f (inr (inl x)) = b x
+none_at_odds rows a b c d e f (inr (inr (inl x))) = c x
+none_at_odds rows a b c d e f (inr (inr (inr (inl x)))) = d x
+none_at_odds rows a b c d e f (inr (inr (inr (inr (inl x))))) = e x
+none_at_odds rows a b c d e f (inr (inr (inr (inr (inr x))))) = f x
+
+-- ---- orders
+
+-- an order is to be found
+abbrev IsFound : OrderChoice → Type 0
+IsFound choice = (choice ≡ Auto) ⊎ (choice ≡ Cones)
+
+-- the words ask for such an order, or it is that of words that name none
+where_found : (picked : Bool) (file word : Option Text) (unnamed choice : OrderChoice) → IsOrderWhere picked file word unnamed choice → IsFound choice
+    → (IsSomeAnd word IsFoundName ⊎ (picked ≡ true)) ⊎ (unnamed ≡ choice)
+where_found true file word unnamed choice is found = inl (inr refl)
+where_found false (Some file) word unnamed choice is (inl auto) = absurd (subst (IsChoice (Some file) word unnamed) auto is)
+where_found false (Some file) word unnamed choice is (inr cones) = absurd (subst (IsChoice (Some file) word unnamed) cones is)
+where_found false None (Some word) unnamed choice is (inl auto) = inl (inl (inl (subst (IsChoice None (Some word) unnamed) auto is)))
+where_found false None (Some word) unnamed choice is (inr cones) = inl (inl (inr (subst (IsChoice None (Some word) unnamed) cones is)))
+where_found false None None unnamed choice is found = inr (sym is)
+
+-- words that name none ask for no sizes and no order in print then
+plain : (limit : Option Text) (sizes print_order : Bool) (choice : OrderChoice) → unnamed_order limit sizes print_order ≡ choice → IsFound choice → (sizes ≡ false) × (print_order ≡ false)
+plain (Some limit) sizes print_order choice is (inl auto) = cc
+plain (Some limit) sizes print_order choice is (inr cones) = cc
+plain None true print_order choice is (inl auto) = cc
+plain None true print_order choice is (inr cones) = cc
+plain None false true choice is (inl auto) = cc
+plain None false true choice is (inr cones) = cc
+plain None false false choice is found = (refl, refl)
+
+unset : (b : Bool) → (b ≡ true → ⊥) → b ≡ false
+unset true never = absurd (never refl)
+unset false never = refl
+
+-- neither sizes nor an order in print are asked for where an order is to be found
+pub no_flags : (rows : List Row) (choice : OrderChoice) → IsOrderIn rows choice → (AreAtOdds rows → ⊥) → (choice ≡ Auto) ⊎ (choice ≡ Cones)
+    → (flag_of (first_of (codes "sizes") rows) ≡ false) × (flag_of (first_of (codes "print-order") rows) ≡ false)
+no_flags rows choice is agreed found =
+    by (where_found (are_picked (names_in rows) (share_in rows)) (first_of (codes "order-file") rows) (first_of (codes "order") rows) _ choice is found)
+  where
+    by : (GiveFound rows ⊎ (unnamed_order (first_of (codes "limit") rows) (flag_of (first_of (codes "sizes") rows)) (flag_of (first_of (codes "print-order") rows)) ≡ choice))
+        → (flag_of (first_of (codes "sizes") rows) ≡ false) × (flag_of (first_of (codes "print-order") rows) ≡ false)
+    by (inl given) = (unset _ (λ e. agreed (inr (inr (inl (given, e))))), unset _ (λ e. agreed (inr (inr (inr (inl (given, e)))))))
+    by (inr unnamed) = plain (first_of (codes "limit") rows) (flag_of (first_of (codes "sizes") rows)) (flag_of (first_of (codes "print-order") rows)) choice unnamed found
+
+-- ---- pairs that are picked
+
+some_picked : (names : List Text) (share : Option Text) (picks : Picks) → ArePicks names share picks → (picks ≡ All → ⊥) → are_picked names share ≡ true
+some_picked (n ∷ ns) share picks are some = refl
+some_picked [] (Some text) picks are some = refl
+some_picked [] None picks are some = absurd (some are)
+
+-- where pairs are picked, the order is that of cones
+pub picked_order : (rows : List Row) (picks : Picks) (choice : OrderChoice) → ArePicks (names_in rows) (share_in rows) picks → IsOrderIn rows choice → (picks ≡ All → ⊥) → choice ≡ Cones
+picked_order rows picks choice are is some = by (are_picked (names_in rows) (share_in rows)) (some_picked (names_in rows) (share_in rows) picks are some) is
+  where
+    by : (picked : Bool) → picked ≡ true → IsOrderWhere picked (first_of (codes "order-file") rows) (first_of (codes "order") rows)
+        (unnamed_order (first_of (codes "limit") rows) (flag_of (first_of (codes "sizes") rows)) (flag_of (first_of (codes "print-order") rows))) choice → choice ≡ Cones
+    by true e o = o
+    by false e o = cc

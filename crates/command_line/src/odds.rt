@@ -1,0 +1,153 @@
+//! Arguments that exclude each other.
+ghost use Rattle.std.specs.Prelude.{◌≡◌, ◌↔◌, ◌⊎◌, true, IsSomeAnd, IsTrue, MatchOption, codes, option_map};
+ghost use Rattle.clap.specs.Words.{found_of, rows_of};
+ghost use Rattle.command_line.specs.declared.options.OrderChoice.{OrderChoice as ChoiceValue};
+ghost use Rattle.command_line.specs.Words.{IsOrderIn, IsChoice, IsFoundName, GiveTwoOrders, GiveTwoPicks, GiveFound, GiveFoundWith, GiveOther, GivePicksInOrder, GiveIdleMemory, AreAtOdds};
+
+use crate::matched::{has_picks, is_asked, is_given, unnamed_in, word_of};
+use crate::options::OrderChoice;
+use clap::ArgMatches;
+
+/// Two arguments that exclude each other, in the parser's words.
+#[derive(Clone, Copy, Drop)]
+pub(crate) struct Odds {
+    pub one: &'static str,
+    pub other: &'static str,
+}
+
+/// Whether the words give an order, and a file of an order.
+fn has_two_orders(matches: &ArgMatches<'_>) -> bool
+    ensures { IsTrue result ↔ GiveTwoOrders (rows_of (found_of matches.now)) }
+{
+    is_given(matches, "order") && is_given(matches, "order-file")
+}
+
+/// Whether the words pick pairs by names, and by a share.
+fn has_two_picks(matches: &ArgMatches<'_>) -> bool
+    ensures { IsTrue result ↔ GiveTwoPicks (rows_of (found_of matches.now)) }
+{
+    is_given(matches, "only") && is_given(matches, "share")
+}
+
+/// Whether a word names an order that is to be found.
+fn is_found(word: Option<&str>) -> bool
+    ensures { IsTrue result ↔ IsSomeAnd (option_map (λ s. s.now) word.entry) IsFoundName }
+{
+    match word {
+        Some("auto") => true,
+        Some("cones") => true,
+        _ => false,
+    }
+}
+
+/// Whether a word names another order.
+fn is_other(word: Option<&str>) -> bool
+    ensures { IsTrue result ↔ IsSomeAnd (option_map (λ s. s.now) word.entry) (λ w. IsFoundName w → ⊥) }
+{
+    match word {
+        Some("auto") => false,
+        Some("cones") => false,
+        Some(_) => true,
+        None => false,
+    }
+}
+
+/// Whether the words give an order that is to be found, or pick pairs.
+fn gives_found(matches: &ArgMatches<'_>) -> bool
+    ensures { IsTrue result ↔ GiveFound (rows_of (found_of matches.now)) }
+{
+    is_found(word_of(matches, "order")) || has_picks(matches)
+}
+
+/// Whether they do, and give this flag.
+fn gives_found_with(matches: &ArgMatches<'_>, flag: &str) -> bool
+    ensures { IsTrue result ↔ GiveFoundWith flag.now (rows_of (found_of matches.now)) }
+{
+    gives_found(matches) && is_asked(matches, flag)
+}
+
+/// Whether the words give a file of an order, or another order by its name.
+fn gives_other(matches: &ArgMatches<'_>) -> bool
+    ensures { IsTrue result ↔ GiveOther (rows_of (found_of matches.now)) }
+{
+    word_of(matches, "order-file").is_some() || is_other(word_of(matches, "order"))
+}
+
+/// Whether the words pick pairs, and give such an order.
+fn picks_in_order(matches: &ArgMatches<'_>) -> bool
+    ensures { IsTrue result ↔ GivePicksInOrder (rows_of (found_of matches.now)) }
+{
+    has_picks(matches) && gives_other(matches)
+}
+
+/// Whether an order is to be found, of a file, a word, and the order where there is neither.
+fn comes_to_found(path: Option<&str>, word: Option<&str>, unnamed: OrderChoice<'_>) -> bool
+    ensures { let choice = IsChoice (option_map (λ s. s.now) path.entry) (option_map (λ s. s.now) word.entry) unnamed.entry in
+        IsTrue result ↔ (choice ChoiceValue.Auto ⊎ choice ChoiceValue.Cones) }
+{
+    match (path, word) {
+        (Some(_), _) => false,
+        (None, Some(word)) => is_found(Some(word)),
+        (None, None) => matches!(unnamed, OrderChoice::Auto | OrderChoice::Cones),
+    }
+}
+
+/// Whether an order is to be found.
+fn is_found_in(matches: &ArgMatches<'_>) -> bool
+    ensures { let choice = IsOrderIn (rows_of (found_of matches.now)) in
+        IsTrue result ↔ (choice ChoiceValue.Auto ⊎ choice ChoiceValue.Cones) }
+{
+    has_picks(matches)
+        || comes_to_found(
+            word_of(matches, "order-file"),
+            word_of(matches, "order"),
+            unnamed_in(matches),
+        )
+}
+
+/// Whether the words give memory to an order that has no use for it.
+fn has_idle_memory(matches: &ArgMatches<'_>) -> bool
+    ensures { IsTrue result ↔ GiveIdleMemory (rows_of (found_of matches.now)) }
+{
+    is_given(matches, "memory") && !is_found_in(matches)
+}
+
+/// The argument that picks pairs.
+fn picking(matches: &ArgMatches<'_>) -> &'static str {
+    if is_given(matches, "only") {
+        "--only <NAME>"
+    } else {
+        "--share <K/N>"
+    }
+}
+
+/// The argument that asks for an order that is to be found.
+fn finding(matches: &ArgMatches<'_>) -> &'static str {
+    match word_of(matches, "order") {
+        Some("auto") => "--order auto",
+        Some("cones") => "--order cones",
+        _ => picking(matches),
+    }
+}
+
+/// The two arguments of the words that exclude each other, where two do.
+pub(crate) fn odds_in(matches: &ArgMatches<'_>) -> Option<Odds>
+    ensures { MatchOption result (AreAtOdds (rows_of (found_of matches.now)) → ⊥) (λ _. AreAtOdds (rows_of (found_of matches.now))) }
+{
+    let (one, other) = if has_two_orders(matches) {
+        ("--order <ORDER>", "'--order-file <F>'")
+    } else if has_two_picks(matches) {
+        ("--only <NAME>", "'--share <K/N>'")
+    } else if gives_found_with(matches, "sizes") {
+        (finding(matches), "'--sizes'")
+    } else if gives_found_with(matches, "print-order") {
+        (finding(matches), "'--print-order'")
+    } else if picks_in_order(matches) {
+        (picking(matches), "an order other than auto and cones")
+    } else if has_idle_memory(matches) {
+        ("--memory <SIZE>", "an order other than auto and cones")
+    } else {
+        return None;
+    };
+    Some(Odds { one, other })
+}
