@@ -2,6 +2,7 @@
 #![tactic(auto)]
 
 mod correspondence;
+mod edge;
 mod force;
 mod hypergraph;
 mod indexed;
