@@ -3,6 +3,7 @@
 
 mod correspondence;
 mod edge;
+mod extended;
 mod force;
 mod hypergraph;
 mod indexed;
@@ -18,5 +19,6 @@ mod ranked;
 mod roots;
 mod side;
 mod trailing;
+pub mod unfit;
 mod variables;
 mod walk;
