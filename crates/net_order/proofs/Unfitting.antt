@@ -109,6 +109,6 @@ pub unfit_none : (sides given : List Sided) (names : List (List ℕ)) (u : Optio
 unfit_none sides given names u is = (
   λ none. fits_from (declared sides given) [] names 1 (all_different (all_names sides given)) (sym is ∙ none),
   λ fit.
-    let fits = fitting (declared sides given) [] names 1 fit in
-    is ∙ none_from (declared sides given) [] names 1 fit (all_there names (declared sides given) (listed_different sides given names fit) fits.known fits.many),
+      let fits = fitting (declared sides given) [] names 1 fit in
+      is ∙ none_from (declared sides given) [] names 1 fit (all_there names (declared sides given) (listed_different sides given names fit) fits.known fits.many),
 )

@@ -119,9 +119,9 @@ unfoldable pub steps_of : List (List ℕ) → List ℕ → ℕ → List ℕ → 
 steps_of edges shares zero places = places
 steps_of edges shares (suc k) places = steps_of edges shares k (step edges shares places)
 
--- There are 40 steps in a round, and fewer for more vertices than 13,100.
+-- There are 40 steps in a round, for more vertices than 13,100 fewer, and from 47,700 on 10.
 unfoldable pub steps_for : ℕ → ℕ
-steps_for count = min 40 (524288 / (count + 1))
+steps_for count = max 10 (min (524288 / (count + 1)) 40)
 
 -- The vertices by rising place behind the steps of a round, those at one place as they stood.
 unfoldable pub round : List (List ℕ) → List ℕ → List ℕ → List ℕ

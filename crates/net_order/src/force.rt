@@ -154,7 +154,10 @@ fn shares_of(alloc: Global, count: usize, edges: &[Edge]) -> Result<Vec<u64>, Al
     ensures { IfOk result (λ v. v.items ≡ shares_of count edges.now) }
 {
     let degrees = degrees_of(alloc, count, edges)?;
-    degrees.iter().map(|degree| share_of(*degree)).collect(alloc)
+    degrees
+        .iter()
+        .map(|degree| share_of(*degree))
+        .collect(alloc)
 }
 
 /// Where a vertex is drawn to: the mean of its edges' centres, and its own place where it has no edges.
@@ -206,12 +209,12 @@ fn do_steps(
     Ok(())
 }
 
-/// How many steps a round has: 40, and fewer for more vertices than 13,100.
+/// How many steps a round has: 40, for more vertices than 13,100 fewer, and from 47,700 on 10.
 #[tactic(auto, unfolding(crate::specs::Force::steps_for))]
 fn steps_for(count: usize) -> usize
     ensures { result ≡ steps_for count }
 {
-    (524_288 / count.saturating_add(1)).min(40)
+    (524_288 / count.saturating_add(1)).clamp(10, 40)
 }
 
 /// One round: the vertices by rising place behind its steps, those at one place as they stood.
