@@ -4,7 +4,6 @@ No code is shared with the product, and nothing here is a decision diagram: a fu
 """
 from __future__ import annotations
 
-import math
 import re
 from dataclasses import dataclass
 
@@ -130,42 +129,36 @@ def index_key(name):
 
 # FORCE: vertices are numbers, the variables first, then the gates; the edge of a gate has its operands and last itself.
 
-PARTS = 360_360
+PARTS, WHOLE = 65_536, 16_777_216
 
 
 def moved(variables, edges, rank):
-    """Where the rounds end. They begin with each gate right behind the last variable below it."""
+    """Where two rounds end. They begin with each gate right behind the last variable below it."""
     by_rank = sorted(range(len(rank)), key=rank.__getitem__)
     last = list(range(variables)) + [0] * len(edges)
     for vertex in by_rank:
         if vertex >= variables:
             last[vertex] = max(last[operand] for operand in edges[vertex - variables][:-1])
-    order = sorted(by_rank, key=last.__getitem__)
-    for _ in range(min(100, 67_108_864 // (len(rank) + 1))):
-        before, order = order, drawn(edges, order)
-        if order == before:
-            break
-    return order
+    return settled(edges, settled(edges, sorted(by_rank, key=last.__getitem__)))
 
 
-def drawn(edges, order):
-    """One round: each vertex goes to the mean of its edges' centres, equal means as they stood; without edges it stays.
+def mean(total, count):
+    """In whole numbers, by a share that is rounded down."""
+    return total * (WHOLE // count) // WHOLE
 
-    Centres are counted in parts of a place, and means in as many parts of that as all degrees divide, so they are exact.
-    """
-    place = {vertex: i for i, vertex in enumerate(order)}
-    centres = [[] for _ in order]
-    for edge in edges:
-        centre = PARTS * sum(place[vertex] for vertex in edge) // len(edge)
-        for vertex in edge:
-            centres[vertex].append(centre)
-    whole = math.lcm(*(max(1, len(drawing)) for drawing in centres))
 
-    def mean(vertex):
-        drawing = centres[vertex] or [PARTS * place[vertex]]
-        return sum(drawing) * (whole // len(drawing))
-
-    return sorted(order, key=mean)
+def settled(edges, order):
+    """One round. In each of its steps each vertex goes to the mean of its edges' centres, and without edges it stays; behind them it
+    stands by its place, equal places as they stood."""
+    place = {vertex: PARTS * i for i, vertex in enumerate(order)}
+    for _ in range(max(10, min(40, 524_288 // (len(order) + 1)))):
+        centres = {vertex: [] for vertex in order}
+        for edge in edges:
+            centre = mean(sum(place[vertex] for vertex in edge), len(edge))
+            for vertex in edge:
+                centres[vertex].append(centre)
+        place |= {vertex: mean(sum(drawing), len(drawing)) for vertex, drawing in centres.items() if drawing}
+    return sorted(order, key=place.__getitem__)
 
 
 def falling(signals, rank):

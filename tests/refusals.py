@@ -83,7 +83,7 @@ def rows(place):
     declared = ["--order", "declared"]
     for workers in (1, 2, 4):
         yield Row(f"c17 by {workers}", [*declared, "--workers", workers, c17, c17b], (EACH, EACH_START, STARTS_FROM))
-    # Attempts, the first of which are given up: interleaved the pair needs 20 nodes, by force 15.
+    # Attempts, the first of which are given up: interleaved the pair needs 20 nodes, by force 14.
     yield Row("auto", [c17, c17b], (EACH,))
     yield Row("auto in a second attempt", ["--order", "auto", "--limit", 18, c17, c17b], (EACH,))
     yield Row("auto given up", ["--order", "auto", "--limit", 12, c17, c17b], (EACH,))

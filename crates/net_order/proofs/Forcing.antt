@@ -1,18 +1,28 @@
--- The rounds of FORCE, and the variables that they leave.
-use Rattle.std.proofs.Common.{◌≡◌, ℕ, zero, suc, get_or, ◌+◌, ◌-◌, ◌<◌, List, [], ◌∷◌, Bool, true, false, refl, sym, ap, ◌∙◌, subst, length, arith, inl, inr, reverse, filter, All}
+-- The steps of FORCE, and the variables that they leave.
+use Rattle.std.proofs.Common.{◌≡◌, ℕ, zero, suc, get_or, ◌+◌, ◌-◌, ◌<◌, List, [], ◌∷◌, ◌++◌, Bool, true, false, refl, sym, ap, ◌∙◌, subst, length, map, arith, add-one, inl, inr, reverse, filter, All}
 use Rattle.std.specs.Prelude.{cond, nat_lt, ◌==◌}
 use Rattle.std.proofs.lemmas.Bool.Decides.{nat_tests}
+use Rattle.std.proofs.lemmas.List.{map-append}
 use Rattle.net_bench.proofs.Numbers.{or_cases}
-use Rattle.net_order.specs.Force.{moved, round, rounds_of}
+use Rattle.net_order.specs.Force.{moved, numbers_below, step, steps_of}
 use Rattle.net_order.specs.Order.{Sided, forced_back, graph_of, is_member}
 use Rattle.net_order.proofs.Members.{all_of, equal_numbers, no_true}
 
--- one more round
-pub rounds_more : (edges : List (List ℕ)) (degrees : List ℕ) (n i : ℕ) (order new : List ℕ) → i < n → new ≡ round edges degrees order → rounds_of edges degrees (n - (i + 1)) new ≡ rounds_of edges degrees (n - i) order
-unfolding rounds_of
-rounds_more edges degrees n i order new low is =
+-- one more step
+pub steps_more : (edges : List (List ℕ)) (shares : List ℕ) (n i : ℕ) (places new : List ℕ) → i < n → new ≡ step edges shares places → steps_of edges shares (n - (i + 1)) new ≡ steps_of edges shares (n - i) places
+unfolding steps_of
+steps_more edges shares n i places new low is =
     let one : suc (n - (i + 1)) ≡ n - i = omega arith in
-    ap (rounds_of edges degrees (n - (i + 1))) is ∙ ap (λ k. rounds_of edges degrees k order) one
+    ap (steps_of edges shares (n - (i + 1))) is ∙ ap (λ k. steps_of edges shares k places) one
+
+-- what a function makes of the numbers below one more
+pub mapped_more : (f : ℕ → ℕ) (n : ℕ) → map f (numbers_below (n + 1)) ≡ map f (numbers_below n) ++ f n ∷ []
+unfolding numbers_below
+mapped_more f n = rw add-one (map-append f (numbers_below n) (n ∷ []))
+
+pub mapped_none : (f : ℕ → ℕ) → map f (numbers_below 0) ≡ []
+unfolding numbers_below
+mapped_none f = refl
 
 either_low : (n v s : ℕ) (b : Bool) (rest : List ℕ) → nat_lt v n ≡ b → (is_member s rest ≡ true → s < n) → is_member s (cond b (v ∷ rest) rest) ≡ true → s < n
 either_low n v s true rest is h e = elim (or_cases (v == s) (is_member s rest) e) [

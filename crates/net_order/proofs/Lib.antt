@@ -16,6 +16,7 @@ pub mod Woven
 pub mod Indexing
 pub mod Forcing
 pub mod Orders
+pub mod Unfitting
 pub mod InputLevels
 pub mod Matching
 pub mod NameTexts

@@ -1,14 +1,14 @@
 -- The names of the variables in each order: they are the same, and as many.
 use Rattle.std.proofs.Common.{◌≡◌, ℕ, zero, suc, ◌+◌, ◌<◌, ◌≤◌, inl, inr, List, [], ◌∷◌, ◌++◌, Bool, true, false, refl, sym, ap, ◌∙◌, subst, length, arith, append_assoc}
-use Rattle.std.specs.Prelude.{cond, ◌&&◌, not, fold, bytes_eq, nat_lt, Option, Some, None}
+use Rattle.std.specs.Prelude.{cond, ◌&&◌, not, filter, fold, bytes_eq, nat_lt, Option, Some, None}
 use Rattle.std.specs.List.{IsDistinct}
 use Rattle.std.proofs.lemmas.List.{append-nil}
 use Rattle.net_bench.specs.Circuit.{is_name_in, with_name, distinct}
 use Rattle.net_bench.proofs.Numbers.{name_itself, in_distinct, or_left, or_right, or_cases, same_name}
 use Rattle.net_order.specs.declared.order.Order.{Order}
-use Rattle.net_order.specs.declared.order.Order.TheVariants.{Declared, Depth, Interleave, Index, Force, Listed}
+use Rattle.net_order.specs.declared.order.Order.TheVariants.{Declared, Depth, Interleave, Index, Force, Listed, Extended}
 use Rattle.std.specs.List.{slice_index_or}
-use Rattle.net_order.specs.Order.{Sided, by_index, forced, forced_back, met, all_names, declared, by_depth, interleaved, woven, numbered, ordered, names_of_sides, bad_place, IsListing, IsFit}
+use Rattle.net_order.specs.Order.{Sided, by_index, extended, forced, forced_back, met, all_names, declared, by_depth, interleaved, woven, numbered, ordered, names_of_sides, bad_place, IsListing, IsFit}
 use Rattle.net_order.specs.Tables.{with_names}
 use Rattle.net_order.proofs.Named.{joined}
 use Rattle.net_order.proofs.AllNames.{known_declared, known_met, known_sides, told_names}
@@ -25,6 +25,18 @@ name_there : (names : List (List ℕ)) (v : ℕ) → v < length names → is_nam
 name_there [] v low = absurd (omega arith)
 name_there (n ∷ names) zero low = or_left (bytes_eq n n) (is_name_in names n) (name_itself n)
 name_there (n ∷ names) (suc v) low = or_right (bytes_eq n (slice_index_or names v [])) (is_name_in names (slice_index_or names v [])) (name_there names v (omega arith))
+
+either_among : (b : Bool) (n : List ℕ) (xs ys : List (List ℕ)) → (b ≡ true → is_name_in ys n ≡ true) → AmongNames xs ys → AmongNames (cond b (n ∷ xs) xs) ys
+either_among true n xs ys here h m e = elim (or_cases (bytes_eq n m) (is_name_in xs m) e) [
+  | inl same ↦ ap (is_name_in ys) (sym (same_name n m same)) ∙ here refl
+  | inr more ↦ h m more
+]
+either_among false n xs ys here h m e = h m e
+
+filter_among : (variables ys names : List (List ℕ)) → AmongNames variables ys → AmongNames (filter (is_name_in variables) names) ys
+filter_among variables ys [] h m e = absurd (no_true e)
+filter_among variables ys (n ∷ names) h m e =
+    either_among (is_name_in variables n) n (filter (is_name_in variables) names) ys (h n) (filter_among variables ys names h) m e
 
 module _ (sides given : List Sided) where
   depth_among : AmongNames (names_of_sides met sides) (all_names sides given)
@@ -80,6 +92,22 @@ module _ (sides given : List Sided) where
   pub forced_all_few : length (forced sides given) ≤ length (declared sides given)
   forced_all_few = whole_few (numbered (by_index sides given) (forced_back (by_index sides given) sides given)) forced_among
 
+  -- those names of a list that are variables
+  known_among : (names : List (List ℕ)) → AmongNames (filter (is_name_in (declared sides given)) names) (all_names sides given)
+  known_among names = filter_among (declared sides given) (all_names sides given) names (λ n e. sym (in_distinct (all_names sides given) n) ∙ e)
+
+  pub known_few : (names : List (List ℕ)) → length (distinct (filter (is_name_in (declared sides given)) names)) ≤ length (declared sides given)
+  known_few names = few_of (filter (is_name_in (declared sides given)) names) (known_among names)
+
+  pub extended_few : (names : List (List ℕ)) → length (extended sides given names) ≤ length (declared sides given)
+  extended_few names = whole_few (filter (is_name_in (declared sides given)) names) (known_among names)
+
+  -- their table, before the others are put behind
+  pub known_made : (empty variables names new : List (List ℕ)) → empty ≡ [] → variables ≡ declared sides given → new ≡ with_names empty (filter (is_name_in variables) names) →
+      new ≡ distinct (filter (is_name_in (declared sides given)) names)
+  known_made empty variables names new is_empty all grown =
+      grown ∙ ap (λ (z : List (List ℕ)). with_names z (filter (is_name_in variables) names)) is_empty ∙ ap (λ (z : List (List ℕ)). with_names [] (filter (is_name_in z) names)) all
+
   -- the table of the order that FORCE gives, before the others are put behind
   pub forced_made : (empty names new : List (List ℕ)) (vs : List ℕ) → empty ≡ [] → names ≡ by_index sides given → vs ≡ forced_back names sides given → new ≡ with_names empty (numbered names vs) →
       new ≡ distinct (numbered (by_index sides given) (forced_back (by_index sides given) sides given))
@@ -100,27 +128,27 @@ module _ (sides given : List Sided) where
 
 -- ---- a list of names that fits
 
-record Fitting (variables before names : List (List ℕ)) : Type 0 where
-  once : fold with_name before names ≡ before ++ names
-  known : AmongNames names variables
-  many : length variables ≤ length (before ++ names)
+pub record Fitting (variables before names : List (List ℕ)) : Type 0 where
+  pub once : fold with_name before names ≡ before ++ names
+  pub known : AmongNames names variables
+  pub many : length variables ≤ length (before ++ names)
 
-not_less : (m n place : ℕ) → cond (nat_lt m n) (Some place) None ≡ None → n ≤ m
+pub not_less : (m n place : ℕ) → cond (nat_lt m n) (Some place) None ≡ None → n ≤ m
 not_less m n place e =
     elim (nat_lt m n) as (λ b. nat_lt m n ≡ b → cond b (Some place) None ≡ None → n ≤ m) [
       | true ↦ λ k f. cc
       | false ↦ λ k f. grind arith
     ] refl e
 
-both_true : (a b : Bool) (x y : Option ℕ) → cond (a && not b) x y ≡ None → ((a && not b) ≡ false → y ≡ None → ⊥) → (a ≡ true) × (b ≡ false) × (x ≡ None)
+pub both_true : (a b : Bool) (x y : Option ℕ) → cond (a && not b) x y ≡ None → ((a && not b) ≡ false → y ≡ None → ⊥) → (a ≡ true) × (b ≡ false) × (x ≡ None)
 both_true true true x y e h = absurd (h refl e)
 both_true true false x y e h = (refl, refl, e)
 both_true false b x y e h = absurd (h refl e)
 
-some_none : (place : ℕ) → Some place ≡ None → ⊥
+pub some_none : (place : ℕ) → Some place ≡ None → ⊥
 some_none place e = cc
 
-fitting : (variables before names : List (List ℕ)) (place : ℕ) → bad_place variables before names place ≡ None → Fitting variables before names
+pub fitting : (variables before names : List (List ℕ)) (place : ℕ) → bad_place variables before names place ≡ None → Fitting variables before names
 fitting variables before [] place e = record {
   once = sym (append-nil before);
   known = λ n k. absurd (no_true k);
@@ -148,7 +176,7 @@ listing_few variables names h =
 -- ---- the names in the order that is asked for
 
 module _ (sides given : List Sided) where
-  listed_different : (names : List (List ℕ)) → IsListing (declared sides given) names → IsDistinct bytes_eq names
+  pub listed_different : (names : List (List ℕ)) → IsListing (declared sides given) names → IsDistinct bytes_eq names
   listed_different names h = subst (IsDistinct bytes_eq) (fitting (declared sides given) [] names 1 h).once (all_different names)
 
   -- no name stands twice
@@ -159,6 +187,7 @@ module _ (sides given : List Sided) where
   ordered_different Index fit = indexed_different sides given
   ordered_different Force fit = all_different (numbered (by_index sides given) (forced_back (by_index sides given) sides given) ++ all_names sides given)
   ordered_different (Listed names) fit = listed_different names fit
+  ordered_different (Extended names) fit = all_different (filter (is_name_in (declared sides given)) names ++ all_names sides given)
 
   -- each of the names is a variable
   pub ordered_known : (order : Order) → IsFit (declared sides given) order → AmongNames (ordered sides given order) (declared sides given)
@@ -173,6 +202,9 @@ module _ (sides given : List Sided) where
       distinct_names (numbered (by_index sides given) (forced_back (by_index sides given) sides given) ++ all_names sides given) (all_names sides given)
       (with_all sides given (numbered (by_index sides given) (forced_back (by_index sides given) sides given)) (forced_among sides given)) n e
   ordered_known (Listed names) fit n e = (fitting (declared sides given) [] names 1 fit).known n e
+  ordered_known (Extended names) fit n e =
+      distinct_names (filter (is_name_in (declared sides given)) names ++ all_names sides given) (all_names sides given)
+      (with_all sides given (filter (is_name_in (declared sides given)) names) (known_among sides given names)) n e
 
   -- each variable is one of the names
   pub ordered_all : (order : Order) → IsFit (declared sides given) order → AmongNames (declared sides given) (ordered sides given order)
@@ -183,6 +215,7 @@ module _ (sides given : List Sided) where
   ordered_all Force fit n e = has_all sides given (numbered (by_index sides given) (forced_back (by_index sides given) sides given)) n e
   ordered_all (Listed names) fit n e =
       all_there names (declared sides given) (listed_different names fit) (ordered_known (Listed names) fit) (fitting (declared sides given) [] names 1 fit).many n e
+  ordered_all (Extended names) fit n e = has_all sides given (filter (is_name_in (declared sides given)) names) n e
 
   -- so they are as many
   pub ordered_count : (order : Order) → IsFit (declared sides given) order → length (ordered sides given order) ≡ length (declared sides given)

@@ -6,10 +6,14 @@ use Rattle.std.proofs.lemmas.Option.{get_or_from_slice_get}
 use Rattle.net_bench.specs.Circuit.{is_name_in, with_name}
 use Rattle.net_order.specs.Order.{bad_place}
 
-head_of : {X : Type 0} (xs : List X) (i : ℕ) (x : X) → i < length xs → x ≡ get_or xs i x → drop i xs ≡ x ∷ drop (i + 1) xs
+pub head_of : {X : Type 0} (xs : List X) (i : ℕ) (x : X) → i < length xs → x ≡ get_or xs i x → drop i xs ≡ x ∷ drop (i + 1) xs
 head_of xs i x h at =
     let more : suc i ≡ i + 1 = omega arith in
     drop-cons xs i x h ∙ ap (λ y. y ∷ drop (suc i) xs) (sym at) ∙ ap (λ k. x ∷ drop k xs) more
+
+-- the name at a place and those behind it
+pub names_from : (list : List (List ℕ)) (i : ℕ) (n : List ℕ) → slice_get list i ≡ Some n → i < length list → drop i list ≡ n ∷ drop (i + 1) list
+names_from list i n named h = head_of list i n h (sym (get_or_from_slice_get list i n n named))
 
 -- ---- lists of names
 
@@ -19,7 +23,7 @@ and_false false = refl
 
 module _ (variables before list : List (List ℕ)) (i : ℕ) (n : List ℕ) (named : slice_get list i ≡ Some n) (h : i < length list) where
   here : bad_place variables before (drop i list) (i + 1) ≡ cond (is_name_in variables n && not (is_name_in before n)) (bad_place variables (before ++ n ∷ []) (drop (i + 1) list) (i + 1 + 1)) (Some (i + 1))
-  here = ap (λ ns. bad_place variables before ns (i + 1)) (head_of list i n h (sym (get_or_from_slice_get list i n n named)))
+  here = ap (λ ns. bad_place variables before ns (i + 1)) (names_from list i n named h)
 
   pub no_variable : is_name_in variables n ≡ false → bad_place variables before (drop i list) (i + 1) ≡ Some (i + 1)
   no_variable none = here ∙ ap (λ v. cond (v && not (is_name_in before n)) (bad_place variables (before ++ n ∷ []) (drop (i + 1) list) (i + 1 + 1)) (Some (i + 1))) none

@@ -60,27 +60,35 @@ lasts variables edges by_rank = fold (λ t v. slice_set t v (last_below variable
 unfoldable pub first_order : ℕ → List (List ℕ) → List ℕ → List ℕ
 first_order variables edges by_rank = rising (slice_index (lasts variables edges by_rank)) by_rank
 
--- ---- one round
+-- ---- one step
 
 -- No sum passes this one.
 abbrev pub most : ℕ
 most = 2 ^ 64 - 1
 
--- Centres are counted in parts of a place, so many to a place that they are whole numbers for edges of up to fifteen vertices.
+-- Places are counted in so many parts of a place.
 abbrev pub parts : ℕ
-parts = 360360
+parts = 65536
 
--- Means are counted in so many parts of that, more than the square of all that vertices have edges: so different means differ.
-abbrev pub finer : ℕ
-finer = 281474976710656
+-- A share is counted in so many parts.
+abbrev pub whole : ℕ
+whole = 16777216
+
+-- The share that each of so many numbers has in their mean.
+abbrev pub share_of : ℕ → ℕ
+share_of count = if count == 0 then 0 else whole / count
+
+-- The mean of numbers that have this sum, each with this share in it.
+abbrev pub mean_of : (sum share : ℕ) → ℕ
+mean_of sum share = min (sum * share) most / whole
 
 -- By vertex, its place in the order.
 unfoldable pub places_of : List ℕ → List ℕ
-places_of order = counted_from 0 (replicate (length order) 0) order
+places_of order = map (λ place. min (place * parts) most) (counted_from 0 (replicate (length order) 0) order)
 
 -- The centre of an edge: the mean of its vertices' places.
 unfoldable pub centre_of : List ℕ → List ℕ → ℕ
-centre_of places edge = min (fold (λ sum v. min (sum + slice_index places v) most) 0 edge * parts) most / max (length edge) 1
+centre_of places edge = mean_of (fold (λ sum v. min (sum + slice_index places v) most) 0 edge) (share_of (length edge))
 
 -- The table with so much more at the places of an edge.
 abbrev pub with_more : ℕ → List ℕ → List ℕ → List ℕ
@@ -94,31 +102,36 @@ totals_of places edges = fold (λ t edge. with_more (centre_of places edge) t ed
 unfoldable pub degrees_of : ℕ → List (List ℕ) → List ℕ
 degrees_of count edges = fold (with_more 1) (replicate count 0) edges
 
+-- By vertex, the share that each of its edges has in its place.
+unfoldable pub shares_of : ℕ → List (List ℕ) → List ℕ
+shares_of count edges = map share_of (degrees_of count edges)
+
 -- Where a vertex is drawn to: the mean of its edges' centres, and its own place where it has no edges.
-abbrev pub mean_of : (total degree place : ℕ) → ℕ
-mean_of total degree place = if degree == 0 then min (place * parts) most * finer else total * finer / degree
+abbrev pub drawn_to : (total share place : ℕ) → ℕ
+drawn_to total share place = if share == 0 then place else mean_of total share
 
 -- By vertex, where it is drawn to.
-unfoldable pub means_of : List (List ℕ) → List ℕ → List ℕ → List ℕ
-means_of edges degrees places = map (λ v. mean_of (slice_index (totals_of places edges) v) (slice_index degrees v) (slice_index places v)) (numbers_below (length places))
+unfoldable pub step : List (List ℕ) → List ℕ → List ℕ → List ℕ
+step edges shares places = map (λ v. drawn_to (slice_index (totals_of places edges) v) (slice_index shares v) (slice_index places v)) (numbers_below (length places))
 
--- Each vertex moves to where it is drawn to, those that are drawn to one place as they stood.
+-- By vertex, where so many steps draw it to.
+unfoldable pub steps_of : List (List ℕ) → List ℕ → ℕ → List ℕ → List ℕ
+steps_of edges shares zero places = places
+steps_of edges shares (suc k) places = steps_of edges shares k (step edges shares places)
+
+-- There are 40 steps in a round, for more vertices than 13,100 fewer, and from 47,700 on 10.
+unfoldable pub steps_for : ℕ → ℕ
+steps_for count = max 10 (min (524288 / (count + 1)) 40)
+
+-- The vertices by rising place behind the steps of a round, those at one place as they stood.
 unfoldable pub round : List (List ℕ) → List ℕ → List ℕ → List ℕ
-round edges degrees order = rising (slice_index (means_of edges degrees (places_of order))) order
+round edges shares order = rising (slice_index (steps_of edges shares (steps_for (length order)) (places_of order))) order
 
--- So many rounds.
-unfoldable pub rounds_of : List (List ℕ) → List ℕ → ℕ → List ℕ → List ℕ
-rounds_of edges degrees zero order = order
-rounds_of edges degrees (suc k) order = rounds_of edges degrees k (round edges degrees order)
-
--- There are 100 rounds, and fewer for more vertices than 671,000.
-unfoldable pub rounds_for : ℕ → ℕ
-rounds_for count = min 100 (67108864 / (count + 1))
-
--- Where the rounds end.
+-- Where two rounds end, which begin with each gate right behind the last variable below it.
 unfoldable pub moved : ℕ → Graph → List ℕ
 moved variables graph =
-    rounds_of graph.edges (degrees_of (length graph.ranks) graph.edges) (rounds_for (length graph.ranks)) (first_order variables graph.edges (rising (slice_index graph.ranks) (numbers_below (length graph.ranks))))
+    let shares = shares_of (length graph.ranks) graph.edges in
+    round graph.edges shares (round graph.edges shares (first_order variables graph.edges (rising (slice_index graph.ranks) (numbers_below (length graph.ranks)))))
 
 -- The variables alone, the last one first.
 abbrev pub variables_back : ℕ → List ℕ → List ℕ

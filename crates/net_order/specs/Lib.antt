@@ -1,6 +1,7 @@
 pub mod Index
 pub mod Force
 pub mod Order
+pub mod Unfit
 pub mod Fault
 pub mod OrderText
 pub mod Tables

@@ -1,5 +1,5 @@
 -- The order of the variables of two netlists.
-use Rattle.std.specs.Prelude.{◌≡◌, ◌<◌, ◌≤◌, ℕ, zero, suc, ◌+◌, ◌==◌, Bool, not, ◌&&◌, if◌then◌else◌, List, [], ◌∷◌, ◌++◌, map, fold, length, flat_map, find, zip, unwrap_or, Option, Some, None, IfSome, nat_lt, nat_le, slice_index, All}
+use Rattle.std.specs.Prelude.{◌≡◌, ◌<◌, ◌≤◌, ℕ, zero, suc, ◌+◌, ◌==◌, Bool, not, ◌&&◌, if◌then◌else◌, List, [], ◌∷◌, ◌++◌, map, filter, fold, length, flat_map, find, zip, unwrap_or, Option, Some, None, IfSome, nat_lt, nat_le, slice_index, All}
 use Rattle.std.specs.List.{list_any, slice_index_or}
 use Rattle.std.specs.Borrow.{Bor}
 use Rattle.net_bench.specs.declared.netlist.GateLine.{GateLine}
@@ -7,7 +7,7 @@ use Rattle.net_bench.specs.Circuit.{Circuit, Net, circuit, is_name_in, distinct,
 use Rattle.net_order.specs.declared.order.Match.{Match}
 use Rattle.net_order.specs.declared.order.Match.TheVariants.{Name, Position}
 use Rattle.net_order.specs.declared.order.Order.{Order}
-use Rattle.net_order.specs.declared.order.Order.TheVariants.{Declared, Depth, Interleave, Index, Force, Listed}
+use Rattle.net_order.specs.declared.order.Order.TheVariants.{Declared, Depth, Interleave, Index, Force, Listed, Extended}
 use Rattle.net_order.specs.declared.order.OrderFault.{OrderFault}
 use Rattle.net_order.specs.declared.order.OrderFault.TheVariants.{CountsDiffer, NotAPermutation, TooManyInputs, OutOfMemory, BadName, TooLong, Read}
 use Rattle.net_order.specs.Force.{Graph, moved, variables_alone, variables_back, with_gates}
@@ -242,6 +242,12 @@ forced_back names sides given = variables_back (length names) (moved (length nam
 abbrev pub forced : List Sided → List Sided → List (List ℕ)
 forced sides given = distinct (numbered (by_index sides given) (forced_back (by_index sides given) sides given) ++ all_names sides given)
 
+-- ---- a list that may have names that are no variables, and may lack variables
+
+-- The names of the list that are variables, each at its first place, then the others as they are declared.
+abbrev pub extended : List Sided → List Sided → List (List ℕ) → List (List ℕ)
+extended sides given names = distinct (filter (is_name_in (declared sides given)) names ++ all_names sides given)
+
 -- ---- the orders
 
 -- The names of the variables in the order that is asked for, from level 0 on.
@@ -252,6 +258,7 @@ ordered sides given Interleave = interleaved sides given
 ordered sides given Index = by_index sides given
 ordered sides given Force = forced sides given
 ordered sides given (Listed names) = names
+ordered sides given (Extended names) = extended sides given names
 
 -- ---- a list of names
 
@@ -339,6 +346,7 @@ IsFit variables Interleave = Unit {0}
 IsFit variables Index = Unit {0}
 IsFit variables Force = Unit {0}
 IsFit variables (Listed names) = IsListing variables names
+IsFit variables (Extended names) = Unit {0}
 
 -- A pairing as its users see it: the variables by level, by signal the level of an input or register of each netlist and of the
 -- condition, and which outputs and which registers are compared.

@@ -1,11 +1,12 @@
 //! Variables moved towards what they are joined with. After Aloul, Markov and Sakallah, "FORCE: a fast and easy-to-implement
 //! variable-ordering heuristic", GLSVLSI 2003.
-ghost use Rattle.std.specs.Prelude.{◌≡◌, ◌<◌, ◌≤◌, All, length, map, slice_index, IfErr, IfOk, OnOk};
+ghost use Rattle.std.specs.Prelude.{◌≡◌, ◌<◌, ◌≤◌, All, length, slice_index, IfErr, IfOk, OnOk};
 ghost use Rattle.net_order.specs.Index.{rising};
-ghost use Rattle.net_order.specs.Force.{centre_of, degrees_of, first_order, greatest_at, last_below, lasts, mean_of, means_of, moved, places_of, round, rounds_for, rounds_of, totals_of, variables_back, with_more};
+ghost use Rattle.net_order.specs.Force.{centre_of, degrees_of, drawn_to, first_order, greatest_at, last_below, lasts, mean_of, moved, places_of, round, shares_of, step, steps_for, steps_of, totals_of, variables_back, with_more};
 ghost use Rattle.net_order.specs.Order.{declared, forced, forced_back, numbered};
 ghost use Rattle.net_order.specs.Tables.{with_names};
 
+use crate::edge::{Edge, WHOLE, share_of};
 use crate::hypergraph::{Graph, count_from, number_at, numbers_below, put};
 use crate::indexed::indexed_table;
 use crate::order::OrderFault;
@@ -14,11 +15,8 @@ use crate::variables::{MAX_VARIABLES, add_all};
 use net_bench::name_table::NameTable;
 use std::alloc::{AllocError, Global};
 
-/// Centres are counted in parts of a place, so many to a place that they are whole numbers for edges of up to fifteen vertices.
-const PARTS: u64 = 360_360;
-
-/// Means are counted in so many parts of that, more than the square of all that vertices have edges: so different means differ.
-const FINER: u128 = 281_474_976_710_656;
+/// Places are counted in so many parts of a place.
+const PARTS: u64 = 65_536;
 
 /// The greatest number at these places of a table.
 fn greatest_at(table: &[u64], places: &[usize]) -> u64
@@ -30,14 +28,14 @@ fn greatest_at(table: &[u64], places: &[usize]) -> u64
 }
 
 /// The last variable below a vertex: a variable is its own.
-fn last_below(variables: usize, edges: &[Vec<usize>], table: &[u64], vertex: usize) -> u64
-    ensures { result ≡ last_below variables (map (λ e. e.items) edges.now) table.now vertex }
+fn last_below(variables: usize, edges: &[Edge], table: &[u64], vertex: usize) -> u64
+    ensures { result ≡ last_below variables edges.now table.now vertex }
 {
     if vertex < variables {
         return vertex as u64;
     }
     match edges.get(vertex - variables) {
-        Some(edge) => greatest_at(table, edge.as_slice()),
+        Some(edge) => greatest_at(table, edge.vertices()),
         None => 0,
     }
 }
@@ -47,10 +45,10 @@ fn last_below(variables: usize, edges: &[Vec<usize>], table: &[u64], vertex: usi
 fn lasts(
     alloc: Global,
     variables: usize,
-    edges: &[Vec<usize>],
+    edges: &[Edge],
     by_rank: &[usize],
 ) -> Result<Vec<u64>, AllocError>
-    ensures { IfOk result (λ v. v.items ≡ lasts variables (map (λ e. e.items) edges.now) by_rank.now) }
+    ensures { IfOk result (λ v. v.items ≡ lasts variables edges.now by_rank.now) }
 {
     let mut table = Vec::from_elem(alloc, 0u64, by_rank.len())?;
     for vertex in by_rank {
@@ -73,10 +71,10 @@ fn sort_by_table(order: &mut Vec<usize>, table: &[u64]) -> Result<(), AllocError
 fn first_order(
     alloc: Global,
     variables: usize,
-    edges: &[Vec<usize>],
+    edges: &[Edge],
     by_rank: Vec<usize>,
 ) -> Result<Vec<usize>, AllocError>
-    ensures { IfOk result (λ v. v.items ≡ first_order variables (map (λ e. e.items) edges.now) by_rank.items) }
+    ensures { IfOk result (λ v. v.items ≡ first_order variables edges.now by_rank.items) }
 {
     let table = lasts(alloc, variables, edges, by_rank.as_slice())?;
     let mut order = by_rank;
@@ -91,18 +89,28 @@ fn places_of(alloc: Global, order: &[usize]) -> Result<Vec<u64>, AllocError>
 {
     let mut places = Vec::from_elem(alloc, 0u64, order.len())?;
     count_from(&mut places, 0, order);
-    Ok(places)
+    places
+        .iter()
+        .map(|place| place.saturating_mul(PARTS))
+        .collect(alloc)
+}
+
+/// The mean of numbers that have this sum, each with this share in it.
+fn mean_of(sum: u64, share: u64) -> u64
+    ensures { result ≡ mean_of sum share }
+{
+    sum.saturating_mul(share) / WHOLE
 }
 
 /// The centre of an edge: the mean of its vertices' places.
 #[tactic(auto, unfolding(crate::specs::Force::centre_of))]
-fn centre_of(places: &[u64], edge: &[usize]) -> u64
+fn centre_of(places: &[u64], edge: &Edge) -> u64
     ensures { result ≡ centre_of places.now edge.now }
 {
-    let sum = edge.iter().fold(0u64, |sum, vertex| {
+    let sum = edge.vertices().iter().fold(0u64, |sum, vertex| {
         sum.saturating_add(number_at(places, *vertex))
     });
-    sum.saturating_mul(PARTS) / (edge.len() as u64).max(1)
+    mean_of(sum, edge.share())
 }
 
 /// Adds so much at the places of an edge.
@@ -117,122 +125,114 @@ fn add_at(table: &mut Vec<u64>, edge: &[usize], amount: u64)
 
 /// By vertex, the sum of the centres of its edges.
 #[tactic(auto, unfolding(crate::specs::Force::totals_of))]
-fn totals_of(alloc: Global, places: &[u64], edges: &[Vec<usize>]) -> Result<Vec<u64>, AllocError>
-    ensures { IfOk result (λ v. v.items ≡ totals_of places.now (map (λ e. e.items) edges.now)) }
+fn totals_of(alloc: Global, places: &[u64], edges: &[Edge]) -> Result<Vec<u64>, AllocError>
+    ensures { IfOk result (λ v. v.items ≡ totals_of places.now edges.now) }
 {
     let mut totals = Vec::from_elem(alloc, 0u64, places.len())?;
     for edge in edges {
-        let centre = centre_of(places, edge.as_slice());
-        add_at(&mut totals, edge.as_slice(), centre);
+        let centre = centre_of(places, edge);
+        add_at(&mut totals, edge.vertices(), centre);
     }
     Ok(totals)
 }
 
 /// By vertex, how many edges it has.
 #[tactic(auto, unfolding(crate::specs::Force::degrees_of))]
-fn degrees_of(alloc: Global, count: usize, edges: &[Vec<usize>]) -> Result<Vec<u64>, AllocError>
-    ensures { IfOk result (λ v. v.items ≡ degrees_of count (map (λ e. e.items) edges.now)) }
+fn degrees_of(alloc: Global, count: usize, edges: &[Edge]) -> Result<Vec<u64>, AllocError>
+    ensures { IfOk result (λ v. v.items ≡ degrees_of count edges.now) }
 {
     let mut degrees = Vec::from_elem(alloc, 0u64, count)?;
     for edge in edges {
-        add_at(&mut degrees, edge.as_slice(), 1);
+        add_at(&mut degrees, edge.vertices(), 1);
     }
     Ok(degrees)
 }
 
-/// Where a vertex is drawn to: the mean of its edges' centres, and its own place where it has no edges.
-fn mean_of(total: u64, degree: u64, place: u64) -> u128
-    ensures { result ≡ mean_of total degree place }
+/// By vertex, the share that each of its edges has in its place.
+#[tactic(auto, unfolding(crate::specs::Force::shares_of))]
+fn shares_of(alloc: Global, count: usize, edges: &[Edge]) -> Result<Vec<u64>, AllocError>
+    ensures { IfOk result (λ v. v.items ≡ shares_of count edges.now) }
 {
-    if degree == 0 {
-        u128::from(place.saturating_mul(PARTS)) * FINER
-    } else {
-        u128::from(total) * FINER / u128::from(degree)
-    }
-}
-
-/// By vertex, where it is drawn to.
-#[tactic(auto, unfolding(crate::specs::Force::means_of))]
-fn means_of(
-    alloc: Global,
-    edges: &[Vec<usize>],
-    degrees: &[u64],
-    places: &[u64],
-) -> Result<Vec<u128>, AllocError>
-    ensures { IfOk result (λ v. v.items ≡ means_of (map (λ e. e.items) edges.now) degrees.now places.now) }
-{
-    let totals = totals_of(alloc, places, edges)?;
-    let totals = totals.as_slice();
-    let vertices = numbers_below(alloc, places.len())?;
-    vertices
+    let degrees = degrees_of(alloc, count, edges)?;
+    degrees
         .iter()
-        .map(|vertex| {
-            mean_of(
-                number_at(totals, *vertex),
-                number_at(degrees, *vertex),
-                number_at(places, *vertex),
-            )
-        })
+        .map(|degree| share_of(*degree))
         .collect(alloc)
 }
 
-/// The mean of a vertex, 0 where it has none.
-fn mean_at(means: &[u128], vertex: usize) -> u128
-    ensures { result ≡ slice_index means.now vertex }
+/// Where a vertex is drawn to: the mean of its edges' centres, and its own place where it has no edges.
+fn drawn_to(total: u64, share: u64, place: u64) -> u64
+    ensures { result ≡ drawn_to total share place }
 {
-    means.get(vertex).copied().unwrap_or(0)
+    if share == 0 {
+        place
+    } else {
+        mean_of(total, share)
+    }
 }
 
-/// Sorts vertices by rising mean, equal means as they stand.
-fn sort_by_means(order: &mut Vec<usize>, means: &[u128]) -> Result<(), AllocError>
-    ensures { OnOk result (order.new.items ≡ rising (slice_index means.now) order.old.items) }
-{
-    order.sort_by_key(|vertex| mean_at(means, *vertex))?;
-    Ok(())
-}
-
-/// One round: each vertex moves to where it is drawn to.
-#[tactic(auto, unfolding(crate::specs::Force::round))]
-fn do_round(
+/// Each vertex is drawn to its edges.
+#[tactic(auto, unfolding(crate::specs::Force::step))]
+fn step(
     alloc: Global,
-    edges: &[Vec<usize>],
-    degrees: &[u64],
-    order: &mut Vec<usize>,
-) -> Result<(), AllocError>
-    ensures { OnOk result (order.new.items ≡ round (map (λ e. e.items) edges.now) degrees.now order.old.items) }
+    edges: &[Edge],
+    shares: &[u64],
+    places: &[u64],
+) -> Result<Vec<u64>, AllocError>
+    ensures { IfOk result (λ v. v.items ≡ step edges.now shares.now places.now) }
 {
-    let places = places_of(alloc, order.as_slice())?;
-    let means = means_of(alloc, edges, degrees, places.as_slice())?;
-    sort_by_means(order, means.as_slice())?;
-    Ok(())
+    let totals = totals_of(alloc, places, edges)?;
+    let totals = totals.as_slice();
+    let mut drawn = Vec::with_capacity(alloc, places.len())?;
+    for vertex in 0..places.len() {
+        let total = number_at(totals, vertex);
+        let share = number_at(shares, vertex);
+        drawn.push(drawn_to(total, share, number_at(places, vertex)))?;
+    }
+    Ok(drawn)
 }
 
-/// So many rounds.
-#[tactic(auto, unfolding(crate::specs::Force::rounds_of))]
-fn do_rounds(
+/// By vertex, where so many steps draw it to.
+#[tactic(auto, unfolding(crate::specs::Force::steps_of))]
+fn do_steps(
     alloc: Global,
-    edges: &[Vec<usize>],
-    degrees: &[u64],
-    rounds: usize,
-    order: &mut Vec<usize>,
+    edges: &[Edge],
+    shares: &[u64],
+    steps: usize,
+    places: &mut Vec<u64>,
 ) -> Result<(), AllocError>
-    ensures { OnOk result (order.new.items ≡ rounds_of (map (λ e. e.items) edges.now) degrees.now rounds order.old.items) }
+    ensures { OnOk result (places.new.items ≡ steps_of edges.now shares.now steps places.old.items) }
 {
-    for _round in 0..rounds {
-        do_round(alloc, edges, degrees, order)?;
+    for _step in 0..steps {
+        *places = step(alloc, edges, shares, places.as_slice())?;
     }
     Ok(())
 }
 
-/// How many rounds there are: 100, and fewer for more vertices than 671,000.
-#[tactic(auto, unfolding(crate::specs::Force::rounds_for))]
-fn rounds_for(count: usize) -> usize
-    ensures { result ≡ rounds_for count }
+/// How many steps a round has: 40, for more vertices than 13,100 fewer, and from 47,700 on 10.
+#[tactic(auto, unfolding(crate::specs::Force::steps_for))]
+fn steps_for(count: usize) -> usize
+    ensures { result ≡ steps_for count }
 {
-    (67_108_864 / count.saturating_add(1)).min(100)
+    (524_288 / count.saturating_add(1)).clamp(10, 40)
 }
 
-/// Where the rounds end.
+/// One round: the vertices by rising place behind its steps, those at one place as they stood.
+#[tactic(auto, unfolding(crate::specs::Force::round))]
+fn do_round(
+    alloc: Global,
+    edges: &[Edge],
+    shares: &[u64],
+    order: &mut Vec<usize>,
+) -> Result<(), AllocError>
+    ensures { OnOk result (order.new.items ≡ round edges.now shares.now order.old.items) }
+{
+    let mut places = places_of(alloc, order.as_slice())?;
+    do_steps(alloc, edges, shares, steps_for(order.len()), &mut places)?;
+    sort_by_table(order, places.as_slice())
+}
+
+/// Where two rounds end, which begin with each gate right behind the last variable below it.
 #[tactic(auto, unfolding(crate::specs::Force::moved))]
 fn moved(alloc: Global, variables: usize, graph: &Graph) -> Result<Vec<usize>, AllocError>
     ensures { IfOk result (λ v. v.items ≡ moved variables graph.now) }
@@ -242,14 +242,9 @@ fn moved(alloc: Global, variables: usize, graph: &Graph) -> Result<Vec<usize>, A
     let mut by_rank = numbers_below(alloc, count)?;
     sort_by_table(&mut by_rank, graph.ranks())?;
     let mut order = first_order(alloc, variables, edges, by_rank)?;
-    let degrees = degrees_of(alloc, count, edges)?;
-    do_rounds(
-        alloc,
-        edges,
-        degrees.as_slice(),
-        rounds_for(count),
-        &mut order,
-    )?;
+    let shares = shares_of(alloc, count, edges)?;
+    do_round(alloc, edges, shares.as_slice(), &mut order)?;
+    do_round(alloc, edges, shares.as_slice(), &mut order)?;
     Ok(order)
 }
 

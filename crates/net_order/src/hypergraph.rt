@@ -4,6 +4,7 @@ ghost use Rattle.net_bench.specs.Circuit.{circuit, variables_of};
 ghost use Rattle.net_order.specs.Force.{counted_from, edge_of, numbers_below, vertices};
 ghost use Rattle.net_order.specs.Order.{graph_of, level_of, named, rank_of, with_side};
 
+use crate::edge::Edge;
 use crate::ranked::rank_at;
 use crate::side::Side;
 use net_bench::name_table::NameTable;
@@ -97,56 +98,47 @@ fn vertices_on(
 }
 
 /// The vertices of a gate's operands, and last its own.
-fn edge_of(alloc: Global, vertices: &[u64], gate: &GateLine) -> Result<Vec<usize>, AllocError>
-    ensures { IfOk result (λ v. v.items ≡ edge_of vertices.now gate.now) }
+fn edge_of(alloc: Global, vertices: &[u64], gate: &GateLine) -> Result<Edge, AllocError>
+    ensures { IfOk result (λ e. e ≡ edge_of vertices.now gate.now) }
 {
     let mut edge = Vec::new(alloc);
     for operand in gate.operands.as_slice() {
         edge.push(number_at(vertices, operand.number() as usize) as usize)?;
     }
     edge.push(number_at(vertices, gate.out.number() as usize) as usize)?;
-    Ok(edge)
+    Ok(Edge::of(edge))
 }
 
 /// Variables and gates as vertices.
 #[derive(Drop)]
 pub struct Graph {
     /// For each gate the vertices of its operands, and its own.
-    edges: Vec<Vec<usize>>,
+    edges: Vec<Edge>,
     /// By vertex.
     ranks: Vec<u64>,
 }
 
 impl Model for Graph {
-    ghost use Rattle.std.specs.Prelude.{map};
     ghost use Rattle.net_order.specs.Force.{Graph};
 
     ghost Value = { Graph };
 
-    ghost view = { λ g. record { edges = map (λ e. e.items) g.edges.items; ranks = g.ranks.items } };
-}
-
-/// Puts an edge at the end.
-fn push_edge(edges: &mut Vec<Vec<usize>>, edge: Vec<usize>) -> Result<(), AllocError>
-    ensures { OnOk result (map (λ e. e.items) edges.new.items ≡ map (λ e. e.items) edges.old.items ++ edge.items ∷ []) }
-{
-    edges.push(edge)?;
-    Ok(())
+    ghost view = { λ g. record { edges = g.edges.items; ranks = g.ranks.items } };
 }
 
 /// Puts an edge for each gate of the netlist at the end.
 fn add_edges(
     alloc: Global,
-    edges: &mut Vec<Vec<usize>>,
+    edges: &mut Vec<Edge>,
     net: &Netlist,
     vertices: &[u64],
 ) -> Result<(), AllocError>
-    ensures { OnOk result (map (λ e. e.items) edges.new.items ≡ map (λ e. e.items) edges.old.items ++ map (edge_of vertices.now) net.now.gates) }
+    ensures { OnOk result (edges.new.items ≡ edges.old.items ++ map (edge_of vertices.now) net.now.gates) }
 {
     let gates = net.gates();
     for gate in gates {
         let edge = edge_of(alloc, vertices, gate)?;
-        push_edge(edges, edge)?;
+        edges.push(edge)?;
     }
     Ok(())
 }
@@ -165,12 +157,12 @@ fn add_ranks(ranks: &mut Vec<u64>, net: &Netlist) -> Result<(), AllocError>
 /// Puts the gates of one more side into a graph, given by its edges and ranks.
 fn add_side(
     alloc: Global,
-    edges: &mut Vec<Vec<usize>>,
+    edges: &mut Vec<Edge>,
     ranks: &mut Vec<u64>,
     names: &NameTable,
     side: &Side<'_>,
 ) -> Result<(), AllocError>
-    ensures { OnOk result (record { edges = map (λ e. e.items) edges.new.items; ranks = ranks.new.items } ≡ with_side names.now (record { edges = map (λ e. e.items) edges.old.items; ranks = ranks.old.items }) side.now) }
+    ensures { OnOk result (record { edges = edges.new.items; ranks = ranks.new.items } ≡ with_side names.now (record { edges = edges.old.items; ranks = ranks.old.items }) side.now) }
 {
     let first = ranks.len();
     if first >= MAX_VERTICES {
@@ -185,12 +177,12 @@ fn add_side(
 /// The same of several.
 fn add_sides(
     alloc: Global,
-    edges: &mut Vec<Vec<usize>>,
+    edges: &mut Vec<Edge>,
     ranks: &mut Vec<u64>,
     names: &NameTable,
     sides: &[Side<'_>],
 ) -> Result<(), AllocError>
-    ensures { OnOk result (record { edges = map (λ e. e.items) edges.new.items; ranks = ranks.new.items } ≡ fold (with_side names.now) (record { edges = map (λ e. e.items) edges.old.items; ranks = ranks.old.items }) sides.now) }
+    ensures { OnOk result (record { edges = edges.new.items; ranks = ranks.new.items } ≡ fold (with_side names.now) (record { edges = edges.old.items; ranks = ranks.old.items }) sides.now) }
 {
     for i in 0..sides.len() {
         let side = &sides[i];
@@ -218,8 +210,8 @@ impl Graph {
     }
 
     /// For each gate the vertices of its operands, and its own.
-    pub fn edges(&self) -> &[Vec<usize>]
-        ensures { map (λ e. e.items) result.now ≡ self.now.edges }
+    pub fn edges(&self) -> &[Edge]
+        ensures { result.now ≡ self.now.edges }
     {
         self.edges.as_slice()
     }

@@ -2,6 +2,8 @@
 #![tactic(auto)]
 
 mod correspondence;
+mod edge;
+mod extended;
 mod force;
 mod hypergraph;
 mod indexed;
@@ -17,5 +19,6 @@ mod ranked;
 mod roots;
 mod side;
 mod trailing;
+pub mod unfit;
 mod variables;
 mod walk;

@@ -35,6 +35,8 @@ pub enum Order {
     Force,
     /// The names of a list, which must have each variable once.
     Listed(Names),
+    /// The names of a list that are variables, each at its first place, then the others as they are declared.
+    Extended(Names),
 }
 
 /// Why two netlists were not paired, or an order file not read.

@@ -5,6 +5,7 @@ ghost use Rattle.net_order.specs.Order.{AreAsMany, AreCounted, IsFit, IsPairing,
 ghost use Rattle.net_order.specs.Tables.{AreLevels, IsUnordered};
 
 use crate::correspondence::{Correspondence, correspond};
+use crate::extended::extended_table;
 use crate::force::forced_table;
 use crate::indexed::indexed_table;
 use crate::interleave::interleaved_table;
@@ -133,7 +134,7 @@ fn are_as_many(how: Match, signals: &[Signal], others: &[Signal]) -> bool
 }
 
 /// By position, whether the numbers of inputs, of outputs and of registers agree.
-fn are_counted(first: &Netlist, second: &Netlist, how: Match) -> bool
+pub(crate) fn are_counted(first: &Netlist, second: &Netlist, how: Match) -> bool
     ensures { IsTrue result ↔ AreCounted how (circuit first.now) (circuit second.now) }
 {
     are_as_many(how, first.inputs(), second.inputs())
@@ -166,6 +167,7 @@ fn ordered_table(
         }
         Order::Force => forced_table(alloc, sides, given, &variables),
         Order::Listed(list) => listed(alloc, &variables, list),
+        Order::Extended(list) => extended_table(alloc, sides, given, &variables, list),
     }
 }
 

@@ -25,7 +25,7 @@ const WORDS: &str =
 const APART: &str =
     "INPUT(x1) INPUT(x3) INPUT(x5) INPUT(x2) INPUT(x4) INPUT(x6) OUTPUT(o) a = AND(x1, x4) b = AND(x2, x5) c = AND(x3, x6) o = OR(a, b, c)";
 
-/// An order that changes with centres or means that are rounded, and with a gate that does not count its first operand.
+/// A gate of three operands, and one that draws at two of them.
 const CLOSE: &str =
     "INPUT(a) INPUT(b) INPUT(c) OUTPUT(w) u = AND(a, b, c) v = AND(u, a) w = AND(a, c)";
 
@@ -94,9 +94,9 @@ fn by_force(rt: HostRuntime) -> Result<(), Fail> {
         (C17, C17, Match::Name, "7 2 6 3 1 "),
         (WORDS, WORDS, Match::Name, "b[2] a[2] b[1] a[1] b[0] a[0] "),
         (APART, APART, Match::Name, "x6 x3 x5 x2 x4 x1 "),
-        (CLOSE, CLOSE, Match::Name, "a b c "),
-        (CLOSE, OTHER, Match::Name, "z x y a c b "),
-        (CLOSE, OTHER, Match::Position, "b a c "),
+        (CLOSE, CLOSE, Match::Name, "b c a "),
+        (CLOSE, OTHER, Match::Name, "z x y b c a "),
+        (CLOSE, OTHER, Match::Position, "b c a "),
         (TOGGLED, HELD, Match::Name, "r q c d "),
         ("", "", Match::Position, ""),
     ];
@@ -129,6 +129,6 @@ fn with_condition(rt: HostRuntime) -> Result<(), Fail> {
         Match::Name,
         &Order::Force,
     )?;
-    assert!(rt; force.as_slice() == b"k b a c ".as_slice());
+    assert!(rt; force.as_slice() == b"k b c a ".as_slice());
     Ok(())
 }

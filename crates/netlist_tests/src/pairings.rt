@@ -7,6 +7,7 @@ use net_bench::reader::{Netlist, parse_bench};
 use net_order::order::{Match, Order, OrderFault};
 use net_order::order_file::{order_text, read_order};
 use net_order::pairing::{Pairing, pair};
+use net_order::unfit::{Misfit, Unfit, unfit_name};
 use std::alloc::Global;
 use std::test::Fail;
 
@@ -53,6 +54,55 @@ fn listed_orders(rt: HostRuntime) -> Result<(), Fail> {
     assert!(rt; apart.as_slice() == b"x1\nx3\nx5\nx2\nx4\nx6\n".as_slice());
     let twice = listed(rt.alloc(), "x1 x2 x1 x3 x4 x5 x6");
     assert!(rt; twice.err() == Some(OrderFault::NotAPermutation { place: 3 }));
+    Ok(())
+}
+
+/// The names of the variables of a text against itself, in the order that the file gives as far as it goes, a line each.
+fn extended(alloc: Global, file: &str) -> Result<Vec<u8>, OrderFault> {
+    let names = read_order(alloc, &mut Through::new(file.as_bytes()))?;
+    let pairing = paired(alloc, PAIRS, PAIRS, Match::Name, &Order::Extended(names))?;
+    Ok(order_text(alloc, pairing.names())?)
+}
+
+#[test]
+fn extended_orders(rt: HostRuntime) -> Result<(), Fail> {
+    let rows = [
+        ("", "x1\nx2\nx3\nx4\nx5\nx6\n"),
+        ("o x5 x7 x2 x5 a", "x5\nx2\nx1\nx3\nx4\nx6\n"),
+        ("x6 x5 x4 x3 x2 x1 x0", "x6\nx5\nx4\nx3\nx2\nx1\n"),
+    ];
+    for (file, names) in rows {
+        let found = extended(rt.alloc(), file)?;
+        assert!(rt; found.as_slice() == names.as_bytes());
+    }
+    Ok(())
+}
+
+/// The first name for which the file is no order of the variables of a text against itself.
+fn unfit(alloc: Global, file: &str) -> Result<Option<Unfit>, OrderFault> {
+    let names = read_order(alloc, &mut Through::new(file.as_bytes()))?;
+    let net = netlist(alloc, PAIRS)?;
+    unfit_name(alloc, &net, &net, None, Match::Name, &names)
+}
+
+#[test]
+fn unfit_names(rt: HostRuntime) -> Result<(), Fail> {
+    let rows = [
+        ("x6 x5 o x5 x9", Misfit::Foreign, "o"),
+        ("x6 x5 x6 x9", Misfit::Repeated, "x6"),
+        ("x6 x2 x1 x5", Misfit::Missing, "x3"),
+        ("", Misfit::Missing, "x1"),
+    ];
+    for (file, why, name) in rows {
+        let found = unfit(rt.alloc(), file)?;
+        let is_told = match &found {
+            Some(unfit) => unfit.why() == why && unfit.name() == name.as_bytes(),
+            None => false,
+        };
+        assert!(rt; is_told);
+    }
+    let fits = unfit(rt.alloc(), "x6 x5 x4 x3 x2 x1")?;
+    assert!(rt; fits.is_none());
     Ok(())
 }
 

@@ -33,6 +33,7 @@ kind_of orders.Interleave = Interleave
 kind_of orders.Index = Index
 kind_of orders.Force = Force
 kind_of (orders.Listed names) = File
+kind_of (orders.Extended names) = File
 
 -- the same as a word
 abbrev pub order_word : OrderKind → List ℕ

@@ -29,7 +29,7 @@ impl OrderKind {
             Order::Interleave => OrderKind::Interleave,
             Order::Index => OrderKind::Index,
             Order::Force => OrderKind::Force,
-            Order::Listed(_) => OrderKind::File,
+            Order::Listed(_) | Order::Extended(_) => OrderKind::File,
         }
     }
 }

@@ -1,0 +1,12 @@
+use Rattle.std.proofs.Common.{ℕ, arith}
+use Rattle.std.specs.Prelude.{slice_index}
+use Rattle.std.proofs.lemmas.Grind.{common_steps}
+use Rattle.net_order.specs.Force.{drawn_to}
+use Rattle.net_order.proofs.Forcing.{mapped_none, mapped_more}
+use Rattle.net_order.proofs.force.step.Goals as goal
+
+pub loop-vertex-init : goal.loop-vertex-init
+loop-vertex-init c = let none = mapped_none in grind (arith, common_steps, none)
+
+pub loop-vertex-preserved : goal.loop-vertex-preserved
+loop-vertex-preserved c = let more = mapped_more in grind (arith, common_steps, more)
