@@ -15,3 +15,4 @@ pub mod Printing
 pub mod Widening
 pub mod Rounds
 pub mod Budgets
+pub mod Dealing
