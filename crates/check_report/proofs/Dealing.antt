@@ -7,13 +7,14 @@ use Rattle.std.proofs.lemmas.Bool.{cases_lt}
 use Rattle.std.proofs.lemmas.Bool.Decides.{nat_tests}
 use Rattle.std.proofs.lemmas.List.{length-append, get_or_append_left}
 use Rattle.std.proofs.Math.Seq.{get_or-append_seam}
-use Rattle.std.proofs.lemmas.List.Elements.{All-cons, All-tail}
+use Rattle.std.proofs.lemmas.List.Elements.{All-cons, All-map, All-tail}
 use Rattle.std.proofs.lemmas.List.Sorted.{All-permutation, length_permutation}
 use Rattle.net_bench.specs.Circuit.{AreOnce, Circuit}
 use Rattle.net_cone.specs.Cones.{HasGates}
 use Rattle.net_order.specs.Force.{numbers_below}
 use Rattle.net_order.specs.Order.{falling, put_by_rank}
 use Rattle.check_report.specs.declared.subject.Subject.{Subject}
+use Rattle.check_report.specs.Comparing.{IsInside}
 use Rattle.check_report.specs.Picking.{ComesBefore, HasWeight}
 
 -- ---- the numbers below a number
@@ -149,6 +150,12 @@ zip_long R (x ∷ xs) (y ∷ ys) all = ap suc (zip_long R xs ys all.1)
 pub map_long : {A B : Type 0} (f : A → B) (xs : List A) → length (map f xs) ≡ length xs
 map_long f [] = refl
 map_long f (x ∷ xs) = ap suc (map_long f xs)
+
+pub inside_first : (a b : Circuit) (ss : List Subject) → All (IsInside a b) ss → All (λ s. s < length a.names) (map (λ (s : Subject). s.first) ss)
+inside_first a b ss all = All-map (λ s. s < length a.names) (λ (s : Subject). s.first) ss (λ i d low. (all i d low).1)
+
+pub inside_second : (a b : Circuit) (ss : List Subject) → All (IsInside a b) ss → All (λ s. s < length b.names) (map (λ (s : Subject). s.second) ss)
+inside_second a b ss all = All-map (λ s. s < length b.names) (λ (s : Subject). s.second) ss (λ i d low. (all i d low).2)
 
 pub weighed : (a b : Circuit) (ss : List Subject) (xs ys zs : List ℕ) → AllZip (HasGates a) (map (λ (s : Subject). s.first) ss) xs → AllZip (HasGates b) (map (λ (s : Subject). s.second) ss) ys →
     length zs ≡ length xs → ((i : ℕ) → i < length xs → slice_index zs i ≡ slice_index xs i + slice_index ys i) → AllZip (HasWeight a b) ss zs

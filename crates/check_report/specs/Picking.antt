@@ -1,7 +1,6 @@
 -- Which pairs are picked: all, those of some names, or those of one share.
-use Rattle.std.specs.Prelude.{◌≡◌, ◌+◌, ◌-◌, ◌<◌, ◌==◌, ◌⊎◌, ℕ, suc, Bool, false, List, [], map, filter, length, zip, Option, Some, None, IsTrue, Contains, if◌then◌else◌, slice_index, bytes_eq, Vec}
+use Rattle.std.specs.Prelude.{◌≡◌, ◌+◌, ◌-◌, ◌/◌, ◌%◌, ◌<◌, ◌==◌, ◌⊎◌, ℕ, suc, Bool, false, List, [], map, filter, length, zip, Option, Some, None, IsTrue, Contains, if◌then◌else◌, slice_index, bytes_eq, Vec}
 use Rattle.std.specs.declared.alloc.Global.{Global}
-use Rattle.std.specs.Math.Nat.{_div, _mod}
 use Rattle.std.specs.List.{AllZip, list_any}
 use Rattle.std.specs.List.Sorted.{IsPermutation}
 use Rattle.net_bench.specs.Circuit.{Circuit}
@@ -48,7 +47,7 @@ ComesBefore weights i j = (slice_index weights j < slice_index weights i) ⊎ ((
 
 -- shares are dealt to and fro: 1, 2 .. n, n .. 2, 1, 1, 2 .., so this one is the share of the pair that so many come before
 abbrev pub dealt : (n turn : ℕ) → ℕ
-dealt n turn = if (turn _div n) _mod 2 == 0 then suc (turn _mod n) else n - (turn _mod n)
+dealt n turn = if turn / n % 2 == 0 then suc (turn % n) else n - turn % n
 
 -- The share of each of these pairs, of so many shares.
 pub record AreShares (a b : Circuit) (pairs : List Subject) (n : ℕ) (shares : List ℕ) : Type 0 where

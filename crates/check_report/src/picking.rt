@@ -1,5 +1,5 @@
 //! Which pairs of outputs and of next states are compared, and which lines there are of what has no partner.
-ghost use Rattle.std.specs.Prelude.{◌≡◌, ◌⊎◌, ◌↔◌, ℕ, ◌<◌, List, true, false, All, Contains, IfErr, IfOk, IsTrue, filter, length, map, zip};
+ghost use Rattle.std.specs.Prelude.{◌≡◌, ◌⊎◌, ◌↔◌, ℕ, ◌<◌, List, true, false, All, Contains, Err, IfErr, IfOk, IsTrue, filter, length, map, zip};
 ghost use Rattle.net_bench.specs.Circuit.{circuit};
 ghost use Rattle.net_order.specs.Order.{name_of, registers_of};
 ghost use Rattle.check_report.specs.declared.picked.Picked.TheVariants.{All as AllPairs, Only as OnlyNamed, Share as InShare};
