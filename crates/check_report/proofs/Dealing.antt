@@ -15,7 +15,7 @@ use Rattle.net_order.specs.Force.{numbers_below}
 use Rattle.net_order.specs.Order.{falling, put_by_rank}
 use Rattle.check_report.specs.declared.subject.Subject.{Subject}
 use Rattle.check_report.specs.Comparing.{IsInside}
-use Rattle.check_report.specs.Picking.{ComesBefore, HasWeight}
+use Rattle.check_report.specs.Picking.{AreShares, ComesBefore, HasWeight}
 
 -- ---- the numbers below a number
 
@@ -170,3 +170,6 @@ weighed a b (s ∷ ss) (x ∷ xs) (y ∷ ys) (z ∷ zs) first second long sums =
   record { first_gates = x; second_gates = y; first = first.0; second = second.0; sum = sums 0 (omega arith) },
   weighed a b ss xs ys zs first.1 second.1 (omega arith) (λ i low. sums (suc i) (omega arith)),
 )
+
+pub shares_long : (a b : Circuit) (pairs : List Subject) (n : ℕ) (shares : List ℕ) → AreShares a b pairs n shares → length shares ≡ length pairs
+shares_long a b pairs n shares are = are.each ∙ zip_long (HasWeight a b) pairs are.weights are.weighed

@@ -16,3 +16,4 @@ pub mod Widening
 pub mod Rounds
 pub mod Budgets
 pub mod Dealing
+pub mod Picks

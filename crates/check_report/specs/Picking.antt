@@ -61,9 +61,13 @@ pub record AreShares (a b : Circuit) (pairs : List Subject) (n : ℕ) (shares : 
 
 -- ---- what is picked
 
+-- A signal of one of these names.
+abbrev pub is_one_of : Circuit → List (List ℕ) → ℕ → Bool
+is_one_of a names s = is_among names (name_of a s)
+
 -- A pair of one of these names.
 abbrev pub is_pair_of : Circuit → List (List ℕ) → Subject → Bool
-is_pair_of a names s = is_among names (name_of a s.named)
+is_pair_of a names s = is_one_of a names s.named
 
 -- What has no partner in the second netlist, of one of these names.
 abbrev pub is_lone_of : List (List ℕ) → Verdict → Bool
