@@ -95,11 +95,11 @@ put_descends : (w : List ℕ) (s : ℕ) (ts : List ℕ) → All (λ t. s < t) ts
 put_descends w s [] low d = (λ i e less. absurd (omega arith), tt)
 put_descends w s (t ∷ ts) low d =
     elim (nat_le (slice_index w t) (slice_index w s)) as
-      (λ b. nat_le (slice_index w t) (slice_index w s) ≡ b → Descends w (cond b (s ∷ t ∷ ts) (t ∷ put_by_rank (slice_index w) s ts))) [
+    (λ b. nat_le (slice_index w t) (slice_index w s) ≡ b → Descends w (cond b (s ∷ t ∷ ts) (t ∷ put_by_rank (slice_index w) s ts))) [
       | true ↦ λ e.
           let high : slice_index w t ≤ slice_index w s = grind (arith, nat_tests) in (
             All-cons (ComesBefore w s) t ts (before_it w s t high (low 0 t (omega arith)))
-            (λ i k less. before_more w s t (get_or ts i k) high (low (suc i) k (omega arith)) (d.0 i k less)),
+                (λ i k less. before_more w s t (get_or ts i k) high (low (suc i) k (omega arith)) (d.0 i k less)),
             d,
           )
       | false ↦ λ e.

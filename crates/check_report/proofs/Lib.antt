@@ -17,3 +17,4 @@ pub mod Rounds
 pub mod Budgets
 pub mod Dealing
 pub mod Picks
+pub mod Shares

@@ -70,7 +70,7 @@ dealt_first k y s rest true is = ap (λ b. map (λ (x : Subject × ℕ). x.0) (c
 dealt_first k y s rest false is = ap (λ b. map (λ (x : Subject × ℕ). x.0) (cond b ((s, y) ∷ filter (λ (x : Subject × ℕ). x.1 == k) rest) (filter (λ (x : Subject × ℕ). x.1 == k) rest))) is
 
 module _ (k : ℕ) (ss : List Subject) (ks : List ℕ) (i : ℕ) (s : Subject) (low : i < length ss) (each : length ks ≡ length ss) (here : s ≡ get_or ss i s) (old new whole : List Subject)
-  (done : old ++ of_share k (zip (drop i ss) (drop i ks)) ≡ whole) where
+    (done : old ++ of_share k (zip (drop i ss) (drop i ks)) ≡ whole) where
   pub share_yes : get_or ks i 0 ≡ k → new ≡ old ++ s ∷ [] → new ++ of_share k (zip (drop (i + 1) ss) (drop (i + 1) ks)) ≡ whole
   share_yes same grown =
       let holds : (get_or ks i 0 == k) ≡ true = grind arith in

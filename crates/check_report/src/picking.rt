@@ -135,8 +135,22 @@ fn named_lone(
     let outputs = named_signals(alloc, net, names, pairing.only_first())?;
     let registers = named_signals(alloc, net, names, pairing.only_first_next())?;
     let mut lone = Vec::new(alloc);
-    add_lone(alloc, &mut lone, Side::First, Role::Output, net, outputs.as_slice())?;
-    add_lone(alloc, &mut lone, Side::First, Role::NextState, net, registers.as_slice())?;
+    add_lone(
+        alloc,
+        &mut lone,
+        Side::First,
+        Role::Output,
+        net,
+        outputs.as_slice(),
+    )?;
+    add_lone(
+        alloc,
+        &mut lone,
+        Side::First,
+        Role::NextState,
+        net,
+        registers.as_slice(),
+    )?;
     Ok(lone)
 }
 
@@ -230,11 +244,7 @@ fn named<H>(
 }
 
 /// All pairs, and all that has no partner.
-fn whole<H>(
-    task: &Task<'_, H>,
-    pairing: &Pairing,
-    pairs: Vec<Subject>,
-) -> Result<Picks, AllocError>
+fn whole<H>(task: &Task<'_, H>, pairing: &Pairing, pairs: Vec<Subject>) -> Result<Picks, AllocError>
     requires signals { AreSignals (circuit task.now.first.now) (circuit task.now.second.now) pairing.now }
     requires all { pairs.items ≡ subjects (circuit task.now.first.now) (circuit task.now.second.now) pairing.now }
     ensures { IfOk result (λ r. ArePicked (circuit task.now.first.now) (circuit task.now.second.now) pairing.now AllPairs r.subjects.items r.lone.items) }

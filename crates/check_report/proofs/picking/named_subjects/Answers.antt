@@ -14,7 +14,7 @@ loop-place-preserved c =
     let x = c.index-subjects-place.result in
     let low : c.loop-place.place < length c.args.subjects.now = c.loop-place-test.true in
     let is : p x ≡ c.is_among.result =
-        ap (is_among c.args.names.now) (get_or_from_slice_get c.args.net.now.names x.named c.name.result.now [] c.name.ensures.value) ∙ sym c.is_among.ensures in
+    ap (is_among c.args.names.now) (get_or_from_slice_get c.args.net.now.names x.named c.name.result.now [] c.name.ensures.value) ∙ sym c.is_among.ensures in
     elim c.if-is_among.branch [
       | then-is_among+in_ok-push w ↦
           filtered_yes p c.args.subjects.now c.loop-place.place x c.loop-place.picked.items _ low c.index-subjects-place.is (is ∙ w.if-is_among.true) c.loop-place.invariant
