@@ -188,6 +188,6 @@ pub fn decide<H: Threads + Wait + Sync, G: Gate>(
     match &task.settings.order {
         Choice::One(order) => by_order(task, order, gate),
         Choice::Best => by_best(task, gate),
-        Choice::Auto | Choice::Cones => by_auto(task, gate),
+        Choice::Auto => by_auto(task, gate),
     }
 }

@@ -161,7 +161,7 @@ fn text_for<H: Threads + Wait + Sync, G: Gate>(
     match &task.settings.order {
         Choice::One(order) => given_text(task, order),
         Choice::Best => best_text(task, gate),
-        Choice::Auto | Choice::Cones => auto_text(task),
+        Choice::Auto => auto_text(task),
     }
 }
 
