@@ -180,13 +180,13 @@ fn pairs_in(
     requires { length shares.now ≡ length subjects.now }
     ensures { IfOk result (λ v. v.items ≡ of_share share (zip subjects.now shares.now)) }
 {
-    let mut picked = Vec::new(alloc);
+    let mut pairs = Vec::new(alloc);
     for place in 0..subjects.len() {
         if shares[place] == share {
-            picked.push(subjects[place])?;
+            pairs.push(subjects[place])?;
         }
     }
-    Ok(picked)
+    Ok(pairs)
 }
 
 /// The lines of all that has no partner, where it is the first share.

@@ -13,10 +13,10 @@ loop-place-preserved c =
     elim c.if-shares-place.branch [
       | then-shares-place+in_ok-push w ↦
           let same : get_or c.args.shares.now c.loop-place.place 0 ≡ c.args.share = omega arith in
-          share_yes c.args.share c.args.subjects.now c.args.shares.now c.loop-place.place w.index-subjects-place.result low c.requires w.index-subjects-place.is c.loop-place.picked.items _ _ c.loop-place.invariant
-          same (ap (λ (v : Vec Subject Global). v.items) w.picked-is ∙ w.in_ok-push.ensures.items)
+          share_yes c.args.share c.args.subjects.now c.args.shares.now c.loop-place.place w.index-subjects-place.result low c.requires w.index-subjects-place.is c.loop-place.pairs.items _ _ c.loop-place.invariant
+          same (ap (λ (v : Vec Subject Global). v.items) w.pairs-is ∙ w.in_ok-push.ensures.items)
       | else-shares-place w ↦
           let s = get_or c.args.subjects.now c.loop-place.place (record { role = Output; named = 0; first = 0; second = 0 }) in
-          share_no c.args.share c.args.subjects.now c.args.shares.now c.loop-place.place s low c.requires (any_default c.args.subjects.now c.loop-place.place _ s low) c.loop-place.picked.items _ _ c.loop-place.invariant
-          (λ same. omega arith) (ap (λ (v : Vec Subject Global). v.items) w.picked-is)
+          share_no c.args.share c.args.subjects.now c.args.shares.now c.loop-place.place s low c.requires (any_default c.args.subjects.now c.loop-place.place _ s low) c.loop-place.pairs.items _ _ c.loop-place.invariant
+          (λ same. omega arith) (ap (λ (v : Vec Subject Global). v.items) w.pairs-is)
     ]
