@@ -1,5 +1,5 @@
 -- Pairs and lines that are picked by names, and those of a share.
-use Rattle.std.proofs.Common.{◌≡◌, ◌∙◌, ℕ, zero, suc, ◌+◌, ◌<◌, List, [], ◌∷◌, ◌++◌, Bool, true, false, refl, sym, ap, subst, map, length, get_or, take, drop, append_assoc, arith, Vec, All}
+use Rattle.std.proofs.Common.{◌≡◌, ◌∙◌, ℕ, suc, ◌+◌, ◌<◌, List, [], ◌∷◌, ◌++◌, Bool, true, false, refl, sym, ap, subst, map, length, get_or, take, drop, append_assoc, arith, Vec}
 use Rattle.std.specs.Prelude.{cond, ◌||◌, ◌==◌, Contains, filter, zip}
 use Rattle.std.specs.declared.alloc.Global.{Global}
 use Rattle.std.specs.List.{list_any}
@@ -16,7 +16,7 @@ use Rattle.report_text.specs.declared.verdict.Verdict.{Verdict}
 use Rattle.report_text.specs.declared.verdict.Verdict.TheVariants.{Lone}
 use Rattle.check_report.specs.declared.picked.Picked.TheVariants.{All as Whole, Only, Share as InShare}
 use Rattle.check_report.specs.declared.subject.Subject.{Subject}
-use Rattle.check_report.specs.Picking.{ArePicked, AreShares, IsNamedIn, is_among, is_lone_of, is_one_of, is_pair_of, of_share}
+use Rattle.check_report.specs.Picking.{ArePicked, AreShares, IsNamedIn, is_lone_of, is_one_of, is_pair_of, of_share}
 use Rattle.check_report.specs.Picking.ArePicked.{all, named, shared}
 use Rattle.check_report.specs.Report.{lone_side, lone_verdicts, subjects}
 

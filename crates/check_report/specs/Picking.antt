@@ -7,9 +7,8 @@ use Rattle.net_bench.specs.Circuit.{Circuit}
 use Rattle.net_cone.specs.Cones.{HasGates}
 use Rattle.net_order.specs.Force.{numbers_below}
 use Rattle.net_order.specs.Order.{Paired, name_of, registers_of}
-use Rattle.report_text.specs.declared.outcome.Role.TheVariants.{Output, NextState}
 use Rattle.report_text.specs.declared.outcome.Share.{Share}
-use Rattle.report_text.specs.declared.outcome.Side.TheVariants.{First, Second}
+use Rattle.report_text.specs.declared.outcome.Side.TheVariants.{First}
 use Rattle.report_text.specs.declared.verdict.Verdict.{Verdict}
 use Rattle.report_text.specs.declared.verdict.Verdict.TheVariants.{Equal, Differs, Lone, Undecided}
 use Rattle.check_report.specs.declared.picked.Picked.{Picked}

@@ -1,4 +1,4 @@
-use Rattle.std.proofs.Common.{◌∙◌, ◌<◌, [], length, subst, arith}
+use Rattle.std.proofs.Common.{◌∙◌, ◌<◌, [], subst, arith}
 use Rattle.std.proofs.lemmas.List.{get_or_default}
 use Rattle.net_bench.specs.Circuit.{circuit}
 use Rattle.check_report.specs.Picking.{IsNamedIn}

@@ -1,4 +1,4 @@
-use Rattle.std.proofs.Common.{◌≡◌, ◌∙◌, ◌<◌, All, ap, length, subst, sym}
+use Rattle.std.proofs.Common.{◌∙◌, ◌<◌, All, ap, length, subst, sym}
 use Rattle.std.specs.Prelude.{filter}
 use Rattle.std.proofs.lemmas.List.Elements.{All-filter}
 use Rattle.net_bench.specs.Circuit.{circuit}

@@ -1,4 +1,4 @@
-use Rattle.std.proofs.Common.{◌≡◌, ◌∙◌, ◌<◌, All, List, ℕ, ap, length, map, subst, sym}
+use Rattle.std.proofs.Common.{◌∙◌, ◌<◌, All, List, ℕ, ap, length, map, subst, sym}
 use Rattle.std.specs.List.{AllZip}
 use Rattle.net_bench.specs.Circuit.{circuit}
 use Rattle.net_cone.specs.Cones.{HasGates}
