@@ -15,3 +15,6 @@ pub mod Printing
 pub mod Widening
 pub mod Rounds
 pub mod Budgets
+pub mod Dealing
+pub mod Picks
+pub mod Shares

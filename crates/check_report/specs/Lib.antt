@@ -11,3 +11,6 @@ pub mod Best
 pub mod Trials
 pub mod Texts
 pub mod Listing
+pub mod Cones
+pub mod Picking
+pub mod Deciding

@@ -14,9 +14,11 @@ mod judging;
 pub mod laws;
 mod listing;
 mod picked;
+mod picking;
 mod reading;
 mod report;
 mod settings;
+mod sharing;
 mod subject;
 mod task;
 mod telling;
@@ -26,9 +28,9 @@ pub use choice::{Attempt, Candidate, Choice};
 pub use fault::CheckFault;
 pub use judging::{check, judge};
 pub use listing::print_order;
+pub use picked::Picked;
 pub use report_text::{
     Bits, Name, Outcome, Role, Share, Side, Verdict, Verdicts, json_of, report_of, write_whole,
 };
-pub use picked::Picked;
 pub use settings::Settings;
 pub use task::Context;
