@@ -3,8 +3,8 @@ ghost use Rattle.std.specs.Prelude.{◌≡◌, ◌≢◌, ◌<◌, length, map, 
 ghost use Rattle.req_table.specs.Keys.{IsKey};
 ghost use Rattle.req_table.specs.Settled.{key_of};
 ghost use Rattle.expand_work.specs.declared.part.Part.{Part as PartValue};
-ghost use Rattle.expand_work.specs.Expanded.{AreByNumber, row_of};
-ghost use Rattle.expand_work.specs.Gathered.{AreParts, AreSettled, AreSettledBy, HavePut, noted_of};
+ghost use Rattle.expand_work.specs.Expanded.{row_of};
+ghost use Rattle.expand_work.specs.Gathered.{AreParts, AreSettled, noted_of};
 ghost use Rattle.expand_work.specs.Lean.{lean_row};
 
 use crate::team::{Wave, run_workers};
@@ -19,10 +19,11 @@ use std::snapshot::Snapshot;
 use std::sync::Wait;
 use std::thread::Threads;
 
-/// What each worker of a wave was asked for, and where it put what each other asked of it.
+/// What each worker of a wave was asked for, where it put what each other asked of it, and its port.
 #[derive(Drop)]
 pub struct Parts {
     spaces: Vec<Space>,
+    ports: Vec<Port>,
     store: Snapshot<Store>,
 }
 
@@ -34,7 +35,7 @@ impl Model for Parts {
 
     ghost Value = { PartsView };
 
-    ghost view = { λ p. record { rows = map (records_in p.store.value) p.spaces.items; noted = map noted_in p.spaces.items } };
+    ghost view = { λ p. record { rows = map (records_in p.store.value) p.spaces.items; noted = map noted_in p.spaces.items; ports = p.ports.items } };
 
     ghost invariant = { λ p. AreLean (map (records_in p.store.value) p.spaces.items) (map rows_in p.spaces.items) };
 }
@@ -77,6 +78,13 @@ impl Parts {
         total
     }
 
+    /// The ports by worker. They go with no lanes any more, and only tell what was sent and taken.
+    pub fn into_ports(self) -> Vec<Port>
+        ensures { result.items ≡ self.ports }
+    {
+        self.ports
+    }
+
     /// The memory of the workers, for the next wave.
     pub fn into_spaces(self) -> Spaces {
         Spaces::of(self.spaces)
@@ -117,25 +125,6 @@ pub fn expand_parts<R: Threads + Wait + Sync, G: Gate>(
     ensures fault { IfErr result (λ f. f ≢ WaveFault.Full) }
     ensures unbounded { IfErr result (λ f. f ≢ WaveFault.TooManyRequests) }
 {
-    let (parts, _) = expand_with_ports(crew, store, roots, spaces)?;
-    Ok(parts)
-}
-
-/// The same, and the ports by worker. They go with no lanes any more, and only tell what was sent and taken.
-pub fn expand_with_ports<R: Threads + Wait + Sync, G: Gate>(
-    crew: &Crew<'_, R, G>,
-    store: &Store,
-    roots: &[Key],
-    spaces: &mut Spaces,
-) -> Result<(Parts, Vec<Port>), WaveFault>
-    requires roots { All (IsKey store.now) roots.now }
-    ensures parts { IfOk result (λ r. AreParts store.now crew.now.workers.count roots.now r.0) }
-    ensures ports { IfOk result (λ r. AreByNumber crew.now.workers.count r.1.items) }
-    ensures settled { IfOk result (λ r. AreSettledBy r.1.items store.now crew.now.workers.count roots.now r.0) }
-    ensures put { IfOk result (λ r. HavePut r.1.items store.now crew.now.workers.count) }
-    ensures fault { IfErr result (λ f. f ≢ WaveFault.Full) }
-    ensures unbounded { IfErr result (λ f. f ≢ WaveFault.TooManyRequests) }
-{
     let _ = store.levels();
     let alloc = crew.alloc;
     let workers = crew.workers.count();
@@ -150,9 +139,9 @@ pub fn expand_with_ports<R: Threads + Wait + Sync, G: Gate>(
     let parts = run_workers(crew.rt, wave, ports, used, crew.gate)?;
     let (ports, filled) = split_parts(alloc, parts)?;
     let settled = lanes.settle(crew.rt, ports)?;
-    let parts = Parts {
+    Ok(Parts {
         spaces: filled,
+        ports: settled.ports,
         store: Snapshot::of(store),
-    };
-    Ok((parts, settled.ports))
+    })
 }
