@@ -28,7 +28,7 @@ use Rattle.expand_work.specs.declared.part.Part.{Part}
 use Rattle.expand_work.specs.Parts.{IsPart, sum_below, bundles_of, loads_of}
 use Rattle.expand_work.specs.Worked.{IsFresh, IsWorked}
 use Rattle.expand_work.specs.Team.{AreNew, AreWorked}
-use Rattle.expand_work.specs.Expanded.{AreByNumber, put_by, bundles_between, row_of}
+use Rattle.expand_work.specs.Expanded.{put_by, bundles_between, row_of}
 use Rattle.expand_work.specs.Gathered.{AreParts, AreSettled, AreOpen, noted_of}
 use Rattle.expand_work.specs.Work.{at}
 use Rattle.expand_work.specs.Lean.{lean_row, records_of, recorded, AreLean}

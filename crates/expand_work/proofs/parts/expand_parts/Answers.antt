@@ -34,7 +34,7 @@ returns-clause-settled g c =
     c.count-workers.result c.in_ok-lanes.ensures.lanes.0 (map (records_in c.of.result.value) c.in_ok-ports.filled.items) (map noted_in c.in_ok-ports.filled.items)
     (ap (λ (z : Nodes). map (records_in z) c.in_ok-ports.filled.items) c.of.ensures ∙ records_as c.args.store.now c.in_ok-parts.parts.items c.in_ok-ports.filled.items c.in_ok-ports.ensures.spaces))
 
-pub invariant_of-parts : goal.invariant_of-parts
-invariant_of-parts g c =
+pub invariant_of-result : goal.invariant_of-result
+invariant_of-result g c =
     subst (λ (z : Nodes). AreLean (map (records_in z) c.in_ok-ports.filled.items) (map rows_in c.in_ok-ports.filled.items)) (sym c.of.ensures)
     (parts_lean c.args.store.now c.in_ok-lanes.lanes c.args.roots.now c.in_ok-parts.parts.items c.in_ok-parts.ensures.parts c.in_ok-ports.filled.items c.in_ok-ports.ensures.spaces)
