@@ -74,7 +74,7 @@ sum_front : (n : ℕ) (f : ℕ → ℕ) → sum_below (suc n) f ≡ f 0 + sum_be
 sum_front zero f = omega arith
 sum_front (suc n) f = let a = sum_front n f in omega (arith, a)
 
-sum_by_below : {A : Type 0} (f : A → ℕ) (xs : List A) (g : ℕ → ℕ) → ((i : ℕ) (d : A) → i < length xs → f (slice_index_or xs i d) ≡ g i) → sum_by f xs ≡ sum_below (length xs) g
+pub sum_by_below : {A : Type 0} (f : A → ℕ) (xs : List A) (g : ℕ → ℕ) → ((i : ℕ) (d : A) → i < length xs → f (slice_index_or xs i d) ≡ g i) → sum_by f xs ≡ sum_below (length xs) g
 sum_by_below f [] g h = refl
 sum_by_below f (x ∷ xs) g h =
     let a = h 0 x (omega arith) in
@@ -97,8 +97,7 @@ open_from : (c : Scope) (before items : List Item) → ((s : ℕ) → s < c.work
 open_from c before [] fair senders = tt
 open_from c before (i ∷ items) fair senders =
     let lt : from_of i < c.workers = All-head (λ j. from_of j < c.workers) i items senders in
-    let one : before ++ i ∷ items ≡ (before ++ i ∷ []) ++ items = sym (append_assoc before (i ∷ []) items) in
-    (
+    let one : before ++ i ∷ items ≡ (before ++ i ∷ []) ++ items = sym (append_assoc before (i ∷ []) items) in (
       item-open c i before (sent_by (from_of i) (before ++ i ∷ items)) lt (fair (from_of i) lt) (sent_by (from_of i) items, ap (sent_by (from_of i)) one ∙ sent_by-append (from_of i) (before ++ i ∷ []) items),
       open_from c (before ++ i ∷ []) items (λ s sb. subst (λ (xs : List Item). IsFair c (sent_by s xs)) one (fair s sb)) (All-tail (λ j. from_of j < c.workers) i items senders),
     )

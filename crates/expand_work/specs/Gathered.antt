@@ -1,10 +1,12 @@
 -- What the workers of a wave end with, each for itself.
-use Rattle.std.specs.Prelude.{◌≡◌, ℕ, ◌+◌, ◌*◌, ◌<◌, List, [], ◌∷◌, ◌++◌, length, map, slice_get, slice_index_or, Some}
-use Rattle.std.specs.List.{AllZip}
+use Rattle.std.specs.Prelude.{◌≡◌, ℕ, ◌+◌, ◌*◌, ◌%◌, ◌^◌, ◌<◌, Contains, List, [], ◌∷◌, ◌++◌, length, map, slice_get, slice_index_or, Some}
+use Rattle.std.specs.List.{AllZip, sum_by}
+use Rattle.slot_table.specs.Lists.{IsOnce}
 use Rattle.dd_store.specs.Nodes.{Nodes}
 use Rattle.req_table.specs.declared.Key.{Key}
 use Rattle.req_table.specs.declared.Record.{Record}
 use Rattle.req_table.specs.Keys.{level_of, wave_of}
+use Rattle.req_table.specs.Reached.{IsReached}
 use Rattle.req_table.specs.Settled.{IsClosure, IsSettled, key_of, level_of_rows, owed}
 use Rattle.req_table.specs.declared.Item.{Item}
 use Rattle.req_table.specs.Wave.{Scope}
@@ -45,3 +47,15 @@ pub record AreSettled (S : Nodes) (workers : ℕ) (roots : List Key) (p : PartsV
   pub settled : IsSettled (wave_of S workers) roots (λ s k. sent_from p.ports k s) (taken_by p.ports) (row_of p.rows)
   pub open_levels : (k : ℕ) → k < workers → AreOpen (wave_of S workers).scope [] (taken_by p.ports k)
   pub put : put_by p.ports ≡ bundles_between workers S.levels (sent_from p.ports) + workers * (workers * S.levels)
+
+-- how many records there are, of all workers and levels
+abbrev pub count_in : List (List (List Record)) → ℕ
+count_in rows = sum_by (λ levels. sum_by (λ row. length row) levels) rows
+
+-- Between two counts modulo 2^64 exactly the requests that the roots ask for were expanded, each once.
+pub record HaveExpanded (S : Nodes) (workers : ℕ) (roots : List Key) (before after : ℕ) : Type 0 where
+  pub requests : List Key
+  pub once : IsOnce requests
+  pub reached : (x : Key) → Contains requests x → IsReached (wave_of S workers) roots x
+  pub all : (x : Key) → IsReached (wave_of S workers) roots x → Contains requests x
+  pub count : after % 2 ^ 64 ≡ (before + length requests) % 2 ^ 64

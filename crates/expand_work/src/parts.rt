@@ -1,10 +1,10 @@
 //! All requests that the roots of a wave ask for, as the workers in threads recorded them: nothing is put together.
-ghost use Rattle.std.specs.Prelude.{◌≡◌, ◌≢◌, ◌<◌, length, map, slice_index_or, All, IfOk, IfErr, []};
+ghost use Rattle.std.specs.Prelude.{◌≡◌, ◌≢◌, ◌<◌, ◌%◌, ◌^◌, length, map, slice_index_or, All, IfOk, IfErr, OnOk, []};
 ghost use Rattle.req_table.specs.Keys.{IsKey};
 ghost use Rattle.req_table.specs.Settled.{key_of};
 ghost use Rattle.expand_work.specs.declared.part.Part.{Part as PartValue};
 ghost use Rattle.expand_work.specs.Expanded.{row_of};
-ghost use Rattle.expand_work.specs.Gathered.{AreParts, AreSettled, noted_of};
+ghost use Rattle.expand_work.specs.Gathered.{AreParts, AreSettled, HaveExpanded, count_in, noted_of};
 ghost use Rattle.expand_work.specs.Lean.{lean_row};
 
 use crate::team::{Wave, run_workers};
@@ -14,7 +14,6 @@ use lane_queue::{Lanes, Port};
 use req_table::{Key, Placed};
 use std::alloc::{AllocError, Global};
 use std::marker::Model;
-use std::mem;
 use std::snapshot::Snapshot;
 use std::sync::Wait;
 use std::thread::Threads;
@@ -69,11 +68,13 @@ impl Parts {
         self.spaces[worker as usize].tables.keys(level)
     }
 
-    /// How many requests there are, or as many as can be counted. It tells large waves from small ones, and no clause speaks of it.
-    pub fn count(&self) -> usize {
-        let mut total: usize = 0;
+    /// How many requests there are, modulo 2^64. It tells large waves from small ones, too.
+    pub fn count(&self) -> u64
+        ensures { result ≡ count_in self.now.rows % 2 ^ 64 }
+    {
+        let mut total: u64 = 0;
         for space in &self.spaces {
-            total = total.saturating_add(space.rows.count());
+            total = total.wrapping_add(space.rows.count());
         }
         total
     }
@@ -85,9 +86,11 @@ impl Parts {
         self.ports
     }
 
-    /// The memory of the workers, for the next wave.
-    pub fn into_spaces(self) -> Spaces {
-        Spaces::of(self.spaces)
+    /// Leaves the memory of the workers for the next wave.
+    pub fn give_back(self, spaces: &mut Spaces)
+        ensures { spaces.new ≡ spaces.old }
+    {
+        spaces.refill(self.spaces);
     }
 }
 
@@ -109,7 +112,8 @@ fn split_parts(alloc: Global, parts: Vec<Part>) -> Result<(Vec<Port>, Vec<Space>
 /// All requests that the roots ask for, directly or through children, each recorded once, by its owner. Each of the 1 to 16 workers is a
 /// thread of its own but the last, whose part the caller's thread does, and root i is sent by worker i modulo their number (Ochi, Yasuoka
 /// and Yajima 1993 for the levels, van Dijk 2016 for the workers). The request that a worker asked another for as its n-th is found again
-/// by this number. The workers work in the memory of an earlier wave as far as there is some; after a refusal it is given back.
+/// by this number. The workers work in the memory of an earlier wave as far as there is some; after a refusal it is given back. The
+/// spaces count what was expanded.
 ///
 /// NoWorker: a thread could not be started; then those that run are told to stop. OutOfMemory: a growth was refused, and
 /// every thread was started. All threads have ended before any answer is given.
@@ -122,6 +126,7 @@ pub fn expand_parts<R: Threads + Wait + Sync, G: Gate>(
     requires roots { All (IsKey store.now) roots.now }
     ensures parts { IfOk result (λ p. AreParts store.now crew.now.workers.count roots.now p) }
     ensures settled { IfOk result (λ p. AreSettled store.now crew.now.workers.count roots.now p) }
+    ensures expanded { OnOk result (HaveExpanded store.now crew.now.workers.count roots.now spaces.old spaces.new) }
     ensures fault { IfErr result (λ f. f ≢ WaveFault.Full) }
     ensures unbounded { IfErr result (λ f. f ≢ WaveFault.TooManyRequests) }
 {
@@ -135,13 +140,15 @@ pub fn expand_parts<R: Threads + Wait + Sync, G: Gate>(
         store,
         roots,
     };
-    let used = mem::replace(spaces, Spaces::new(alloc));
+    let used = spaces.take_all(alloc);
     let parts = run_workers(crew.rt, wave, ports, used, crew.gate)?;
     let (ports, filled) = split_parts(alloc, parts)?;
     let settled = lanes.settle(crew.rt, ports)?;
-    Ok(Parts {
+    let parts = Parts {
         spaces: filled,
         ports: settled.ports,
         store: Snapshot::of(store),
-    })
+    };
+    spaces.add(parts.count());
+    Ok(parts)
 }

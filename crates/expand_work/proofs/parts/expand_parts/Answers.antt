@@ -1,10 +1,11 @@
-use Rattle.std.proofs.Common.{map, length, sym, ap, ◌∙◌, subst, arith}
+use Rattle.std.proofs.Common.{◌+◌, ◌%◌, ◌^◌, map, length, sym, ap, ◌∙◌, subst, arith}
 use Rattle.dd_store.specs.Nodes.{Nodes}
 use Rattle.expand_work.specs.Gathered.{AreParts, AreSettled}
 use Rattle.expand_work.specs.Lean.{AreLean}
 use Rattle.expand_work.specs.Spaces.{records_in, rows_in, noted_in}
 use Rattle.lane_queue.specs.Joining.{ArePorts, AreRetired}
 use Rattle.expand_work.proofs.Expanding.{new_ports, parts_ports, are_parts, are_settled, records_as, noted_as, parts_lean}
+use Rattle.expand_work.proofs.Tallying.{have_expanded}
 use Rattle.expand_work.proofs.parts.expand_parts.Goals as goal
 
 pub run_workers-requires-clause-ports : goal.run_workers-requires-clause-ports
@@ -34,7 +35,12 @@ returns-clause-settled g c =
     c.count-workers.result c.in_ok-lanes.ensures.lanes.0 (map (records_in c.of.result.value) c.in_ok-ports.filled.items) (map noted_in c.in_ok-ports.filled.items)
     (ap (λ (z : Nodes). map (records_in z) c.in_ok-ports.filled.items) c.of.ensures ∙ records_as c.args.store.now c.in_ok-parts.parts.items c.in_ok-ports.filled.items c.in_ok-ports.ensures.spaces))
 
-pub invariant_of-result : goal.invariant_of-result
-invariant_of-result g c =
+pub invariant_of-parts : goal.invariant_of-parts
+invariant_of-parts g c =
     subst (λ (z : Nodes). AreLean (map (records_in z) c.in_ok-ports.filled.items) (map rows_in c.in_ok-ports.filled.items)) (sym c.of.ensures)
     (parts_lean c.args.store.now c.in_ok-lanes.lanes c.args.roots.now c.in_ok-parts.parts.items c.in_ok-parts.ensures.parts c.in_ok-ports.filled.items c.in_ok-ports.ensures.spaces)
+
+pub returns-clause-expanded : goal.returns-clause-expanded
+returns-clause-expanded g c =
+    have_expanded c.args.store.now c.args.crew.now.workers.count c.args.roots.now _ (returns-clause-parts g c) c.args.spaces.now c.add.new.self
+    (c.add.ensures ∙ (λ i. (c.take_all-used.ensures i + c.count.ensures i) % 2 ^ 64))
