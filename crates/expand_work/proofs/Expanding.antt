@@ -1,5 +1,5 @@
 -- From the lanes' new ports, and from the parts of all workers, to the settled wave.
-use Rattle.std.proofs.Common.{◌≡◌, ℕ, zero, suc, ◌+◌, ◌*◌, ◌<◌, true, false, cond, eqb, List, [], ◌∷◌, map, length, slice_index_or, slice_get, Some, refl, sym, ap, ◌∙◌, subst, arith}
+use Rattle.std.proofs.Common.{◌≡◌, ℕ, zero, suc, ◌+◌, ◌*◌, ◌<◌, true, false, cond, eqb, List, [], ◌∷◌, map, length, slice_index_or, slice_get, Some, ◌++◌, append_assoc, refl, sym, ap, ◌∙◌, subst, arith}
 use Rattle.std.specs.List.{sum_by, AllZip}
 use Rattle.std.proofs.lemmas.List.Sums.{sum_by-cons}
 use Rattle.std.proofs.lemmas.List.{get_or-map, length-map}
@@ -11,12 +11,15 @@ use Rattle.req_table.specs.declared.Item.{Item}
 use Rattle.lane_queue.specs.declared.load.Load.{Load}
 use Rattle.lane_queue.specs.Loads.{flat}
 use Rattle.req_table.specs.declared.Sizes.{Sizes}
-use Rattle.req_table.specs.Wave.{Wave}
+use Rattle.req_table.specs.Wave.{Wave, Scope}
+use Rattle.std.proofs.lemmas.List.Elements.{All-head, All-tail}
 use Rattle.req_table.specs.Keys.{level_of, wave_of}
-use Rattle.req_table.specs.Lanes.{sent_by, asks}
+use Rattle.req_table.specs.Lanes.{from_of, sent_by, asks, IsFair, HasSenders}
 use Rattle.req_table.specs.Sizes.{sizes_of}
 use Rattle.req_table.specs.Settled.{IsSettled, key_of, owed}
 use Rattle.req_table.specs.Tables.{row_at}
+use Rattle.req_table.proofs.Fair.{sent_by-append}
+use Rattle.lane_queue.proofs.Lines.{item-open}
 use Rattle.req_table.proofs.Sized.{fair_in_wave, law_in_wave}
 use Rattle.lane_queue.specs.PortView.{LanesView, PortView, sent_to, put_to}
 use Rattle.lane_queue.specs.Make.{new_port}
@@ -25,8 +28,8 @@ use Rattle.expand_work.specs.declared.part.Part.{Part}
 use Rattle.expand_work.specs.Parts.{IsPart, sum_below, bundles_of, loads_of}
 use Rattle.expand_work.specs.Worked.{IsFresh, IsWorked}
 use Rattle.expand_work.specs.Team.{AreNew, AreWorked}
-use Rattle.expand_work.specs.Expanded.{AreByNumber, put_by, bundles_between, row_of}
-use Rattle.expand_work.specs.Gathered.{AreParts, AreSettledBy, noted_of}
+use Rattle.expand_work.specs.Expanded.{put_by, bundles_between, row_of}
+use Rattle.expand_work.specs.Gathered.{AreParts, AreSettled, AreOpen, noted_of}
 use Rattle.expand_work.specs.Work.{at}
 use Rattle.expand_work.specs.Lean.{lean_row, records_of, recorded, AreLean}
 use Rattle.expand_work.specs.declared.space.Space.{Space}
@@ -71,7 +74,7 @@ sum_front : (n : ℕ) (f : ℕ → ℕ) → sum_below (suc n) f ≡ f 0 + sum_be
 sum_front zero f = omega arith
 sum_front (suc n) f = let a = sum_front n f in omega (arith, a)
 
-sum_by_below : {A : Type 0} (f : A → ℕ) (xs : List A) (g : ℕ → ℕ) → ((i : ℕ) (d : A) → i < length xs → f (slice_index_or xs i d) ≡ g i) → sum_by f xs ≡ sum_below (length xs) g
+pub sum_by_below : {A : Type 0} (f : A → ℕ) (xs : List A) (g : ℕ → ℕ) → ((i : ℕ) (d : A) → i < length xs → f (slice_index_or xs i d) ≡ g i) → sum_by f xs ≡ sum_below (length xs) g
 sum_by_below f [] g h = refl
 sum_by_below f (x ∷ xs) g h =
     let a = h 0 x (omega arith) in
@@ -88,6 +91,16 @@ count_at (x ∷ xs) (suc k) d b = count_at xs k d (omega (arith, b))
 -- the keys of a level's records
 level_keys : (S : Nodes) (tables : List (List Key)) (u : ℕ) → map key_of (row_at (recorded S tables) u) ≡ at tables u
 level_keys S tables u = ap (map key_of) (recorded-at S tables u) ∙ keys_of_records S (at tables u)
+
+-- ---- what is taken in its turn is of no closed level
+open_from : (c : Scope) (before items : List Item) → ((s : ℕ) → s < c.workers → IsFair c (sent_by s (before ++ items))) → HasSenders c items → AreOpen c before items
+open_from c before [] fair senders = tt
+open_from c before (i ∷ items) fair senders =
+    let lt : from_of i < c.workers = All-head (λ j. from_of j < c.workers) i items senders in
+    let one : before ++ i ∷ items ≡ (before ++ i ∷ []) ++ items = sym (append_assoc before (i ∷ []) items) in (
+      item-open c i before (sent_by (from_of i) (before ++ i ∷ items)) lt (fair (from_of i) lt) (sent_by (from_of i) items, ap (sent_by (from_of i)) one ∙ sent_by-append (from_of i) (before ++ i ∷ []) items),
+      open_from c (before ++ i ∷ []) items (λ s sb. subst (λ (xs : List Item). IsFair c (sent_by s xs)) one (fair s sb)) (All-tail (λ j. from_of j < c.workers) i items senders),
+    )
 
 -- ---- the parts of all workers
 module _ (S : Nodes) (l : LanesView) (roots : List Key) (parts : List Part) (worked : AreWorked l S roots parts) where
@@ -219,8 +232,8 @@ module _ (S : Nodes) (sound : IsSound S) (l : LanesView) (sizes : l.sizes ≡ si
       ((worked_at k kb).noted.each s sb))))
 
   pub are_parts : (workers : ℕ) → length l.lanes ≡ workers → (rs : List (List (List Record))) (ns : List (List (List ℕ))) → rs ≡ map (part_records S) parts → ns ≡ map (λ (p : Part). p.space.noted) parts
-      → AreParts S workers roots (record { rows = rs; noted = ns })
-  are_parts workers wide rs ns rs-is ns-is = subst (λ (y : ℕ × List (List (List Record)) × List (List (List ℕ))). AreParts S y.0 roots (record { rows = y.1; noted = y.2 })) (λ i. (wide i, sym rs-is i, sym ns-is i)) (record {
+      → AreParts S workers roots (record { rows = rs; noted = ns; ports = ports })
+  are_parts workers wide rs ns rs-is ns-is = subst (λ (y : ℕ × List (List (List Record)) × List (List (List ℕ))). AreParts S y.0 roots (record { rows = y.1; noted = y.2; ports = ports })) (λ i. (wide i, sym rs-is i, sym ns-is i)) (record {
     many_rows = length-map parts (part_records S) ∙ worked.long;
     levels = λ k b. ap (λ (r : List (List Record)). length r) (sym (records_at k b)) ∙ length-map (part_at k b).space.tables (records_of S) ∙ (worked_at k b).levels;
     many_noted = length-map parts (λ (p : Part). p.space.noted) ∙ worked.long;
@@ -229,11 +242,14 @@ module _ (S : Nodes) (sound : IsSound S) (l : LanesView) (sizes : l.sizes ≡ si
     places = places_at;
   })
 
-  pub are_settled : (workers : ℕ) → length l.lanes ≡ workers → (rs : List (List (List Record))) (ns : List (List (List ℕ))) → rs ≡ map (part_records S) parts → AreSettledBy ports S workers roots (record { rows = rs; noted = ns })
-  are_settled workers wide rs ns rs-is = subst (λ (y : ℕ × List (List (List Record))). AreSettledBy ports S y.0 roots (record { rows = y.1; noted = ns })) (λ i. (wide i, sym rs-is i)) settles
+  -- what a worker took was of no closed level
+  opens : (k : ℕ) → k < length l.lanes → AreOpen w.scope [] (taken_by ports k)
+  opens k kb = open_from w.scope [] (taken_by ports k) (λ s sb. subst (IsFair w.scope) (sym (settles.all_taken s k sb kb)) (settles.fair s k sb kb)) (settles.senders k kb)
 
-  pub counts : (workers : ℕ) → length l.lanes ≡ workers → put_by ports ≡ bundles_between workers S.levels (sent_from ports) + workers * (workers * S.levels)
-  counts workers wide = subst (λ n. put_by ports ≡ bundles_between n S.levels (sent_from ports) + n * (n * S.levels)) wide puts
-
-  pub by_number : (workers : ℕ) → length l.lanes ≡ workers → AreByNumber workers ports
-  by_number workers wide = subst (λ n. AreByNumber n ports) wide (record { long = gone.0; numbered = λ s d b. ap (λ (q : PortView). q.number) (port_at s b d) ∙ (worked_at s b).number })
+  pub are_settled : (workers : ℕ) → length l.lanes ≡ workers → (rs : List (List (List Record))) (ns : List (List (List ℕ))) → rs ≡ map (part_records S) parts → AreSettled S workers roots (record { rows = rs; noted = ns; ports = ports })
+  are_settled workers wide rs ns rs-is = subst (λ (y : ℕ × List (List (List Record))). AreSettled S y.0 roots (record { rows = y.1; noted = ns; ports = ports })) (λ i. (wide i, sym rs-is i)) (record {
+    numbered = record { long = gone.0; numbered = λ s d b. ap (λ (q : PortView). q.number) (port_at s b d) ∙ (worked_at s b).number };
+    settled = settles;
+    open_levels = opens;
+    put = puts;
+  })

@@ -1,5 +1,7 @@
 -- The records of keys, told by the keys alone.
 use Rattle.std.proofs.Common.{◌≡◌, ℕ, ◌+◌, ◌<◌, List, [], ◌∷◌, ◌++◌, length, get_or, map, take, filter, All, refl, sym, ap, ◌∙◌, arith}
+use Rattle.std.specs.List.{sum_by}
+use Rattle.std.proofs.lemmas.List.Sums.{sum_by-cons}
 use Rattle.std.proofs.lemmas.List.{map_more, map_push, get_or-map, length-map}
 use Rattle.std.proofs.lemmas.List.Elements.{All-nil, All-cons}
 use Rattle.std.proofs.Math.ListN as listn
@@ -13,6 +15,7 @@ use Rattle.expand_work.specs.Due.{asked_of, due_by}
 use Rattle.expand_work.specs.Work.{at, owned_by, with_levels}
 use Rattle.expand_work.specs.Lean.{lean, lean_row, records_of, recorded, AreLean}
 use Rattle.expand_work.specs.Expanded.{row_of}
+use Rattle.expand_work.specs.Gathered.{count_in}
 use Rattle.expand_work.specs.declared.space.Space.{Space}
 use Rattle.expand_work.specs.Spaces.{records_in, rows_in}
 use Rattle.expand_work.proofs.Owing.{asks_more, due_levels, levels-append}
@@ -71,3 +74,29 @@ row_of_all rs spaces k v own all kb vb is =
       (let e = ap (λ (r : List (List (Placed × Placed))). length r) here ∙ length-map (get_or rs k []) (lean_row n) in omega (arith, e, vb)),
       ap (λ (r : List (List (Placed × Placed))). at r v) here ∙ listn.get_or-map (lean_row n) (get_or rs k []) v [],
     )
+
+-- ---- how many children there are, and how many records
+sum_map : {X Y : Type 0} (f : Y → ℕ) (g : X → Y) (xs : List X) → sum_by f (map g xs) ≡ sum_by (λ x. f (g x)) xs
+sum_map f g [] = refl
+sum_map f g (x ∷ xs) = sum_by-cons f (g x) (map g xs) ∙ ap (λ n. f (g x) + n) (sum_map f g xs) ∙ sym (sum_by-cons (λ x. f (g x)) x xs)
+
+lean_levels : (n : ℕ) (levels : List (List Record)) → sum_by (λ (row : List (Placed × Placed)). length row) (map (lean_row n) levels) ≡ sum_by (λ (row : List Record). length row) levels
+lean_levels n [] = refl
+lean_levels n (r ∷ rs) =
+    let a = sum_by-cons (λ (row : List (Placed × Placed)). length row) (lean_row n r) (map (lean_row n) rs) in
+    let b = sum_by-cons (λ (row : List Record). length row) r rs in
+    let l = length-map {B = Placed × Placed} r (λ (x : Record). (lean n x.low, lean n x.high)) in
+    let i = lean_levels n rs in
+    omega (arith, a, b, l, i)
+
+lean_all : (n : ℕ) (records : List (List (List Record))) → sum_by (λ (levels : List (List (Placed × Placed))). sum_by (λ (row : List (Placed × Placed)). length row) levels) (map (map (lean_row n)) records) ≡ count_in records
+lean_all n [] = refl
+lean_all n (r ∷ rs) =
+    sum_by-cons (λ (levels : List (List (Placed × Placed))). sum_by (λ (row : List (Placed × Placed)). length row) levels) (map (lean_row n) r) (map (map (lean_row n)) rs)
+    ∙ (λ i. lean_levels n r i + lean_all n rs i)
+    ∙ sym (sum_by-cons (λ (levels : List (List Record)). sum_by (λ (row : List Record). length row) levels) r rs)
+
+pub lean_count : (records : List (List (List Record))) (spaces : List Space) → AreLean records (map rows_in spaces) → sum_by (λ (s : Space). sum_by (λ (row : List (Placed × Placed)). length row) s.rows) spaces ≡ count_in records
+lean_count records spaces lean =
+    let f : List (List (Placed × Placed)) → ℕ = λ levels. sum_by (λ (row : List (Placed × Placed)). length row) levels in
+    sym (sum_map f rows_in spaces) ∙ ap (λ rows. sum_by f rows) lean ∙ lean_all (length records) records

@@ -1,19 +1,24 @@
 -- What the workers of a wave end with, each for itself.
-use Rattle.std.specs.Prelude.{◌≡◌, ℕ, ◌+◌, ◌*◌, ◌<◌, List, [], length, map, slice_get, slice_index_or, Some}
-use Rattle.std.specs.List.{AllZip}
+use Rattle.std.specs.Prelude.{◌≡◌, ℕ, ◌+◌, ◌*◌, ◌%◌, ◌^◌, ◌<◌, Contains, List, [], ◌∷◌, ◌++◌, length, map, slice_get, slice_index_or, Some}
+use Rattle.std.specs.List.{AllZip, sum_by}
+use Rattle.slot_table.specs.Lists.{IsOnce}
 use Rattle.dd_store.specs.Nodes.{Nodes}
 use Rattle.req_table.specs.declared.Key.{Key}
 use Rattle.req_table.specs.declared.Record.{Record}
 use Rattle.req_table.specs.Keys.{level_of, wave_of}
+use Rattle.req_table.specs.Reached.{IsReached}
 use Rattle.req_table.specs.Settled.{IsClosure, IsSettled, key_of, level_of_rows, owed}
-use Rattle.lane_queue.specs.PortView.{PortView}
+use Rattle.req_table.specs.declared.Item.{Item}
+use Rattle.req_table.specs.Wave.{Scope}
+use Rattle.lane_queue.specs.PortView.{PortView, IsOpen}
 use Rattle.lane_queue.specs.Joining.{sent_from, taken_by}
 use Rattle.expand_work.specs.Expanded.{AreByNumber, put_by, bundles_between, row_of}
 
--- Of each worker its records by level, and by sender the places of the requests that it was asked for.
+-- Of each worker its records by level, by sender the places of the requests that it was asked for, and its port.
 pub record PartsView : Type 0 where
   pub rows : List (List (List Record))
   pub noted : List (List (List ℕ))
+  pub ports : List PortView
 
 -- The places that worker k noted of what s asked.
 abbrev pub noted_of : List (List (List ℕ)) → ℕ → ℕ → List ℕ
@@ -30,17 +35,27 @@ pub record AreParts (S : Nodes) (workers : ℕ) (roots : List Key) (p : PartsVie
   pub places : (s k : ℕ) → s < workers → k < workers
       → AllZip (λ x n. slice_get (map key_of (row_of p.rows k (level_of S x))) n ≡ Some x) (owed (wave_of S workers) roots (row_of p.rows s) s k) (noted_of p.noted k s)
 
--- What the ports sent and took is a settled wave with the rows of the workers.
-abbrev pub AreSettledBy : List PortView → Nodes → ℕ → List Key → PartsView → Type 0
-AreSettledBy ports S workers roots p = IsSettled (wave_of S workers) roots (λ s k. sent_from ports k s) (taken_by ports) (row_of p.rows)
+-- each of these items, taken in turn behind what was taken before, is no Ask of a level that is closed by then
+abbrev pub AreOpen : Scope → List Item → List Item → Type 0
+AreOpen w before [] = Unit {0}
+AreOpen w before (i ∷ items) = IsOpen w before i × AreOpen w (before ++ i ∷ []) items
 
--- The ports put as many loads on all lanes together as there are bundles to send, and an End of each level on each lane.
-abbrev pub HavePut : List PortView → Nodes → ℕ → Type 0
-HavePut ports S workers = put_by ports ≡ bundles_between workers S.levels (sent_from ports) + workers * (workers * S.levels)
-
--- The workers' rows are those of a settled wave, with one port for each worker that sent and took, and put so many loads.
+-- What the workers' ports sent and took, one port for each worker: it is a settled wave with the workers' rows, none was taken of a
+-- closed level, and the ports put as many loads on all lanes together as there are bundles to send, and an End of each level on each lane.
 pub record AreSettled (S : Nodes) (workers : ℕ) (roots : List Key) (p : PartsView) : Type 0 where
-  pub ports : List PortView
-  pub numbered : AreByNumber workers ports
-  pub settled : AreSettledBy ports S workers roots p
-  pub put : HavePut ports S workers
+  pub numbered : AreByNumber workers p.ports
+  pub settled : IsSettled (wave_of S workers) roots (λ s k. sent_from p.ports k s) (taken_by p.ports) (row_of p.rows)
+  pub open_levels : (k : ℕ) → k < workers → AreOpen (wave_of S workers).scope [] (taken_by p.ports k)
+  pub put : put_by p.ports ≡ bundles_between workers S.levels (sent_from p.ports) + workers * (workers * S.levels)
+
+-- how many records there are, of all workers and levels
+abbrev pub count_in : List (List (List Record)) → ℕ
+count_in rows = sum_by (λ levels. sum_by (λ row. length row) levels) rows
+
+-- Between two counts modulo 2^64 exactly the requests that the roots ask for were expanded, each once.
+pub record HaveExpanded (S : Nodes) (workers : ℕ) (roots : List Key) (before after : ℕ) : Type 0 where
+  pub requests : List Key
+  pub once : IsOnce requests
+  pub reached : (x : Key) → Contains requests x → IsReached (wave_of S workers) roots x
+  pub all : (x : Key) → IsReached (wave_of S workers) roots x → Contains requests x
+  pub count : after % 2 ^ 64 ≡ (before + length requests) % 2 ^ 64

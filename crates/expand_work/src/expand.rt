@@ -1,6 +1,6 @@
 //! What a worker keeps of its requests' children, and what becomes due by that.
-ghost use Rattle.std.specs.Prelude.{◌≡◌, ℕ, ◌<◌, [], ◌∷◌, ◌++◌, length, filter, replicate, All, IfOk, OnOk};
-ghost use Rattle.req_table.specs.Keys.{IsKey, owner as owner_spec};
+ghost use Rattle.std.specs.Prelude.{◌≡◌, ℕ, ◌<◌, ◌+◌, ◌-◌, ◌^◌, [], ◌∷◌, ◌++◌, length, filter, replicate, All, IfOk, OnOk};
+ghost use Rattle.req_table.specs.Keys.{IsKey, IsChildIn, owner as owner_spec, record_of};
 ghost use Rattle.req_table.specs.Settled.{asked_by, dealt_from};
 ghost use Rattle.expand_work.specs.Due.{asked_of, due_by};
 ghost use Rattle.expand_work.specs.Lean.{lean, lean_row, records_of};
@@ -10,7 +10,7 @@ use crate::Spare;
 use crate::due::Due;
 use dd_store::Store;
 use req_table::requests::{level_of, owner, split};
-use req_table::{Child, Key, Placed};
+use req_table::{Child, Key, Placed, Record};
 use std::alloc::AllocError;
 
 // The request becomes due from the key's owner, which is answered.
@@ -56,7 +56,35 @@ fn push_child(
     }
 }
 
-/// The children of the keys, and what they ask for, by owner. The children are put in the memory that is handed in.
+/// Splits requests, and counts how many.
+#[derive(Drop)]
+struct Splits {
+    count: usize,
+}
+
+impl Splits {
+    // None was split.
+    fn new() -> Splits
+        ensures { result.count ≡ 0 }
+    {
+        Splits { count: 0 }
+    }
+
+    // The record of a request, which is one more.
+    fn split(&mut self, store: &Store, key: Key) -> Record
+        requires key { IsKey store.now key }
+        requires room { self.old.count < 2 ^ 64 - 1 }
+        ensures record { result ≡ record_of store.now key }
+        ensures stands { IsChildIn store.now result.low × IsChildIn store.now result.high }
+        ensures count { self.new.count ≡ self.old.count + 1 }
+    {
+        self.count += 1;
+        split(store, key)
+    }
+}
+
+/// The children of the keys, what they ask for, by owner, and how many requests were split for it. The children are put in the memory
+/// that is handed in.
 pub fn expand_row(
     store: &Store,
     keys: &[Key],
@@ -64,26 +92,28 @@ pub fn expand_row(
     row: Vec<(Placed, Placed)>,
     due: Due,
     spare: &mut Spare,
-) -> Result<(Vec<(Placed, Placed)>, Due), AllocError>
+) -> Result<(Vec<(Placed, Placed)>, Due, usize), AllocError>
     requires keys { All (IsKey store.now) keys.now }
     requires some { 0 < workers }
     requires empty { row.items ≡ [] }
     requires none { due ≡ replicate workers [] }
     ensures row { IfOk result (λ r. r.0.items ≡ lean_row workers (records_of store.now keys.now)) }
     ensures long { IfOk result (λ r. length r.1 ≡ workers) }
+    ensures count { IfOk result (λ r. r.2 ≡ length keys.now) }
     ensures due { IfOk result (λ r. (k : ℕ) → k < workers
         → at r.1 k ≡ with_levels store.now (filter (owned_by workers k) (asked_by (records_of store.now keys.now)))) }
 {
     let mut row = row;
     let mut due = due;
+    let mut splits = Splits::new();
     row.reserve_exact(keys.len())?;
     for key in keys {
-        let record = split(store, *key);
+        let record = splits.split(store, *key);
         let low = push_child(&mut due, spare, record.low, workers)?;
         let high = push_child(&mut due, spare, record.high, workers)?;
         row.push((low, high))?;
     }
-    Ok((row, due))
+    Ok((row, due, splits.count))
 }
 
 /// The roots that the worker has to ask for, by owner: those at the places that are its number modulo the workers.

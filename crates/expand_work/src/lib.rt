@@ -22,7 +22,7 @@ pub use fault::{WaveFault, WorkFault};
 pub use gate::{Free, Gate};
 pub use lists::{Noted, Rows, Tables};
 pub use part::Part;
-pub use parts::{Parts, expand_parts, expand_with_ports};
+pub use parts::{Parts, expand_parts};
 pub use site::Site;
 pub use space::{Space, Spaces};
 pub use spare::Spare;

@@ -1,5 +1,6 @@
 //! Lists of places by worker, tables and rows by level.
-ghost use Rattle.std.specs.Prelude.{◌≡◌, ◌<◌, [], ◌∷◌, ◌++◌, length, map, replicate, slice_set, IfOk, OnOk};
+ghost use Rattle.std.specs.Prelude.{◌≡◌, ◌<◌, ◌%◌, ◌^◌, [], ◌∷◌, ◌++◌, length, map, replicate, slice_set, IfOk, OnOk};
+ghost use Rattle.std.specs.List.{sum_by};
 ghost use Rattle.expand_work.specs.Noted.{EntersAt};
 ghost use Rattle.expand_work.specs.Work.{at};
 
@@ -208,11 +209,13 @@ impl Rows {
         &self.rows[level as usize]
     }
 
-    /// How many requests all rows have, or as many as can be counted.
-    pub fn count(&self) -> usize {
-        let mut total: usize = 0;
+    /// How many requests all rows have, modulo 2^64.
+    pub fn count(&self) -> u64
+        ensures { result ≡ sum_by (λ row. length row) self.now % 2 ^ 64 }
+    {
+        let mut total: u64 = 0;
         for row in &self.rows {
-            total = total.saturating_add(row.len());
+            total = total.wrapping_add(row.len() as u64);
         }
         total
     }

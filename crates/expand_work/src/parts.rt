@@ -1,10 +1,10 @@
 //! All requests that the roots of a wave ask for, as the workers in threads recorded them: nothing is put together.
-ghost use Rattle.std.specs.Prelude.{◌≡◌, ◌≢◌, ◌<◌, length, map, slice_index_or, All, IfOk, IfErr, []};
+ghost use Rattle.std.specs.Prelude.{◌≡◌, ◌≢◌, ◌<◌, ◌%◌, ◌^◌, length, map, slice_index_or, All, IfOk, IfErr, OnOk, []};
 ghost use Rattle.req_table.specs.Keys.{IsKey};
 ghost use Rattle.req_table.specs.Settled.{key_of};
 ghost use Rattle.expand_work.specs.declared.part.Part.{Part as PartValue};
-ghost use Rattle.expand_work.specs.Expanded.{AreByNumber, row_of};
-ghost use Rattle.expand_work.specs.Gathered.{AreParts, AreSettled, AreSettledBy, HavePut, noted_of};
+ghost use Rattle.expand_work.specs.Expanded.{row_of};
+ghost use Rattle.expand_work.specs.Gathered.{AreParts, AreSettled, HaveExpanded, count_in, noted_of};
 ghost use Rattle.expand_work.specs.Lean.{lean_row};
 
 use crate::team::{Wave, run_workers};
@@ -14,15 +14,15 @@ use lane_queue::{Lanes, Port};
 use req_table::{Key, Placed};
 use std::alloc::{AllocError, Global};
 use std::marker::Model;
-use std::mem;
 use std::snapshot::Snapshot;
 use std::sync::Wait;
 use std::thread::Threads;
 
-/// What each worker of a wave was asked for, and where it put what each other asked of it.
+/// What each worker of a wave was asked for, where it put what each other asked of it, and its port.
 #[derive(Drop)]
 pub struct Parts {
     spaces: Vec<Space>,
+    ports: Vec<Port>,
     store: Snapshot<Store>,
 }
 
@@ -34,7 +34,7 @@ impl Model for Parts {
 
     ghost Value = { PartsView };
 
-    ghost view = { λ p. record { rows = map (records_in p.store.value) p.spaces.items; noted = map noted_in p.spaces.items } };
+    ghost view = { λ p. record { rows = map (records_in p.store.value) p.spaces.items; noted = map noted_in p.spaces.items; ports = p.ports.items } };
 
     ghost invariant = { λ p. AreLean (map (records_in p.store.value) p.spaces.items) (map rows_in p.spaces.items) };
 }
@@ -68,18 +68,29 @@ impl Parts {
         self.spaces[worker as usize].tables.keys(level)
     }
 
-    /// How many requests there are, or as many as can be counted. It tells large waves from small ones, and no clause speaks of it.
-    pub fn count(&self) -> usize {
-        let mut total: usize = 0;
+    /// How many requests there are, modulo 2^64. It tells large waves from small ones, too.
+    pub fn count(&self) -> u64
+        ensures { result ≡ count_in self.now.rows % 2 ^ 64 }
+    {
+        let mut total: u64 = 0;
         for space in &self.spaces {
-            total = total.saturating_add(space.rows.count());
+            total = total.wrapping_add(space.rows.count());
         }
         total
     }
 
-    /// The memory of the workers, for the next wave.
-    pub fn into_spaces(self) -> Spaces {
-        Spaces::of(self.spaces)
+    /// The ports by worker. They go with no lanes any more, and only tell what was sent and taken.
+    pub fn into_ports(self) -> Vec<Port>
+        ensures { result.items ≡ self.ports }
+    {
+        self.ports
+    }
+
+    /// Leaves the memory of the workers for the next wave.
+    pub fn give_back(self, spaces: &mut Spaces)
+        ensures { spaces.new ≡ spaces.old }
+    {
+        spaces.refill(self.spaces);
     }
 }
 
@@ -101,7 +112,8 @@ fn split_parts(alloc: Global, parts: Vec<Part>) -> Result<(Vec<Port>, Vec<Space>
 /// All requests that the roots ask for, directly or through children, each recorded once, by its owner. Each of the 1 to 16 workers is a
 /// thread of its own but the last, whose part the caller's thread does, and root i is sent by worker i modulo their number (Ochi, Yasuoka
 /// and Yajima 1993 for the levels, van Dijk 2016 for the workers). The request that a worker asked another for as its n-th is found again
-/// by this number. The workers work in the memory of an earlier wave as far as there is some; after a refusal it is given back.
+/// by this number. The workers work in the memory of an earlier wave as far as there is some; after a refusal it is given back. The
+/// spaces count what was expanded.
 ///
 /// NoWorker: a thread could not be started; then those that run are told to stop. OutOfMemory: a growth was refused, and
 /// every thread was started. All threads have ended before any answer is given.
@@ -114,25 +126,7 @@ pub fn expand_parts<R: Threads + Wait + Sync, G: Gate>(
     requires roots { All (IsKey store.now) roots.now }
     ensures parts { IfOk result (λ p. AreParts store.now crew.now.workers.count roots.now p) }
     ensures settled { IfOk result (λ p. AreSettled store.now crew.now.workers.count roots.now p) }
-    ensures fault { IfErr result (λ f. f ≢ WaveFault.Full) }
-    ensures unbounded { IfErr result (λ f. f ≢ WaveFault.TooManyRequests) }
-{
-    let (parts, _) = expand_with_ports(crew, store, roots, spaces)?;
-    Ok(parts)
-}
-
-/// The same, and the ports by worker. They go with no lanes any more, and only tell what was sent and taken.
-pub fn expand_with_ports<R: Threads + Wait + Sync, G: Gate>(
-    crew: &Crew<'_, R, G>,
-    store: &Store,
-    roots: &[Key],
-    spaces: &mut Spaces,
-) -> Result<(Parts, Vec<Port>), WaveFault>
-    requires roots { All (IsKey store.now) roots.now }
-    ensures parts { IfOk result (λ r. AreParts store.now crew.now.workers.count roots.now r.0) }
-    ensures ports { IfOk result (λ r. AreByNumber crew.now.workers.count r.1.items) }
-    ensures settled { IfOk result (λ r. AreSettledBy r.1.items store.now crew.now.workers.count roots.now r.0) }
-    ensures put { IfOk result (λ r. HavePut r.1.items store.now crew.now.workers.count) }
+    ensures expanded { OnOk result (HaveExpanded store.now crew.now.workers.count roots.now spaces.old spaces.new) }
     ensures fault { IfErr result (λ f. f ≢ WaveFault.Full) }
     ensures unbounded { IfErr result (λ f. f ≢ WaveFault.TooManyRequests) }
 {
@@ -146,13 +140,15 @@ pub fn expand_with_ports<R: Threads + Wait + Sync, G: Gate>(
         store,
         roots,
     };
-    let used = mem::replace(spaces, Spaces::new(alloc));
+    let used = spaces.take_all(alloc);
     let parts = run_workers(crew.rt, wave, ports, used, crew.gate)?;
     let (ports, filled) = split_parts(alloc, parts)?;
     let settled = lanes.settle(crew.rt, ports)?;
     let parts = Parts {
         spaces: filled,
+        ports: settled.ports,
         store: Snapshot::of(store),
     };
-    Ok((parts, settled.ports))
+    spaces.add(parts.count());
+    Ok(parts)
 }

@@ -1,11 +1,12 @@
 //! The memory that the workers of a wave fill, which lasts from wave to wave.
 ghost use Rattle.expand_work.specs.Spaces.{IsEmptySpace};
-ghost use Rattle.std.specs.Prelude.{IfOk};
+ghost use Rattle.std.specs.Prelude.{◌≡◌, ◌+◌, ◌%◌, ◌^◌, IfOk};
 
 use crate::Spare;
 use crate::lists::{Noted, Rows, Tables};
 use std::alloc::{AllocError, Global};
 use std::marker::Model;
+use std::mem;
 
 /// What a worker fills: the requests that it is asked for, by level, the children of each, and by sender the places of what it took; and
 /// the bundles that it has read.
@@ -56,33 +57,61 @@ impl Space {
     }
 }
 
-/// The memory of workers between two waves. Contracts see nothing in it: a worker empties its space when it begins.
+/// The memory of workers between two waves, and how many requests were expanded in it, which contracts see modulo 2^64. They see
+/// nothing of the memory: a worker empties its space when it begins.
 #[derive(Drop)]
 pub struct Spaces {
     used: Vec<Space>,
+    expanded: u64,
 }
 
 impl Model for Spaces {
-    ghost Value = { Unit {0} };
+    ghost use Rattle.std.specs.Prelude.{ℕ};
 
-    ghost view = { λ _. tt };
+    ghost Value = { ℕ };
+
+    ghost view = { λ s. s.expanded };
 }
 
 impl Spaces {
-    /// No memory yet.
-    pub fn new(alloc: Global) -> Spaces {
+    /// No memory yet, and nothing was expanded.
+    pub fn new(alloc: Global) -> Spaces
+        ensures { result ≡ 0 }
+    {
         Spaces {
             used: Vec::new(alloc),
+            expanded: 0,
         }
     }
 
-    /// The memory of these spaces.
-    pub fn of(used: Vec<Space>) -> Spaces {
-        Spaces { used }
+    /// The memory of one worker, where there is some.
+    pub fn take(&mut self) -> Option<Space>
+        ensures { self.new ≡ self.old }
+    {
+        self.used.pop()
     }
 
-    /// The memory of one worker, where there is some.
-    pub fn take(&mut self) -> Option<Space> {
-        self.used.pop()
+    /// All of the memory.
+    pub(crate) fn take_all(&mut self, alloc: Global) -> Spaces
+        ensures { self.new ≡ self.old }
+    {
+        Spaces {
+            used: mem::replace(&mut self.used, Vec::new(alloc)),
+            expanded: 0,
+        }
+    }
+
+    /// The memory is that of these spaces.
+    pub(crate) fn refill(&mut self, used: Vec<Space>)
+        ensures { self.new ≡ self.old }
+    {
+        self.used = used;
+    }
+
+    /// So many requests more were expanded.
+    pub(crate) fn add(&mut self, requests: u64)
+        ensures { self.new ≡ (self.old + requests) % 2 ^ 64 }
+    {
+        self.expanded = self.expanded.wrapping_add(requests);
     }
 }

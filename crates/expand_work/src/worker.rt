@@ -50,7 +50,7 @@ fn speak<R: Wait>(rt: &R, site: Site<'_>, worker: &mut Worker, level: u16) -> Re
     send_ends(rt, site.lanes, port, level)
 }
 
-// Expands the level's keys, once it is closed and the gate is told.
+// Expands the level's keys, once it is closed, and tells the gate how many.
 fn expand_level<G: Gate>(
     site: Site<'_>,
     worker: Worker,
@@ -77,8 +77,8 @@ fn expand_level<G: Gate>(
     let workers = site.lanes.count();
     let row = rows.take(site.alloc, level);
     let keys = tables.keys(level);
-    gate.at_requests(keys.len());
-    let (row, due) = expand_row(site.store, keys, workers, row, due, &mut spare)?;
+    let (row, due, count) = expand_row(site.store, keys, workers, row, due, &mut spare)?;
+    gate.at_requests(count);
     rows.put(level, row);
     Ok(Worker {
         port,

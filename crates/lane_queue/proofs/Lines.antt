@@ -14,23 +14,23 @@ use Rattle.lane_queue.specs.declared.port.Hold.{Hold}
 use Rattle.lane_queue.specs.declared.port.Hold.TheVariants.{Live, Joined}
 use Rattle.lane_queue.specs.declared.port.Line.{Line}
 use Rattle.lane_queue.specs.declared.rule.Lane.{Lane}
-use Rattle.req_table.specs.declared.Item.TheVariants.{End as item_end}
+use Rattle.req_table.specs.declared.Item.TheVariants.{Ask, End as item_end}
 use Rattle.req_table.specs.declared.Key.{Key}
 use Rattle.req_table.specs.Wave.{Scope}
 use Rattle.lane_queue.specs.declared.load.Load.{Load}
 use Rattle.lane_queue.specs.declared.load.Load.TheVariants.{Bundle, End as load_end}
 use Rattle.lane_queue.specs.Loads.{load_from, ask_of, items_in}
-use Rattle.req_table.proofs.Lists.{Has, has_of, all_of, map_has}
+use Rattle.req_table.proofs.Lists.{Has, has_of, each, all_of, map_has}
 use Rattle.req_table.proofs.Items.{sent_by_of}
 use Rattle.req_table.proofs.Fair.{sent_by-append, fair_front, fair_back, fair_end}
 use Rattle.lane_queue.proofs.Facts.{all-one, load-mine, fair-begins}
-use Rattle.lane_queue.proofs.Keeping.{all-taken, taken-next, kept-take}
+use Rattle.lane_queue.proofs.Keeping.{all-taken, taken-next, kept-take, kept-keep}
 use Rattle.lane_queue.specs.Rule.{scope, port, own_sent, IsNext, Owns}
 use Rattle.req_table.specs.Sizes.{scope_of}
-use Rattle.req_table.specs.Lanes.{sent_by, ends, IsFair, IsFairFrom}
+use Rattle.req_table.specs.Lanes.{from_of, sent_by, ends, MayFollow, IsFair, IsFairFrom}
 use Rattle.lane_queue.specs.Lists.{Begins}
 use Rattle.lane_queue.specs.Line.{line_view, IsLine, IsLiveOn}
-use Rattle.lane_queue.specs.PortView.{PortView, LanesView, sent_to, passed_to, IsTaken, IsKept, IsPortOf, IsOpen, lanes_scope, port_scope, has_put, has_taken}
+use Rattle.lane_queue.specs.PortView.{PortView, LanesView, sent_to, passed_to, IsTaken, IsKept, IsPortOf, IsOpen, lanes_scope, port_scope, has_put, has_taken, has_kept}
 use Rattle.lane_queue.specs.Ports.{hold_on, IsAtHand, line_on, line_sent, line_taken, line_put, terms_of, LineOk, PortOk, view_of}
 
 pub on_live : (q : SegId Global) (h : Hold) → IsLiveOn q h → hold_on h ≡ Some q
@@ -212,3 +212,19 @@ pub taken-open : (l : LanesView) (p : PortView) (r : Option Load) (A : Type 0) (
 taken-open l p None A B of h = tt
 taken-open l p (Some x) A B of h = let t = h.1 in
     subst (λ n. All (IsOpen (scope_of n p.sizes) p.taken) (items_in x)) (port-long l p of) (load-open (port_scope p) x p.taken t.0 t.2 t.3 t.4)
+
+-- nor is one item
+pub item-open : (w : Scope) (i : Item) (taken sent : List Item) → from_of i < w.workers → IsFair w sent → Begins (sent_by (from_of i) (taken ++ i ∷ [])) sent → IsOpen w taken i
+item-open w (Ask s l x) taken sent lt fair b = let asks = (l, x) ∷ [] in each (IsOpen w taken) (map (ask_of s) asks) (Ask s l x) (open-asks w s asks taken sent lt fair b) (inl refl)
+item-open w (item_end s l) taken sent lt fair b = tt
+
+-- nor is what is kept
+pub keep-open : (p : PortView) → IsKept p → p.number < length p.lanes → (level : ℕ) (key : Key) → MayFollow (port_scope p) (ends (sent_to p p.number)) (Ask p.number level key) → sent_by p.number p.taken ≡ sent_to p p.number → IsOpen (port_scope p) p.taken (Ask p.number level key)
+keep-open p h lt level key may taken =
+    let x = Ask p.number level key in
+    let k = kept-keep p h level key may taken in
+    item-open (port_scope p) x p.taken (has_kept p x).own lt k.fair (k.under_way, k.all)
+
+-- a port's number is that of a lane
+pub view-within : (number : ℕ) (sizes : Sizes) (lines : List Line) (own taken : List Item) (p : PortView) → view_of number sizes lines own taken ≡ p → PortOk number sizes lines → p.number < length p.lanes
+view-within number sizes lines own taken p is ok = subst (λ (u : PortView). u.number < length u.lanes) is (subst (λ n. number < n) (sym (length-map lines line_on)) ok.within)

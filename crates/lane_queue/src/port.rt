@@ -6,7 +6,7 @@ ghost use Rattle.req_table.specs.declared.Item.TheVariants.{Ask};
 ghost use Rattle.lane_queue.specs.Loads.{load_from, items_in, Carries, MayFollowAll};
 ghost use Rattle.crossbeam_queue.specs.SegTies.{IsSegPassOf};
 ghost use Rattle.lane_queue.specs.Rule.{scope, port, own_sent, IsNext, Owns};
-ghost use Rattle.lane_queue.specs.PortView.{sent_to, IsTaken, IsKept, MayLeave, has_put, has_taken, has_kept, port_scope};
+ghost use Rattle.lane_queue.specs.PortView.{sent_to, IsTaken, IsKept, IsOpen, MayLeave, has_put, has_taken, has_kept, port_scope};
 ghost use Rattle.req_table.specs.Sizes.{sizes_of};
 ghost use Rattle.std.specs.List.{sum_by};
 ghost use Rattle.lane_queue.specs.declared.port.Line.{Line};
@@ -207,14 +207,15 @@ impl Port {
     }
 
     /// Keeps a request to itself: it counts as sent and taken at once, and no step is made on a lane. Nothing that the port
-    /// sent to itself may be under way.
+    /// sent to itself may be under way. As of what `Lanes::take` answers, its level is not closed.
     pub fn keep(&mut self, level: u16, key: Key)
         requires may { let p = self.old in
             MayFollow (port_scope p) (ends (sent_to p p.number)) (Ask p.number level key) }
         requires leave { let p = self.old in
             MayLeave (port_scope p) p.taken (ends (sent_to p p.number)) (Ask p.number level key) }
         requires taken { let p = self.old in sent_by p.number p.taken ≡ sent_to p p.number }
-        ensures { self.new ≡ has_kept self.old (Ask self.old.number level key) }
+        ensures kept { self.new ≡ has_kept self.old (Ask self.old.number level key) }
+        ensures open { let p = self.old in IsOpen (port_scope p) p.taken (Ask p.number level key) }
     {
         let from = self.number;
         let ask = Item::Ask { from, level, key };

@@ -1,7 +1,7 @@
 //! Waves by threads: the diagrams of a list of requests (Ochi, Yasuoka and Yajima 1993).
-ghost use Rattle.std.specs.Prelude.{◌≡◌, ◌≢◌, ◌<◌, All, IfErr};
+ghost use Rattle.std.specs.Prelude.{◌≡◌, ◌≢◌, ◌<◌, All, IfErr, OnOk};
 ghost use Rattle.req_table.specs.Keys.{IsKey};
-ghost use Rattle.expand_work.specs.Gathered.{AreParts};
+ghost use Rattle.expand_work.specs.Gathered.{AreParts, HaveExpanded};
 ghost use Rattle.reduce_up.specs.Waves.{AnswersWave, entries_for};
 
 use crate::roots::root_answers;
@@ -48,23 +48,28 @@ fn answer_team<R: Threads + Sync, G: Gate>(
     Ok(found)
 }
 
-/// The memory of waves by threads, between two of them, and how large the last one was. Contracts see nothing in it.
+/// The memory of waves by threads, between two of them, and how large the last one was. Contracts see how many requests the workers
+/// have expanded, modulo 2^64.
 #[derive(Drop)]
 pub struct Rooms {
     spaces: Spaces,
     spare: Spare,
-    requests: usize,
+    requests: u64,
 }
 
 impl Model for Rooms {
-    ghost Value = { Unit {0} };
+    ghost use Rattle.std.specs.Prelude.{ℕ};
 
-    ghost view = { λ _. tt };
+    ghost Value = { ℕ };
+
+    ghost view = { λ r. r.spaces };
 }
 
 impl Rooms {
     /// No memory yet.
-    pub fn new(alloc: Global) -> Rooms {
+    pub fn new(alloc: Global) -> Rooms
+        ensures { result ≡ 0 }
+    {
         Rooms {
             spaces: Spaces::new(alloc),
             spare: Spare::new(alloc),
@@ -74,7 +79,7 @@ impl Rooms {
 
     /// How many requests the last wave had, or as many as can be counted: 0 where there was none.
     pub fn requests(&self) -> usize {
-        self.requests
+        self.requests as usize
     }
 }
 
@@ -92,6 +97,7 @@ pub fn shared_wave<R: Threads + Wait + Sync, G: Gate>(
 ) -> Result<Vec<Ref>, WaveFault>
     requires roots { All (IsKey store.old) roots.now }
     ensures wave { AnswersWave store.old (entries_for roots.now) (entries_for roots.now) result store.new }
+    ensures expanded { OnOk result (HaveExpanded store.old crew.now.workers.count roots.now rooms.old rooms.new) }
     ensures unbounded { IfErr result (λ e. e ≢ WaveFault.TooManyRequests) }
 {
     let _ = store.levels();
@@ -107,6 +113,6 @@ pub fn shared_wave<R: Threads + Wait + Sync, G: Gate>(
         workers: crew.workers.count(),
     };
     let answers = answer_team(crew, store, field, &mut rooms.spare)?;
-    rooms.spaces = parts.into_spaces();
+    parts.give_back(&mut rooms.spaces);
     Ok(answers)
 }

@@ -9,7 +9,7 @@ ghost use Rattle.wave_doors.specs.Expanded.{IsSettledFor};
 
 use crate::merge::merge_rows;
 use dd_store::Store;
-use expand_work::{Crew, Gate, Spaces, WaveFault, Workers, expand_with_ports};
+use expand_work::{Crew, Gate, Spaces, WaveFault, Workers, expand_parts};
 use lane_queue::Port;
 use req_table::Key;
 use std::alloc::Global;
@@ -82,7 +82,10 @@ pub fn expand_all<R: Threads + Wait + Sync, G: Gate>(
         workers: Workers::new(workers),
         gate,
     };
-    let (parts, ports) = expand_with_ports(&crew, store, roots, &mut Spaces::new(alloc))?;
+    let parts = expand_parts(&crew, store, roots, &mut Spaces::new(alloc))?;
     let records = merge_rows(alloc, store, roots, &parts, workers)?;
-    Ok(Expanded { records, ports })
+    Ok(Expanded {
+        records,
+        ports: parts.into_ports(),
+    })
 }

@@ -1,6 +1,7 @@
 //! What is handed to the workers at a wide level, and their answers.
 ghost use Rattle.std.specs.Prelude.{◌≡◌, ◌≢◌, ◌<◌, ◌≤◌, [], length, Err, All, IfOk, IfErr, OnOk, map, ◌+◌, ◌++◌};
 ghost use Rattle.dd_store.specs.Nodes.{IsSound};
+ghost use Rattle.expand_work.specs.Gathered.{HaveExpanded};
 ghost use Rattle.reduce_up.specs.Reducing.{AddsDescribed};
 ghost use Rattle.reduce_up.specs.Waves.{IsEntry, IsWanted, IsWaveFault};
 ghost use Rattle.wave_engine.specs.Down.{AreAdmitted};
@@ -92,6 +93,7 @@ pub(crate) fn hand_over<R: Threads + Wait + Sync, G: Gate>(
     ensures adds { AddsDescribed store.old store.new (IsWanted store.old entries.now) }
     ensures reduced { OnOk result (AreReducedBelow store.new entries.now frontier.now.requests.now frontier.now.from store.new answers.new.items) }
     ensures within { OnOk result (IsWithinBelow store.old frontier.now.requests.now frontier.now.from store.new) }
+    ensures expanded { OnOk result (HaveExpanded store.old crew.now.workers.count (keys_from frontier.now.from frontier.now.requests.now) rooms.old rooms.new) }
     ensures fault { IfErr result (λ e. IsWaveFault store.old entries.now store.new e) }
     ensures unbounded { IfErr result (λ e. e ≢ WaveFault.TooManyRequests) }
     ensures idle { frontier.now.from ≡ store.old.levels → result ≢ Err WaveFault.NoWorker }

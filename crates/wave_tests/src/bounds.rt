@@ -1,5 +1,5 @@
 //! Waves whose requests are bounded.
-ghost use Rattle.std.specs.Prelude.{Option, Some, ℕ};
+ghost use Rattle.std.specs.Prelude.{Option, Some, ℕ, ◌<◌, ◌≤◌};
 
 use crate::waves::{Way, crew_of, entries_of, run, start};
 use dd_store::{Store, Watch};
@@ -13,10 +13,12 @@ use std::test::Fail;
 use std::thread::Threads;
 use wave_engine::wave;
 
-/// Bounds a wave by so many requests, and counts those that it is told of, and how often a worker comes to a level.
+/// Bounds a wave by so many requests, lets the caller's thread have so many of a level, and counts those that it is told of, and how
+/// often a worker comes to a level.
 #[derive(Drop)]
 struct Bound {
     most: usize,
+    alone: usize,
     told: AtomicUsize,
     workers: AtomicUsize,
 }
@@ -30,6 +32,10 @@ impl Gate for Bound {
 
     fn at_level(&self, _worker: u32, _level: u16) {
         self.workers.fetch_add(1, Ordering::SeqCst);
+    }
+
+    fn most_alone(&self, _workers: u32, _expected: usize) -> usize {
+        self.alone
     }
 
     fn most_requests(&self) -> usize {
@@ -51,12 +57,17 @@ struct Seen {
     added: u64,
 }
 
-/// And of two sums of two variables each, which has one request at the first level, two at the second and four at the third.
+/// And of two sums of two variables each, which has one request at the first level, two at the second and four at the third: by so many
+/// workers, who are called in at a level of more requests than the caller's thread may have.
 fn within<R: Threads + Wait + Abort + Sync>(
     rt: &R,
     alloc: Global,
+    workers: u32,
     most: usize,
-) -> Result<Seen, Fail> {
+    alone: usize,
+) -> Result<Seen, Fail>
+    requires workers { (0 < workers) × (workers ≤ 16) }
+{
     let mut store = Store::new(alloc, 4, 100)?;
     let mut known = start(rt, alloc, &mut store);
     let sums = [(Op::Xor, 2, 4), (Op::Xor, 3, 5)];
@@ -66,13 +77,14 @@ fn within<R: Threads + Wait + Abort + Sync>(
     let entries = entries_of(rt, alloc, &store, known.as_slice(), &steps);
     let gate = Bound {
         most,
+        alone,
         told: AtomicUsize::new(0),
         workers: AtomicUsize::new(0),
     };
     let before = store.count();
     let mut memo = Memo::new(alloc, 1)?;
     let entries = entries.as_slice();
-    let crew = crew_of(rt, alloc, 4, &gate);
+    let crew = crew_of(rt, alloc, workers, &gate);
     let answers = wave(&crew, &mut store, &mut memo, entries);
     Ok(Seen {
         fault: answers.err(),
@@ -85,13 +97,29 @@ fn within<R: Threads + Wait + Abort + Sync>(
 // A wave of seven requests is done within a bound of seven, on the caller's thread, and refused within six, before a node is made.
 #[test]
 fn bound_of_a_wave(rt: HostRuntime) -> Result<(), Fail> {
-    let done = within(&rt, rt.alloc(), 7)?;
+    let done = within(&rt, rt.alloc(), 4, 7, 0)?;
     assert!(rt; done.fault.is_none() && done.told == 7 && done.workers == 0);
     assert!(rt; done.added > 0);
     for most in [0, 1, 2, 3, 6] {
-        let refused = within(&rt, rt.alloc(), most)?;
+        let refused = within(&rt, rt.alloc(), 4, most, 0)?;
         assert!(rt; refused.fault == Some(WaveFault::TooManyRequests));
         assert!(rt; refused.told == 0 && refused.workers == 0 && refused.added == 0);
+    }
+    Ok(())
+}
+
+// Whoever expands them, the gate is told of each of seven requests once: workers from the first, the second or the third level that has
+// any, or the caller's thread alone. One worker is called in for the whole wave or never.
+#[test]
+fn each_request_is_told_once(rt: HostRuntime) -> Result<(), Fail> {
+    for workers in [1, 2, 4] {
+        for (alone, called) in [(0, true), (1, true), (2, true), (4, false)] {
+            let done = within(&rt, rt.alloc(), workers, usize::MAX, alone)?;
+            assert!(rt; done.fault.is_none());
+            assert!(rt; done.told == 7);
+            let called = called && (workers > 1 || alone == 0);
+            assert!(rt; (done.workers > 0) == called);
+        }
     }
     Ok(())
 }

@@ -108,3 +108,10 @@ fn workers_after_large_waves(rt: HostRuntime) -> Result<(), Fail> {
     }
     Ok(())
 }
+
+// Two workers who share a level of 150,975 requests each have lists of more than 4,096 pairs for a shard, and there is memory for them.
+#[test]
+fn long_lists_for_a_shard(rt: HostRuntime) -> Result<(), Fail> {
+    call_in(&rt, rt.alloc(), 2, &[(0, 550, true)])?;
+    Ok(())
+}

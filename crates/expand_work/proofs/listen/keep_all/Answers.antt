@@ -16,7 +16,7 @@ pub keep-requires-clause-taken : goal.keep-requires-clause-taken
 keep-requires-clause-taken c = c.loop-ask.invariant.all
 
 pub loop-ask-preserved : goal.loop-ask-preserved
-loop-ask-preserved c = hold-more c.args.lanes.now c.args.port.now c.args.asks.now c.requires.port c.requires.may c.loop-ask.port c.loop-ask.ask-index c.ask-item.result c.loop-ask-test.true c.ask-item.is c.loop-ask.invariant c.keep.new.self c.keep.ensures
+loop-ask-preserved c = hold-more c.args.lanes.now c.args.port.now c.args.asks.now c.requires.port c.requires.may c.loop-ask.port c.loop-ask.ask-index c.ask-item.result c.loop-ask-test.true c.ask-item.is c.loop-ask.invariant c.keep.new.self c.keep.ensures.kept
 
 pub returns-clause-kept : goal.returns-clause-kept
 returns-clause-kept c =

@@ -1,24 +1,26 @@
-use Rattle.std.proofs.Common.{◌≡◌, subst}
+use Rattle.std.proofs.Common.{◌≡◌, ◌+◌, ◌*◌, sym, subst}
 use Rattle.req_table.specs.Keys.{wave_of}
 use Rattle.req_table.specs.Settled.{IsClosure, level_of_rows}
 use Rattle.req_table.specs.Tables.{row_at}
-use Rattle.expand_work.specs.Expanded.{AreByNumber, row_of}
-use Rattle.expand_work.specs.Gathered.{AreParts, AreSettledBy, HavePut}
+use Rattle.lane_queue.specs.Joining.{sent_from}
+use Rattle.expand_work.specs.Expanded.{AreByNumber, put_by, bundles_between, row_of}
+use Rattle.expand_work.specs.Gathered.{AreParts, AreSettled}
 use Rattle.reduce_up.proofs.Rooting.{closure_same}
+use Rattle.wave_doors.specs.Expanded.{IsSettledFor}
 use Rattle.wave_doors.proofs.expanded.expand_all.Goals as goal
 
 pub merge_rows-requires-clause-parts : goal.merge_rows-requires-clause-parts
 merge_rows-requires-clause-parts g c = subst (λ n. AreParts c.args.store.now n c.args.roots.now c.in_ok-parts.parts) c.new.ensures c.in_ok-parts.ensures.parts
 
 pub returns-clause-ports : goal.returns-clause-ports
-returns-clause-ports g c = subst (λ n. AreByNumber n c.in_ok-parts.ports.items) c.new.ensures c.in_ok-parts.ensures.ports
+returns-clause-ports g c = subst (λ ps. AreByNumber c.args.workers ps) (sym c.into_ports.ensures) (subst (λ n. AreSettled c.args.store.now n c.args.roots.now c.in_ok-parts.parts) c.new.ensures c.in_ok-parts.ensures.settled).numbered
 
 pub returns-clause-settled : goal.returns-clause-settled
-returns-clause-settled g c = record {
+returns-clause-settled g c = subst (λ ps. IsSettledFor (wave_of c.args.store.now c.args.workers) c.args.roots.now (record { records = c.in_ok-records.records; ports = ps })) (sym c.into_ports.ensures) (record {
   rows = row_of c.in_ok-parts.parts.rows;
-  settled = subst (λ n. AreSettledBy c.in_ok-parts.ports.items c.args.store.now n c.args.roots.now c.in_ok-parts.parts) c.new.ensures c.in_ok-parts.ensures.settled;
+  settled = (subst (λ n. AreSettled c.args.store.now n c.args.roots.now c.in_ok-parts.parts) c.new.ensures c.in_ok-parts.ensures.settled).settled;
   merged = c.in_ok-records.ensures.rows;
-}
+})
 
 pub returns-clause-closure : goal.returns-clause-closure
 returns-clause-closure g c =
@@ -27,4 +29,4 @@ returns-clause-closure g c =
     closure_same (wave_of c.args.store.now w) (level_of_rows w (row_of c.in_ok-parts.parts.rows)) (row_at c.in_ok-records.records) c.in_ok-records.ensures.rows c.args.roots.now parts.closure
 
 pub returns-clause-put : goal.returns-clause-put
-returns-clause-put g c = subst (HavePut c.in_ok-parts.ports.items c.args.store.now) c.new.ensures c.in_ok-parts.ensures.put
+returns-clause-put g c = subst (λ ps. put_by ps ≡ bundles_between c.args.workers c.args.store.now.levels (sent_from ps) + c.args.workers * (c.args.workers * c.args.store.now.levels)) (sym c.into_ports.ensures) (subst (λ n. AreSettled c.args.store.now n c.args.roots.now c.in_ok-parts.parts) c.new.ensures c.in_ok-parts.ensures.settled).put

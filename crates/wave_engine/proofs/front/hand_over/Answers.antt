@@ -7,6 +7,9 @@ use Rattle.reduce_up.specs.Reducing.{AddsDescribed}
 use Rattle.reduce_up.specs.Waves.{Entry, entry_value, entries_for, IsWanted, AnswersEach, IsWithinLimit, IsWaveFault}
 use Rattle.wave_engine.specs.Front.{keys_from, ArePut}
 use Rattle.req_table.specs.Keys.{IsKey}
+use Rattle.req_table.specs.declared.Key.{Key}
+use Rattle.expand_work.specs.Gathered.{HaveExpanded}
+use Rattle.expand_work.proofs.Tallying.{none_expanded}
 use Rattle.wave_engine.proofs.Fronting.{front_none, front_keys, none_over, none_within, over_adds, over_within, over_fault, over_reduced, zip_length}
 use Rattle.wave_engine.proofs.front.hand_over.Goals as goal
 
@@ -78,3 +81,13 @@ returns-in-Ok-put_answers-clause-within g c =
     let some : keys_from c.args.frontier.now.from c.args.frontier.now.requests.now ≡ [] → ⊥ = λ e. (let z : (length c.as_slice-asked.result.now == 0) ≡ false = sym c.is_empty.ensures ∙ c.if-is_empty.false in let l : length c.as_slice-asked.result.now ≡ 0 = ap length (c.as_slice-asked.ensures.value ∙ front ∙ e) in grind (arith, nat_tests, z, l)) in
     let within : count_of c.shared_wave.new.store ≤ c.shared_wave.new.store.limit = over_within c.args.store.now c.levels.ensures.sound c.args.entries.now c.requires.operands c.args.frontier.now.requests.now c.requires.admitted c.args.frontier.now.from c.shared_wave.new.store c.shared_wave.ensures.wave.sound adds some (subst (λ (z : List Entry). IsWithinLimit c.args.store.now z c.shared_wave.new.store) slice c.in-Ok-shared_wave.ensures.wave.within) in
     inl within
+
+pub returns-then-is_empty-clause-expanded : goal.returns-then-is_empty-clause-expanded
+returns-then-is_empty-clause-expanded g c =
+    let front : c.in-Ok.front.items ≡ keys_from c.args.frontier.now.from c.args.frontier.now.requests.now = c.in-Ok.ensures in
+    let none : keys_from c.args.frontier.now.from c.args.frontier.now.requests.now ≡ [] = front_none (keys_from c.args.frontier.now.from c.args.frontier.now.requests.now) (let z : (length c.as_slice-asked.result.now == 0) ≡ true = sym c.is_empty.ensures ∙ c.if-is_empty.true in let l : length c.as_slice-asked.result.now ≡ 0 = grind (arith, nat_tests, z) in sym (ap length (c.as_slice-asked.ensures.value ∙ front)) ∙ l) in
+    subst (λ (ks : List Key). HaveExpanded c.args.store.now c.args.crew.now.workers.count ks c.args.rooms.now c.args.rooms.now) (sym none) (none_expanded c.args.store.now c.args.crew.now.workers.count c.args.rooms.now)
+
+pub returns-in-Ok-put_answers-clause-expanded : goal.returns-in-Ok-put_answers-clause-expanded
+returns-in-Ok-put_answers-clause-expanded g c =
+    subst (λ (ks : List Key). HaveExpanded c.args.store.now c.args.crew.now.workers.count ks c.args.rooms.now c.shared_wave.new.rooms) (c.as_slice-asked.ensures.value ∙ c.in-Ok.ensures) c.in-Ok-shared_wave.ensures.expanded
