@@ -11,6 +11,9 @@ use std::marker::Model;
 /// A table that has room for more than so many times the requests that it holds gives its memory back when it is emptied.
 const MOST_ROOM: usize = 8;
 
+/// A table with room for no more requests than these keeps its memory whatever it is to hold.
+const LEAST_ROOM: usize = 64;
+
 /// Requests, each once, in the order of their admission. A place is a number of 32 bits.
 #[derive(Drop)]
 pub struct Table {
@@ -102,5 +105,19 @@ impl Table {
         } else {
             self.keys.clear();
         }
+    }
+
+    /// Removes all requests, and has room for so many more. The memory serves on, unless it is much more than these need.
+    pub fn restart(&mut self, most: usize) -> Result<(), AllocError>
+        ensures { self.new ≡ [] }
+    {
+        let room = self.keys.capacity();
+        if room > LEAST_ROOM && room / MOST_ROOM > most {
+            self.keys = IndexSet::new(*self.keys.allocator());
+        } else {
+            self.keys.clear();
+        }
+        self.keys.reserve(most)?;
+        Ok(())
     }
 }

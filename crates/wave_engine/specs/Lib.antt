@@ -1,5 +1,6 @@
 pub mod Marks
 pub mod Places
+pub mod Settled
 pub mod Down
 pub mod Up
 pub mod Front

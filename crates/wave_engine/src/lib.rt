@@ -7,6 +7,7 @@ mod front;
 mod lists;
 mod marks;
 mod requests;
+mod settle;
 mod sizes;
 mod up;
 mod waves;

@@ -1,10 +1,128 @@
-//! What a wave keeps of a level beside its requests: the children of each, and the answer of each, by place.
-ghost use Rattle.std.specs.Prelude.{◌≡◌, ◌<◌, ◌++◌, ◌∷◌, [], length, slice_get, Some, OnOk, OnErr};
+//! What a wave keeps of a level: what is asked there, by number, the children of its requests, by place, and the answers.
+ghost use Rattle.std.specs.Prelude.{◌≡◌, ◌<◌, ◌++◌, ◌∷◌, [], length, slice_get, Some, IfOk, OnOk, OnErr};
+ghost use Rattle.wave_engine.specs.Places.{Enters};
 
 use dd_store::Ref;
-use req_table::Placed;
+use req_table::{Key, Placed};
 use std::alloc::{AllocError, Global};
 use std::marker::Model;
+
+/// A list that has room for more than so many times what it holds gives its memory back when it is emptied.
+const MOST_ROOM: usize = 8;
+
+/// The requests that are asked for at a level, in the order of the asks, each as often as it is asked for.
+#[derive(Drop)]
+pub(crate) struct Asks {
+    keys: Vec<Key>,
+}
+
+impl Model for Asks {
+    ghost use Rattle.std.specs.Prelude.{List};
+    ghost use Rattle.req_table.specs.declared.Key.{Key};
+
+    ghost Value = { List Key };
+
+    ghost view = { λ a. a.keys.items };
+}
+
+impl Asks {
+    /// No asks. It takes no memory yet.
+    pub(crate) fn new(alloc: Global) -> Asks
+        ensures { result ≡ [] }
+    {
+        Asks {
+            keys: Vec::new(alloc),
+        }
+    }
+
+    /// Adds an ask. The answer is its number, of 32 bits.
+    pub(crate) fn push(&mut self, key: Key) -> Result<u32, AllocError>
+        ensures enters { IfOk result (λ n. Enters self.old key n self.new) }
+        ensures refused { OnErr result (self.new ≡ self.old) }
+    {
+        let number = self.keys.len();
+        if number >= u32::MAX as usize {
+            return Err(AllocError);
+        }
+        self.keys.push(key)?;
+        Ok(number as u32)
+    }
+
+    /// The number of asks.
+    pub(crate) fn len(&self) -> usize
+        ensures { result ≡ length self.now }
+    {
+        self.keys.len()
+    }
+
+    /// The request of each ask, in order.
+    pub(crate) fn keys(&self) -> &[Key]
+        ensures { result.now ≡ self.now }
+    {
+        self.keys.as_slice()
+    }
+
+    /// Removes all asks. The memory serves on, unless it is much more than these needed.
+    pub(crate) fn clear(&mut self)
+        ensures { self.new ≡ [] }
+    {
+        let count = self.keys.len();
+        if self.keys.capacity() / MOST_ROOM > count {
+            self.keys = Vec::new(*self.keys.allocator());
+        } else {
+            self.keys.clear();
+        }
+    }
+}
+
+/// The place of the request of each ask of a level, by number.
+#[derive(Drop)]
+pub(crate) struct Places {
+    places: Vec<u32>,
+}
+
+impl Model for Places {
+    ghost use Rattle.std.specs.Prelude.{List, ℕ};
+
+    ghost Value = { List ℕ };
+
+    ghost view = { λ p. p.places.items };
+}
+
+impl Places {
+    /// No places. It takes no memory yet.
+    pub(crate) fn new(alloc: Global) -> Places
+        ensures { result ≡ [] }
+    {
+        Places {
+            places: Vec::new(alloc),
+        }
+    }
+
+    /// Adds the place of the next ask's request.
+    pub(crate) fn push(&mut self, place: u32) -> Result<(), AllocError>
+        ensures { OnOk result (self.new ≡ self.old ++ place ∷ []) }
+    {
+        self.places.push(place)?;
+        Ok(())
+    }
+
+    /// All places, in order.
+    pub(crate) fn places(&self) -> &[u32]
+        ensures { result.now ≡ self.now }
+    {
+        self.places.as_slice()
+    }
+
+    /// Removes all places, keeps the memory, and has room for so many.
+    pub(crate) fn restart(&mut self, count: usize) -> Result<(), AllocError>
+        ensures { self.new ≡ [] }
+    {
+        self.places.clear();
+        self.places.reserve_exact(count)?;
+        Ok(())
+    }
+}
 
 /// The children of a level's requests, low and high, by place.
 #[derive(Drop)]
@@ -56,7 +174,7 @@ impl Row {
     }
 }
 
-/// The answers of a level's requests, by place.
+/// The answers of a level: of its requests, by place, or of its asks, by number.
 #[derive(Drop)]
 pub(crate) struct Answers {
     refs: Vec<Ref>,
@@ -81,7 +199,7 @@ impl Answers {
         }
     }
 
-    /// Adds the answer of the next place.
+    /// Adds the next answer.
     pub(crate) fn push(&mut self, answer: Ref) -> Result<(), AllocError>
         ensures done { OnOk result (self.new ≡ self.old ++ answer ∷ []) }
         ensures refused { OnErr result (self.new ≡ self.old) }
@@ -90,7 +208,7 @@ impl Answers {
         Ok(())
     }
 
-    /// The answer of a place.
+    /// The answer of a place or a number.
     pub(crate) fn at(&self, place: usize) -> Ref
         requires { place < length self.now }
         ensures { slice_get self.now place ≡ Some result }

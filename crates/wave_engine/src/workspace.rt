@@ -11,25 +11,43 @@ ghost use Rattle.wave_engine.specs.Up.{ComesTo};
 
 use crate::down::{Limits, expand, place_roots};
 use crate::front::{Frontier, hand_over};
-use crate::lists::{Answers, Row};
+use crate::lists::{Answers, Places, Row};
 use crate::requests::Requests;
 use crate::sizes::Sizes;
 use crate::up::{reduce, resolve};
 use dd_store::{Ref, Store};
 use expand_work::{Crew, Gate, WaveFault};
 use reduce_up::Rooms;
-use req_table::{Op, Placed};
+use req_table::{Op, Placed, Table};
 use std::alloc::{AllocError, Global};
 use std::sync::Wait;
 use std::thread::Threads;
 
-/// What a wave's expansion leaves: the requests by level, the children of each by place, and what the entries come to. A level
-/// without requests may have old children.
+/// What a wave's expansion leaves: what is asked at each level, the place of each ask's request, the children of each request by place,
+/// and what the entries come to. A level where nothing is asked may have old places and children.
 #[derive(Drop)]
 pub(crate) struct Down {
     pub(crate) requests: Requests,
+    /// The requests of the level that was come to last. All levels use it in turn.
+    pub(crate) table: Table,
+    pub(crate) places: Vec<Places>,
     pub(crate) rows: Vec<Row>,
     pub(crate) roots: Vec<Placed>,
+}
+
+/// Makes a list of places for each level.
+fn fit_places(alloc: Global, places: &mut Vec<Places>, levels: u16) -> Result<(), AllocError>
+    ensures { OnOk result (length places.new.items ≡ levels) }
+{
+    if places.len() == levels as usize {
+        return Ok(());
+    }
+    let mut fresh = Vec::new(alloc);
+    for made in 0..levels {
+        fresh.push(Places::new(alloc))?;
+    }
+    *places = fresh;
+    Ok(())
 }
 
 /// Makes a row for each level.
@@ -73,7 +91,7 @@ fn go_down(
     limits: Limits,
 ) -> Result<u16, WaveFault>
     requires operands { All (IsEntry store.now) entries.now }
-    ensures down { IfOk result (λ v. IsDown store.now entries.now v down.new.requests down.new.rows.items down.new.roots.items answers.new.items) }
+    ensures down { IfOk result (λ v. IsDown store.now entries.now v down.new.requests down.new.places.items down.new.rows.items down.new.roots.items answers.new.items) }
     ensures alone { limits.level ≡ 2 ^ 64 - 1 → IfOk result (λ v. v ≡ store.now.levels) }
     ensures refused { IfErr result (λ e. e ≢ WaveFault.Full) }
     ensures served { IfErr result (λ e. e ≢ WaveFault.NoWorker) }
@@ -83,29 +101,25 @@ fn go_down(
 {
     let levels = store.levels();
     down.requests.restart(alloc, levels)?;
+    fit_places(alloc, &mut down.places, levels)?;
     fit_rows(alloc, &mut down.rows, levels)?;
     fit_answers(alloc, answers, levels)?;
     down.roots.clear();
     place_roots(store, entries, &mut down.requests, &mut down.roots)?;
-    expand(
-        store,
-        entries,
-        &mut down.requests,
-        &mut down.rows,
-        down.roots.as_slice(),
-        limits,
-    )
+    expand(store, entries, down, limits)
 }
 
 /// Tells the gate how many requests the caller's thread has expanded, those of the levels in front of one, and answers it.
-fn tell_requests<G: Gate>(gate: &G, requests: &Requests, from: u16) -> usize {
+fn tell_requests<G: Gate>(gate: &G, down: &Down, from: u16) -> usize
+    requires { length down.now.rows.items ≡ length down.now.requests }
+{
     let mut told: usize = 0;
     let mut level = 0;
-    while let Some(next) = requests.next_level(level) {
+    while let Some(next) = down.requests.next_level(level) {
         if next >= from {
             return told;
         }
-        let count = requests.count(next);
+        let count = down.rows[next as usize].pairs().len();
         gate.at_requests(count);
         told = told.saturating_add(count);
         level = next + 1;
@@ -135,6 +149,9 @@ fn root_answers(
 pub(crate) struct Workspace<'a, R, G> {
     pub(crate) crew: &'a Crew<'a, R, G>,
     down: Down,
+    /// The answers of the requests of one level, by place.
+    own: Answers,
+    /// The answers of the asks of each level.
     answers: Vec<Answers>,
     /// The memory of the workers.
     rooms: Rooms,
@@ -152,9 +169,12 @@ impl<'a, R: Threads + Wait + Sync, G: Gate> Workspace<'a, R, G> {
             crew,
             down: Down {
                 requests: Requests::new(alloc),
+                table: Table::new(alloc),
+                places: Vec::new(alloc),
                 rows: Vec::new(alloc),
                 roots: Vec::new(alloc),
             },
+            own: Answers::new(alloc),
             answers: Vec::new(alloc),
             rooms: Rooms::new(alloc),
             sizes: Sizes::new(),
@@ -198,7 +218,7 @@ impl<'a, R: Threads + Wait + Sync, G: Gate> Workspace<'a, R, G> {
             &mut self.answers,
             limits,
         )?;
-        let alone = tell_requests(self.crew.gate, &self.down.requests, from);
+        let alone = tell_requests(self.crew.gate, &self.down, from);
         let frontier = Frontier {
             requests: &self.down.requests,
             from,
@@ -212,7 +232,14 @@ impl<'a, R: Threads + Wait + Sync, G: Gate> Workspace<'a, R, G> {
             &mut self.answers,
         )?;
         self.sizes = self.sizes.then(alone.saturating_add(shared));
-        reduce(store, entries, &self.down, &mut self.answers, from)?;
+        reduce(
+            store,
+            entries,
+            &self.down,
+            &mut self.own,
+            &mut self.answers,
+            from,
+        )?;
         match root_answers(alloc, self.down.roots.as_slice(), self.answers.as_slice()) {
             Ok(answers) => Ok(answers),
             Err(_) => Err(WaveFault::OutOfMemory),
