@@ -1,5 +1,6 @@
 pub mod Marking
 pub mod Placing
+pub mod Settling
 pub mod Marked
 pub mod Wanted
 pub mod Raising

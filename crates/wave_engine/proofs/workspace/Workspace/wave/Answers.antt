@@ -1,4 +1,4 @@
-use Rattle.std.proofs.Common.{List, All, sym, subst, arith}
+use Rattle.std.proofs.Common.{◌≡◌, ◌∙◌, ℕ, List, All, length, sym, subst, arith}
 use Rattle.std.specs.List.{AllZip}
 use Rattle.dd_store.specs.declared.reference.Ref.{Ref}
 use Rattle.req_table.specs.declared.Key.{Key}
@@ -15,10 +15,11 @@ use Rattle.wave_engine.proofs.workspace.Workspace.wave.Goals as goal
 pub reduce-requires-clause-expanded : goal.reduce-requires-clause-expanded
 reduce-requires-clause-expanded g c =
     let T : List (List Key) = c.go_down.new.down.requests in
+    let noted : List (List ℕ) = c.go_down.new.down.places.items in
     let rows : List (List (Placed × Placed)) = c.go_down.new.down.rows.items in
     let ps : List Placed = c.go_down.new.down.roots.items in
-    let D : IsDown c.args.store.now c.args.entries.now c.in_ok-from.from T rows ps c.go_down.new.answers.items = c.in_ok-from.ensures.down in
-    let E : AreExpanded c.hand_over.new.store c.args.entries.now ps c.in_ok-from.from T rows = expanded_kept c.args.store.now c.levels.ensures.sound c.args.entries.now c.requires.operands c.hand_over.new.store c.hand_over.ensures.adds.keeps ps c.in_ok-from.from T rows D.expanded in
+    let D : IsDown c.args.store.now c.args.entries.now c.in_ok-from.from T noted rows ps c.go_down.new.answers.items = c.in_ok-from.ensures.down in
+    let E : AreExpanded c.hand_over.new.store c.args.entries.now ps c.in_ok-from.from T noted rows = expanded_kept c.args.store.now c.levels.ensures.sound c.args.entries.now c.requires.operands c.hand_over.new.store c.hand_over.ensures.adds.keeps ps c.in_ok-from.from T noted rows D.expanded in
     E
 
 pub returns-in_err-from-clause-wave : goal.returns-in_err-from-clause-wave
@@ -44,9 +45,10 @@ returns-in_err-reduce-clause-wave g c =
 pub root_answers-requires : goal.root_answers-requires
 root_answers-requires g c =
     let T : List (List Key) = c.go_down.new.down.requests in
+    let noted : List (List ℕ) = c.go_down.new.down.places.items in
     let rows : List (List (Placed × Placed)) = c.go_down.new.down.rows.items in
     let ps : List Placed = c.go_down.new.down.roots.items in
-    let D : IsDown c.args.store.now c.args.entries.now c.in_ok-from.from T rows ps c.go_down.new.answers.items = c.in_ok-from.ensures.down in
+    let D : IsDown c.args.store.now c.args.entries.now c.in_ok-from.from T noted rows ps c.go_down.new.answers.items = c.in_ok-from.ensures.down in
     let R : AreReducedBelow c.hand_over.new.store c.args.entries.now T 0 c.reduce.new.store c.reduce.new.answers.items = c.in_ok-reduce.ensures.reduced in
     subst (λ (z : List Placed). All (λ p. (r : Ref) × ComesTo c.as_slice-2.result.now p r) z) (sym c.as_slice.ensures.value)
     (subst (λ (z : List (List Ref)). All (λ p. (r : Ref) × ComesTo z p r) ps) (sym c.as_slice-2.ensures.value)
@@ -55,9 +57,10 @@ root_answers-requires g c =
 pub returns-in-Ok-clause-wave : goal.returns-in-Ok-clause-wave
 returns-in-Ok-clause-wave g c =
     let T : List (List Key) = c.go_down.new.down.requests in
+    let noted : List (List ℕ) = c.go_down.new.down.places.items in
     let rows : List (List (Placed × Placed)) = c.go_down.new.down.rows.items in
     let ps : List Placed = c.go_down.new.down.roots.items in
-    let D : IsDown c.args.store.now c.args.entries.now c.in_ok-from.from T rows ps c.go_down.new.answers.items = c.in_ok-from.ensures.down in
+    let D : IsDown c.args.store.now c.args.entries.now c.in_ok-from.from T noted rows ps c.go_down.new.answers.items = c.in_ok-from.ensures.down in
     let R : AreReducedBelow c.hand_over.new.store c.args.entries.now T 0 c.reduce.new.store c.reduce.new.answers.items = c.in_ok-reduce.ensures.reduced in
     let come : AllZip (ComesTo c.reduce.new.answers.items) ps c.in-Ok.answers.items =
     subst (λ (z : List Placed). AllZip (ComesTo c.reduce.new.answers.items) z c.in-Ok.answers.items) c.as_slice.ensures.value
