@@ -11,8 +11,8 @@ use std::marker::Model;
 /// A table that has room for more than so many times the requests that it holds gives its memory back when it is emptied.
 const MOST_ROOM: usize = 8;
 
-/// A table with room for no more requests than these keeps its memory whatever it is to hold.
-const LEAST_ROOM: usize = 64;
+/// A table that begins anew keeps the memory that so many requests would need, whatever it is to hold.
+const LEAST_KEPT: usize = 8;
 
 /// Requests, each once, in the order of their admission. A place is a number of 32 bits.
 #[derive(Drop)]
@@ -92,14 +92,10 @@ impl Table {
         self.keys.as_slice()
     }
 
-    /// Removes all requests. The memory serves on, unless it is much more than these requests needed.
-    pub fn clear(&mut self)
+    /// Removes all requests. The memory serves on, unless it is much more than so many need.
+    fn empty(&mut self, count: usize)
         ensures { self.new ≡ [] }
     {
-        let count = self.len();
-        if count == 0 {
-            return;
-        }
         if self.keys.capacity() / MOST_ROOM > count {
             self.keys = IndexSet::new(*self.keys.allocator());
         } else {
@@ -107,16 +103,21 @@ impl Table {
         }
     }
 
-    /// Removes all requests, and has room for so many more. The memory serves on, unless it is much more than these need.
+    /// Removes all requests. The memory serves on, unless it is much more than these requests needed.
+    pub fn clear(&mut self)
+        ensures { self.new ≡ [] }
+    {
+        let count = self.len();
+        if count > 0 {
+            self.empty(count);
+        }
+    }
+
+    /// Removes all requests, and has room for so many. The memory serves on, unless it is much more than that.
     pub fn restart(&mut self, most: usize) -> Result<(), AllocError>
         ensures { self.new ≡ [] }
     {
-        let room = self.keys.capacity();
-        if room > LEAST_ROOM && room / MOST_ROOM > most {
-            self.keys = IndexSet::new(*self.keys.allocator());
-        } else {
-            self.keys.clear();
-        }
+        self.empty(most.max(LEAST_KEPT));
         self.keys.reserve(most)?;
         Ok(())
     }
