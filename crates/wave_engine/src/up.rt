@@ -124,9 +124,7 @@ pub(crate) fn reduce(
             pairs: down.rows[level as usize].pairs(),
         };
         reduce_level(store, &expanded, answers.as_slice(), own)?;
-        if spread(own, expanded.places, &mut answers[level as usize]).is_err() {
-            return Err(WaveFault::OutOfMemory);
-        }
+        spread(own, expanded.places, &mut answers[level as usize])?;
         if store.count() > store.limit() {
             return Err(WaveFault::Full);
         }

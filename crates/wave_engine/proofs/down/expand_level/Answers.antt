@@ -7,8 +7,8 @@ use Rattle.wave_engine.specs.Down.{IsAdmitted, IsRowExpanded}
 use Rattle.wave_engine.proofs.Placing.{row_start, row_more}
 use Rattle.wave_engine.proofs.down.expand_level.Goals as goal
 
-pub split-requires : goal.split-requires
-split-requires c = (c.requires.own c.loop-place.place c.key_at.result c.key_at.ensures).key
+pub split-record-requires : goal.split-record-requires
+split-record-requires c = (c.requires.own c.loop-place.place c.key_at.result c.key_at.ensures).key
 
 pub loop-place-init : goal.loop-place-init
 loop-place-init c =

@@ -30,7 +30,7 @@ reduce_level-requires-clause-ready c =
     let d : AreReducedBelow S es T (v + 1) s A = levels_left S c.requires.held es c.requires.operands ps T places rows c.args.from c.requires.expanded (v + 1) c.loop-level.end s A h.2 c.loop-level.invariant.reduced in
     let rowed : v < length rows = let len : length rows ≡ S.levels = c.requires.expanded.levels in omega (arith, len, fit) in
     let placed : v < length places = let len : length places ≡ S.levels = c.requires.expanded.noted in omega (arith, len, fit) in
-    let pairs_are : c.pairs.result.now ≡ row rows v = c.pairs.ensures ∙ row_read rows v c.index-2.result.now rowed c.index-2.ensures in
+    let pairs_are : c.pairs.result.now ≡ row rows v = c.pairs.ensures ∙ row_read rows v c.index-in-Some.result.now rowed c.index-in-Some.ensures in
     let places_are : c.places.result.now ≡ row places v = c.places.ensures ∙ row_read places v c.index.result.now placed c.index.ensures in
     let ready : IsReadyAt s T (row places v) (row rows v) A v = level_ready S c.requires.held es c.requires.operands ps T places rows c.args.from c.requires.expanded v s A lt fit h.1 d in
     subst (λ (z : List (Placed × Placed)). IsReadyAt s T c.places.result.now z c.as_slice.result.now v) (sym pairs_are)
@@ -53,7 +53,7 @@ spread-requires c = λ q p at.
     let d : AreReducedBelow S es T (v + 1) s A = levels_left S c.requires.held es c.requires.operands ps T places rows c.args.from c.requires.expanded (v + 1) c.loop-level.end s A h.2 c.loop-level.invariant.reduced in
     let rowed : v < length rows = let len : length rows ≡ S.levels = c.requires.expanded.levels in omega (arith, len, fit) in
     let placed : v < length places = let len : length places ≡ S.levels = c.requires.expanded.noted in omega (arith, len, fit) in
-    let pairs_are : c.pairs.result.now ≡ row rows v = c.pairs.ensures ∙ row_read rows v c.index-2.result.now rowed c.index-2.ensures in
+    let pairs_are : c.pairs.result.now ≡ row rows v = c.pairs.ensures ∙ row_read rows v c.index-in-Some.result.now rowed c.index-in-Some.ensures in
     let places_are : c.places.result.now ≡ row places v = c.places.ensures ∙ row_read places v c.index.result.now placed c.index.ensures in
     let ready : IsReadyAt s T (row places v) (row rows v) A v = level_ready S c.requires.held es c.requires.operands ps T places rows c.args.from c.requires.expanded v s A lt fit h.1 d in
     let u : Nodes = c.reduce_level.new.store in
@@ -102,8 +102,8 @@ returns-in_err-reduce_level-clause-fault c =
     level_refused S c.requires.held es c.requires.operands ps T places rows c.args.from c.requires.expanded v u (keeps-trans S s u d.adds.keeps c.reduce_level.ensures.adds.keeps) c.in_err-reduce_level.field-0.0 c.in_err-reduce_level.ensures.fault in
     search (rules, f)
 
-pub returns-then-is_err-clause-adds : goal.returns-then-is_err-clause-adds
-returns-then-is_err-clause-adds c =
+pub returns-in_err-spread-clause-adds : goal.returns-in_err-spread-clause-adds
+returns-in_err-spread-clause-adds c =
     let S : Nodes = c.args.store.now in
     let es : List Entry = c.args.entries.now in
     let ps : List Placed = c.args.down.now.roots.items in
@@ -173,7 +173,7 @@ loop-level-preserved c =
     let d : AreReducedBelow S es T (v + 1) s A = levels_left S c.requires.held es c.requires.operands ps T places rows c.args.from c.requires.expanded (v + 1) c.loop-level.end s A h.2 c.loop-level.invariant.reduced in
     let rowed : v < length rows = let len : length rows ≡ S.levels = c.requires.expanded.levels in omega (arith, len, fit) in
     let placed : v < length places = let len : length places ≡ S.levels = c.requires.expanded.noted in omega (arith, len, fit) in
-    let pairs_are : c.pairs.result.now ≡ row rows v = c.pairs.ensures ∙ row_read rows v c.index-2.result.now rowed c.index-2.ensures in
+    let pairs_are : c.pairs.result.now ≡ row rows v = c.pairs.ensures ∙ row_read rows v c.index-in-Some.result.now rowed c.index-in-Some.ensures in
     let places_are : c.places.result.now ≡ row places v = c.places.ensures ∙ row_read places v c.index.result.now placed c.index.ensures in
     let ready : IsReadyAt s T (row places v) (row rows v) A v = level_ready S c.requires.held es c.requires.operands ps T places rows c.args.from c.requires.expanded v s A lt fit h.1 d in
     let u : Nodes = c.reduce_level.new.store in
