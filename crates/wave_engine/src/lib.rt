@@ -1,6 +1,7 @@
 //! Waves that begin on the caller's own thread, by places, and call in the workers where a level is wide.
 #![tactic(auto)]
 
+mod by_level;
 mod down;
 mod engine;
 mod front;
