@@ -6,10 +6,11 @@ ghost use Rattle.req_table.specs.declared.Key.{Key as KeyValue};
 ghost use Rattle.req_table.specs.Keys.{IsChildIn, child as child_spec};
 ghost use Rattle.reduce_up.specs.Waves.{IsEntry};
 ghost use Rattle.wave_engine.specs.Places.{row, IsPlaced, Admits};
+ghost use Rattle.wave_engine.specs.ByLevel.{lists_of, open_of};
 ghost use Rattle.wave_engine.specs.Bounds.{AreMoreThan, AreAtMost};
 ghost use Rattle.wave_engine.specs.Down.{IsAdmitted, AreAdmitted, IsRowExpanded, AreExpanded, IsWide};
 
-use crate::lists::Row;
+use crate::by_level::ByLevel;
 use crate::requests::Requests;
 use crate::settle::settle;
 use crate::workspace::Down;
@@ -60,29 +61,29 @@ pub(crate) fn place_roots(
     Ok(())
 }
 
-/// Places the children of a level's requests.
+/// Places the children of a level's requests, and adds them behind the rows of earlier levels.
 fn expand_level(
     store: &Store,
     entries: &[(Op, Ref, Ref)],
     table: &Table,
     requests: &mut Requests,
-    pairs: &mut Row,
+    rows: &mut ByLevel<(Placed, Placed)>,
     level: u16,
 ) -> Result<(), AllocError>
     requires admitted { AreAdmitted store.now entries.now requests.old }
     requires own { (p : ℕ) (k : KeyValue) → slice_get table.now p ≡ Some k → IsAdmitted store.now entries.now level k }
+    requires open { open_of rows.old ≡ [] }
     ensures levels { length requests.new ≡ length requests.old }
-    ensures expanded { OnOk result (IsRowExpanded store.now entries.now requests.old table.now level (length table.now) requests.new pairs.new) }
+    ensures lists { lists_of rows.new ≡ lists_of rows.old }
+    ensures expanded { OnOk result (IsRowExpanded store.now entries.now requests.old table.now level (length table.now) requests.new (open_of rows.new)) }
 {
     let _ = store.levels();
     let _ = entries.len();
-    let count = table.len();
-    pairs.restart(count)?;
-    for place in 0..count {
+    for place in 0..table.len() {
         let record = split(store, table.key_at(place));
         let low = place_child(store, requests, record.low)?;
         let high = place_child(store, requests, record.high)?;
-        pairs.push((low, high))?;
+        rows.push((low, high))?;
     }
     Ok(())
 }
@@ -104,10 +105,12 @@ pub(crate) fn expand(
     down: &mut Down,
     limits: Limits,
 ) -> Result<u16, WaveFault>
-    requires start { AreExpanded store.now entries.now down.old.roots.items 0 down.old.requests down.old.places.items down.old.rows.items }
+    requires start { AreExpanded store.now entries.now down.old.roots.items 0 down.old.requests (lists_of down.old.places) (lists_of down.old.rows) }
+    requires noted { open_of down.old.places ≡ [] }
+    requires rowed { open_of down.old.rows ≡ [] }
     ensures bound { IfOk result (λ v. v ≤ store.now.levels) }
     ensures roots { down.new.roots ≡ down.old.roots }
-    ensures expanded { IfOk result (λ v. AreExpanded store.now entries.now down.old.roots.items v down.new.requests down.new.places.items down.new.rows.items) }
+    ensures expanded { IfOk result (λ v. AreExpanded store.now entries.now down.old.roots.items v down.new.requests (lists_of down.new.places) (lists_of down.new.rows)) }
     ensures wide { IfOk result (λ v. v < store.now.levels → IsWide limits.level (row down.new.requests v)) }
     ensures alone { limits.level ≡ 2 ^ 64 - 1 → IfOk result (λ v. v ≡ store.now.levels) }
     ensures refused { IfErr result (λ e. e ≢ WaveFault.Full) }
@@ -121,8 +124,9 @@ pub(crate) fn expand(
     let mut level = 0;
     let mut left = limits.wave;
     while let Some(next) = down.requests.next_level(level) {
-        let asks = down.requests.keys(next as usize);
-        let count = settle(asks, &mut down.table, &mut down.places[next as usize])?;
+        let asks = down.requests.keys(next);
+        let count = settle(asks, &mut down.table, &mut down.places)?;
+        down.places.close(next);
         if limits.wave < usize::MAX && count > left {
             return Err(WaveFault::TooManyRequests);
         }
@@ -130,8 +134,15 @@ pub(crate) fn expand(
             return Ok(next);
         }
         left = left.saturating_sub(count);
-        let pairs = &mut down.rows[next as usize];
-        expand_level(store, entries, &down.table, &mut down.requests, pairs, next)?;
+        expand_level(
+            store,
+            entries,
+            &down.table,
+            &mut down.requests,
+            &mut down.rows,
+            next,
+        )?;
+        down.rows.close(next);
         level = next + 1;
     }
     Ok(levels)

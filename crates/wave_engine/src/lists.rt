@@ -1,9 +1,9 @@
-//! What a wave keeps of a level: what is asked there, by number, the children of its requests, by place, and the answers.
+//! What is asked at a level, and the answers of a level that is reduced.
 ghost use Rattle.std.specs.Prelude.{◌≡◌, ◌<◌, ◌++◌, ◌∷◌, [], length, slice_get, Some, IfOk, OnOk, OnErr};
 ghost use Rattle.wave_engine.specs.Places.{Enters};
 
 use dd_store::Ref;
-use req_table::{Key, Placed};
+use req_table::Key;
 use std::alloc::{AllocError, Global};
 use std::marker::Model;
 
@@ -75,106 +75,7 @@ impl Asks {
     }
 }
 
-/// The place of the request of each ask of a level, by number.
-#[derive(Drop)]
-pub(crate) struct Places {
-    places: Vec<u32>,
-}
-
-impl Model for Places {
-    ghost use Rattle.std.specs.Prelude.{List, ℕ};
-
-    ghost Value = { List ℕ };
-
-    ghost view = { λ p. p.places.items };
-}
-
-impl Places {
-    /// No places. It takes no memory yet.
-    pub(crate) fn new(alloc: Global) -> Places
-        ensures { result ≡ [] }
-    {
-        Places {
-            places: Vec::new(alloc),
-        }
-    }
-
-    /// Adds the place of the next ask's request.
-    pub(crate) fn push(&mut self, place: u32) -> Result<(), AllocError>
-        ensures { OnOk result (self.new ≡ self.old ++ place ∷ []) }
-    {
-        self.places.push(place)?;
-        Ok(())
-    }
-
-    /// All places, in order.
-    pub(crate) fn places(&self) -> &[u32]
-        ensures { result.now ≡ self.now }
-    {
-        self.places.as_slice()
-    }
-
-    /// Removes all places, keeps the memory, and has room for so many.
-    pub(crate) fn restart(&mut self, count: usize) -> Result<(), AllocError>
-        ensures { self.new ≡ [] }
-    {
-        self.places.clear();
-        self.places.reserve_exact(count)?;
-        Ok(())
-    }
-}
-
-/// The children of a level's requests, low and high, by place.
-#[derive(Drop)]
-pub(crate) struct Row {
-    pairs: Vec<(Placed, Placed)>,
-}
-
-impl Model for Row {
-    ghost use Rattle.std.specs.Prelude.{List};
-    ghost use Rattle.req_table.specs.declared.placed.Placed.{Placed};
-
-    ghost Value = { List (Placed × Placed) };
-
-    ghost view = { λ r. r.pairs.items };
-}
-
-impl Row {
-    /// No pairs. It takes no memory yet.
-    pub(crate) fn new(alloc: Global) -> Row
-        ensures { result ≡ [] }
-    {
-        Row {
-            pairs: Vec::new(alloc),
-        }
-    }
-
-    /// Adds the children of the next place.
-    pub(crate) fn push(&mut self, pair: (Placed, Placed)) -> Result<(), AllocError>
-        ensures { OnOk result (self.new ≡ self.old ++ pair ∷ []) }
-    {
-        self.pairs.push(pair)?;
-        Ok(())
-    }
-
-    /// All pairs, in order.
-    pub(crate) fn pairs(&self) -> &[(Placed, Placed)]
-        ensures { result.now ≡ self.now }
-    {
-        self.pairs.as_slice()
-    }
-
-    /// Removes all pairs, keeps the memory, and has room for so many.
-    pub(crate) fn restart(&mut self, count: usize) -> Result<(), AllocError>
-        ensures { self.new ≡ [] }
-    {
-        self.pairs.clear();
-        self.pairs.reserve_exact(count)?;
-        Ok(())
-    }
-}
-
-/// The answers of a level: of its requests, by place, or of its asks, by number.
+/// The answers of a level's requests, by place.
 #[derive(Drop)]
 pub(crate) struct Answers {
     refs: Vec<Ref>,
@@ -199,7 +100,7 @@ impl Answers {
         }
     }
 
-    /// Adds the next answer.
+    /// Adds the answer of the next place.
     pub(crate) fn push(&mut self, answer: Ref) -> Result<(), AllocError>
         ensures done { OnOk result (self.new ≡ self.old ++ answer ∷ []) }
         ensures refused { OnErr result (self.new ≡ self.old) }
@@ -208,7 +109,7 @@ impl Answers {
         Ok(())
     }
 
-    /// The answer of a place or a number.
+    /// The answer of a place.
     pub(crate) fn at(&self, place: usize) -> Ref
         requires { place < length self.now }
         ensures { slice_get self.now place ≡ Some result }

@@ -102,10 +102,10 @@ impl Requests {
     }
 
     /// The number of levels.
-    pub(crate) fn levels(&self) -> usize
+    pub(crate) fn levels(&self) -> u16
         ensures { result ≡ length self.now }
     {
-        self.asks.len()
+        self.asks.len() as u16
     }
 
     /// The number of asks of a level.
@@ -117,11 +117,11 @@ impl Requests {
     }
 
     /// The request of each ask of a level, by number.
-    pub(crate) fn keys(&self, level: usize) -> &[Key]
+    pub(crate) fn keys(&self, level: u16) -> &[Key]
         requires { level < length self.now }
         ensures { result.now ≡ row self.now level }
     {
-        self.asks[level].keys()
+        self.asks[level as usize].keys()
     }
 
     /// The first level from one on that has requests.

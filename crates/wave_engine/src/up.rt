@@ -1,13 +1,15 @@
 //! Reduction, from the last level up: each request's answer is made of its children's, which are read by the number of their asks.
-ghost use Rattle.std.specs.Prelude.{◌≡◌, ◌≢◌, ◌<◌, ◌≤◌, ℕ, length, slice_get, Some, All, IfErr, OnOk};
+ghost use Rattle.std.specs.Prelude.{◌≡◌, ◌≢◌, ◌<◌, ◌≤◌, ℕ, [], length, slice_get, Some, All, IfErr, OnOk};
 ghost use Rattle.dd_store.specs.declared.reference.Ref.{Ref as RefValue};
 ghost use Rattle.dd_store.specs.Nodes.{IsSound};
 ghost use Rattle.expand_work.specs.Fault.{wave_fault as wave_fault_of};
 ghost use Rattle.reduce_up.specs.Reducing.{AddsDescribed};
 ghost use Rattle.reduce_up.specs.Waves.{IsWanted, IsWaveFault, IsEntry};
+ghost use Rattle.wave_engine.specs.ByLevel.{lists_of, open_of};
 ghost use Rattle.wave_engine.specs.Down.{AreExpanded};
 ghost use Rattle.wave_engine.specs.Up.{ComesTo, IsReadyAt, AskedAt, IsLevelReduced, AreSpread, IsLevelFault, AreReducedBelow};
 
+use crate::by_level::ByLevel;
 use crate::lists::Answers;
 use crate::requests::Requests;
 use crate::workspace::Down;
@@ -17,15 +19,13 @@ use req_table::{Op, Placed, PlacedChild};
 use std::alloc::AllocError;
 
 /// What a placed child comes to.
-pub(crate) fn resolve(answers: &[Answers], child: Placed) -> Ref
-    requires { (r : RefValue) × ComesTo answers.now child r }
-    ensures { ComesTo answers.now child result }
+pub(crate) fn resolve(answers: &ByLevel<Ref>, child: Placed) -> Ref
+    requires { (r : RefValue) × ComesTo (lists_of answers.now) child r }
+    ensures { ComesTo (lists_of answers.now) child result }
 {
     match child.view() {
         PlacedChild::Done(answer) => answer,
-        PlacedChild::Ask { level, place, mark } => answers[level as usize]
-            .at(place as usize)
-            .marked(mark),
+        PlacedChild::Ask { level, place, mark } => answers.at(level, place as usize).marked(mark),
     }
 }
 
@@ -52,11 +52,11 @@ struct Expanded<'a> {
 fn reduce_level(
     store: &mut Store,
     expanded: &Expanded<'_>,
-    answers: &[Answers],
+    answers: &ByLevel<Ref>,
     own: &mut Answers,
 ) -> Result<(), WaveFault>
     requires held { IsSound store.old }
-    requires ready { IsReadyAt store.old expanded.now.requests.now expanded.now.places.now expanded.now.pairs.now answers.now expanded.now.level }
+    requires ready { IsReadyAt store.old expanded.now.requests.now expanded.now.places.now expanded.now.pairs.now (lists_of answers.now) expanded.now.level }
     ensures sound { IsSound store.new }
     ensures adds { AddsDescribed store.old store.new (AskedAt store.old expanded.now.requests.now expanded.now.level) }
     ensures whole { OnOk result (IsLevelReduced store.old expanded.now.requests.now expanded.now.places.now expanded.now.level (length expanded.now.pairs.now) store.new own.new) }
@@ -80,12 +80,13 @@ fn reduce_level(
     Ok(())
 }
 
-/// Gives each ask of a level the answer of its request.
-fn spread(own: &Answers, places: &[u32], answers: &mut Answers) -> Result<(), AllocError>
-    requires { (q p : ℕ) → slice_get places.now q ≡ Some p → p < length own.now }
-    ensures { OnOk result (AreSpread own.now places.now answers.new) }
+/// Gives each ask of a level the answer of its request, behind the answers of other levels.
+fn spread(own: &Answers, places: &[u32], answers: &mut ByLevel<Ref>) -> Result<(), AllocError>
+    requires places { (q p : ℕ) → slice_get places.now q ≡ Some p → p < length own.now }
+    requires open { open_of answers.old ≡ [] }
+    ensures lists { lists_of answers.new ≡ lists_of answers.old }
+    ensures spread { OnOk result (AreSpread own.now places.now (open_of answers.new)) }
 {
-    answers.restart(places.len())?;
     for place in places {
         answers.push(own.at(*place as usize))?;
     }
@@ -99,17 +100,18 @@ pub(crate) fn reduce(
     entries: &[(Op, Ref, Ref)],
     down: &Down,
     own: &mut Answers,
-    answers: &mut Vec<Answers>,
+    answers: &mut ByLevel<Ref>,
     from: u16,
 ) -> Result<(), WaveFault>
     requires held { IsSound store.old }
     requires operands { All (IsEntry store.old) entries.now }
     requires bound { from ≤ store.old.levels }
-    requires expanded { AreExpanded store.old entries.now down.now.roots.items from down.now.requests down.now.places.items down.now.rows.items }
-    requires reduced { AreReducedBelow store.old entries.now down.now.requests from store.old answers.old.items }
+    requires expanded { AreExpanded store.old entries.now down.now.roots.items from down.now.requests (lists_of down.now.places) (lists_of down.now.rows) }
+    requires reduced { AreReducedBelow store.old entries.now down.now.requests from store.old (lists_of answers.old) }
+    requires open { open_of answers.old ≡ [] }
     ensures sound { IsSound store.new }
     ensures adds { AddsDescribed store.old store.new (IsWanted store.old entries.now) }
-    ensures reduced { OnOk result (AreReducedBelow store.old entries.now down.now.requests 0 store.new answers.new.items) }
+    ensures reduced { OnOk result (AreReducedBelow store.old entries.now down.now.requests 0 store.new (lists_of answers.new)) }
     ensures fault { IfErr result (λ e. IsWaveFault store.old entries.now store.new e) }
     ensures served { IfErr result (λ e. e ≢ WaveFault.NoWorker) }
     ensures unbounded { IfErr result (λ e. e ≢ WaveFault.TooManyRequests) }
@@ -120,11 +122,12 @@ pub(crate) fn reduce(
         let expanded = Expanded {
             requests: &down.requests,
             level,
-            places: down.places[level as usize].places(),
-            pairs: down.rows[level as usize].pairs(),
+            places: down.places.list(level),
+            pairs: down.rows.list(level),
         };
-        reduce_level(store, &expanded, answers.as_slice(), own)?;
-        spread(own, expanded.places, &mut answers[level as usize])?;
+        reduce_level(store, &expanded, answers, own)?;
+        spread(own, expanded.places, answers)?;
+        answers.close(level);
         if store.count() > store.limit() {
             return Err(WaveFault::Full);
         }

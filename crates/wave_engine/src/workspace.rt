@@ -1,17 +1,19 @@
 //! Waves without a memo, and the memory that lasts from wave to wave.
-ghost use Rattle.std.specs.Prelude.{◌≡◌, ◌≢◌, ◌<◌, ◌≤◌, ◌-◌, ◌^◌, ℕ, length, Err, All, IfOk, IfErr, OnOk};
+ghost use Rattle.std.specs.Prelude.{◌≡◌, ◌≢◌, ◌<◌, ◌≤◌, ◌-◌, ◌^◌, ℕ, [], length, Err, All, IfOk, IfErr, OnOk};
 ghost use Rattle.std.specs.List.{AllZip};
 ghost use Rattle.dd_store.specs.declared.reference.Ref.{Ref as RefValue};
 ghost use Rattle.dd_store.specs.Nodes.{IsSound};
 ghost use Rattle.reduce_up.specs.Waves.{IsEntry, AnswersWave};
 ghost use Rattle.expand_work.specs.Bounds.{most_of};
 ghost use Rattle.wave_engine.specs.Bounds.{AreMoreThan, AreAtMost, ArePast};
+ghost use Rattle.wave_engine.specs.ByLevel.{lists_of, open_of};
 ghost use Rattle.wave_engine.specs.Down.{IsDown};
 ghost use Rattle.wave_engine.specs.Up.{ComesTo};
 
+use crate::by_level::ByLevel;
 use crate::down::{Limits, expand, place_roots};
 use crate::front::{Frontier, hand_over};
-use crate::lists::{Answers, Places, Row};
+use crate::lists::Answers;
 use crate::requests::Requests;
 use crate::sizes::Sizes;
 use crate::up::{reduce, resolve};
@@ -24,60 +26,15 @@ use std::sync::Wait;
 use std::thread::Threads;
 
 /// What a wave's expansion leaves: what is asked at each level, the place of each ask's request, the children of each request by place,
-/// and what the entries come to. A level where nothing is asked may have old places and children.
+/// and what the entries come to.
 #[derive(Drop)]
 pub(crate) struct Down {
     pub(crate) requests: Requests,
     /// The requests of the level that was come to last. All levels use it in turn.
     pub(crate) table: Table,
-    pub(crate) places: Vec<Places>,
-    pub(crate) rows: Vec<Row>,
+    pub(crate) places: ByLevel<u32>,
+    pub(crate) rows: ByLevel<(Placed, Placed)>,
     pub(crate) roots: Vec<Placed>,
-}
-
-/// Makes a list of places for each level.
-fn fit_places(alloc: Global, places: &mut Vec<Places>, levels: u16) -> Result<(), AllocError>
-    ensures { OnOk result (length places.new.items ≡ levels) }
-{
-    if places.len() == levels as usize {
-        return Ok(());
-    }
-    let mut fresh = Vec::new(alloc);
-    for made in 0..levels {
-        fresh.push(Places::new(alloc))?;
-    }
-    *places = fresh;
-    Ok(())
-}
-
-/// Makes a row for each level.
-fn fit_rows(alloc: Global, rows: &mut Vec<Row>, levels: u16) -> Result<(), AllocError>
-    ensures { OnOk result (length rows.new.items ≡ levels) }
-{
-    if rows.len() == levels as usize {
-        return Ok(());
-    }
-    let mut fresh = Vec::new(alloc);
-    for made in 0..levels {
-        fresh.push(Row::new(alloc))?;
-    }
-    *rows = fresh;
-    Ok(())
-}
-
-/// Makes a list of answers for each level.
-fn fit_answers(alloc: Global, answers: &mut Vec<Answers>, levels: u16) -> Result<(), AllocError>
-    ensures { OnOk result (length answers.new.items ≡ levels) }
-{
-    if answers.len() == levels as usize {
-        return Ok(());
-    }
-    let mut fresh = Vec::new(alloc);
-    for made in 0..levels {
-        fresh.push(Answers::new(alloc))?;
-    }
-    *answers = fresh;
-    Ok(())
 }
 
 /// Places and expands what the entries ask for, down to the first level with more requests than its limit. It refuses where they are
@@ -87,11 +44,12 @@ fn go_down(
     store: &Store,
     entries: &[(Op, Ref, Ref)],
     down: &mut Down,
-    answers: &mut Vec<Answers>,
+    answers: &mut ByLevel<Ref>,
     limits: Limits,
 ) -> Result<u16, WaveFault>
     requires operands { All (IsEntry store.now) entries.now }
-    ensures down { IfOk result (λ v. IsDown store.now entries.now v down.new.requests down.new.places.items down.new.rows.items down.new.roots.items answers.new.items) }
+    ensures down { IfOk result (λ v. IsDown store.now entries.now v down.new.requests (lists_of down.new.places) (lists_of down.new.rows) down.new.roots.items (lists_of answers.new)) }
+    ensures open { OnOk result (open_of answers.new ≡ []) }
     ensures alone { limits.level ≡ 2 ^ 64 - 1 → IfOk result (λ v. v ≡ store.now.levels) }
     ensures refused { IfErr result (λ e. e ≢ WaveFault.Full) }
     ensures served { IfErr result (λ e. e ≢ WaveFault.NoWorker) }
@@ -101,9 +59,9 @@ fn go_down(
 {
     let levels = store.levels();
     down.requests.restart(alloc, levels)?;
-    fit_places(alloc, &mut down.places, levels)?;
-    fit_rows(alloc, &mut down.rows, levels)?;
-    fit_answers(alloc, answers, levels)?;
+    down.places.restart(alloc, levels)?;
+    down.rows.restart(alloc, levels)?;
+    answers.restart(alloc, levels)?;
     down.roots.clear();
     place_roots(store, entries, &mut down.requests, &mut down.roots)?;
     expand(store, entries, down, limits)
@@ -111,7 +69,7 @@ fn go_down(
 
 /// Tells the gate how many requests the caller's thread has expanded, those of the levels in front of one, and answers it.
 fn tell_requests<G: Gate>(gate: &G, down: &Down, from: u16) -> usize
-    requires { length down.now.rows.items ≡ length down.now.requests }
+    requires { length (lists_of down.now.rows) ≡ length down.now.requests }
 {
     let mut told: usize = 0;
     let mut level = 0;
@@ -119,7 +77,7 @@ fn tell_requests<G: Gate>(gate: &G, down: &Down, from: u16) -> usize
         if next >= from {
             return told;
         }
-        let count = down.rows[next as usize].pairs().len();
+        let count = down.rows.list(next).len();
         gate.at_requests(count);
         told = told.saturating_add(count);
         level = next + 1;
@@ -131,10 +89,10 @@ fn tell_requests<G: Gate>(gate: &G, down: &Down, from: u16) -> usize
 fn root_answers(
     alloc: Global,
     roots: &[Placed],
-    answers: &[Answers],
+    answers: &ByLevel<Ref>,
 ) -> Result<Vec<Ref>, AllocError>
-    requires { All (λ p. (r : RefValue) × ComesTo answers.now p r) roots.now }
-    ensures { IfOk result (λ refs. AllZip (ComesTo answers.now) roots.now refs.items) }
+    requires { All (λ p. (r : RefValue) × ComesTo (lists_of answers.now) p r) roots.now }
+    ensures { IfOk result (λ refs. AllZip (ComesTo (lists_of answers.now)) roots.now refs.items) }
 {
     let mut refs = Vec::new(alloc);
     for root in roots {
@@ -152,7 +110,7 @@ pub(crate) struct Workspace<'a, R, G> {
     /// The answers of the requests of one level, by place.
     own: Answers,
     /// The answers of the asks of each level.
-    answers: Vec<Answers>,
+    answers: ByLevel<Ref>,
     /// The memory of the workers.
     rooms: Rooms,
     /// How large the waves before were, of those that came to be reduced.
@@ -170,12 +128,12 @@ impl<'a, R: Threads + Wait + Sync, G: Gate> Workspace<'a, R, G> {
             down: Down {
                 requests: Requests::new(alloc),
                 table: Table::new(alloc),
-                places: Vec::new(alloc),
-                rows: Vec::new(alloc),
+                places: ByLevel::new(alloc),
+                rows: ByLevel::new(alloc),
                 roots: Vec::new(alloc),
             },
             own: Answers::new(alloc),
-            answers: Vec::new(alloc),
+            answers: ByLevel::new(alloc),
             rooms: Rooms::new(alloc),
             sizes: Sizes::new(),
         }
@@ -240,7 +198,7 @@ impl<'a, R: Threads + Wait + Sync, G: Gate> Workspace<'a, R, G> {
             &mut self.answers,
             from,
         )?;
-        match root_answers(alloc, self.down.roots.as_slice(), self.answers.as_slice()) {
+        match root_answers(alloc, self.down.roots.as_slice(), &self.answers) {
             Ok(answers) => Ok(answers),
             Err(_) => Err(WaveFault::OutOfMemory),
         }
