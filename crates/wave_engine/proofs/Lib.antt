@@ -1,5 +1,7 @@
 pub mod Marking
 pub mod Placing
+pub mod Settling
+pub mod Listing
 pub mod Marked
 pub mod Wanted
 pub mod Raising
