@@ -133,7 +133,7 @@ pub record Fitting (variables before names : List (List ℕ)) : Type 0 where
   pub known : AmongNames names variables
   pub many : length variables ≤ length (before ++ names)
 
-pub not_less : (m n place : ℕ) → cond (nat_lt m n) (Some place) None ≡ None → n ≤ m
+not_less : (m n place : ℕ) → cond (nat_lt m n) (Some place) None ≡ None → n ≤ m
 not_less m n place e =
     elim (nat_lt m n) as (λ b. nat_lt m n ≡ b → cond b (Some place) None ≡ None → n ≤ m) [
       | true ↦ λ k f. cc

@@ -1,6 +1,6 @@
 -- Lists that may not fit: what of them are variables, and the first name for which they do not.
 use Rattle.std.proofs.Common.{◌≡◌, ℕ, ◌+◌, ◌<◌, ◌≤◌, List, [], ◌∷◌, ◌++◌, Bool, true, false, refl, sym, ap, ◌∙◌, subst, inl, inr, length, drop, arith, append_assoc, filter}
-use Rattle.std.specs.Prelude.{cond, ◌&&◌, not, fold, bytes_eq, nat_lt, Option, Some, None, slice_get}
+use Rattle.std.specs.Prelude.{cond, ◌&&◌, not, bytes_eq, nat_lt, Option, Some, None, slice_get}
 use Rattle.std.specs.List.{IsDistinct}
 use Rattle.std.proofs.lemmas.Bool.Decides.{nat_tests}
 use Rattle.std.proofs.lemmas.List.{append-nil}
@@ -12,7 +12,7 @@ use Rattle.net_order.specs.Tables.{with_names}
 use Rattle.net_order.specs.Unfit.{Unfit, first_missing, unfit_from}
 use Rattle.net_order.proofs.Different.{AmongNames, no_more, all_different, all_there}
 use Rattle.net_order.proofs.Members.{no_true}
-use Rattle.net_order.proofs.Orders.{both_true, fitting, listed_different, not_less, some_none}
+use Rattle.net_order.proofs.Orders.{both_true, fitting, listed_different, some_none}
 use Rattle.net_order.proofs.Steps.{names_from}
 
 -- ---- what is known of a list

@@ -6,7 +6,9 @@ use Rattle.net_bench.specs.Statement.{Statement}
 use Rattle.net_bench.specs.Circuit.{Circuit, circuit_of}
 use Rattle.net_bench.specs.Judge.{judge, answer}
 use Rattle.net_order.specs.declared.order.Match.TheVariants.{Name, Position}
-use Rattle.net_order.specs.Order.{both, declared, given_side, by_depth, bad_place, IsListing, matched, only_in, registers_of}
+use Rattle.net_order.specs.Order.{both, declared, extended, given_side, by_depth, bad_place, IsListing, matched, only_in, registers_of}
+use Rattle.net_order.specs.declared.unfit.Misfit.TheVariants.{Foreign, Missing}
+use Rattle.net_order.specs.Unfit.{unfit_from}
 
 -- The circuit of the statements that are answered, without any where a fault is.
 abbrev read : Result (List Statement) BenchFault → Circuit
@@ -108,3 +110,16 @@ long = refl
 
 fits : IsListing six (map (λ d. 120 ∷ d ∷ []) (codes "135246"))
 fits = refl
+
+-- the first name that is none of them, though another is missing
+foreign : unfit_from six [] (map (λ d. 120 ∷ d ∷ []) (codes "1273")) ≡ Some (record { why = Foreign; name = 120 ∷ 55 ∷ [] })
+foreign = refl
+
+-- of a short list the first one that it lacks
+lacking : unfit_from six [] (map (λ d. 120 ∷ d ∷ []) (codes "6125")) ≡ Some (record { why = Missing; name = 120 ∷ 51 ∷ [] })
+lacking = refl
+
+-- a list as far as it goes: other names are passed over, and what it lacks follows as declared
+as_far : extended (both Name (netlist c17) (netlist c17)) (given_side None) (map (λ d. d ∷ []) (codes "792x7")) ≡ map (λ d. d ∷ []) (codes "72136")
+unfolding tokens_in pieces_in judge
+as_far = refl

@@ -1,5 +1,5 @@
-// Orders by the numbers at the end of names, and FORCE, which begins by them. The expected orders of FORCE are those of its definition
-// done with fractions.
+// Orders by the numbers at the end of names, and FORCE, which begins by them. The expected orders of FORCE are those that another program
+// finds by its definition.
 use net_bench::reader::{Netlist, parse_bench};
 use net_order::order::{Match, Order};
 use net_order::pairing::pair;
@@ -25,7 +25,7 @@ const WORDS: &str =
 const APART: &str =
     "INPUT(x1) INPUT(x3) INPUT(x5) INPUT(x2) INPUT(x4) INPUT(x6) OUTPUT(o) a = AND(x1, x4) b = AND(x2, x5) c = AND(x3, x6) o = OR(a, b, c)";
 
-/// A gate of three operands, and one that draws at two of them.
+/// An order that changes with how means are rounded.
 const CLOSE: &str =
     "INPUT(a) INPUT(b) INPUT(c) OUTPUT(w) u = AND(a, b, c) v = AND(u, a) w = AND(a, c)";
 

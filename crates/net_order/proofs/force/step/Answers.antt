@@ -1,7 +1,5 @@
-use Rattle.std.proofs.Common.{ℕ, arith}
-use Rattle.std.specs.Prelude.{slice_index}
+use Rattle.std.proofs.Common.{arith}
 use Rattle.std.proofs.lemmas.Grind.{common_steps}
-use Rattle.net_order.specs.Force.{drawn_to}
 use Rattle.net_order.proofs.Forcing.{mapped_none, mapped_more}
 use Rattle.net_order.proofs.force.step.Goals as goal
 
