@@ -232,8 +232,8 @@ module _ (S : Nodes) (sound : IsSound S) (l : LanesView) (sizes : l.sizes ≡ si
       ((worked_at k kb).noted.each s sb))))
 
   pub are_parts : (workers : ℕ) → length l.lanes ≡ workers → (rs : List (List (List Record))) (ns : List (List (List ℕ))) → rs ≡ map (part_records S) parts → ns ≡ map (λ (p : Part). p.space.noted) parts
-      → AreParts S workers roots (record { rows = rs; noted = ns; ports = ports })
-  are_parts workers wide rs ns rs-is ns-is = subst (λ (y : ℕ × List (List (List Record)) × List (List (List ℕ))). AreParts S y.0 roots (record { rows = y.1; noted = y.2; ports = ports })) (λ i. (wide i, sym rs-is i, sym ns-is i)) (record {
+      → AreParts S workers roots (record { rows = rs; noted = ns })
+  are_parts workers wide rs ns rs-is ns-is = subst (λ (y : ℕ × List (List (List Record)) × List (List (List ℕ))). AreParts S y.0 roots (record { rows = y.1; noted = y.2 })) (λ i. (wide i, sym rs-is i, sym ns-is i)) (record {
     many_rows = length-map parts (part_records S) ∙ worked.long;
     levels = λ k b. ap (λ (r : List (List Record)). length r) (sym (records_at k b)) ∙ length-map (part_at k b).space.tables (records_of S) ∙ (worked_at k b).levels;
     many_noted = length-map parts (λ (p : Part). p.space.noted) ∙ worked.long;
@@ -246,8 +246,8 @@ module _ (S : Nodes) (sound : IsSound S) (l : LanesView) (sizes : l.sizes ≡ si
   opens : (k : ℕ) → k < length l.lanes → AreOpen w.scope [] (taken_by ports k)
   opens k kb = open_from w.scope [] (taken_by ports k) (λ s sb. subst (IsFair w.scope) (sym (settles.all_taken s k sb kb)) (settles.fair s k sb kb)) (settles.senders k kb)
 
-  pub are_settled : (workers : ℕ) → length l.lanes ≡ workers → (rs : List (List (List Record))) (ns : List (List (List ℕ))) → rs ≡ map (part_records S) parts → AreSettled S workers roots (record { rows = rs; noted = ns; ports = ports })
-  are_settled workers wide rs ns rs-is = subst (λ (y : ℕ × List (List (List Record))). AreSettled S y.0 roots (record { rows = y.1; noted = ns; ports = ports })) (λ i. (wide i, sym rs-is i)) (record {
+  pub are_settled : (workers : ℕ) → length l.lanes ≡ workers → (rs : List (List (List Record))) (ns : List (List (List ℕ))) → rs ≡ map (part_records S) parts → AreSettled S workers roots (record { rows = rs; noted = ns }) ports
+  are_settled workers wide rs ns rs-is = subst (λ (y : ℕ × List (List (List Record))). AreSettled S y.0 roots (record { rows = y.1; noted = ns }) ports) (λ i. (wide i, sym rs-is i)) (record {
     numbered = record { long = gone.0; numbered = λ s d b. ap (λ (q : PortView). q.number) (port_at s b d) ∙ (worked_at s b).number };
     settled = settles;
     open_levels = opens;

@@ -14,11 +14,10 @@ use Rattle.lane_queue.specs.PortView.{PortView, IsOpen}
 use Rattle.lane_queue.specs.Joining.{sent_from, taken_by}
 use Rattle.expand_work.specs.Expanded.{AreByNumber, put_by, bundles_between, row_of}
 
--- Of each worker its records by level, by sender the places of the requests that it was asked for, and its port.
+-- Of each worker its records by level, and by sender the places of the requests that it was asked for.
 pub record PartsView : Type 0 where
   pub rows : List (List (List Record))
   pub noted : List (List (List ℕ))
-  pub ports : List PortView
 
 -- The places that worker k noted of what s asked.
 abbrev pub noted_of : List (List (List ℕ)) → ℕ → ℕ → List ℕ
@@ -42,11 +41,11 @@ AreOpen w before (i ∷ items) = IsOpen w before i × AreOpen w (before ++ i ∷
 
 -- What the workers' ports sent and took, one port for each worker: it is a settled wave with the workers' rows, none was taken of a
 -- closed level, and the ports put as many loads on all lanes together as there are bundles to send, and an End of each level on each lane.
-pub record AreSettled (S : Nodes) (workers : ℕ) (roots : List Key) (p : PartsView) : Type 0 where
-  pub numbered : AreByNumber workers p.ports
-  pub settled : IsSettled (wave_of S workers) roots (λ s k. sent_from p.ports k s) (taken_by p.ports) (row_of p.rows)
-  pub open_levels : (k : ℕ) → k < workers → AreOpen (wave_of S workers).scope [] (taken_by p.ports k)
-  pub put : put_by p.ports ≡ bundles_between workers S.levels (sent_from p.ports) + workers * (workers * S.levels)
+pub record AreSettled (S : Nodes) (workers : ℕ) (roots : List Key) (p : PartsView) (ports : List PortView) : Type 0 where
+  pub numbered : AreByNumber workers ports
+  pub settled : IsSettled (wave_of S workers) roots (λ s k. sent_from ports k s) (taken_by ports) (row_of p.rows)
+  pub open_levels : (k : ℕ) → k < workers → AreOpen (wave_of S workers).scope [] (taken_by ports k)
+  pub put : put_by ports ≡ bundles_between workers S.levels (sent_from ports) + workers * (workers * S.levels)
 
 -- how many records there are, of all workers and levels
 abbrev pub count_in : List (List (List Record)) → ℕ

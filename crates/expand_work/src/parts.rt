@@ -18,11 +18,10 @@ use std::snapshot::Snapshot;
 use std::sync::Wait;
 use std::thread::Threads;
 
-/// What each worker of a wave was asked for, where it put what each other asked of it, and its port.
+/// What each worker of a wave was asked for, and where it put what each other asked of it.
 #[derive(Drop)]
 pub struct Parts {
     spaces: Vec<Space>,
-    ports: Vec<Port>,
     store: Snapshot<Store>,
 }
 
@@ -34,7 +33,7 @@ impl Model for Parts {
 
     ghost Value = { PartsView };
 
-    ghost view = { λ p. record { rows = map (records_in p.store.value) p.spaces.items; noted = map noted_in p.spaces.items; ports = p.ports.items } };
+    ghost view = { λ p. record { rows = map (records_in p.store.value) p.spaces.items; noted = map noted_in p.spaces.items } };
 
     ghost invariant = { λ p. AreLean (map (records_in p.store.value) p.spaces.items) (map rows_in p.spaces.items) };
 }
@@ -79,13 +78,6 @@ impl Parts {
         total
     }
 
-    /// The ports by worker. They go with no lanes any more, and only tell what was sent and taken.
-    pub fn into_ports(self) -> Vec<Port>
-        ensures { result.items ≡ self.ports }
-    {
-        self.ports
-    }
-
     /// Leaves the memory of the workers for the next wave.
     pub fn give_back(self, spaces: &mut Spaces)
         ensures { spaces.new ≡ spaces.old }
@@ -113,7 +105,7 @@ fn split_parts(alloc: Global, parts: Vec<Part>) -> Result<(Vec<Port>, Vec<Space>
 /// thread of its own but the last, whose part the caller's thread does, and root i is sent by worker i modulo their number (Ochi, Yasuoka
 /// and Yajima 1993 for the levels, van Dijk 2016 for the workers). The request that a worker asked another for as its n-th is found again
 /// by this number. The workers work in the memory of an earlier wave as far as there is some; after a refusal it is given back. The
-/// spaces count what was expanded.
+/// spaces count what was expanded. The ports, by worker, go with no lanes any more, and only tell what was sent and taken.
 ///
 /// NoWorker: a thread could not be started; then those that run are told to stop. OutOfMemory: a growth was refused, and
 /// every thread was started. All threads have ended before any answer is given.
@@ -122,10 +114,10 @@ pub fn expand_parts<R: Threads + Wait + Sync, G: Gate>(
     store: &Store,
     roots: &[Key],
     spaces: &mut Spaces,
-) -> Result<Parts, WaveFault>
+) -> Result<(Parts, Vec<Port>), WaveFault>
     requires roots { All (IsKey store.now) roots.now }
-    ensures parts { IfOk result (λ p. AreParts store.now crew.now.workers.count roots.now p) }
-    ensures settled { IfOk result (λ p. AreSettled store.now crew.now.workers.count roots.now p) }
+    ensures parts { IfOk result (λ r. AreParts store.now crew.now.workers.count roots.now r.0) }
+    ensures settled { IfOk result (λ r. AreSettled store.now crew.now.workers.count roots.now r.0 r.1.items) }
     ensures expanded { OnOk result (HaveExpanded store.now crew.now.workers.count roots.now spaces.old spaces.new) }
     ensures fault { IfErr result (λ f. f ≢ WaveFault.Full) }
     ensures unbounded { IfErr result (λ f. f ≢ WaveFault.TooManyRequests) }
@@ -146,9 +138,8 @@ pub fn expand_parts<R: Threads + Wait + Sync, G: Gate>(
     let settled = lanes.settle(crew.rt, ports)?;
     let parts = Parts {
         spaces: filled,
-        ports: settled.ports,
         store: Snapshot::of(store),
     };
     spaces.add(parts.count());
-    Ok(parts)
+    Ok((parts, settled.ports))
 }

@@ -102,7 +102,7 @@ pub fn shared_wave<R: Threads + Wait + Sync, G: Gate>(
 {
     let _ = store.levels();
     let parts = match expand_parts(crew, store, roots, &mut rooms.spaces) {
-        Ok(parts) => parts,
+        Ok((parts, _)) => parts,
         Err(fault) => return Err(fault),
     };
     rooms.requests = parts.count();

@@ -82,10 +82,7 @@ pub fn expand_all<R: Threads + Wait + Sync, G: Gate>(
         workers: Workers::new(workers),
         gate,
     };
-    let parts = expand_parts(&crew, store, roots, &mut Spaces::new(alloc))?;
+    let (parts, ports) = expand_parts(&crew, store, roots, &mut Spaces::new(alloc))?;
     let records = merge_rows(alloc, store, roots, &parts, workers)?;
-    Ok(Expanded {
-        records,
-        ports: parts.into_ports(),
-    })
+    Ok(Expanded { records, ports })
 }

@@ -20,7 +20,7 @@ settle-requires g c =
 
 pub returns-clause-parts : goal.returns-clause-parts
 returns-clause-parts g c =
-    subst (λ n. AreParts c.args.store.now n c.args.roots.now (record { rows = map (records_in c.of.result.value) c.in_ok-ports.filled.items; noted = map noted_in c.in_ok-ports.filled.items; ports = c.in_ok-settled.settled.ports.items })) c.count-workers.ensures.value
+    subst (λ n. AreParts c.args.store.now n c.args.roots.now (record { rows = map (records_in c.of.result.value) c.in_ok-ports.filled.items; noted = map noted_in c.in_ok-ports.filled.items })) c.count-workers.ensures.value
     (are_parts c.args.store.now c.levels.ensures.sound c.in_ok-lanes.lanes c.in_ok-lanes.ensures.lanes.1 (let e = c.in_ok-lanes.ensures.lanes.0 in let r = c.count-workers.ensures.some in omega (arith, e, r)) c.args.roots.now c.in_ok-parts.parts.items c.in_ok-parts.ensures.parts
     c.in_ok-settled.settled.ports.items (subst (λ ps. AreRetired (length c.in_ok-lanes.lanes.lanes) ps c.in_ok-settled.settled.ports.items) c.in_ok-ports.ensures.ports c.in_ok-settled.ensures.ports) (map (λ v. v.items) c.in_ok-settled.settled.left.items) c.in_ok-settled.ensures.law
     c.count-workers.result c.in_ok-lanes.ensures.lanes.0 (map (records_in c.of.result.value) c.in_ok-ports.filled.items) (map noted_in c.in_ok-ports.filled.items)
@@ -29,7 +29,7 @@ returns-clause-parts g c =
 
 pub returns-clause-settled : goal.returns-clause-settled
 returns-clause-settled g c =
-    subst (λ n. AreSettled c.args.store.now n c.args.roots.now (record { rows = map (records_in c.of.result.value) c.in_ok-ports.filled.items; noted = map noted_in c.in_ok-ports.filled.items; ports = c.in_ok-settled.settled.ports.items })) c.count-workers.ensures.value
+    subst (λ n. AreSettled c.args.store.now n c.args.roots.now (record { rows = map (records_in c.of.result.value) c.in_ok-ports.filled.items; noted = map noted_in c.in_ok-ports.filled.items }) c.in_ok-settled.settled.ports.items) c.count-workers.ensures.value
     (are_settled c.args.store.now c.levels.ensures.sound c.in_ok-lanes.lanes c.in_ok-lanes.ensures.lanes.1 (let e = c.in_ok-lanes.ensures.lanes.0 in let r = c.count-workers.ensures.some in omega (arith, e, r)) c.args.roots.now c.in_ok-parts.parts.items c.in_ok-parts.ensures.parts
     c.in_ok-settled.settled.ports.items (subst (λ ps. AreRetired (length c.in_ok-lanes.lanes.lanes) ps c.in_ok-settled.settled.ports.items) c.in_ok-ports.ensures.ports c.in_ok-settled.ensures.ports) (map (λ v. v.items) c.in_ok-settled.settled.left.items) c.in_ok-settled.ensures.law
     c.count-workers.result c.in_ok-lanes.ensures.lanes.0 (map (records_in c.of.result.value) c.in_ok-ports.filled.items) (map noted_in c.in_ok-ports.filled.items)

@@ -13,14 +13,14 @@ pub merge_rows-requires-clause-parts : goal.merge_rows-requires-clause-parts
 merge_rows-requires-clause-parts g c = subst (λ n. AreParts c.args.store.now n c.args.roots.now c.in_ok-parts.parts) c.new.ensures c.in_ok-parts.ensures.parts
 
 pub returns-clause-ports : goal.returns-clause-ports
-returns-clause-ports g c = subst (λ ps. AreByNumber c.args.workers ps) (sym c.into_ports.ensures) (subst (λ n. AreSettled c.args.store.now n c.args.roots.now c.in_ok-parts.parts) c.new.ensures c.in_ok-parts.ensures.settled).numbered
+returns-clause-ports g c = (subst (λ n. AreSettled c.args.store.now n c.args.roots.now c.in_ok-parts.parts c.in_ok-parts.ports.items) c.new.ensures c.in_ok-parts.ensures.settled).numbered
 
 pub returns-clause-settled : goal.returns-clause-settled
-returns-clause-settled g c = subst (λ ps. IsSettledFor (wave_of c.args.store.now c.args.workers) c.args.roots.now (record { records = c.in_ok-records.records; ports = ps })) (sym c.into_ports.ensures) (record {
+returns-clause-settled g c = record {
   rows = row_of c.in_ok-parts.parts.rows;
-  settled = (subst (λ n. AreSettled c.args.store.now n c.args.roots.now c.in_ok-parts.parts) c.new.ensures c.in_ok-parts.ensures.settled).settled;
+  settled = (subst (λ n. AreSettled c.args.store.now n c.args.roots.now c.in_ok-parts.parts c.in_ok-parts.ports.items) c.new.ensures c.in_ok-parts.ensures.settled).settled;
   merged = c.in_ok-records.ensures.rows;
-})
+}
 
 pub returns-clause-closure : goal.returns-clause-closure
 returns-clause-closure g c =
@@ -29,4 +29,4 @@ returns-clause-closure g c =
     closure_same (wave_of c.args.store.now w) (level_of_rows w (row_of c.in_ok-parts.parts.rows)) (row_at c.in_ok-records.records) c.in_ok-records.ensures.rows c.args.roots.now parts.closure
 
 pub returns-clause-put : goal.returns-clause-put
-returns-clause-put g c = subst (λ ps. put_by ps ≡ bundles_between c.args.workers c.args.store.now.levels (sent_from ps) + c.args.workers * (c.args.workers * c.args.store.now.levels)) (sym c.into_ports.ensures) (subst (λ n. AreSettled c.args.store.now n c.args.roots.now c.in_ok-parts.parts) c.new.ensures c.in_ok-parts.ensures.settled).put
+returns-clause-put g c = (subst (λ n. AreSettled c.args.store.now n c.args.roots.now c.in_ok-parts.parts c.in_ok-parts.ports.items) c.new.ensures c.in_ok-parts.ensures.settled).put
