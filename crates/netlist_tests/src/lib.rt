@@ -1,10 +1,12 @@
-//! Tests of the reader, of the orders and of cones, by their public calls. They stand apart, since a crate with tests is proved twice.
+//! Tests of the reader, of the orders, of cones and of explanations, by their public calls. They stand apart, since a crate with tests is proved twice.
 #![tactic(auto)]
 
 #[cfg(test)]
 mod cones;
 #[cfg(test)]
 mod devices;
+#[cfg(test)]
+mod explanations;
 #[cfg(test)]
 mod netlists;
 #[cfg(test)]

@@ -1,0 +1,10 @@
+pub mod Names
+pub mod Lists
+pub mod Folding
+pub mod Rows
+pub mod Setting
+pub mod Marking
+pub mod Inners
+pub mod Counting
+pub mod Wording
+pub mod Codes

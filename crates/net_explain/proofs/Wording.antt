@@ -1,0 +1,53 @@
+-- The lines of an explanation, and the parts of a VCD, one more.
+use Rattle.std.proofs.Common.{◌≡◌, ℕ, ◌+◌, ◌<◌, ◌≤◌, ◌==◌, Bool, false, List, [], ◌∷◌, ◌++◌, Some, None, Option, refl, sym, ap, ◌∙◌, subst, length, get_or, drop, arith}
+use Rattle.std.proofs.lemmas.Bool.Decides.{nat_tests}
+use Rattle.net_explain.specs.declared.differing.Inner.{Inner}
+use Rattle.net_explain.specs.declared.explaining.Part.{Part}
+use Rattle.net_explain.specs.Text.{behind_text, inner_text, inners_text, parts_text}
+use Rattle.net_explain.specs.Vcd.{change_text, changes_text, var_text, vars_text}
+use Rattle.net_explain.proofs.Lists.{any_default, drop_all, drop_here}
+
+pub inners_next : (names : List (List ℕ)) (is : List Inner) (p : ℕ) (i : Inner) → p < length is → i ≡ get_or is p i →
+    inners_text names (drop p is) ≡ inner_text names i ++ inners_text names (drop (p + 1) is)
+inners_next names is p i low at = ap (inners_text names) (drop_here is p i low at)
+
+pub inners_over : (names : List (List ℕ)) (is : List Inner) (p : ℕ) → length is ≤ p → inners_text names (drop p is) ≡ []
+inners_over names is p high = ap (inners_text names) (drop_all is p high)
+
+pub vars_next : (k : ℕ) (names : List (List ℕ)) (p : ℕ) (name : List ℕ) → p < length names → name ≡ get_or names p [] →
+    vars_text (k + p) (drop p names) ≡ var_text (k + p) name ++ vars_text (k + (p + 1)) (drop (p + 1) names)
+vars_next k names p name low at =
+    let here : name ≡ get_or names p name = at ∙ any_default names p [] name low in
+    let same : k + p + 1 ≡ k + (p + 1) = omega arith in
+    ap (vars_text (k + p)) (drop_here names p name low here) ∙ ap (λ j. var_text (k + p) name ++ vars_text j (drop (p + 1) names)) same
+
+pub vars_over : (k : ℕ) (names : List (List ℕ)) (p : ℕ) → length names ≤ p → vars_text (k + p) (drop p names) ≡ []
+vars_over k names p high = ap (vars_text (k + p)) (drop_all names p high)
+
+pub changes_next : (k : ℕ) (bits : List Bool) (p : ℕ) → p < length bits →
+    changes_text (k + p) (drop p bits) ≡ change_text (k + p) (get_or bits p false) ++ changes_text (k + (p + 1)) (drop (p + 1) bits)
+changes_next k bits p low =
+    let same : k + p + 1 ≡ k + (p + 1) = omega arith in
+    ap (changes_text (k + p)) (drop_here bits p (get_or bits p false) low (any_default bits p false (get_or bits p false) low)) ∙
+    ap (λ j. change_text (k + p) (get_or bits p false) ++ changes_text j (drop (p + 1) bits)) same
+
+pub changes_over : (k : ℕ) (bits : List Bool) (p : ℕ) → length bits ≤ p → changes_text (k + p) (drop p bits) ≡ []
+changes_over k bits p high = ap (changes_text (k + p)) (drop_all bits p high)
+
+pub no_parts : (names : List (List ℕ)) (is : List Inner) → parts_text names is None ≡ []
+no_parts names [] = refl
+no_parts names (i ∷ is) = refl
+
+pub no_inners : (names : List (List ℕ)) (is : List Inner) (ps : Option (Part × Part)) → length is ≡ 0 → parts_text names is ps ≡ []
+no_inners names [] None e = refl
+no_inners names [] (Some ps) e = refl
+no_inners names (i ∷ is) ps e = absurd (omega arith)
+
+pub some_inner : (is : List Inner) → false ≡ (length is == 0) → 0 < length is
+some_inner is e = grind (arith, nat_tests)
+
+-- the first of the inner signals
+pub at_first : (names : List (List ℕ)) (is : List Inner) (i : Inner) (name : List ℕ) (ps : Part × Part) → 0 < length is → i ≡ get_or is 0 i → name ≡ get_or names i.first [] →
+    parts_text names is (Some ps) ≡ behind_text name ps.0 ps.1
+at_first names [] i name ps low at e = absurd (omega arith)
+at_first names (j ∷ js) i name ps low at e = ap (λ (z : Inner). behind_text (get_or names z.first []) ps.0 ps.1) (sym at) ∙ ap (λ z. behind_text z ps.0 ps.1) (sym e)

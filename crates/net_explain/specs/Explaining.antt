@@ -1,0 +1,97 @@
+-- Which inner signals of two netlists have one name and other values at an assignment.
+use Rattle.std.specs.Prelude.{◌≡◌, ◌<◌, ◌↔◌, ◌+◌, ℕ, zero, suc, ◌==◌, Bool, true, not, ◌&&◌, cond, if◌then◌else◌, List, [], ◌∷◌, ◌++◌, filter_map, length, slice_index_or, Option, Some, None, count_by, All}
+use Rattle.net_bench.specs.declared.netlist.GateLine.{GateLine}
+use Rattle.net_bench.specs.Circuit.{Net, circuit, find, gate_of}
+use Rattle.net_bench.specs.Labels.{IsLabelling, bit_of}
+use Rattle.net_cone.specs.Cones.{IsBelow}
+use Rattle.net_order.specs.Order.{Paired}
+use Rattle.net_explain.specs.declared.evaluate.Which.{Which}
+use Rattle.net_explain.specs.declared.evaluate.Which.TheVariants.{First, Second}
+use Rattle.net_explain.specs.declared.differing.Inner.{Inner}
+use Rattle.net_explain.specs.declared.explaining.Part.{Part}
+use Rattle.net_explain.specs.Ranked.{highest, rank_row}
+use Rattle.net_explain.specs.Values.{level_in}
+
+-- by signal, whether it is below the root
+pub record AreBelow (n : Net) (root : ℕ) (marks : List Bool) : Type 0 where
+  pub each : length marks ≡ length n.names
+  pub below : (s : ℕ) → (bit_of marks s ≡ true) ↔ IsBelow (circuit n) root s
+
+-- One of two netlists, seen from a signal: by signal the values at an assignment, and which signals are below that one.
+pub record Viewed : Type 0 where
+  pub root : ℕ
+  pub values : List Bool
+  pub below : List Bool
+
+-- this is what is seen of a netlist of a pairing
+pub record IsView (n : Net) (p : Paired) (which : Which) (x : List Bool) (root : ℕ) (v : Viewed) : Type 0 where
+  pub from : v.root ≡ root
+  pub values : IsLabelling (circuit n) (level_in p which) x v.values
+  pub below : AreBelow n root v.below
+
+-- the line of a signal's gate, where it has one
+abbrev pub gate_line : Option GateLine → Option ℕ
+gate_line None = None
+gate_line (Some g) = Some g.line
+
+abbrev pub line_of : Net → ℕ → Option ℕ
+line_of n s = gate_line (gate_of n.gates s)
+
+-- the two values are not the same
+abbrev pub differ : Bool → Bool → Bool
+differ b c = cond b (not c) c
+
+-- both signals are below those that are compared, they are not these, and they have other values
+abbrev pub is_inner : Viewed → Viewed → ℕ → ℕ → Bool
+is_inner v w s t = bit_of v.below s && (bit_of w.below t && (not (s == v.root && t == w.root) && differ (bit_of v.values s) (bit_of w.values t)))
+
+-- two signals with the lines of their gates, where both have one
+abbrev pub inner_on : ℕ → ℕ → Bool → Option ℕ → Option ℕ → Option Inner
+inner_on s t value None line = None
+inner_on s t value (Some first) None = None
+inner_on s t value (Some first) (Some second) = Some (record { first = s; second = t; value = value; first_line = first; second_line = second })
+
+-- a signal of the first netlist with the one of its name in the second, if both are inner signals with other values
+abbrev pub inner_with : Net → Net → Viewed → Viewed → ℕ → Option ℕ → Option Inner
+inner_with a b v w s None = None
+inner_with a b v w s (Some t) = if is_inner v w s t then inner_on s t (bit_of v.values s) (line_of a s) (line_of b t) else None
+
+abbrev pub inner_at : Net → Net → Viewed → Viewed → ℕ → Option Inner
+inner_at a b v w s = inner_with a b v w s (find b.names (slice_index_or a.names s []))
+
+-- those among the signals of the gates of the first ranks of the first netlist: by rank, those of one rank in text order
+abbrev pub inner_to : Net → Net → Viewed → Viewed → ℕ → List Inner
+inner_to a b v w zero = []
+inner_to a b v w (suc r) = inner_to a b v w r ++ filter_map (inner_at a b v w) (rank_row a (suc r))
+
+-- *the inner signals that differ*, by rank in the first netlist, those of one rank in the order of its text
+abbrev pub differing : Net → Net → Viewed → Viewed → List Inner
+differing a b v w = inner_to a b v w (highest a)
+
+-- how many gates are below what is seen, and how many of these are not below the signal
+pub record IsPart (n : Net) (v : Viewed) (low : ℕ) (p : Part) : Type 0 where
+  pub marks : List Bool
+  pub below : AreBelow n low marks
+  pub all : p.all ≡ count_by (λ g. bit_of v.below g.out) n.gates
+  pub behind : p.behind ≡ count_by (λ g. bit_of v.below g.out && not (bit_of marks g.out)) n.gates
+
+-- so many gates of both netlists lie behind the first of the inner signals
+abbrev pub AreParts : Net → Net → Viewed → Viewed → List Inner → Option (Part × Part) → Type 0
+AreParts a b v w [] None = Unit {0}
+AreParts a b v w [] (Some ps) = ⊥
+AreParts a b v w (i ∷ is) None = ⊥
+AreParts a b v w (i ∷ is) (Some ps) = IsPart a v i.first ps.0 × IsPart b w i.second ps.1
+
+-- What explains that two signals differ at an assignment.
+pub record Explained : Type 0 where
+  pub inner : List Inner
+  pub parts : Option (Part × Part)
+
+-- this explains the pair of signals: exactly its inner signals that differ, and what lies behind the first of them
+pub record IsExplanation (a b : Net) (p : Paired) (pair : ℕ × ℕ) (x : List Bool) (e : Explained) : Type 0 where
+  pub first : Viewed
+  pub second : Viewed
+  pub seen : IsView a p First x pair.0 first
+  pub other : IsView b p Second x pair.1 second
+  pub inner : e.inner ≡ differing a b first second
+  pub parts : AreParts a b first second e.inner e.parts

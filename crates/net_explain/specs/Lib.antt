@@ -1,0 +1,5 @@
+pub mod Ranked
+pub mod Values
+pub mod Explaining
+pub mod Text
+pub mod Vcd

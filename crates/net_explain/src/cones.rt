@@ -1,0 +1,32 @@
+// Which signals are below a root.
+ghost use Rattle.std.specs.Prelude.{◌≡◌, ◌<◌, ◌↔◌, ◌⊎◌, ℕ, length, All, Contains, IfOk, IsTrue, true};
+ghost use Rattle.net_bench.specs.Circuit.{circuit};
+ghost use Rattle.net_bench.specs.Labels.{bit_of};
+ghost use Rattle.net_explain.specs.Explaining.{AreBelow};
+
+use net_bench::netlist::Signal;
+use net_bench::reader::Netlist;
+use net_cone::{cone_of, own_names};
+use std::alloc::{AllocError, Global};
+
+/// Marks the signals.
+fn mark_all(marks: &mut [bool], signals: &[Signal])
+    requires { All (λ s. s < length marks.old) signals.now }
+    ensures { (s : ℕ) → (bit_of marks.new s ≡ true) ↔ ((bit_of marks.old s ≡ true) ⊎ Contains signals.now s) }
+{
+    for place in 0..signals.len() {
+        marks[signals[place].number() as usize] = true;
+    }
+}
+
+/// By signal, whether it is below the root: the root itself, an operand of its gate, and so on. Time and memory are linear in the netlist.
+pub fn marks_below(alloc: Global, net: &Netlist, root: Signal) -> Result<Vec<bool>, AllocError>
+    requires { root < length net.now.names }
+    ensures { IfOk result (λ v. AreBelow net.now root v.items) }
+{
+    let names = own_names(alloc, net)?;
+    let cone = cone_of(alloc, net, root, names.as_slice())?;
+    let mut marks = Vec::from_elem(alloc, false, net.count())?;
+    mark_all(marks.as_mut_slice(), cone.sources());
+    Ok(marks)
+}

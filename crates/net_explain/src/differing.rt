@@ -1,0 +1,143 @@
+// The inner signals that have one name and other values.
+ghost use Rattle.std.specs.Prelude.{◌≡◌, ◌<◌, ◌++◌, [], length, filter_map, option_to_list, slice_index_or, All, IfOk, OnOk};
+ghost use Rattle.net_bench.specs.Circuit.{IsNet};
+ghost use Rattle.net_explain.specs.Explaining.{differ, differing, inner_at, is_inner, line_of};
+
+use crate::ranked::rows_of;
+use crate::view::View;
+use net_bench::netlist::{Role, Signal};
+use net_bench::reader::Netlist;
+use std::alloc::{AllocError, Global};
+
+/// A signal of the first netlist and the one of its name in the second. Each is the signal of a gate, whose line is told.
+#[derive(Clone, Copy, Drop, Debug, PartialEq, Eq)]
+pub struct Inner {
+    pub first: Signal,
+    pub second: Signal,
+    /// In the first netlist. In the second it is the other one.
+    pub value: bool,
+    pub first_line: u32,
+    pub second_line: u32,
+}
+
+/// The line of the signal's gate, where it has one.
+fn line_of(net: &Netlist, signal: Signal) -> Option<u32>
+    requires { signal < length net.now.names }
+    ensures { result ≡ line_of net.now signal }
+{
+    match net.role(signal) {
+        Role::Gate(place) => Some(net.gates()[place as usize].line),
+        _ => None,
+    }
+}
+
+/// Whether two values are not the same.
+fn differ(first: bool, second: bool) -> bool
+    ensures { result ≡ differ first second }
+{
+    if first { !second } else { second }
+}
+
+/// Whether both are inner signals, and have other values.
+fn is_inner(seen: &View, other: &View, first: Signal, second: Signal) -> bool
+    ensures { result ≡ is_inner seen.now other.now first second }
+{
+    let is_pair = first.number() == seen.root().number()
+        && second.number() == other.root().number();
+    seen.has_below(first)
+        && other.has_below(second)
+        && !is_pair
+        && differ(seen.value(first), other.value(second))
+}
+
+/// The name of a signal.
+#[tactic(auto, using(crate::proofs::Names::name_at))]
+pub fn name_of<'a>(net: &'a Netlist, signal: Signal) -> &'a [u8]
+    requires { signal < length net.now.names }
+    ensures { result.now ≡ slice_index_or net.now.names signal [] }
+{
+    net.name(signal)
+}
+
+/// The signal with the one of its name in the other netlist, if both are inner signals and have other values.
+fn inner_at(
+    first: &Netlist,
+    second: &Netlist,
+    seen: &View,
+    other: &View,
+    signal: Signal,
+) -> Option<Inner>
+    requires { signal < length first.now.names }
+    ensures { result ≡ inner_at first.now second.now seen.now other.now signal }
+{
+    let partner = second.find(name_of(first, signal))?;
+    if !is_inner(seen, other, signal, partner) {
+        return None;
+    }
+    let first_line = line_of(first, signal)?;
+    let second_line = line_of(second, partner)?;
+    Some(Inner {
+        first: signal,
+        second: partner,
+        value: seen.value(signal),
+        first_line,
+        second_line,
+    })
+}
+
+/// Adds an inner signal, if there is one.
+fn add(found: &mut Vec<Inner>, inner: Option<Inner>) -> Result<(), AllocError>
+    ensures { OnOk result (found.new.items ≡ found.old.items ++ option_to_list inner) }
+{
+    if let Some(inner) = inner {
+        found.push(inner)?;
+    }
+    Ok(())
+}
+
+/// Adds the inner signals of a row that differ.
+fn add_row(
+    first: &Netlist,
+    second: &Netlist,
+    seen: &View,
+    other: &View,
+    row: &[Signal],
+    found: &mut Vec<Inner>,
+) -> Result<(), AllocError>
+    requires { All (λ s. s < length first.now.names) row.now }
+    ensures { OnOk result (found.new.items ≡ found.old.items ++ filter_map (inner_at first.now second.now seen.now other.now) row.now) }
+{
+    for place in 0..row.len() {
+        add(found, inner_at(first, second, seen, other, row[place]))?;
+    }
+    Ok(())
+}
+
+/// The inner signals that differ, by rank in the first netlist, those of one rank in the order of its text.
+pub fn differing(
+    alloc: Global,
+    first: &Netlist,
+    second: &Netlist,
+    seen: &View,
+    other: &View,
+) -> Result<Vec<Inner>, AllocError>
+    ensures inner { IfOk result (λ v. v.items ≡ differing first.now second.now seen.now other.now) }
+    // They are signals of their netlists.
+    ensures first { IfOk result (λ v. All (λ i. i.first < length first.now.names) v.items) }
+    ensures second { IfOk result (λ v. All (λ i. i.second < length second.now.names) v.items) }
+{
+    let table = rows_of(alloc, first)?;
+    let rows = table.as_slice();
+    let mut found = Vec::new(alloc);
+    for place in 0..rows.len() {
+        add_row(
+            first,
+            second,
+            seen,
+            other,
+            rows[place].as_slice(),
+            &mut found,
+        )?;
+    }
+    Ok(found)
+}

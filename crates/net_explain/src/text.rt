@@ -1,0 +1,143 @@
+//! The lines of an explanation.
+ghost use Rattle.std.specs.Prelude.{◌≡◌, ◌<◌, ◌++◌, length, All, IfOk, OnOk};
+ghost use Rattle.net_explain.specs.Text.{behind_text, bit_text, explanation_text, head_text, inner_text, inners_text, part_text, parts_text};
+
+use crate::differing::{Inner, name_of};
+use crate::explaining::{Explanation, Part};
+use net_bench::reader::Netlist;
+use std::alloc::{AllocError, Global};
+
+/// The digit of a bit.
+fn bit_word(bit: bool) -> &'static [u8]
+    ensures { result.now ≡ bit_text bit }
+{
+    if bit { b"1" } else { b"0" }
+}
+
+/// Adds the first line.
+fn add_head(
+    alloc: Global,
+    text: &mut Vec<u8>,
+    subject: &[u8],
+    count: usize,
+) -> Result<(), AllocError>
+    ensures { OnOk result (text.new.items ≡ text.old.items ++ head_text subject.now count) }
+{
+    let shown = format!(in alloc; " inner signals that differ: {count}\n")?;
+    text.extend_from_slice(b"EXPLAIN ")?;
+    text.extend_from_slice(subject)?;
+    text.extend_from_slice(shown.as_bytes())?;
+    Ok(())
+}
+
+/// Adds the line of an inner signal.
+fn add_inner(
+    alloc: Global,
+    text: &mut Vec<u8>,
+    net: &Netlist,
+    inner: Inner,
+) -> Result<(), AllocError>
+    requires { inner.first < length net.now.names }
+    ensures { OnOk result (text.new.items ≡ text.old.items ++ inner_text net.now.names inner) }
+{
+    let Inner {
+        first,
+        value,
+        first_line,
+        second_line,
+        ..
+    } = inner;
+    let lines = format!(in alloc; " line {first_line} line {second_line}\n")?;
+    text.extend_from_slice(b"  ")?;
+    text.extend_from_slice(name_of(net, first))?;
+    text.extend_from_slice(b" first=")?;
+    text.extend_from_slice(bit_word(value))?;
+    text.extend_from_slice(b" second=")?;
+    text.extend_from_slice(bit_word(!value))?;
+    text.extend_from_slice(lines.as_bytes())?;
+    Ok(())
+}
+
+/// Adds the lines of inner signals.
+fn add_inners(
+    alloc: Global,
+    text: &mut Vec<u8>,
+    net: &Netlist,
+    inner: &[Inner],
+) -> Result<(), AllocError>
+    requires { All (λ i. i.first < length net.now.names) inner.now }
+    ensures { OnOk result (text.new.items ≡ text.old.items ++ inners_text net.now.names inner.now) }
+{
+    for place in 0..inner.len() {
+        add_inner(alloc, text, net, inner[place])?;
+    }
+    Ok(())
+}
+
+/// Adds how many gates of how many.
+fn add_part(alloc: Global, text: &mut Vec<u8>, part: Part) -> Result<(), AllocError>
+    ensures { OnOk result (text.new.items ≡ text.old.items ++ part_text part) }
+{
+    let Part { all, behind } = part;
+    let shown = format!(in alloc; "{behind} of {all}")?;
+    text.extend_from_slice(shown.as_bytes())?;
+    Ok(())
+}
+
+/// Adds the last line.
+fn add_behind(
+    alloc: Global,
+    text: &mut Vec<u8>,
+    name: &[u8],
+    first: Part,
+    second: Part,
+) -> Result<(), AllocError>
+    ensures { OnOk result (text.new.items ≡ text.old.items ++ behind_text name.now first second) }
+{
+    text.extend_from_slice(b"  gates behind ")?;
+    text.extend_from_slice(name)?;
+    text.extend_from_slice(b": first ")?;
+    add_part(alloc, text, first)?;
+    text.extend_from_slice(b", second ")?;
+    add_part(alloc, text, second)?;
+    text.extend_from_slice(b"\n")?;
+    Ok(())
+}
+
+/// Adds the last line, where there are inner signals that differ.
+fn add_parts(
+    alloc: Global,
+    text: &mut Vec<u8>,
+    net: &Netlist,
+    inner: &[Inner],
+    parts: Option<(Part, Part)>,
+) -> Result<(), AllocError>
+    requires { All (λ i. i.first < length net.now.names) inner.now }
+    ensures { OnOk result (text.new.items ≡ text.old.items ++ parts_text net.now.names inner.now parts) }
+{
+    let Some((first, second)) = parts else {
+        return Ok(());
+    };
+    if inner.is_empty() {
+        return Ok(());
+    }
+    add_behind(alloc, text, name_of(net, inner[0].first), first, second)
+}
+
+/// The lines of an explanation. The subject is what its report line speaks of, as "s" or "NEXT q"; the netlist is the first of the two.
+pub fn explanation_of(
+    alloc: Global,
+    subject: &[u8],
+    first: &Netlist,
+    explanation: &Explanation,
+) -> Result<Vec<u8>, AllocError>
+    requires { All (λ i. i.first < length first.now.names) explanation.now.inner }
+    ensures { IfOk result (λ text. text.items ≡ explanation_text subject.now first.now.names explanation.now) }
+{
+    let mut text = Vec::new(alloc);
+    let inner = explanation.inner();
+    add_head(alloc, &mut text, subject, inner.len())?;
+    add_inners(alloc, &mut text, first, inner)?;
+    add_parts(alloc, &mut text, first, inner, explanation.parts())?;
+    Ok(text)
+}

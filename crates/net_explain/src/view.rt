@@ -1,0 +1,75 @@
+// A netlist as it is seen from a signal.
+ghost use Rattle.std.specs.Prelude.{◌≡◌, ◌<◌, length, IfOk};
+ghost use Rattle.net_bench.specs.Circuit.{IsNet};
+ghost use Rattle.net_bench.specs.Labels.{bit_of};
+ghost use Rattle.net_explain.specs.Explaining.{IsView};
+
+use crate::cones::marks_below;
+use crate::evaluate::{Which, values};
+use crate::gates::bit_at;
+use net_bench::netlist::Signal;
+use net_bench::reader::Netlist;
+use net_order::pairing::Pairing;
+use std::alloc::{AllocError, Global};
+use std::marker::Model;
+
+/// By signal, the values at an assignment, and which signals are below the root.
+#[derive(Drop)]
+pub struct View {
+    root: Signal,
+    values: Vec<bool>,
+    below: Vec<bool>,
+}
+
+impl Model for View {
+    ghost use Rattle.net_explain.specs.Explaining.{Viewed};
+
+    ghost Value = { Viewed };
+
+    ghost view = { λ v. record { root = v.root; values = v.values.items; below = v.below.items } };
+}
+
+impl View {
+    /// What is seen of a netlist of a pairing.
+    pub fn new(
+        alloc: Global,
+        net: &Netlist,
+        pairing: &Pairing,
+        which: Which,
+        at: &[bool],
+        root: Signal,
+    ) -> Result<View, AllocError>
+        requires { root < length net.now.names }
+        ensures view { IfOk result (IsView net.now pairing.now which at.now root) }
+        ensures sound { IsNet net.now }
+    {
+        let values = values(alloc, net, pairing, which, at)?;
+        let below = marks_below(alloc, net, root)?;
+        Ok(View {
+            root,
+            values,
+            below,
+        })
+    }
+
+    /// The signal from which the netlist is seen.
+    pub fn root(&self) -> Signal
+        ensures { result ≡ self.now.root }
+    {
+        self.root
+    }
+
+    /// The value of a signal.
+    pub fn value(&self, signal: Signal) -> bool
+        ensures { result ≡ bit_of self.now.values signal }
+    {
+        bit_at(self.values.as_slice(), signal.number())
+    }
+
+    /// Whether a signal is below the root.
+    pub fn has_below(&self, signal: Signal) -> bool
+        ensures { result ≡ bit_of self.now.below signal }
+    {
+        bit_at(self.below.as_slice(), signal.number())
+    }
+}
