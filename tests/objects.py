@@ -24,6 +24,11 @@ def pairs(place):
             yield [*words, *files]
     yield ["--match", "position", "--sizes", s27, renamed]
     yield ["--order-file", order, c17, c17b]
+    for files in ((c17, c17b), (c17, lone), (odd, odder), (empty, empty), (s27, wrong), (s27, renamed)):
+        for words in (["--order", "cones"], ["--order", "cones", "--limit", 8], ["--share", "1/2"], ["--share", "2/2", "--limit", 8]):
+            yield [*words, *files]
+    yield ["--only", 23, "--only", 22, c17, c17b]
+    yield ["--only", 23, c17, lone]
 
 
 def line_of(verdict, variables):
@@ -31,6 +36,8 @@ def line_of(verdict, variables):
     name = {"output": "", "next state": "NEXT "}[verdict["of"]] + verdict["name"]
     if verdict["verdict"] == "ONLY":
         return f"ONLY {verdict['side'].upper()} {name}"
+    if verdict["verdict"] == "UNDECIDED":
+        return f"UNDECIDED {name}"
     if verdict["verdict"] == "EQUAL":
         return f"EQUAL {name}" + (f" size {verdict['size']}" if "size" in verdict else "")
     bits = " ".join(f"{variable}={verdict['at'][variable]}" for variable in variables)
@@ -41,7 +48,10 @@ def line_of(verdict, variables):
 def text_of(report):
     """The report by text that says the same."""
     lines = [line_of(verdict, report["variables"]) for verdict in report["verdicts"]]
-    lines.append("{equal} equal, {different} different, {unmatched} unmatched".format(**report))
+    last = "{equal} equal, {different} different, {unmatched} unmatched".format(**report)
+    last += f", {report['undecided']} undecided" if "undecided" in report else ""
+    last += ", share {} of {}".format(*report["share"]) if "share" in report else ""
+    lines.append(last)
     return "".join(line + "\n" for line in lines).encode()
 
 
@@ -49,7 +59,7 @@ def settings_of(words):
     """What the report must say of the words."""
     words = [str(word) for word in words]
     after = lambda word, other: words[words.index(word) + 1] if word in words else other
-    usual = "declared" if "--sizes" in words else "auto"
+    usual = "declared" if "--sizes" in words else "cones" if "--only" in words or "--share" in words else "auto"
     return after("--match", "name"), "file" if "--order-file" in words else after("--order", usual)
 
 
@@ -77,7 +87,7 @@ def fits(value, schema, top):
         return is_long and is_unique and all(fits(item, schema["items"], top) for item in value)
     if isinstance(value, str):
         return schema.get("minLength", 0) <= len(value) <= schema.get("maxLength", len(value))
-    return "minimum" not in schema or value >= schema["minimum"]
+    return schema.get("minimum", value) <= value <= schema.get("maximum", value)
 
 
 def members_once(members):

@@ -80,20 +80,28 @@ def rows(place):
     order = written(place, "order", lines("7 6 3", "2 1"))
     chain, tree = written(place, "chain", parity("chain", 24)), written(place, "tree", parity("tree", 24))
     one, folded = written(place, "one", products(13)), written(place, "folded", products(13, "chain"))
+    machines = [TOP / "examples" / f"{name}.bench" for name in ("s27", "s27_renamed")]
     declared = ["--order", "declared"]
     for workers in (1, 2, 4):
         yield Row(f"c17 by {workers}", [*declared, "--workers", workers, c17, c17b], (EACH, EACH_START, STARTS_FROM))
     # Attempts, the first of which are given up: interleaved the pair needs 20 nodes, by force 14.
     yield Row("auto", [c17, c17b], (EACH,))
     yield Row("auto in a second attempt", ["--order", "auto", "--limit", 18, c17, c17b], (EACH,))
-    yield Row("auto given up", ["--order", "auto", "--limit", 12, c17, c17b], (EACH,))
+    # By cones: after attempts of the whole, at once by one pair at a time and by two, undecided, picked by name and by share.
+    yield Row("auto, then cones", ["--order", "auto", "--limit", 12, c17, c17b], (EACH,))
+    yield Row("cones by 1", ["--order", "cones", "--workers", 1, c17, c17b], (EACH,))
+    yield Row("cones by 2", ["--order", "cones", "--workers", 2, c17, c17b], (EACH, EACH_START, STARTS_FROM))
+    yield Row("cones undecided", ["--order", "cones", "--limit", 8, c17, c17b], (EACH,))
+    yield Row("cones, products", ["--order", "cones", "--workers", 2, one, folded])
+    yield Row("cones of registers by a condition", ["--order", "cones", "--given", TOP / "examples" / "s27.bench", *machines])
+    yield Row("only", ["--only", 23, "--only", 22, "--workers", 1, c17, c17b], (EACH,))
+    yield Row("share", ["--share", "2/2", c17, c17b], (EACH,))
     yield Row("auto, products", [one, folded])
     yield Row("c17 on standard input", ["--workers", 2, "--sizes"], (), C17 + b"%%\n" + C17B)
     yield Row("first on standard input", ["--workers", 2, "-", c17b], (), C17)
     yield Row("second on standard input", ["--workers", 2, "--sizes", c17, "-"], (), C17B)
     yield Row("JSON", ["--workers", 2, "--format", "json", "--sizes", c17, c17b])
     yield Row("order file", ["--workers", 2, "--match", "position", "--order-file", order, c17, c17b])
-    machines = [TOP / "examples" / f"{name}.bench" for name in ("s27", "s27_renamed")]
     yield Row("registers", ["--workers", 2, "--sizes", *machines])
     condition = written(place, "condition", netlist("INPUT(1); INPUT(x); OUTPUT(c); c = NAND(1, x)"))
     yield Row("condition", ["--workers", 2, "--sizes", "--given", condition, c17, c17b])

@@ -14,7 +14,8 @@ The file has sections, each begun by a line `== ..`. Lines before the first one,
     == order WORDS             a run with --print-order, whose names follow on one line
     == best N N N N N WORDS    with --order best at each limit from 1 to 49 the answer is that of the first of interleave, force, index, depth
                                and declared that is within the limit, and --verbose says which. They need N nodes each. With --order auto it
-                               is the answer of declared order without a limit, by the same attempt
+                               is the answer of declared order without a limit, by the same attempt, or where there is none some pairs
+                               are undecided, and all others as in that answer
     == texts                   lines `TEXT => SAID`: the text, written as in Python, is refused beside itself by the line SAID, or where that
                                is `netlist` it is equal to itself
     == when FEATURE            the runs from here on are made where FEATURES of kit.py has this on; `when not FEATURE`
@@ -101,10 +102,19 @@ def best_of(program, place, tally, name, limit, needs, words):
 
 
 CANDIDATES = ("interleave", "force", "index", "depth", "declared")
-GIVEN_UP = [
-    "bddcheck: build: given up in each order; more memory, or a good order by --order-file, may help",
-    f"bddcheck: {', '.join(CANDIDATES[:-1])} and declared are tried; another --memory, or a list by --order-file, may help",
-]
+
+
+def is_left(seen, wanted):
+    """Whether a report is a wanted one but for pairs that are undecided, and both its status and what it says tell of them."""
+    said, lines = wanted.out.decode().splitlines()[:-1], seen.out.decode().splitlines()
+    names = [line.split(" at ")[0].split(" ", 1)[1] for line in said]
+    kept = [line == old or line == f"UNDECIDED {name}" for line, old, name in zip(lines, said, names)]
+    counts = [sum(line.startswith(word) for line in lines[:-1]) for word in ("EQUAL", "DIFFER", "ONLY", "UNDECIDED")]
+    last = "{} equal, {} different, {} unmatched".format(*counts) + (f", {counts[3]} undecided" if counts[3] else "")
+    status = 1 if counts[1] or counts[2] else 3 if counts[3] else 0
+    told = seen.err.decode().splitlines()
+    tells = told[:1] == ["bddcheck: each pair by its cones"] and [line.split(",")[0] for line in told[1:]] == [f"bddcheck: {counts[3]} undecided"][: counts[3]]
+    return len(lines) == len(said) + 1 and all(kept) and (lines[-1], seen.status) == (last, status) and tells
 
 
 def try_best(program, tally, place, _files, head, _body):
@@ -116,8 +126,11 @@ def try_best(program, tally, place, _files, head, _body):
         name = f"{head}, limit {limit}"
         wanted = best_of(program, place, tally, name, limit, list(zip(CANDIDATES, map(int, needs))), words)
         tally.same(name, run([program, "--verbose", "--order", "best", "--limit", limit, *words], cwd=place), *wanted)
-        found = (3, b"", joined(GIVEN_UP)) if wanted[0] == 3 else (as_declared.status, as_declared.out, wanted[2])
-        tally.same(f"{name}, auto", run([program, "--verbose", "--order", "auto", "--limit", limit, *plain], cwd=place), *found)
+        seen = run([program, "--verbose", "--order", "auto", "--limit", limit, *plain], cwd=place)
+        if wanted[0] == 3:
+            tally.check(f"{name}, auto", is_left(seen, as_declared), seen)
+        else:
+            tally.same(f"{name}, auto", seen, as_declared.status, as_declared.out, wanted[2])
 
 
 def try_texts(program, tally, place, _files, _head, body):

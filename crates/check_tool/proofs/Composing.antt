@@ -19,7 +19,7 @@ use Rattle.check_tool.specs.declared.fault.ToolFault.{ToolFault}
 use Rattle.check_tool.specs.declared.fault.ToolFault.TheVariants.{OneFile, InputTwice as DashTwice, CannotOpen, InputUnread, InputTooLong, InputUndivided, BadOrder, Check, OutOfMemory}
 use Rattle.check_tool.specs.Splitting.{IsSplit}
 use Rattle.check_tool.specs.Opening.{Try, Extends, opened, AreTried}
-use Rattle.check_tool.specs.Running.{IsOpenFault, first_paths, second_paths, text_paths, order_paths, given_paths, later_paths, paths_of, IsShort, AreTexts, HasTexts, IsGivenOf, IsOrderOf, IsLaterFault, IsCompared, HasReported, HasReportedFront, HasFirstFailed, HasSecondFailed, HasGivenFailed, IsBeyond, IsGivenUp, IsCompareFault, IsToolFault, limit_of}
+use Rattle.check_tool.specs.Running.{IsOpenFault, first_paths, second_paths, text_paths, order_paths, given_paths, later_paths, paths_of, IsShort, AreTexts, HasTexts, IsGivenOf, IsOrderOf, IsLaterFault, IsCompared, HasReported, HasReportedFront, HasFirstFailed, HasSecondFailed, HasGivenFailed, IsBeyond, IsGivenUp, AreUnknown, ArePicksUnknown, IsCompareFault, IsToolFault, limit_of}
 use Rattle.check_tool.proofs.Failing.{check_fault}
 
 -- ---- tries
@@ -125,6 +125,9 @@ module _ (told : List ℕ → Option (List ℕ)) (input : Option (List ℕ)) (o 
   pub whole_given_up : (told' : List ℕ → Option (List ℕ)) → told' ≡ told → (given : Option (Option (List ℕ))) × (choice : Choice) × IsGivenOf told' o.given given × IsOrderOf told' o.order choice
       × TriesOrders choice × ((order : Order) → IsAllowed choice order → IsGivenUpWithin (told_of one two given) o.matching (limit_of o) None order) → IsGivenUp told input o
   whole_given_up told' e h = (one, two, h.0, h.1, texts, subst (λ t. IsGivenOf t o.given h.0) e h.2, subst (λ t. IsOrderOf t o.order h.1) e h.3, (h.4, h.5))
+
+  pub whole_unknown : (told' : List ℕ → Option (List ℕ)) → told' ≡ told → ArePicksUnknown told' one two o → AreUnknown told input o
+  whole_unknown told' e h = (one, two, texts, subst (λ t. ArePicksUnknown t one two o) e h)
 
   module _ (broken : List ℕ → Type 0) (input_broken first_failed second_failed : Type 0) (first : first_failed → HasFirstFailed broken input_broken o.texts) (second : second_failed → HasSecondFailed broken input_broken o.texts) where
     -- the files behind those of the texts, with these before them

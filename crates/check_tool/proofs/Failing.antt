@@ -2,7 +2,7 @@
 use Rattle.std.proofs.Common.{◌≡◌, ◌⊎◌, inl, inr, ℕ, Bool, false, List, Option, Some, None, ◌∙◌, sym, subst, IsTrue}
 use Rattle.std.specs.Prelude.{IfSome}
 use Rattle.check_report.specs.declared.fault.CheckFault.{CheckFault}
-use Rattle.check_report.specs.declared.fault.CheckFault.TheVariants.{First, Second, Given, GivenOutputs, Order as OrderRefused, Wave, GivenUp, Write, OutOfMemory}
+use Rattle.check_report.specs.declared.fault.CheckFault.TheVariants.{First, Second, Given, GivenOutputs, Order as OrderRefused, Only, Wave, GivenUp, Write, OutOfMemory}
 use Rattle.check_report.specs.Check.{IsCheckFault}
 use Rattle.net_order.specs.declared.order.Match.{Match}
 use Rattle.net_order.specs.declared.order.Order.{Order}
@@ -24,6 +24,7 @@ check_fault one two None first_failed second_failed given_failed first second co
 check_fault one two (Some told) first_failed second_failed given_failed first second condition how order f g h (Given fault) c = (c.0, c.1, c.2, c.3, record { cause = c.4.cause; read = λ e. h (c.4.read e) })
 check_fault one two given first_failed second_failed given_failed first second condition how order f g h GivenOutputs c = c
 check_fault one two given first_failed second_failed given_failed first second condition how order f g h (OrderRefused fault) c = c
+check_fault one two given first_failed second_failed given_failed first second condition how order f g h Only c = c
 check_fault one two given first_failed second_failed given_failed first second condition how order f g h (Wave fault) c = c
 check_fault one two given first_failed second_failed given_failed first second condition how order f g h GivenUp c = c
 check_fault one two given first_failed second_failed given_failed first second condition how order f g h Write c = c

@@ -3,3 +3,4 @@ pub mod Composing
 pub mod Failing
 pub mod Preparing
 pub mod Quoting
+pub mod Asking

@@ -1,13 +1,15 @@
 -- How a run ends: what it has written, what it says, and its status.
-use Rattle.std.specs.Prelude.{◌≡◌, ◌≢◌, ◌≤◌, ◌⊎◌, ◌↔◌, ℕ, Bool, true, false, List, [], ◌++◌, Option, Some, None, IsTrue, string_bytes, codes, decimal}
+use Rattle.std.specs.Prelude.{◌≡◌, ◌≢◌, ◌⊎◌, ◌↔◌, ◌/◌, ℕ, zero, suc, Bool, true, false, List, [], ◌++◌, Option, Some, None, IsTrue, string_bytes, codes, decimal, if◌then◌else◌, nat_lt}
 use Rattle.std.specs.Io.KnownBytes.{Appends, Keeps}
 use Rattle.report_text.specs.declared.outcome.Outcome.{Outcome}
 use Rattle.check_report.specs.declared.choice.Attempt.{Attempt}
 use Rattle.check_report.specs.Best.{candidate_text}
-use Rattle.check_report.specs.declared.fault.CheckFault.TheVariants.{Wave, GivenUp, Write}
+use Rattle.check_report.specs.Cones.{cone_limit}
+use Rattle.check_report.specs.declared.fault.CheckFault.TheVariants.{Only, Wave, GivenUp, Write}
 use Rattle.report_text.specs.Writing.{AppendsFront}
 use Rattle.command_line.specs.declared.options.Options.{Options}
-use Rattle.command_line.specs.declared.options.OrderChoice.TheVariants.{Auto}
+use Rattle.command_line.specs.declared.options.OrderChoice.{OrderChoice}
+use Rattle.command_line.specs.declared.options.OrderChoice.TheVariants.{Declared, Depth, Interleave, Index, Force, Best, Auto, Cones, File}
 use Rattle.command_line.specs.declared.reading.Refused.{Refused}
 use Rattle.command_line.specs.declared.reading.Refused.TheVariants.{Help, Mistake, OutOfMemory as NoWordMemory}
 use Rattle.command_line.specs.Words.{AskFor, IsRefusal}
@@ -21,7 +23,7 @@ use Rattle.check_tool.specs.declared.process.NoWords.TheVariants.{OutOfMemory as
 use Rattle.check_tool.specs.Faults.{fault_line, fault_status}
 use Rattle.check_tool.specs.Helping.{IsHelp, refused_paths}
 use Rattle.check_tool.specs.Opening.{Try, Extends, AreTried, opened}
-use Rattle.check_tool.specs.Running.{paths_of, HasReported, HasReportedFront, IsBeyond, IsGivenUp, IsToolFault, StandOnInput}
+use Rattle.check_tool.specs.Running.{paths_of, HasReported, HasReportedFront, IsBeyond, IsGivenUp, AreUnknown, MayGoByCones, IsToolFault, StandOnInput, limit_of, node_bytes}
 
 -- what a device held and holds now, and whether it has failed by now, and whether a write has taken nothing of some bytes
 pub record Written : Type 0 where
@@ -87,20 +89,60 @@ abbrev pub IsAttemptSaid : Option Attempt → Written → Type 0
 IsAttemptSaid None w = Keeps w.held w.holds
 IsAttemptSaid (Some t) w = MaySay w (attempt_line t)
 
--- what is said of a run that has done this: nothing, or its attempt where more is asked for
-abbrev pub IsDoneSaid : (verbose : Bool) → Done → Written → Type 0
-IsDoneSaid false done w = Keeps w.held w.holds
-IsDoneSaid true (Compared outcome tried) w = IsAttemptSaid tried w
-IsDoneSaid true (OrderPrinted tried) w = IsAttemptSaid tried w
+-- the line of a run whose pairs were judged by their cones
+abbrev pub cones_line : List ℕ
+cones_line = codes "bddcheck: each pair by its cones\n"
+
+-- what is said of what has decided a run, where an order was to be found: an attempt, or cones
+abbrev pub IsWaySaid : OrderChoice → Option Attempt → Written → Type 0
+IsWaySaid choice (Some t) w = IsAttemptSaid (Some t) w
+IsWaySaid Auto None w = Says w cones_line
+IsWaySaid Cones None w = Says w cones_line
+IsWaySaid Declared None w = IsAttemptSaid None w
+IsWaySaid Depth None w = IsAttemptSaid None w
+IsWaySaid Interleave None w = IsAttemptSaid None w
+IsWaySaid Index None w = IsAttemptSaid None w
+IsWaySaid Force None w = IsAttemptSaid None w
+IsWaySaid Best None w = IsAttemptSaid None w
+IsWaySaid (File path) None w = IsAttemptSaid None w
+
+-- the option that allows more nodes: the limit where that is less than what the memory holds, else the memory
+abbrev pub larger_word : Options → List ℕ
+larger_word o = if nat_lt o.limit (o.memory / node_bytes) then codes "--limit" else codes "--memory"
+
+-- the line that says how many pairs are undecided, within how many nodes each was given up, and which option helps
+abbrev pub undecided_words : (undecided nodes : ℕ) → (larger : List ℕ) → List ℕ
+undecided_words n nodes larger =
+    codes "bddcheck: " ++ (decimal n ++ (codes " undecided, each given up in each of five orders within " ++ (decimal nodes ++ (codes " nodes or eight requests for each of them; a larger "
+    ++ (larger ++ codes " may help\n")))))
+
+abbrev pub undecided_line : Options → (undecided : ℕ) → List ℕ
+undecided_line o n = undecided_words n (cone_limit (limit_of o)) (larger_word o)
+
+-- it is said where some are
+abbrev pub IsUndecidedSaid : Options → (undecided : ℕ) → Written → Type 0
+IsUndecidedSaid o zero w = Keeps w.held w.holds
+IsUndecidedSaid o (suc n) w = MaySay w (undecided_line o (suc n))
+
+-- what is said of a run that has done this, where more is asked for: what has decided, and how many pairs are undecided
+abbrev pub IsDoneSaid : (verbose : Bool) → Options → Done → Written → Type 0
+IsDoneSaid false o done w = Keeps w.held w.holds
+IsDoneSaid true o (Compared outcome tried) w = (b : Between) × IsWaySaid o.order tried (until w b) × IsUndecidedSaid o outcome.undecided (from w b)
+IsDoneSaid true o (OrderPrinted tried) w = IsAttemptSaid tried w
 
 -- the words ask for more on standard error than faults
 abbrev pub AskForMore : List (List ℕ) → Type 0
 AskForMore words = (o : Options) × AskFor words o × (o.verbose ≡ true)
 
--- the status of a report: 0 where all outputs and next states are paired and equal, else 1
+-- some outputs or next states differ, or have no partner
+abbrev pub AreUnlike : Outcome → Type 0
+AreUnlike o = (o.different ≢ 0) ⊎ (o.unmatched ≢ 0)
+
+-- the status of a report: 1 where some outputs or next states differ or have no partner, else 3 where some pairs are undecided, else 0
 pub record IsReportStatus (outcome : Outcome) (status : ℕ) : Type 0 where
-  pub bound : status ≤ 1
-  pub zero : (status ≡ 0) ↔ ((outcome.different ≡ 0) × (outcome.unmatched ≡ 0))
+  pub zero : (status ≡ 0) ↔ ((outcome.different ≡ 0) × (outcome.unmatched ≡ 0) × (outcome.undecided ≡ 0))
+  pub one : (status ≡ 1) ↔ AreUnlike outcome
+  pub three : (status ≡ 3) ↔ ((outcome.different ≡ 0) × (outcome.unmatched ≡ 0) × (outcome.undecided ≢ 0))
 
 -- the status of what a run has done: 0 for an order that was printed
 abbrev pub IsDoneStatus : Done → (status : ℕ) → Type 0
@@ -134,7 +176,7 @@ scene_of told tries folder folder' remaining has_failed input input' output erro
 pub record Reports (s : Scene) (o : Options) (done : Done) (status : ℕ) : Type 0 where
   pub report : HasReported s.told s.input o s.output.held s.output.holds done
   pub opened_all : Extends s.tried s.tries (opened (paths_of o))
-  pub said : IsDoneSaid o.verbose done s.errors
+  pub said : IsDoneSaid o.verbose o done s.errors
   pub code : IsDoneStatus done status
 
 -- There is a fault: its line was said, and nothing was written but for a front part of the report where the writing failed. The file of a
@@ -149,6 +191,8 @@ pub record Refuses (broken : List ℕ → Type 0) (s : Scene) (o : Options) (fau
   pub full : fault ≡ Check (Wave Full) → IsBeyond s.told s.input o
   pub given_up : fault ≡ Check GivenUp → IsGivenUp s.told s.input o
   pub in_no_order : o.order ≡ Auto → fault ≢ Check (Wave Full)
+  pub by_cones : MayGoByCones o.order → (fault ≢ Check (Wave Full)) × (fault ≢ Check GivenUp)
+  pub only : o.print_order ≡ false → fault ≡ Check Only → AreUnknown s.told s.input o
   pub unbounded : fault ≢ Check (Wave TooManyRequests)
   pub line : IsSaidOf o.verbose s.told o s.errors fault status
   pub front : fault ≡ Check Write → HasReportedFront s.told s.input o s.output.held s.output.holds s.output.has_failed s.output.has_stopped

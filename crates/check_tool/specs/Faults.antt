@@ -6,7 +6,7 @@ use Rattle.net_order.specs.declared.order.OrderFault.{OrderFault}
 use Rattle.net_order.specs.declared.order.OrderFault.TheVariants.{CountsDiffer, NotAPermutation, TooManyInputs, OutOfMemory as NoOrderMemory, BadName, TooLong as LongOrder, Read as OrderReadFailed}
 use Rattle.net_order.specs.Fault.{order_fault_text}
 use Rattle.check_report.specs.declared.fault.CheckFault.{CheckFault}
-use Rattle.check_report.specs.declared.fault.CheckFault.TheVariants.{First, Second, Given, GivenOutputs, Order, Wave, GivenUp, Write, OutOfMemory as NoCheckMemory}
+use Rattle.check_report.specs.declared.fault.CheckFault.TheVariants.{First, Second, Given, GivenOutputs, Order, Only, Wave, GivenUp, Write, OutOfMemory as NoCheckMemory}
 use Rattle.check_report.specs.Texts.{check_fault_text}
 use Rattle.check_tool.specs.declared.fault.Place.{Place}
 use Rattle.check_tool.specs.declared.fault.Place.TheVariants.{First as FirstFile, Second as SecondFile, Given as GivenFile, Order as OrderFile}
@@ -67,6 +67,7 @@ check_status (Second fault) = text_status fault
 check_status (Given fault) = text_status fault
 check_status GivenOutputs = 2
 check_status (Order fault) = order_status fault
+check_status Only = 2
 check_status (Wave fault) = 3
 check_status GivenUp = 3
 check_status Write = 3

@@ -8,10 +8,10 @@ use Rattle.net_order.specs.declared.order.OrderFault.TheVariants.{CountsDiffer, 
 use Rattle.expand_work.specs.declared.fault.WaveFault.{WaveFault}
 use Rattle.expand_work.specs.declared.fault.WaveFault.TheVariants.{OutOfMemory as NoWaveMemory, NoWorker, Full, TooManyRequests}
 use Rattle.check_report.specs.declared.fault.CheckFault.{CheckFault}
-use Rattle.check_report.specs.declared.fault.CheckFault.TheVariants.{First, Second, Given, GivenOutputs, Order, Wave, GivenUp, Write, OutOfMemory as NoCheckMemory}
+use Rattle.check_report.specs.declared.fault.CheckFault.TheVariants.{First, Second, Given, GivenOutputs, Order, Only, Wave, GivenUp, Write, OutOfMemory as NoCheckMemory}
 use Rattle.command_line.specs.declared.options.Options.{Options}
 use Rattle.command_line.specs.declared.options.OrderChoice.{OrderChoice}
-use Rattle.command_line.specs.declared.options.OrderChoice.TheVariants.{Declared, Depth, Interleave, Index, Force, Best, Auto, File}
+use Rattle.command_line.specs.declared.options.OrderChoice.TheVariants.{Declared, Depth, Interleave, Index, Force, Best, Auto, Cones, File}
 use Rattle.command_line.specs.declared.options.Texts.{Texts}
 use Rattle.command_line.specs.declared.options.Texts.TheVariants.{Input, Files, InputAndFile, FileAndInput, InputTwice, One}
 use Rattle.check_tool.specs.declared.fault.Place.TheVariants.{First as FirstFile, Second as SecondFile, Given as GivenFile, Order as OrderFile}
@@ -90,6 +90,7 @@ order_spot Index fault = None
 order_spot Force fault = None
 order_spot Best fault = None
 order_spot Auto fault = None
+order_spot Cones fault = None
 
 -- where the condition is at fault: in the line of a refused text, or as a whole
 abbrev pub given_spot : Option (Bor (List ℕ)) → BenchFault → Where
@@ -108,6 +109,7 @@ fault_spot texts given choice (Check (Second fault)) = text_spot (second_name te
 fault_spot texts given choice (Check (Given fault)) = given_spot given fault
 fault_spot texts given choice (Check GivenOutputs) = given_spot given ReadFailed
 fault_spot texts given choice (Check (Order fault)) = order_spot choice fault
+fault_spot texts given choice (Check Only) = None
 fault_spot texts given choice (Check (Wave fault)) = None
 fault_spot texts given choice (Check GivenUp) = None
 fault_spot texts given choice (Check Write) = None
@@ -147,6 +149,7 @@ order_help OrderReadFailed = codes "the device failed, or is a folder"
 abbrev pub fewer_nodes : OrderChoice → List ℕ
 fewer_nodes Best = codes "interleave, force, index, depth and declared are tried; a list by --order-file may need fewer nodes"
 fewer_nodes Auto = codes "interleave, force, index, depth and declared are tried; another --memory, or a list by --order-file, may help"
+fewer_nodes Cones = codes "each pair is judged by its cones; another --memory, or fewer --workers, may help"
 fewer_nodes Declared = codes "another order may need fewer nodes: try --order auto"
 fewer_nodes Depth = codes "another order may need fewer nodes: try --order auto"
 fewer_nodes Interleave = codes "another order may need fewer nodes: try --order auto"
@@ -176,6 +179,7 @@ check_help choice (Second fault) = text_help fault
 check_help choice (Given fault) = text_help fault
 check_help choice GivenOutputs = codes "a condition is a netlist of one output"
 check_help choice (Order fault) = order_help fault
+check_help choice Only = codes "an output or register of the first netlist"
 check_help choice (Wave fault) = wave_help choice fault
 check_help choice GivenUp = fewer_nodes choice
 check_help choice Write = codes "standard output is full, or closed"
@@ -220,6 +224,7 @@ refused_paths o (Check (Second fault)) = second_paths o.texts
 refused_paths o (Check (Given fault)) = path_in o.given
 refused_paths o (Check GivenOutputs) = []
 refused_paths o (Check (Order fault)) = []
+refused_paths o (Check Only) = []
 refused_paths o (Check (Wave fault)) = []
 refused_paths o (Check GivenUp) = []
 refused_paths o (Check Write) = []

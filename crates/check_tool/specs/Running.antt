@@ -1,5 +1,5 @@
 -- What a run compares, what it writes, and why it writes no report.
-use Rattle.std.specs.Prelude.{◌≡◌, ◌<◌, ◌≤◌, ◌⊎◌, ◌/◌, ℕ, min, Bool, true, false, List, [], ◌∷◌, ◌++◌, length, Option, Some, None, IfSome, ⊤}
+use Rattle.std.specs.Prelude.{◌≡◌, ◌<◌, ◌≤◌, ◌⊎◌, ◌/◌, ℕ, map, min, Bool, true, false, List, [], ◌∷◌, ◌++◌, length, Option, Some, None, IfSome, ⊤}
 use Rattle.std.specs.Borrow.{Bor}
 use Rattle.std.specs.Io.KnownBytes.{Appends}
 use Rattle.report_text.specs.Writing.{AppendsFront}
@@ -9,16 +9,22 @@ use Rattle.net_order.specs.declared.order.OrderFault.{OrderFault}
 use Rattle.net_order.specs.declared.order.OrderFault.TheVariants.{Read as OrderReadFailed, OutOfMemory as NoOrderMemory}
 use Rattle.net_order.specs.OrderText.{IsOrderText, IsBadText}
 use Rattle.check_report.specs.Listing.{IsOrderPrinted}
-use Rattle.check_report.specs.Check.{IsChecked, IsCheckFault}
+use Rattle.check_report.specs.Check.{IsCheckFault}
 use Rattle.check_report.specs.Devices.{told_of}
 use Rattle.check_report.specs.declared.fault.CheckFault.{CheckFault}
 use Rattle.check_report.specs.Limits.{AreBeyond}
-use Rattle.check_report.specs.Best.{AreTried as TriesOrders, IsAllowed, IsChosen, IsFound, IsGivenUpWithin, told_kind}
+use Rattle.check_report.specs.Best.{AreTried as TriesOrders, IsAllowed, IsFound, IsGivenUpWithin}
 use Rattle.check_report.specs.declared.choice.Choice.{Choice}
-use Rattle.check_report.specs.declared.choice.Choice.TheVariants.{One as Ordered, Best as TheBest, Auto as Found}
+use Rattle.check_report.specs.declared.choice.Choice.TheVariants.{One as Ordered, Best as TheBest, Auto as Found, Cones as ByCones}
+use Rattle.check_report.specs.declared.picked.Picked.{Picked}
+use Rattle.check_report.specs.declared.picked.Picked.TheVariants.{All as AllPairs, Only as OnlyPairs, Share as SharedPairs}
+use Rattle.check_report.specs.declared.settings.Settings.{Settings}
+use Rattle.check_report.specs.Deciding.{IsReportBy, IsUnknown}
+use Rattle.command_line.specs.declared.options.Picks.{Picks}
+use Rattle.command_line.specs.declared.options.Picks.TheVariants.{All, Only, Share}
 use Rattle.command_line.specs.declared.options.Options.{Options}
 use Rattle.command_line.specs.declared.options.OrderChoice.{OrderChoice}
-use Rattle.command_line.specs.declared.options.OrderChoice.TheVariants.{Declared, Depth, Interleave, Index, Force, Best, Auto, File}
+use Rattle.command_line.specs.declared.options.OrderChoice.TheVariants.{Declared, Depth, Interleave, Index, Force, Best, Auto, Cones, File}
 use Rattle.command_line.specs.declared.options.Texts.{Texts}
 use Rattle.command_line.specs.declared.options.Texts.TheVariants.{Input, Files, InputAndFile, FileAndInput, InputTwice, One}
 use Rattle.check_tool.specs.declared.done.Done.{Done}
@@ -76,6 +82,7 @@ order_paths Index = []
 order_paths Force = []
 order_paths Best = []
 order_paths Auto = []
+order_paths Cones = []
 
 -- the file that is opened for the condition
 abbrev pub given_paths : Option (Bor (List ℕ)) → List (List ℕ)
@@ -126,15 +133,17 @@ IsOrderOf told Index choice = choice ≡ Ordered index
 IsOrderOf told Force choice = choice ≡ Ordered force
 IsOrderOf told Best choice = choice ≡ TheBest
 IsOrderOf told Auto choice = choice ≡ Found
+IsOrderOf told Cones choice = choice ≡ ByCones
 IsOrderOf told (File path) choice = (names : List (List ℕ)) × (choice ≡ Ordered (Listed names)) × IfSome (told path.now) (λ text. IsOrderText text names)
 
 -- The bytes of memory that are reckoned for each node of an attempt: what the store takes for it, and what a wave takes for eight requests.
 abbrev pub node_bytes : ℕ
 node_bytes = 512
 
--- the most nodes in this order: of auto as many as the memory holds, where the limit is not less
+-- the most nodes in this order: of auto and of cones as many as the memory holds, where the limit is not less
 abbrev pub limit_in : OrderChoice → (limit memory : ℕ) → ℕ
 limit_in Auto limit memory = min limit (memory / node_bytes)
+limit_in Cones limit memory = min limit (memory / node_bytes)
 limit_in Declared limit memory = limit
 limit_in Depth limit memory = limit
 limit_in Interleave limit memory = limit
@@ -147,22 +156,53 @@ limit_in (File path) limit memory = limit
 abbrev pub limit_of : Options → ℕ
 limit_of o = limit_in o.order o.limit o.memory
 
--- The bytes are what the options ask for of these two texts, and the condition's, in an order of this choice: the report in the form that they ask for, with its counts, or the order
--- itself. The nodes that are needed in this order are within the limit of the options.
-abbrev pub IsMade : (one two : Option (List ℕ)) → (given : Option (Option (List ℕ))) → Options → Choice → Done → (bytes : List ℕ) → Type 0
-IsMade one two given o choice (Compared outcome tried) bytes =
-    (o.print_order ≡ false) × (order : Order) × IsChecked o.json (told_kind choice tried) (told_of one two given) o.matching order o.sizes outcome bytes
-    × IsChosen (told_of one two given) o.matching choice (limit_of o) tried order
-IsMade one two given o choice (OrderPrinted tried) bytes =
-    (o.print_order ≡ true) × (order : Order) × IsOrderPrinted (told_of one two given) o.matching order bytes × IsFound (told_of one two given) o.matching choice (limit_of o) tried order
+-- pairs may be judged by their cones in this order
+abbrev pub MayGoByCones : OrderChoice → Type 0
+MayGoByCones Auto = ⊤
+MayGoByCones Cones = ⊤
+MayGoByCones Declared = ⊥
+MayGoByCones Depth = ⊥
+MayGoByCones Interleave = ⊥
+MayGoByCones Index = ⊥
+MayGoByCones Force = ⊥
+MayGoByCones Best = ⊥
+MayGoByCones (File path) = ⊥
+
+-- the pairs that are asked for
+abbrev pub IsPickedOf : Picks → Picked → Type 0
+IsPickedOf All picked = picked ≡ AllPairs
+IsPickedOf (Share share) picked = picked ≡ SharedPairs share
+IsPickedOf (Only words) (OnlyPairs names) = names.items ≡ map (λ w. w.now) words.items
+IsPickedOf (Only words) AllPairs = ⊥
+IsPickedOf (Only words) (SharedPairs share) = ⊥
+
+-- The settings of a check that the options ask for, in an order of this choice, of these pairs.
+pub record AreSettings (o : Options) (choice : Choice) (picked : Picked) (s : Settings) : Type 0 where
+  pub matching : s.matching ≡ o.matching
+  pub order : s.order ≡ choice
+  pub picked_pairs : s.picked ≡ picked
+  pub limit : s.limit ≡ limit_of o
+  pub sizes : s.sizes ≡ o.sizes
+  pub json : s.json ≡ o.json
+
+-- The bytes are what the options ask for of these two texts, and the condition's, by these settings: the report in the form that they ask for, with its counts, or the
+-- order itself. The nodes that are needed in the order of a report are within the limit of the options.
+abbrev pub IsMade : (one two : Option (List ℕ)) → (given : Option (Option (List ℕ))) → Options → Settings → Done → (bytes : List ℕ) → Type 0
+IsMade one two given o s (Compared outcome tried) bytes = (o.print_order ≡ false) × IsReportBy (told_of one two given) s None tried outcome bytes
+IsMade one two given o s (OrderPrinted tried) bytes =
+    (o.print_order ≡ true) × (order : Order) × IsOrderPrinted (told_of one two given) o.matching order bytes × IsFound (told_of one two given) o.matching s.order (limit_of o) tried order
 
 -- the bytes are what the options ask for of these two texts
 pub record IsCompared (told : List ℕ → Option (List ℕ)) (one two : Option (List ℕ)) (o : Options) (done : Done) (bytes : List ℕ) : Type 0 where
   pub given : Option (Option (List ℕ))
   pub choice : Choice
+  pub picked : Picked
+  pub settings : Settings
   pub conditioned : IsGivenOf told o.given given
   pub ordered : IsOrderOf told o.order choice
-  pub made : IsMade one two given o choice done bytes
+  pub picks : IsPickedOf o.picks picked
+  pub set : AreSettings o choice picked settings
+  pub made : IsMade one two given o settings done bytes
 
 -- The bytes are what the options ask for of the texts that they name.
 pub record IsReported (told : List ℕ → Option (List ℕ)) (input : Option (List ℕ)) (o : Options) (done : Done) (bytes : List ℕ) : Type 0 where
@@ -192,6 +232,15 @@ IsBeyond told input o = AreNamed told input o (λ one two given choice. (order :
 -- orders are tried, and in each of them the attempt within the limit of the options was given up
 abbrev pub IsGivenUp : (List ℕ → Option (List ℕ)) → Option (List ℕ) → Options → Type 0
 IsGivenUp told input o = AreNamed told input o (λ one two given choice. TriesOrders choice × ((order : Order) → IsAllowed choice order → IsGivenUpWithin (told_of one two given) o.matching (limit_of o) None order))
+
+-- a name that is picked is that of no output and no register of the first of these texts
+abbrev pub ArePicksUnknown : (List ℕ → Option (List ℕ)) → (one two : Option (List ℕ)) → Options → Type 0
+ArePicksUnknown told one two o =
+    (given : Option (Option (List ℕ))) × (picked : Picked) × IsGivenOf told o.given given × IsPickedOf o.picks picked × IsUnknown (told_of one two given) picked
+
+-- the same of the texts that the options name
+abbrev pub AreUnknown : (List ℕ → Option (List ℕ)) → Option (List ℕ) → Options → Type 0
+AreUnknown told input o = (one two : Option (List ℕ)) × AreTexts told input o.texts one two × ArePicksUnknown told one two o
 
 -- why the check of two texts failed, in an order of this choice
 abbrev pub IsFailedCheck : (one two : Option (List ℕ)) → (given : Option (Option (List ℕ))) → (first_failed second_failed given_failed : Type 0) → Options → Choice → CheckFault → Type 0

@@ -106,7 +106,7 @@ fn status_of_check(fault: CheckFault) -> u8
         CheckFault::First(fault) | CheckFault::Second(fault) | CheckFault::Given(fault) => {
             status_of_text(fault)
         }
-        CheckFault::GivenOutputs => 2,
+        CheckFault::GivenOutputs | CheckFault::Only => 2,
         CheckFault::Order(fault) => status_of_order(fault),
         CheckFault::Wave(_) | CheckFault::GivenUp | CheckFault::Write | CheckFault::OutOfMemory =>
             3,

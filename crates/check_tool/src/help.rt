@@ -213,6 +213,8 @@ fn help_by_order(choice: OrderChoice<'_>) -> &'static str
             "interleave, force, index, depth and declared are tried; a list by --order-file may need fewer nodes",
         OrderChoice::Auto =>
             "interleave, force, index, depth and declared are tried; another --memory, or a list by --order-file, may help",
+        OrderChoice::Cones =>
+            "each pair is judged by its cones; another --memory, or fewer --workers, may help",
         _ => "another order may need fewer nodes: try --order auto",
     }
 }
@@ -250,6 +252,7 @@ fn help_in_check(choice: OrderChoice<'_>, fault: CheckFault) -> &'static str
         }
         CheckFault::GivenOutputs => "a condition is a netlist of one output",
         CheckFault::Order(fault) => help_in_order(fault),
+        CheckFault::Only => "an output or register of the first netlist",
         CheckFault::Wave(fault) => help_in_building(choice, fault),
         CheckFault::Write => "standard output is full, or closed",
         CheckFault::GivenUp | CheckFault::OutOfMemory => help_by_order(choice),

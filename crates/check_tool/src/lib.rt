@@ -1,6 +1,7 @@
 //! A run of the program: its words, its files and its devices to a status.
 #![tactic(auto)]
 
+mod asked;
 pub mod done;
 pub mod fault;
 pub mod folder;
@@ -10,4 +11,5 @@ pub mod progress;
 pub mod quote;
 pub mod run;
 pub mod split;
+mod tell;
 pub mod tool;

@@ -1,10 +1,10 @@
 //! A run with its options, over any folder, input and output.
 ghost use Rattle.std.specs.Prelude.{◌≡◌, ◌≢◌, ◌⊎◌, ℕ, ◌≤◌, ◌∷◌, [], false, List, Option, None, IfOk, IfErr, OnOk, OnErr, IfSome, IsTrue, Some, Err, is_ok};
 ghost use Rattle.std.specs.Io.KnownBytes.{Appends};
-ghost use Rattle.check_report.specs.declared.fault.CheckFault.TheVariants.{Wave, GivenUp, Write};
+ghost use Rattle.check_report.specs.declared.fault.CheckFault.TheVariants.{Only, Wave, GivenUp, Write};
 ghost use Rattle.check_tool.specs.declared.done.Done.{Done};
 ghost use Rattle.check_report.specs.declared.choice.Choice.{Choice as ChoiceValue};
-ghost use Rattle.command_line.specs.declared.options.OrderChoice.TheVariants.{Auto};
+ghost use Rattle.command_line.specs.declared.options.OrderChoice.TheVariants.{Auto, Cones};
 ghost use Rattle.check_report.specs.Best.{AreTried as TriesOrders, IsAllowed, IsGivenUpWithin};
 ghost use Rattle.check_report.specs.Devices.{told_by, told_of};
 ghost use Rattle.check_report.specs.Limits.{AreBeyond};
@@ -12,14 +12,15 @@ ghost use Rattle.report_text.specs.Writing.{AppendsFront};
 ghost use Rattle.expand_work.specs.declared.fault.WaveFault.TheVariants.{Full, TooManyRequests};
 ghost use Rattle.net_order.specs.declared.order.Order.{Order};
 ghost use Rattle.check_tool.specs.Opening.{Extends, HasFailedAt, Try, opened};
-ghost use Rattle.check_tool.specs.Running.{IsOpenFault, order_paths, given_paths, later_paths, paths_of, IsShort, IsGivenOf, IsGivenFrom, IsOrderOf, IsOrderFault, IsGivenFault, IsLaterFault, IsCompared, IsCompareFault, IsInputFault, IsToolFault, HasReported, HasReportedFront, IsBeyond, IsGivenUp, StandOnInput, limit_of};
+ghost use Rattle.check_tool.specs.Running.{IsOpenFault, order_paths, given_paths, later_paths, paths_of, IsShort, IsGivenOf, IsGivenFrom, IsOrderOf, IsOrderFault, IsGivenFault, IsLaterFault, IsCompared, IsCompareFault, IsInputFault, IsToolFault, HasReported, HasReportedFront, IsBeyond, IsGivenUp, AreUnknown, ArePicksUnknown, MayGoByCones, StandOnInput, limit_of};
 
+use crate::asked::{picked_of, settings_of};
 use crate::done::Done;
 use crate::fault::{Place, ToolFault};
 use crate::folder::{Folder, OpenFault};
 use crate::progress::{Meter, Progress};
 use crate::split::split_input;
-use check_report::{Choice, Context, Settings, check, print_order};
+use check_report::{Choice, Context, check, print_order};
 use command_line::{Options, OrderChoice, Texts};
 use net_bench::device::{InMemory, Sink, Source, TextFault, read_text};
 use net_order::order::Order;
@@ -31,21 +32,6 @@ use std::thread::Threads;
 
 /// The most bytes that standard input has: two texts and the line between them.
 const INPUT_LIMIT: usize = 134_221_824;
-
-/// The bytes of memory that are reckoned for each node of an attempt.
-const NODE_BYTES: u64 = 512;
-
-/// The most nodes that the options allow: of auto as many as the memory holds.
-fn limit_of(options: &Options<'_>) -> u64
-    ensures limit { result ≡ limit_of options.now }
-    ensures some { 1 ≤ result }
-    ensures few { result ≤ 4294967295 }
-{
-    match options.order {
-        OrderChoice::Auto => options.limit.min(options.memory / NODE_BYTES),
-        _ => options.limit,
-    }
-}
 
 /// Opens a file.
 fn open<F: Folder>(folder: &mut F, path: &str, place: Place) -> Result<F::File, ToolFault>
@@ -70,6 +56,7 @@ fn order_of<F: Folder>(
 ) -> Result<Choice, ToolFault>
     ensures order { IfOk result (IsOrderOf (F.told folder.old) choice.entry) }
     ensures auto { IfOk result (λ c. c ≡ ChoiceValue.Auto → choice.entry ≡ Auto) }
+    ensures cones { IfOk result (λ c. (c ≡ ChoiceValue.Cones → choice.entry ≡ Cones) × (choice.entry ≡ Cones → c ≡ ChoiceValue.Cones)) }
     ensures opened { OnOk result (Extends (F.tries folder.old) (F.tries folder.new) (opened (order_paths choice.entry))) }
     ensures kept { F.told folder.new ≡ F.told folder.old }
     ensures fault { IfErr result (λ fault. (tries : List Try) × Extends (F.tries folder.old) (F.tries folder.new) tries × IsOrderFault (F.told folder.old) (HasFailedAt F.File.origin F.File.has_failed) choice.entry tries fault) }
@@ -82,6 +69,7 @@ fn order_of<F: Folder>(
         OrderChoice::Force => Ok(Choice::One(Order::Force)),
         OrderChoice::Best => Ok(Choice::Best),
         OrderChoice::Auto => Ok(Choice::Auto),
+        OrderChoice::Cones => Ok(Choice::Cones),
         OrderChoice::File(path) => {
             let mut file = open(folder, path, Place::Order)?;
             match read_order(alloc, &mut file) {
@@ -119,6 +107,7 @@ fn prepare<F: Folder>(
     ensures named { IfOk result (λ r. IsGivenFrom options.now.given (told_by F.File.origin r.0)) }
     ensures order { IfOk result (λ r. IsOrderOf (F.told folder.old) options.now.order r.1) }
     ensures auto { IfOk result (λ r. r.1 ≡ ChoiceValue.Auto → options.now.order ≡ Auto) }
+    ensures cones { IfOk result (λ r. (r.1 ≡ ChoiceValue.Cones → options.now.order ≡ Cones) × (options.now.order ≡ Cones → r.1 ≡ ChoiceValue.Cones)) }
     ensures opened { OnOk result (Extends (F.tries folder.old) (F.tries folder.new) (opened (later_paths options.now))) }
     ensures kept { F.told folder.new ≡ F.told folder.old }
     ensures fault { IfErr result (λ fault. (tries : List Try) × Extends (F.tries folder.old) (F.tries folder.new) tries × IsLaterFault (F.told folder.old) (HasFailedAt F.File.origin F.File.has_failed) options.now tries fault) }
@@ -153,6 +142,8 @@ fn compare<
     ensures given_up { result ≡ Err (ToolFault.Check GivenUp) → (given : Option (Option (List ℕ))) × (choice : ChoiceValue) × IsGivenOf (F.told folder.old) options.now.given given × IsOrderOf (F.told folder.old) options.now.order choice
         × TriesOrders choice × ((order : Order) → IsAllowed choice order → IsGivenUpWithin (told_of (R1.remaining first.old) (R2.remaining second.old) given) options.now.matching (limit_of options.now) None order) }
     ensures in_no_order { options.now.order ≡ Auto → result ≢ Err (ToolFault.Check (Wave Full)) }
+    ensures by_cones { MayGoByCones options.now.order → (result ≢ Err (ToolFault.Check (Wave Full))) × (result ≢ Err (ToolFault.Check GivenUp)) }
+    ensures only { options.now.print_order ≡ false → result ≡ Err (ToolFault.Check Only) → ArePicksUnknown (F.told folder.old) (R1.remaining first.old) (R2.remaining second.old) options.now }
     ensures unbounded { result ≢ Err (ToolFault.Check (Wave TooManyRequests)) }
     ensures unwritten { result ≡ Err (ToolFault.Check Write) → (done : Done) × (bytes : List ℕ) × IsCompared (F.told folder.old) (R1.remaining first.old) (R2.remaining second.old) options.now done bytes × AppendsFront (W.contents out.old) (W.contents out.new) (W.has_failed out.new) (W.has_stopped out.new) bytes }
     ensures untouched { OnErr result (result ≢ Err (ToolFault.Check Write) → out.new ≡ out.old) }
@@ -160,15 +151,9 @@ fn compare<
     ensures origins { (R1.origin first.new ≡ R1.origin first.old) × (R2.origin second.new ≡ R2.origin second.old) }
 {
     let alloc = rt.alloc();
+    let picked = picked_of(alloc, &options.picks)?;
     let (mut given, order) = prepare(alloc, folder, options)?;
-    let settings = Settings {
-        matching: options.matching,
-        order,
-        workers: options.workers,
-        limit: limit_of(options),
-        sizes: options.sizes,
-        json: options.json,
-    };
+    let settings = settings_of(options, order, picked);
     let progress = Progress::new(rt, alloc, options.verbose);
     let context = Context {
         rt,
@@ -221,7 +206,8 @@ pub fn run_options<
     input: &mut R,
     out: &mut W,
 ) -> Result<Done, ToolFault>
-    // What was written is the report of the two texts where the condition holds, in the order that is asked for, or this order, and nothing else.
+    // What was written is the report of the two texts where the condition holds, in the order that is asked for, or of each pair that is
+    // picked by its cones, or this order, and nothing else.
     ensures report { IfOk result (HasReported (F.told folder.old) (R.remaining input.old) options.now (W.contents out.old) (W.contents out.new)) }
     // Then each file that the options name was opened, in the stated order, and no other.
     ensures opened { OnOk result (Extends (F.tries folder.old) (F.tries folder.new) (opened (paths_of options.now))) }
@@ -229,10 +215,13 @@ pub fn run_options<
     // The nodes that the texts need are within the limit where there is a report, and Full comes only where they are not, in any order
     // that is asked for.
     ensures full { result ≡ Err (ToolFault.Check (Wave Full)) → IsBeyond (F.told folder.old) (R.remaining input.old) options.now }
-    // GivenUp comes only where orders are tried, and each attempt within the limit was given up; where one is to be found, it comes in the
-    // place of Full.
+    // GivenUp comes only where orders are tried, and each attempt within the limit was given up; where one is to be found, neither comes,
+    // since pairs are judged by their cones then.
     ensures given_up { result ≡ Err (ToolFault.Check GivenUp) → IsGivenUp (F.told folder.old) (R.remaining input.old) options.now }
     ensures in_no_order { options.now.order ≡ Auto → result ≢ Err (ToolFault.Check (Wave Full)) }
+    ensures by_cones { MayGoByCones options.now.order → (result ≢ Err (ToolFault.Check (Wave Full))) × (result ≢ Err (ToolFault.Check GivenUp)) }
+    // A name that is picked is refused only where the first text has no such output or register.
+    ensures only { options.now.print_order ≡ false → result ≡ Err (ToolFault.Check Only) → AreUnknown (F.told folder.old) (R.remaining input.old) options.now }
     // No wave of a run of the program is given up for its requests but within an attempt.
     ensures unbounded { result ≢ Err (ToolFault.Check (Wave TooManyRequests)) }
     // A fault has its cause, what comes before it was accepted, and no file was tried beyond it.

@@ -1,6 +1,6 @@
 //! A run of the program: its words, its folder and its devices to a status.
-ghost use Rattle.std.specs.Prelude.{◌≡◌, ◌≤◌, ◌⊎◌, ℕ, List, false, IfOk, map, string_bytes};
-ghost use Rattle.check_tool.specs.Ending.{written, scene_of, Says, IsSaid, MaySay, IsSaidOf, attempt_line, IsAttemptSaid, IsDoneSaid, AskForMore, asked_again, IsReportStatus, IsDoneStatus, IsRun, IsWordEnd};
+ghost use Rattle.std.specs.Prelude.{◌≡◌, ◌≢◌, ◌≤◌, ◌⊎◌, ℕ, List, false, IfOk, map, string_bytes};
+ghost use Rattle.check_tool.specs.Ending.{written, scene_of, Says, IsSaid, MaySay, IsSaidOf, AskForMore, asked_again, IsReportStatus, IsDoneStatus, IsRun, IsWordEnd};
 ghost use Rattle.check_tool.specs.Helping.{IsHelp, refused_paths};
 ghost use Rattle.check_tool.specs.Opening.{AreTried, Extends, HasFailedAt, Try};
 
@@ -11,7 +11,8 @@ use crate::help::{help_of, help_with};
 use crate::progress::Meter;
 use crate::quote::quote;
 use crate::run::run_options;
-use check_report::{Attempt, Outcome, write_whole};
+use crate::tell::tell;
+use check_report::{Outcome, write_whole};
 use command_line::{Options, Refused, read_options};
 use net_bench::device::{Sink, Source};
 use std::alloc::{AllocError, Global};
@@ -96,40 +97,6 @@ fn refuse_run<F: Folder, E: Sink>(
     status
 }
 
-/// The line that names an attempt.
-fn line_of_attempt(alloc: Global, attempt: Attempt) -> Result<String, AllocError>
-    ensures { IfOk result (λ line. string_bytes line ≡ attempt_line attempt) }
-{
-    let order = attempt.order;
-    let budget = attempt.budget;
-    format!(in alloc; "bddcheck: order {order}, budget {budget}\n")
-}
-
-/// Says which attempt a run ended with, where there is one, and memory for its line.
-fn tell_attempt<E: Sink>(alloc: Global, tried: Option<Attempt>, errors: &mut E)
-    ensures { IsAttemptSaid tried (written E.contents E.has_failed E.has_stopped errors.old errors.new) }
-{
-    let Some(attempt) = tried else {
-        return;
-    };
-    if let Ok(line) = line_of_attempt(alloc, attempt) {
-        say(errors, line.as_bytes());
-    }
-}
-
-/// Says what a run has done, where more is asked for.
-fn tell<E: Sink>(alloc: Global, verbose: bool, done: Done, errors: &mut E)
-    ensures said { IsDoneSaid verbose done (written E.contents E.has_failed E.has_stopped errors.old errors.new) }
-    ensures silent { verbose ≡ false → errors.new ≡ errors.old }
-{
-    if !verbose {
-        return;
-    }
-    match done {
-        Done::Compared(_, tried) | Done::OrderPrinted(tried) => tell_attempt(alloc, tried, errors),
-    }
-}
-
 /// Prints what the words were refused with, and answers the status: 0 for help, 2 for a mistake.
 #[tactic(auto, using(crate::proofs::Composing::keeps_own))]
 fn refuse_words<W: Sink, E: Sink>(
@@ -157,22 +124,24 @@ fn refuse_words<W: Sink, E: Sink>(
     }
 }
 
-/// The status of a comparison: 0 where all outputs and next states are paired and equal.
+/// The status of a comparison: 0 where all outputs and next states are paired and equal, 1 where some differ or have no partner, and 3
+/// where no more is said against them than that some are undecided.
 fn status_of(outcome: Outcome) -> u8
-    ensures status { IsReportStatus outcome result }
-    ensures bound { result ≤ 1 }
+    ensures { IsReportStatus outcome result }
 {
-    if outcome.different == 0 && outcome.unmatched == 0 {
-        0
-    } else {
+    if outcome.different > 0 || outcome.unmatched > 0 {
         1
+    } else if outcome.undecided > 0 {
+        3
+    } else {
+        0
     }
 }
 
 /// The status of what a run has done.
 fn status_of_done(done: Done) -> u8
     ensures status { IsDoneStatus done result }
-    ensures bound { result ≤ 1 }
+    ensures bound { (result ≤ 3) × (result ≢ 2) }
 {
     match done {
         Done::Compared(outcome, _) => status_of(outcome),
@@ -189,7 +158,7 @@ pub fn run_tool<
     W: Sink,
     E: Sink,
 >(rt: &H, words: &[String], folder: &mut F, input: &mut R, out: &mut W, errors: &mut E) -> u8
-    // The words ask for options, and then the run ends with their report, or their order, and status 0 or 1, or with the line and the status of a
+    // The words ask for options, and then the run ends with their report, or their order, and its status, or with the line and the status of a
     // fault that has its cause, behind which stands what helps where more is asked for, and the input is read only where a text stands on it; or they are refused for a cause, no file is
     // opened, nothing is read, and help, a mistake or want of memory is told.
     ensures ending { let scene = scene_of F.told F.tries folder.old folder.new R.remaining R.has_failed input.old input.new
@@ -207,7 +176,7 @@ pub fn run_tool<
     };
     match run_options(rt, &options, folder, input, out) {
         Ok(done) => {
-            tell(alloc, options.verbose, done, errors);
+            tell(alloc, &options, done, errors);
             status_of_done(done)
         }
         Err(fault) => refuse_run(alloc, folder, &options, fault, errors),

@@ -3,7 +3,7 @@ use Rattle.command_line.specs.declared.options.Texts.TheVariants.{Files, FileAnd
 use Rattle.check_tool.specs.Running.{text_paths}
 use Rattle.check_tool.specs.Opening.{Extends, HasFailedAt, opened}
 use Rattle.check_tool.proofs.Failing.{failed_at, first_failed, second_failed, never}
-use Rattle.check_tool.proofs.Composing.{extends_none, input_texts, files_texts, split_parts, split_none, undivided, whole_report, whole_beyond, whole_given_up, whole_front, whole_faults, both_opened, all_opened, all_opened_beside, second_unopened, second_unopened_beside, one_opened, file_and_input, input_and_file}
+use Rattle.check_tool.proofs.Composing.{extends_none, input_texts, files_texts, split_parts, split_none, undivided, whole_report, whole_beyond, whole_unknown, whole_given_up, whole_front, whole_faults, both_opened, all_opened, all_opened_beside, second_unopened, second_unopened_beside, one_opened, file_and_input, input_and_file}
 use Rattle.check_tool.proofs.run.run_options.Goals as goal
 
 pub returns-in_err-second-in-Files-clause-fault : goal.returns-in_err-second-in-Files-clause-fault
@@ -125,3 +125,25 @@ pub returns-in_ok-file-in-FileAndInput-clause-given_up : goal.returns-in_ok-file
 returns-in_ok-file-in-FileAndInput-clause-given_up g c is =
     whole_given_up (g.F.Folder.told c.args.folder.now) (g.R.Source.remaining c.args.input.now) c.args.options.now _ _ (file_and_input (g.F.Folder.told c.args.folder.now) (g.R.Source.remaining c.args.input.now) c.args.options.now c.in-FileAndInput.path c.in-FileAndInput.is _ c.in_ok-file-in-FileAndInput.ensures.file)
     _ c.in_ok-file-in-FileAndInput.ensures.kept (c.compare-in-FileAndInput.ensures.given_up is)
+
+pub returns-in_ok-second-in-Files-clause-only : goal.returns-in_ok-second-in-Files-clause-only
+returns-in_ok-second-in-Files-clause-only g c compared is =
+    whole_unknown (g.F.Folder.told c.args.folder.now) (g.R.Source.remaining c.args.input.now) c.args.options.now _ _
+    (files_texts _ _ c.in_ok-first-in-Files.ensures.kept (g.R.Source.remaining c.args.input.now) c.args.options.now c.in-Files.first c.in-Files.second c.in-Files.is _ _ c.in_ok-first-in-Files.ensures.file c.in_ok-second-in-Files.ensures.file)
+    _ (c.in_ok-second-in-Files.ensures.kept ∙ c.in_ok-first-in-Files.ensures.kept) (c.compare.ensures.only compared is)
+
+pub returns-in-Some-clause-only : goal.returns-in-Some-clause-only
+returns-in-Some-clause-only g c compared is =
+    let texts = input_texts (g.F.Folder.told c.args.folder.now) (g.R.Source.remaining c.args.input.now) c.args.options.now c.in-Input.is c.in_ok-text-in-Input.text.items c.in-Some.one.now c.in-Some.two.now
+    (Some c.new-first.result) (Some c.new-second.result) (search rules) (search rules) c.in_ok-text-in-Input.ensures.text c.in_ok-text-in-Input.ensures.short (split_parts _ _ c.split_input.result c.in-Some.one c.in-Some.two (search rules) (search rules) c.split_input.ensures) in
+    whole_unknown (g.F.Folder.told c.args.folder.now) (g.R.Source.remaining c.args.input.now) c.args.options.now _ _ texts _ refl (c.compare-in-Input.ensures.only compared is)
+
+pub returns-in_ok-file-in-InputAndFile-clause-only : goal.returns-in_ok-file-in-InputAndFile-clause-only
+returns-in_ok-file-in-InputAndFile-clause-only g c compared is =
+    whole_unknown (g.F.Folder.told c.args.folder.now) (g.R.Source.remaining c.args.input.now) c.args.options.now _ _ (input_and_file (g.F.Folder.told c.args.folder.now) (g.R.Source.remaining c.args.input.now) c.args.options.now c.in-InputAndFile.path c.in-InputAndFile.is _ c.in_ok-file-in-InputAndFile.ensures.file)
+    _ c.in_ok-file-in-InputAndFile.ensures.kept (c.compare-in-InputAndFile.ensures.only compared is)
+
+pub returns-in_ok-file-in-FileAndInput-clause-only : goal.returns-in_ok-file-in-FileAndInput-clause-only
+returns-in_ok-file-in-FileAndInput-clause-only g c compared is =
+    whole_unknown (g.F.Folder.told c.args.folder.now) (g.R.Source.remaining c.args.input.now) c.args.options.now _ _ (file_and_input (g.F.Folder.told c.args.folder.now) (g.R.Source.remaining c.args.input.now) c.args.options.now c.in-FileAndInput.path c.in-FileAndInput.is _ c.in_ok-file-in-FileAndInput.ensures.file)
+    _ c.in_ok-file-in-FileAndInput.ensures.kept (c.compare-in-FileAndInput.ensures.only compared is)

@@ -29,8 +29,8 @@ returns-in-Ok-run_options-clause-ending g c =
       c.run_options.ensures.unasked,
     )
 
-pub returns-in-Err-run_options-clause-ending : goal.returns-in-Err-run_options-clause-ending
-returns-in-Err-run_options-clause-ending g c =
+pub returns-clause-ending : goal.returns-clause-ending
+returns-clause-ending g c =
     let cause = c.in-Err-run_options.ensures.fault in
     let again = c.refuse_run.ensures.tried in
     inl (
@@ -48,6 +48,11 @@ returns-in-Err-run_options-clause-ending g c =
           full = λ e. c.run_options.ensures.full (c.in-Err-run_options.is ∙ ap Err e);
           given_up = λ e. c.run_options.ensures.given_up (c.in-Err-run_options.is ∙ ap Err e);
           in_no_order = λ auto e. c.run_options.ensures.in_no_order auto (c.in-Err-run_options.is ∙ ap Err e);
+          by_cones = λ may. (
+            λ e. (c.run_options.ensures.by_cones may).0 (c.in-Err-run_options.is ∙ ap Err e),
+            λ e. (c.run_options.ensures.by_cones may).1 (c.in-Err-run_options.is ∙ ap Err e),
+          );
+          only = λ compared e. c.run_options.ensures.only compared (c.in-Err-run_options.is ∙ ap Err e);
           unbounded = λ e. c.run_options.ensures.unbounded (c.in-Err-run_options.is ∙ ap Err e);
           line = rw (← c.run_options.ensures.kept) c.refuse_run.ensures.said;
           front = λ e. c.run_options.ensures.unwritten (c.in-Err-run_options.is ∙ ap Err e);

@@ -1,6 +1,6 @@
 use Rattle.std.proofs.Common.{rules, ◌≡◌, inl, sym, subst}
 use Rattle.check_tool.specs.Ending.{Written, Says, MaySay, IsAttemptSaid, attempt_line}
-use Rattle.check_tool.proofs.tool.tell_attempt.Goals as goal
+use Rattle.check_tool.proofs.tell.tell_attempt.Goals as goal
 
 pub returns-in-Ok : goal.returns-in-Ok
 returns-in-Ok g c =

@@ -1,0 +1,70 @@
+//! From the options of a run to the settings of its check.
+ghost use Rattle.std.specs.Prelude.{◌≡◌, ◌≤◌, ◌++◌, List, ℕ, IfOk, IfErr, map, take};
+ghost use Rattle.check_report.specs.declared.choice.Choice.{Choice as ChoiceValue};
+ghost use Rattle.command_line.specs.declared.options.OrderChoice.{OrderChoice as OrderValue};
+ghost use Rattle.check_tool.specs.Running.{AreSettings, IsPickedOf, limit_of, limit_in};
+
+use crate::fault::ToolFault;
+use check_report::{Choice, Name, Picked, Settings};
+use command_line::{Options, OrderChoice, Picks};
+use std::alloc::{AllocError, Global};
+
+/// The bytes of memory that are reckoned for each node of an attempt.
+pub(crate) const NODE_BYTES: u64 = 512;
+
+/// The most nodes that the options allow: of auto and of cones as many as the memory holds.
+pub(crate) fn limit_of(options: &Options<'_>) -> u64
+    ensures limit { result ≡ limit_of options.now }
+    ensures some { 1 ≤ result }
+    ensures few { result ≤ 4294967295 }
+{
+    match options.order {
+        OrderChoice::Auto | OrderChoice::Cones => options.limit.min(options.memory / NODE_BYTES),
+        _ => options.limit,
+    }
+}
+
+/// These words as names.
+fn names_of(alloc: Global, words: &[&str]) -> Result<Vec<Name>, AllocError>
+    ensures { IfOk result (λ names. names.items ≡ map (λ w. w.now) words.now) }
+{
+    let mut names = Vec::new(alloc);
+    for word in words {
+        names.push(Name::copied(alloc, word.as_bytes())?)?;
+    }
+    Ok(names)
+}
+
+/// The pairs that are asked for.
+pub(crate) fn picked_of(alloc: Global, picks: &Picks<'_>) -> Result<Picked, ToolFault>
+    ensures picked { IfOk result (IsPickedOf picks.now) }
+    ensures fault { IfErr result (λ fault. fault ≡ ToolFault.OutOfMemory) }
+{
+    match picks {
+        Picks::All => Ok(Picked::All),
+        Picks::Share(share) => Ok(Picked::Share(*share)),
+        Picks::Only(words) => match names_of(alloc, words.as_slice()) {
+            Ok(names) => Ok(Picked::Only(names)),
+            Err(_) => Err(ToolFault::OutOfMemory),
+        },
+    }
+}
+
+/// The settings of a check in this order, of these pairs.
+pub(crate) fn settings_of(options: &Options<'_>, order: Choice, picked: Picked) -> Settings
+    requires auto { order ≡ ChoiceValue.Auto → options.now.order ≡ OrderValue.Auto }
+    requires cones { order ≡ ChoiceValue.Cones → options.now.order ≡ OrderValue.Cones }
+    requires by_cones { options.now.order ≡ OrderValue.Cones → order ≡ ChoiceValue.Cones }
+    requires picked { IsPickedOf options.now.picks picked }
+    ensures { AreSettings options.now order picked result }
+{
+    Settings {
+        matching: options.matching,
+        order,
+        picked,
+        workers: options.workers,
+        limit: limit_of(options),
+        sizes: options.sizes,
+        json: options.json,
+    }
+}
