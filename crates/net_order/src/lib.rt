@@ -2,6 +2,7 @@
 #![tactic(auto)]
 
 mod correspondence;
+mod drawing;
 mod edge;
 mod extended;
 mod force;

@@ -1,7 +1,7 @@
 use Rattle.std.proofs.Common.{arith}
 use Rattle.std.proofs.lemmas.Grind.{common_steps}
 use Rattle.net_order.proofs.Forcing.{mapped_none, mapped_more}
-use Rattle.net_order.proofs.force.step.Goals as goal
+use Rattle.net_order.proofs.drawing.step.Goals as goal
 
 pub loop-vertex-init : goal.loop-vertex-init
 loop-vertex-init c = let none = mapped_none in grind (arith, common_steps, none)

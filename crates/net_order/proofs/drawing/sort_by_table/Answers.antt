@@ -2,7 +2,7 @@ use Rattle.std.proofs.Common.{rules, ◌≡◌, ℕ}
 use Rattle.std.specs.Prelude.{slice_index}
 use Rattle.std.proofs.lemmas.Fn.{always_returns_same}
 use Rattle.net_order.proofs.Rising.{sorted_is}
-use Rattle.net_order.proofs.force.sort_by_table.Goals as goal
+use Rattle.net_order.proofs.drawing.sort_by_table.Goals as goal
 
 pub returns : goal.returns
 returns c =

@@ -1,7 +1,7 @@
 use Rattle.std.proofs.Common.{◌∙◌, ap}
 use Rattle.net_order.specs.Force.{step}
 use Rattle.net_order.proofs.Forcing.{steps_more}
-use Rattle.net_order.proofs.force.do_steps.Goals as goal
+use Rattle.net_order.proofs.drawing.do_steps.Goals as goal
 
 pub loop-step-preserved : goal.loop-step-preserved
 loop-step-preserved c =

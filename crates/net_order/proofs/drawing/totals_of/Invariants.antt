@@ -1,7 +1,7 @@
 use Rattle.std.proofs.Common.{◌≡◌, drop}
 use Rattle.std.specs.Prelude.{fold}
 use Rattle.net_order.specs.Force.{centre_of, with_more}
-use Rattle.net_order.proofs.force.totals_of.Given as goal
+use Rattle.net_order.proofs.drawing.totals_of.Given as goal
 
 abbrev pub invariant-loop-edge : goal.invariant-loop-edge
 invariant-loop-edge l =
