@@ -1,12 +1,10 @@
-use Rattle.std.proofs.Common.{◌≡◌, ◌+◌, ◌*◌, sym, subst}
+use Rattle.std.proofs.Common.{subst}
 use Rattle.req_table.specs.Keys.{wave_of}
-use Rattle.req_table.specs.Settled.{IsClosure, level_of_rows}
+use Rattle.req_table.specs.Settled.{level_of_rows}
 use Rattle.req_table.specs.Tables.{row_at}
-use Rattle.lane_queue.specs.Joining.{sent_from}
-use Rattle.expand_work.specs.Expanded.{AreByNumber, put_by, bundles_between, row_of}
+use Rattle.expand_work.specs.Expanded.{row_of}
 use Rattle.expand_work.specs.Gathered.{AreParts, AreSettled}
 use Rattle.reduce_up.proofs.Rooting.{closure_same}
-use Rattle.wave_doors.specs.Expanded.{IsSettledFor}
 use Rattle.wave_doors.proofs.expanded.expand_all.Goals as goal
 
 pub merge_rows-requires-clause-parts : goal.merge_rows-requires-clause-parts
