@@ -11,3 +11,4 @@ pub mod Best
 pub mod Trials
 pub mod Texts
 pub mod Listing
+pub mod Spreading

@@ -17,6 +17,7 @@ mod picked;
 mod reading;
 mod report;
 mod settings;
+mod spreading;
 mod subject;
 mod task;
 mod telling;
