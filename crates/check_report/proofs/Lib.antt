@@ -15,3 +15,5 @@ pub mod Printing
 pub mod Widening
 pub mod Rounds
 pub mod Budgets
+pub mod Spread
+pub mod Spreading

@@ -15,3 +15,4 @@ pub mod Picking
 pub mod Deciding
 pub mod Texts
 pub mod Listing
+pub mod Spreading

@@ -22,6 +22,7 @@ mod reading;
 mod report;
 mod rounds;
 mod settings;
+mod spreading;
 mod subject;
 mod task;
 mod telling;

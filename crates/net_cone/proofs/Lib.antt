@@ -6,3 +6,4 @@ pub mod Lists
 pub mod Names
 pub mod Numbered
 pub mod Drawn
+pub mod Spreading
