@@ -17,3 +17,8 @@ pub mod Rounds
 pub mod Budgets
 pub mod Spread
 pub mod Spreading
+pub mod Naming
+pub mod Filling
+pub mod Coned
+pub mod Places
+pub mod Deciding

@@ -1,10 +1,12 @@
 //! The cones of one pair, and the comparison that they make.
-ghost use Rattle.std.specs.Prelude.{◌≡◌, ◌<◌, map, length, All, IfOk, IfErr};
+ghost use Rattle.std.specs.Prelude.{◌≡◌, ◌<◌, ◌≤◌, length, map, All, IfOk, IfErr};
 ghost use Rattle.net_bench.specs.Circuit.{circuit};
-ghost use Rattle.net_order.specs.declared.order.Match.TheVariants.{Name};
-ghost use Rattle.net_order.specs.declared.order.Order.TheVariants.{Listed};
-ghost use Rattle.net_order.specs.Order.{IsPairing, condition};
-ghost use Rattle.check_report.specs.Coning.{AreConesOf, IsReady, circuit_of};
+ghost use Rattle.net_cone.specs.Cones.{variable_name};
+ghost use Rattle.net_order.specs.declared.order.Order.{Order as OrderValue};
+ghost use Rattle.net_order.specs.Order.{condition};
+ghost use Rattle.check_report.specs.Coning.{AreConesOf, EndsPairs, IsConeTask, IsOf, IsReady, circuit_of};
+ghost use Rattle.check_report.specs.Spreading.{ArePlaces};
+ghost use Rattle.check_report.specs.Trials.{EndsAtOnce, IsPairingIn};
 
 use crate::fault::CheckFault;
 use crate::naming::{Part, level_in};
@@ -44,6 +46,9 @@ pub struct Cones {
 
 /// The cones of a pair.
 pub fn cones_of<H>(whole: &Whole<'_, H>, subject: Subject) -> Result<Cones, AllocError>
+    requires ready { IsReady whole.now }
+    requires inside { IsOf whole.now subject }
+    ensures { IfOk result (AreConesOf whole.now subject) }
 {
     let task = whole.task;
     Ok(Cones {
@@ -64,6 +69,9 @@ fn mark(marks: &mut [bool], pairing: &Pairing, part: Part, cone: &Cone) {
 
 /// The places of what is marked, rising.
 fn marked(alloc: Global, marks: &[bool]) -> Result<Vec<u16>, AllocError>
+    requires { length marks.now ≤ 4096 }
+    ensures places { IfOk result (λ v. ArePlaces (length marks.now) v.items) }
+    ensures few { IfOk result (λ v. length v.items ≤ length marks.now) }
 {
     let mut places = Vec::new(alloc);
     for place in 0..marks.len() {
@@ -76,6 +84,8 @@ fn marked(alloc: Global, marks: &[bool]) -> Result<Vec<u16>, AllocError>
 
 /// The levels of the variables that the cones of a pair and of the condition have, rising.
 pub fn places_of<H>(whole: &Whole<'_, H>, cones: &Cones) -> Result<Vec<u16>, AllocError>
+    ensures places { IfOk result (λ v. ArePlaces (length whole.now.pairing.now.names) v.items) }
+    ensures few { IfOk result (λ v. length v.items ≤ length whole.now.pairing.now.names) }
 {
     let pairing = whole.pairing;
     let mut marks = Vec::from_elem(whole.task.alloc, false, pairing.names().len())?;
@@ -87,8 +97,9 @@ pub fn places_of<H>(whole: &Whole<'_, H>, cones: &Cones) -> Result<Vec<u16>, All
     marked(whole.task.alloc, marks.as_slice())
 }
 
-/// The name that a cone's variable has of the name of its level.
+/// The name in a cone of a variable of this name.
 fn cone_name(alloc: Global, name: &[u8]) -> Result<Vec<u8>, AllocError>
+    ensures { IfOk result (λ v. v.items ≡ 118 ∷ name.now) }
 {
     let mut whole = Vec::new(alloc);
     whole.push(b'v')?;
@@ -97,17 +108,22 @@ fn cone_name(alloc: Global, name: &[u8]) -> Result<Vec<u8>, AllocError>
 }
 
 /// The names in cones of the variables at these levels.
-pub fn names_at(alloc: Global, names: &Names, places: &[u16]) -> Result<Names, AllocError>
+fn names_at(alloc: Global, names: &Names, places: &[u16]) -> Result<Names, AllocError>
+    requires low { All (λ place. place < length names.now) places.now }
+    requires few { length places.now ≤ 4096 }
+    ensures { IfOk result (λ list. list ≡ map (variable_name names.now) places.now) }
 {
     let mut list = Vec::new(alloc);
     for place in 0..places.len() {
-        list.push(cone_name(alloc, names.at(places[place] as usize))?)?;
+        let name = names.at(places[place] as usize);
+        list.push(cone_name(alloc, name)?)?;
     }
     Ok(Names::of(list))
 }
 
 /// A condition's cone as a netlist.
 fn net_of<'a>(given: Option<&'a Cone>) -> Option<&'a Netlist>
+    ensures { condition result ≡ circuit_of given.entry }
 {
     match given {
         Some(cone) => Some(&cone.net),
@@ -117,6 +133,8 @@ fn net_of<'a>(given: Option<&'a Cone>) -> Option<&'a Netlist>
 
 /// The comparison of a pair's cones.
 pub fn task_of<'a, H>(whole: &Whole<'a, H>, cones: &'a Cones) -> Task<'a, H>
+    requires { IsReady whole.now }
+    ensures { IsConeTask whole.now cones.now result }
 {
     Task {
         rt: whole.task.rt,
@@ -125,5 +143,37 @@ pub fn task_of<'a, H>(whole: &Whole<'a, H>, cones: &'a Cones) -> Task<'a, H>
         second: &cones.second.net,
         given: net_of(whole.given),
         settings: whole.settings,
+    }
+}
+
+/// A fault of a pair's comparison as it is told. The variables of cones are some of the whole's, so their pairing can fail for want of
+/// memory alone.
+pub fn as_late(fault: CheckFault) -> CheckFault
+    requires { EndsAtOnce fault }
+    ensures { EndsPairs result }
+{
+    match fault {
+        CheckFault::Wave(_) => fault,
+        _ => CheckFault::OutOfMemory,
+    }
+}
+
+/// The pairing of a pair's cones whose variables stand as in the whole's.
+pub fn cone_pairing<H>(
+    task: &Task<'_, H>,
+    names: &Names,
+    places: &[u16],
+) -> Result<Pairing, CheckFault>
+    requires low { All (λ place. place < length names.now) places.now }
+    requires few { length places.now ≤ 4096 }
+    ensures paired { IfOk result (λ q. (order : OrderValue) × IsPairingIn task.now order q × (q.names ≡ map (variable_name names.now) places.now)) }
+    ensures ends { IfErr result EndsPairs }
+{
+    let Ok(list) = names_at(task.alloc, names, places) else {
+        return Err(CheckFault::OutOfMemory);
+    };
+    match paired(task, &Order::Listed(list)) {
+        Ok(pairing) => Ok(pairing),
+        Err(fault) => Err(as_late(fault)),
     }
 }

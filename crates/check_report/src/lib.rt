@@ -16,6 +16,7 @@ mod judging;
 pub mod laws;
 mod listing;
 mod naming;
+mod pairs;
 mod picked;
 mod picking;
 mod reading;

@@ -89,7 +89,7 @@ fn given_text<H>(
     }
 }
 
-/// The order file of the variables of two netlists, in declared order, in which a report is told where another order is found for it.
+/// The order file of the variables of two netlists, in declared order, in which a report is told where other orders are taken for it.
 fn auto_text<H>(task: &Task<'_, H>) -> Result<(Vec<u8>, Option<Attempt>), CheckFault>
     ensures text { OfTask task.now (λ told s.
         IfOk result (λ r. (o : OrderValue) × IsOrderPrinted told s.matching o r.0.items
@@ -161,7 +161,7 @@ fn text_for<H: Threads + Wait + Sync, G: Gate>(
     match &task.settings.order {
         Choice::One(order) => given_text(task, order),
         Choice::Best => best_text(task, gate),
-        Choice::Auto => auto_text(task),
+        Choice::Auto | Choice::Cones => auto_text(task),
     }
 }
 

@@ -1,5 +1,5 @@
 //! The names of variables, by signal, as a pairing has them.
-ghost use Rattle.std.specs.Prelude.{◌≡◌, ◌<◌, map, length, slice_index, All, IfOk};
+ghost use Rattle.std.specs.Prelude.{◌≡◌, ◌<◌, length, slice_index, All, IfOk};
 ghost use Rattle.net_bench.specs.Circuit.{circuit, variables_of};
 ghost use Rattle.check_report.specs.Cones.{AreNamed};
 ghost use Rattle.check_report.specs.Coning.{levels_in, texts};
