@@ -1,11 +1,11 @@
 -- The tokens of a report as JSON, part by part.
 use Rattle.std.proofs.Common.{◌≡◌, ◌∙◌, ap, sym, append_assoc, Result, Ok, Err, true, refl, ℕ, zero, suc, ◌+◌, ◌<◌, ◌≤◌, min, arith, Bool, false, List, [], ◌∷◌, ◌++◌, length, get_or, drop, add-one, drop-cons, Some}
-use Rattle.std.specs.Prelude.{slice_get, if◌then◌else◌}
+use Rattle.std.specs.Prelude.{◌≢◌, codes, decimal, slice_get, if◌then◌else◌}
 use Rattle.std.specs.Str.{IsUtf8, is_utf8}
 use Rattle.std.proofs.lemmas.Str.{IsUtf8-from_is_utf8, is_utf8-from_IsUtf8}
-use Rattle.json.specs.Token.{Token, key, string}
+use Rattle.json.specs.Token.{Token, key, number, string}
 use Rattle.json.specs.Written.{Writes, Written}
-use Rattle.report_text.specs.Json.{Adds, assignment_tokens, bit_token, names_tokens, shown}
+use Rattle.report_text.specs.Json.{Adds, assignment_tokens, bit_token, names_tokens, shown, undecided_tokens}
 use Rattle.report_text.proofs.Wording.{there}
 
 -- a variable with its bit, and then the rest
@@ -63,3 +63,8 @@ adds_more (Err e) a b c xs ys all whole first second = tt
 pub written : {E : Type 0} (r : Result (Unit {0}) E) (a b : Written) (t : Token) → Writes r a b t → Adds r a b (t ∷ [])
 written (Ok u) a b t w = (w.room.0, w.ok)
 written (Err e) a b t w = tt
+
+-- some pairs are undecided
+pub some_undecided : (n : ℕ) → n ≢ 0 → undecided_tokens n ≡ key (codes "undecided") ∷ number (decimal n) ∷ []
+some_undecided zero some = absurd (some refl)
+some_undecided (suc n) some = refl

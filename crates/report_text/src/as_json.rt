@@ -1,70 +1,17 @@
 //! What a comparison found as one JSON object.
 ghost use Rattle.std.specs.Prelude.{◌≡◌, ◌∷◌, [], ◌++◌, IfOk, codes, decimal};
 ghost use Rattle.json.specs.Token.{begin_object, end_object, key, string, number, boolean};
-ghost use Rattle.report_text.specs.Json.{Adds, shown, match_kind, order_word, role_text, side_word, bit_token, subject_tokens, size_tokens, sizes_tokens, assignment_tokens, values_tokens, verdict_members, verdicts_tokens, names_tokens, settings_tokens, given_tokens, undecided_tokens, share_tokens, counts_tokens, array_tokens, json_text};
+ghost use Rattle.report_text.specs.Json.{Adds, bit_token, subject_tokens, size_tokens, sizes_tokens, assignment_tokens, values_tokens, verdict_members, verdicts_tokens, names_tokens, settings_tokens, given_tokens, undecided_tokens, share_tokens, counts_tokens, array_tokens, json_text};
 
 use crate::kind::OrderKind;
-use crate::outcome::{Outcome, Role, Share, Side};
+use crate::outcome::{Outcome, Role, Share};
 use crate::verdict::Verdict;
 use crate::verdicts::Verdicts;
+use crate::words::{match_word, order_word, role_name, side_name, text_of};
 use json::Writer;
 use net_order::names::Names;
 use net_order::order::Match;
 use std::alloc::{AllocError, Global};
-
-/// A name as a text, which it is where it is ASCII, as each name of a netlist.
-fn text_of(name: &[u8]) -> &str
-    ensures { result.now ≡ shown name.now }
-{
-    match str::from_utf8(name) {
-        Ok(text) => text,
-        Err(_) => "",
-    }
-}
-
-/// The word of a way of pairing.
-fn match_word(matching: Match) -> &'static str
-    ensures { result.now ≡ match_kind matching }
-{
-    match matching {
-        Match::Name => "name",
-        Match::Position => "position",
-    }
-}
-
-/// The word of a kind of order.
-fn order_word(kind: OrderKind) -> &'static str
-    ensures { result.now ≡ order_word kind }
-{
-    match kind {
-        OrderKind::Declared => "declared",
-        OrderKind::Depth => "depth",
-        OrderKind::Interleave => "interleave",
-        OrderKind::Index => "index",
-        OrderKind::Force => "force",
-        OrderKind::File => "file",
-        OrderKind::Auto => "auto",
-        OrderKind::Cones => "cones",
-    }
-}
-
-fn role_name(role: Role) -> &'static str
-    ensures { result.now ≡ role_text role }
-{
-    match role {
-        Role::Output => "output",
-        Role::NextState => "next state",
-    }
-}
-
-fn side_name(side: Side) -> &'static str
-    ensures { result.now ≡ side_word side }
-{
-    match side {
-        Side::First => "first",
-        Side::Second => "second",
-    }
-}
 
 /// Adds a member that is a text.
 fn add_text(out: &mut Writer, name: &str, text: &str) -> Result<(), AllocError>

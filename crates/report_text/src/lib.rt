@@ -8,6 +8,7 @@ mod outcome;
 mod report;
 mod verdict;
 mod verdicts;
+mod words;
 mod write;
 
 pub use as_json::json_of;

@@ -91,5 +91,8 @@ pub enum Verdict {
         name: Name,
     },
     /// No attempt has decided whether the two functions are equal.
-    Undecided { role: Role, name: Name },
+    Undecided {
+        role: Role,
+        name: Name,
+    },
 }

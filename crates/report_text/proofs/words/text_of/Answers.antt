@@ -1,6 +1,6 @@
 use Rattle.std.proofs.Common.{◌∙◌, sym}
 use Rattle.report_text.proofs.Tokens.{shown_whole, shown_none}
-use Rattle.report_text.proofs.as_json.text_of.Goals as goal
+use Rattle.report_text.proofs.words.text_of.Goals as goal
 
 pub returns-in-Ok : goal.returns-in-Ok
 returns-in-Ok c = c.in-Ok.ensures.cases.0 ∙ sym (shown_whole c.args.name.now c.in-Ok.ensures.cases.1)
