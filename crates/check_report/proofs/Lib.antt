@@ -16,4 +16,5 @@ pub mod Widening
 pub mod Rounds
 pub mod Budgets
 pub mod Spread
+pub mod ConePairs
 pub mod Spreading

@@ -27,9 +27,9 @@ pub use choice::{Attempt, Candidate, Choice};
 pub use fault::CheckFault;
 pub use judging::{check, judge};
 pub use listing::print_order;
+pub use picked::Picked;
 pub use report_text::{
     Bits, Name, Outcome, Role, Share, Side, Verdict, Verdicts, json_of, report_of, write_whole,
 };
-pub use picked::Picked;
 pub use settings::Settings;
 pub use task::Context;
