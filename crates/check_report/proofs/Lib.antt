@@ -17,4 +17,4 @@ pub mod Rounds
 pub mod Budgets
 pub mod Spread
 pub mod ConePairs
-pub mod Spreading
+pub mod ConeVerdicts
