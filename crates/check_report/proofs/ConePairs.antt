@@ -5,6 +5,7 @@ use Rattle.std.specs.Prelude.{Contains, IfSome, bytes_eq, cond, slice_index}
 use Rattle.std.specs.List.{AllZip, IsDistinct}
 use Rattle.std.proofs.lemmas.Bool.{cases_lt, true≢false}
 use Rattle.std.proofs.lemmas.List.{append-nil, get_or-map, length-map}
+use Rattle.std.proofs.lemmas.List.Elements.{Contains-get_or}
 use Rattle.std.proofs.lemmas.Map.Keys.{apart_from_distinct}
 use Rattle.net_bench.specs.Circuit.{Circuit, Net, circuit, find, is_name_in, variables_of}
 use Rattle.net_bench.specs.Labels.{IsFunctionOf, IsLabelling}
@@ -41,9 +42,9 @@ one_place names apart u v low lower e = elim (cases_lt u v) [
 ]
 
 -- and is found there
-found_there : (names : List (List ℕ)) → AreApart names → (n : List ℕ) (u : ℕ) → u < length names → get_or names u [] ≡ n → find names n ≡ Some u
+pub found_there : (names : List (List ℕ)) → AreApart names → (n : List ℕ) (u : ℕ) → u < length names → get_or names u [] ≡ n → find names n ≡ Some u
 found_there names apart n u low at =
-    let (i, found) = found_of names n (contained_in names n (u, low, at)) in
+    let (i, found) = found_of names n (contained_in names n (subst (Contains names) at (Contains-get_or names u [] low))) in
     found ∙ ap (λ v. Some v) (one_place names apart i u (found_low names n i found) low (found_at names n i found ∙ sym at))
 
 -- ---- pairings
