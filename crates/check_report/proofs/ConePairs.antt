@@ -1,13 +1,13 @@
 -- The cones of a pair as two netlists that are paired by name: their one pair, and where their variables stand.
-use Rattle.std.proofs.Common.{◌≡◌, ◌≢◌, ◌∙◌, ap, sym, refl, subst, arith, inl, inr, ◌⊎◌, ℕ, suc, ◌+◌, ◌<◌, ◌≤◌, Bool, true, false, List, [], ◌∷◌, ◌++◌}
+use Rattle.std.proofs.Common.{◌≡◌, ◌∙◌, ap, sym, subst, arith, inl, inr, ℕ, ◌<◌, Bool, true, List, [], ◌∷◌, ◌++◌}
 use Rattle.std.proofs.Common.{map, length, get_or, Option, Some, None, All}
-use Rattle.std.specs.Prelude.{Contains, IfSome, bytes_eq, cond, slice_index}
-use Rattle.std.specs.List.{AllZip, IsDistinct}
+use Rattle.std.specs.Prelude.{Contains, bytes_eq, cond, slice_index}
+use Rattle.std.specs.List.{IsDistinct}
 use Rattle.std.proofs.lemmas.Bool.{cases_lt, true≢false}
 use Rattle.std.proofs.lemmas.List.{append-nil, get_or-map, length-map}
 use Rattle.std.proofs.lemmas.List.Elements.{Contains-get_or}
 use Rattle.std.proofs.lemmas.Map.Keys.{apart_from_distinct}
-use Rattle.net_bench.specs.Circuit.{Circuit, Net, circuit, find, is_name_in, variables_of}
+use Rattle.net_bench.specs.Circuit.{Circuit, circuit, find, is_name_in, variables_of}
 use Rattle.net_bench.specs.Labels.{IsFunctionOf, IsLabelling}
 use Rattle.net_bench.proofs.Built.{has_labelling}
 use Rattle.net_bench.proofs.Found.{found_at, found_low, found_of}
@@ -27,7 +27,6 @@ use Rattle.check_report.specs.Cones.{IsConeIn}
 use Rattle.check_report.specs.Conditions.{output_of}
 use Rattle.check_report.specs.Report.{lone_verdicts, next_subject, output_subject, subjects}
 use Rattle.check_report.specs.Spreading.{IsOfNet}
-use Rattle.report_text.specs.declared.verdict.Verdict.{Verdict}
 
 -- ---- names
 

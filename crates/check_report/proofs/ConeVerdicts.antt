@@ -1,14 +1,14 @@
 -- The verdict of a pair by its cones, over the variables of its pairing.
-use Rattle.std.proofs.Common.{◌≡◌, ◌∙◌, ap, sym, refl, subst, ℕ, ◌+◌, ◌<◌, Bool, true, false, List, [], ◌∷◌, ◌++◌, map, length, get_or, Option, Some, None}
-use Rattle.std.specs.Prelude.{Contains, IfSome, slice_index}
+use Rattle.std.proofs.Common.{◌≡◌, ◌∙◌, ap, sym, refl, subst, arith, ℕ, ◌+◌, Bool, false, List, [], ◌∷◌, ◌++◌, length, get_or, Option, Some, None}
+use Rattle.std.specs.Prelude.{IfSome, slice_index}
 use Rattle.std.specs.List.{AllZip}
-use Rattle.std.proofs.lemmas.List.{length-append, length-map}
-use Rattle.net_bench.specs.Circuit.{Circuit, find, variables_of}
+use Rattle.std.proofs.lemmas.List.{length-append, length-map, nil_from_length}
+use Rattle.net_bench.specs.Circuit.{Circuit, find}
 use Rattle.net_bench.specs.Labels.{IsFunctionOf}
 use Rattle.net_cone.specs.Cones.{variable_name}
 use Rattle.net_cone.specs.Spreading.{pick}
 use Rattle.net_order.specs.declared.order.Match.TheVariants.{Name}
-use Rattle.net_order.specs.Order.{HasLevels, Paired, Sided, all_names, both, given_side, name_of, names_by, own}
+use Rattle.net_order.specs.Order.{HasLevels, Paired, all_names, both, given_side, name_of, names_by, own}
 use Rattle.net_order.specs.Tables.{IsKnown}
 use Rattle.net_order.proofs.AllNames.{known_given, known_sides}
 use Rattle.net_order.proofs.InputLevels.{first_below, given_below, second_below}
@@ -18,9 +18,9 @@ use Rattle.report_text.specs.declared.verdict.Verdict.TheVariants.{Differs}
 use Rattle.report_text.specs.Lines.{Found}
 use Rattle.check_report.specs.declared.subject.Subject.{Subject}
 use Rattle.check_report.specs.Conditions.{HoldsWhere, output_of}
-use Rattle.check_report.specs.Cones.{IsConditionCone, IsTold, IsToldOf}
+use Rattle.check_report.specs.Cones.{IsConditionCone, IsTold}
 use Rattle.check_report.specs.Cones.IsToldOf.{decided}
-use Rattle.check_report.specs.Report.{AreFunctions, AreVerdicts, CallsEqual, Compared, IsVerdictOf, lone_verdicts, output_subject, subjects}
+use Rattle.check_report.specs.Report.{AreFunctions, AreVerdicts, Compared, IsVerdictOf, lone_verdicts, output_subject, subjects}
 use Rattle.check_report.specs.Report.IsVerdictOf.{where_equal, where_different}
 use Rattle.check_report.specs.Spreading.{ArePlaces, IsConePairing, IsOfNet, spread, widened_verdict}
 use Rattle.check_report.proofs.Calling.{exact}
@@ -163,3 +163,12 @@ module _ (a b : Circuit) (given : Option Circuit) (p : Paired) (s : Subject) (k 
         };
         verdict = decided verdict (exact n false holds compared (widened_verdict s.role (name_of a s.named) n places v) verdict);
       }
+
+  -- so the last verdict of what a comparison finds is the one that is meant
+  pub told_last : (left : Subject → Type 0) (front : List Verdict) (v : Verdict) → AreVerdicts false k m w q (record { variables = q.names; verdicts = front ++ v ∷ [] }) →
+      IsTold left a b given p s (widened_verdict s.role (name_of a s.named) (length p.names) places v)
+  told_last left front v are =
+      let size : length (front ++ v ∷ []) ≡ length front + 1 = length-append front (v ∷ []) in
+      let one : length (front ++ v ∷ []) ≡ 1 = one_verdict (record { variables = q.names; verdicts = front ++ v ∷ [] }) are in
+      let none : front ≡ [] = nil_from_length front (omega (arith, size, one)) in
+      told_widened left v (subst (λ vs. AreVerdicts false k m w q (record { variables = q.names; verdicts = vs ++ v ∷ [] })) none are)

@@ -1,4 +1,4 @@
-use Rattle.std.proofs.Common.{◌≡◌, ◌∙◌, ap, sym, subst, arith, rules, ℕ, ◌+◌, ◌<◌, ◌∷◌, [], ◌++◌, Bool, false, length, length-append, get_or, replicate, take, vec_len}
+use Rattle.std.proofs.Common.{◌≡◌, ◌∙◌, ap, sym, subst, arith, rules, ◌+◌, ◌<◌, ◌∷◌, [], false, length, length-append, get_or, replicate, take, vec_len}
 use Rattle.std.specs.Prelude.{fold, min, zip, set}
 use Rattle.std.specs.Iterator.Adapters.{zip_first, zip_second}
 use Rattle.std.specs.Slice.Iter.{iter_rest}
