@@ -16,9 +16,10 @@ pub mod Widening
 pub mod Rounds
 pub mod Budgets
 pub mod Spread
-pub mod Spreading
-pub mod Naming
-pub mod Filling
-pub mod Coned
+pub mod ConePairs
+pub mod ConeVerdicts
+pub mod Called
 pub mod Places
-pub mod Deciding
+pub mod Filling
+pub mod ByCones
+pub mod Findings

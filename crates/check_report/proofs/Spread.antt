@@ -1,9 +1,9 @@
 -- Assignments that are picked out of others, and those that are spread over more places.
-use Rattle.std.proofs.Common.{◌≡◌, ◌≢◌, ◌∙◌, ap, sym, refl, subst, arith, inl, inr, ◌⊎◌, ℕ, zero, suc, ◌<◌, ◌≤◌, Bool, true, false, List, [], ◌∷◌}
+use Rattle.std.proofs.Common.{◌≡◌, ◌∙◌, ap, sym, refl, subst, arith, inl, inr, ◌⊎◌, ℕ, zero, suc, ◌<◌, Bool, true, false, List, [], ◌∷◌}
 use Rattle.std.proofs.Common.{length, get_or, replicate, All}
 use Rattle.std.specs.Prelude.{◌↔◌, fold, zip, set, IsTrue}
 use Rattle.std.proofs.Math.ListN.{length-replicate}
-use Rattle.std.proofs.lemmas.Bool.{cases_eq, cases_lt, true≢false}
+use Rattle.std.proofs.lemmas.Bool.{cases_eq, true≢false}
 use Rattle.std.proofs.lemmas.List.{ext_get_or, length-set, get_or-set_same, get_or-set_other, get_or-replicate}
 use Rattle.dd_store.specs.Functions.{Before}
 use Rattle.dd_store.specs.Functions.Before.{first, later}
@@ -17,10 +17,9 @@ use Rattle.check_report.specs.Spreading.{ArePlaces, spread, with_bit}
 abbrev with_bits : List Bool → (places : List ℕ) → List Bool → List Bool
 with_bits bits places x = fold with_bit bits (zip places x)
 
-as_long : (bits : List Bool) (places : List ℕ) (x : List Bool) → length (with_bits bits places x) ≡ length bits
-as_long bits [] x = refl
-as_long bits (l ∷ places) [] = refl
-as_long bits (l ∷ places) (b ∷ x) = as_long (set bits l b) places x ∙ length-set bits l b
+pub as_long : (bits : List Bool) (ats : List (ℕ × Bool)) → length (fold with_bit bits ats) ≡ length bits
+as_long bits [] = refl
+as_long bits (at ∷ ats) = as_long (set bits at.0 at.1) ats ∙ length-set bits at.0 at.1
 
 -- a bit is what it was where it is before all places
 before_all : (bits : List Bool) (places : List ℕ) (x : List Bool) (u : ℕ) → ((j : ℕ) → j < length places → u < get_or places j 0) →
@@ -59,34 +58,41 @@ at_its_place bits (l ∷ places) (b ∷ x) (suc i) below rising long low =
 
 -- ---- lexicographic order
 
--- where one assignment is before another
-FirstApart : (y x : List Bool) → ℕ → Type 0
-FirstApart y x u = (u < length y) × (get_or y u false ≡ false) × (get_or x u false ≡ true) × ((i : ℕ) → i < u → get_or y i false ≡ get_or x i false)
+-- one assignment has 0 where the other has 1, and they agree before
+record AreApartAt (y x : List Bool) (u : ℕ) : Type 0 where
+  below : u < length y
+  zero_there : get_or y u false ≡ false
+  one_there : get_or x u false ≡ true
+  same : (i : ℕ) → i < u → get_or y i false ≡ get_or x i false
 
-first_apart : {y x : List Bool} → Before y x → (u : ℕ) × FirstApart y x u
-unfolding FirstApart
-first_apart first = (0, omega arith, refl, refl, λ i low. absurd (omega arith))
+first_apart : {y x : List Bool} → Before y x → (u : ℕ) × AreApartAt y x u
+first_apart (first {x = y} {y = x}) = (0, record { below = omega arith; zero_there = refl; one_there = refl; same = λ i low. absurd (omega arith) })
 first_apart (later {b = b} {x = y} {y = x} before) =
-    let (u, low, zero_here, one_here, same) = first_apart before in (suc u, omega arith, zero_here, one_here, alike u same)
+    let rest = first_apart before in
+    let low : rest.0 < length y = rest.1.below in (
+      suc rest.0,
+      record { below = omega (arith, low); zero_there = rest.1.zero_there; one_there = rest.1.one_there; same = alike rest.0 rest.1.same },
+    )
   where
     alike : (u : ℕ) → ((i : ℕ) → i < u → get_or y i false ≡ get_or x i false) → (i : ℕ) → i < suc u → get_or (b ∷ y) i false ≡ get_or (b ∷ x) i false
     alike u same zero low = refl
     alike u same (suc i) low = same i (omega arith)
 
-before_from : (y x : List Bool) (u : ℕ) → length y ≡ length x → FirstApart y x u → Before y x
-unfolding FirstApart
-before_from [] x u long at = absurd (omega (arith, at.0))
+before_from : (y x : List Bool) (u : ℕ) → length y ≡ length x → AreApartAt y x u → Before y x
+before_from [] x u long at = absurd (omega (arith, at.below))
 before_from (b ∷ y) [] u long at = absurd (omega arith)
-before_from (b ∷ y) (c ∷ x) zero long at = subst (λ z. Before (z ∷ y) (c ∷ x)) (sym at.1) (subst (λ z. Before (false ∷ y) (z ∷ x)) (sym at.2) first)
+before_from (b ∷ y) (c ∷ x) zero long at = subst (λ z. Before (z ∷ y) (c ∷ x)) (sym at.zero_there) (subst (λ z. Before (false ∷ y) (z ∷ x)) (sym at.one_there) first)
 before_from (b ∷ y) (c ∷ x) (suc u) long at =
-    let less : u < length y = omega (arith, at.0) in
-    subst (λ z. Before (b ∷ y) (z ∷ x)) (at.3 0 (omega arith))
-    (later (before_from y x u (omega arith) (less, at.1, at.2, λ i low. at.3 (suc i) (omega arith))))
+    let less : suc u < length (b ∷ y) = at.below in
+    subst (λ z. Before (b ∷ y) (z ∷ x)) (at.same 0 (omega arith))
+    (later
+    (before_from y x u (omega arith)
+    (record { below = omega (arith, less); zero_there = at.zero_there; one_there = at.one_there; same = λ i low. at.same (suc i) (omega arith) })))
 
 -- ---- picked and spread
 
 pub length-spread : (n : ℕ) (places : List ℕ) (x : List Bool) → length (spread n places x) ≡ n
-length-spread n places x = as_long (replicate n false) places x ∙ length-replicate n false
+length-spread n places x = as_long (replicate n false) (zip places x) ∙ length-replicate n false
 
 module _ (n : ℕ) (places : List ℕ) (are : ArePlaces n places) where
   bit-spread : (x : List Bool) (i : ℕ) → length x ≡ length places → i < length places → get_or (spread n places x) (get_or places i 0) false ≡ get_or x i false
@@ -104,23 +110,25 @@ module _ (n : ℕ) (places : List ℕ) (are : ArePlaces n places) where
 
   -- an assignment before one that is spread picks one before
   pub before-pick : (y x : List Bool) → length y ≡ n → length x ≡ length places → Before y (spread n places x) → Before (pick places y) x
-  unfolding FirstApart
   before-pick y x size long before =
       let whole = spread n places x in
-      let (u, low, zero_there, one_there, same) = first_apart before in
-      elim (was_or_set (replicate n false) places x u one_there) [
-        | inl was ↦ absurd (true≢false (sym was ∙ get_or-replicate n u false false (omega (arith, low, size))))
+      let apart = first_apart before in
+      let u = apart.0 in
+      let below : u < length y = apart.1.below in
+      elim (was_or_set (replicate n false) places x u apart.1.one_there) [
+        | inl was ↦ absurd (true≢false (sym was ∙ get_or-replicate n u false false (omega (arith, below, size))))
         | inr (j, within, at) ↦
             let picked : length (pick places y) ≡ length places = length-pick places y in
-            before_from (pick places y) x j (picked ∙ sym long) (
-              omega (arith, within, picked),
-              bit-pick places y j within ∙ ap (λ k. get_or y k false) at ∙ zero_there,
-              sym (bit-spread x j long within) ∙ ap (λ k. get_or whole k false) at ∙ one_there,
-              λ i less.
+            before_from (pick places y) x j (picked ∙ sym long)
+            (record {
+              below = omega (arith, within, picked);
+              zero_there = bit-pick places y j within ∙ ap (λ k. get_or y k false) at ∙ apart.1.zero_there;
+              one_there = sym (bit-spread x j long within) ∙ ap (λ k. get_or whole k false) at ∙ apart.1.one_there;
+              same = λ i less.
                   let inside : i < length places = omega (arith, less, within) in
                   let rises : get_or places i 0 < u = subst (λ k. get_or places i 0 < k) at (are.rising i j less within) in
-                  bit-pick places y i inside ∙ same (get_or places i 0) rises ∙ bit-spread x i long inside,
-            )
+                  bit-pick places y i inside ∙ apart.1.same (get_or places i 0) rises ∙ bit-spread x i long inside;
+            })
       ]
 
   -- functions agree wherever a condition holds exactly where they do as functions of what is picked

@@ -19,7 +19,7 @@ use Rattle.check_report.specs.declared.fault.CheckFault.{CheckFault}
 use Rattle.check_report.specs.declared.fault.CheckFault.TheVariants.{Only}
 use Rattle.check_report.specs.declared.naming.Part.{Part}
 use Rattle.check_report.specs.declared.naming.Part.TheVariants.{First, Second, Given}
-use Rattle.check_report.specs.declared.rounds.Turn.{Turn}
+use Rattle.check_report.specs.declared.turns.Turn.{Turn}
 use Rattle.check_report.specs.declared.subject.Subject.{Subject}
 use Rattle.check_report.specs.declared.task.Task.{Task}
 use Rattle.check_report.specs.Check.{IsLate}

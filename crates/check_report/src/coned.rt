@@ -18,7 +18,7 @@ use crate::fault::CheckFault;
 use crate::naming::{Part, names_in};
 use crate::picked::Picked;
 use crate::picking::{Picks, picks_of};
-use crate::rounds::judge_all;
+use crate::turns::judge_all;
 use crate::settings::Settings;
 use crate::subject::Subject;
 use crate::task::Task;

@@ -21,13 +21,13 @@ mod picked;
 mod picking;
 mod reading;
 mod report;
-mod rounds;
 mod settings;
 mod spreading;
 mod subject;
 mod task;
 mod telling;
 mod trials;
+mod turns;
 
 pub use choice::{Attempt, Candidate, Choice};
 pub use fault::CheckFault;

@@ -43,7 +43,10 @@ pub fn widened(
             size: None,
         }),
         Verdict::Differs {
-            at, first, second, ..
+            at,
+            first,
+            second,
+            ..
         } => {
             let whole = spread_bits(alloc, at.as_slice(), levels, places)?;
             Ok(Verdict::Differs {

@@ -4,7 +4,7 @@ use Rattle.check_report.specs.declared.choice.Candidate.TheVariants.{Declared}
 use Rattle.check_report.specs.Best.{AreGivenUp, IsBudget, IsChosen, order_of}
 use Rattle.check_report.specs.Deciding.IsFoundBy.{in_order}
 use Rattle.check_report.specs.Trials.{AreAllPassed}
-use Rattle.check_report.proofs.Deciding.{auto_cause, not_giving_up}
+use Rattle.check_report.proofs.Findings.{auto_cause, not_giving_up}
 use Rattle.check_report.proofs.Rounds.{judged, order_ends, told_before, within}
 use Rattle.check_report.proofs.deciding.by_auto.Goals as goal
 

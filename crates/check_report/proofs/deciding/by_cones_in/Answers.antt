@@ -1,7 +1,7 @@
 use Rattle.std.proofs.Common.{◌≡◌, ap, subst, sym, Err}
 use Rattle.net_bench.specs.Circuit.{circuit}
 use Rattle.check_report.specs.declared.fault.CheckFault.TheVariants.{Only}
-use Rattle.check_report.proofs.Deciding.{cones_end, cones_fault, found_by_cones}
+use Rattle.check_report.proofs.Findings.{cones_end, cones_fault, found_by_cones}
 use Rattle.check_report.proofs.deciding.by_cones_in.Goals as goal
 
 pub returns-in-Ok-clause-found : goal.returns-in-Ok-clause-found

@@ -16,7 +16,7 @@ use Rattle.report_text.specs.declared.verdict.Verdict.TheVariants.{Undecided}
 use Rattle.report_text.specs.Lines.{Found}
 use Rattle.check_report.specs.declared.choice.Candidate.{Candidate}
 use Rattle.check_report.specs.declared.fault.CheckFault.{CheckFault}
-use Rattle.check_report.specs.declared.rounds.Turn.{Turn}
+use Rattle.check_report.specs.declared.turns.Turn.{Turn}
 use Rattle.check_report.specs.declared.subject.Subject.{Subject}
 use Rattle.check_report.specs.declared.task.Task.{Task}
 use Rattle.check_report.specs.Best.{order_of}
@@ -32,7 +32,7 @@ use Rattle.check_report.specs.Report.{AreVerdicts, Compared, subjects}
 use Rattle.check_report.specs.Spreading.{IsConePairing, IsOfNet, widened_verdict}
 use Rattle.check_report.specs.Trials.{AsksMore, IsPassed, NeedsMore}
 use Rattle.check_report.specs.Widths.{IsTooWide}
-use Rattle.check_report.proofs.Spreading.{told_widened}
+use Rattle.check_report.proofs.ConeVerdicts.{told_widened}
 
 -- ---- what a pair is told
 

@@ -1,7 +1,7 @@
 //! Pairs that are judged by their cones, in rounds of budgets that grow.
 ghost use Rattle.std.specs.Prelude.{◌≡◌, ◌<◌, ◌≤◌, ◌^◌, ◌⊎◌, ℕ, length, map, None, Ok, Err, All, IfOk, IfErr, slice_index_or};
 ghost use Rattle.std.specs.List.{AllZip};
-ghost use Rattle.check_report.specs.declared.rounds.Turn.{Turn as TurnValue};
+ghost use Rattle.check_report.specs.declared.turns.Turn.{Turn as TurnValue};
 ghost use Rattle.check_report.specs.Cones.{cone_limit};
 ghost use Rattle.check_report.specs.Coning.{AreEnded, EndsPairs, IsEndedIn, IsKnown, IsLeftOut, IsOf, IsReady, IsRoundOf, IsToldIn, filled, first_filled, left_of, rest_found};
 
