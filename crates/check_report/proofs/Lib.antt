@@ -23,3 +23,4 @@ pub mod Places
 pub mod Filling
 pub mod ByCones
 pub mod Findings
+pub mod Dealing

@@ -1,12 +1,10 @@
 -- Which pairs are picked: all, those of some names, or those of one share.
-use Rattle.std.specs.Prelude.{◌≡◌, ◌+◌, ◌-◌, ◌<◌, ◌==◌, ◌⊎◌, ℕ, suc, Bool, false, List, [], map, filter, length, zip, Option, Some, None, IsTrue, Contains, if◌then◌else◌, slice_index, bytes_eq, Vec}
+use Rattle.std.specs.Prelude.{◌≡◌, ◌+◌, ◌-◌, ◌/◌, ◌%◌, ◌<◌, ◌==◌, ◌⊎◌, ℕ, suc, Bool, false, List, [], map, filter, length, zip, Option, Some, None, IsTrue, Contains, if◌then◌else◌, slice_index, bytes_eq, Vec}
 use Rattle.std.specs.declared.alloc.Global.{Global}
-use Rattle.std.specs.Math.Nat.{_div, _mod}
 use Rattle.std.specs.List.{AllZip, list_any}
 use Rattle.std.specs.List.Sorted.{IsPermutation}
 use Rattle.net_bench.specs.Circuit.{Circuit}
-use Rattle.std.specs.Prelude.{◌↔◌, count_by}
-use Rattle.net_cone.specs.Cones.{IsBelow}
+use Rattle.net_cone.specs.Cones.{HasGates}
 use Rattle.net_order.specs.Force.{numbers_below}
 use Rattle.net_order.specs.Order.{Paired, name_of, registers_of}
 use Rattle.report_text.specs.declared.outcome.Role.TheVariants.{Output, NextState}
@@ -35,12 +33,6 @@ HasUnknown a (InShare share) = ⊥
 
 -- ---- shares
 
--- the gates below a signal are so many
-pub record HasGates (c : Circuit) (root : ℕ) (n : ℕ) : Type 0 where
-  pub met : ℕ → Bool
-  pub are_met : (s : ℕ) → IsTrue (met s) ↔ IsBelow c root s
-  pub count : n ≡ count_by (λ g. met g.out) c.gates
-
 -- the gates of a pair's two cones are so many
 pub record HasWeight (a b : Circuit) (s : Subject) (w : ℕ) : Type 0 where
   pub first_gates : ℕ
@@ -55,7 +47,7 @@ ComesBefore weights i j = (slice_index weights j < slice_index weights i) ⊎ ((
 
 -- shares are dealt to and fro: 1, 2 .. n, n .. 2, 1, 1, 2 .., so this one is the share of the pair that so many come before
 abbrev pub dealt : (n turn : ℕ) → ℕ
-dealt n turn = if (turn _div n) _mod 2 == 0 then suc (turn _mod n) else n - (turn _mod n)
+dealt n turn = if (turn / n) % 2 == 0 then suc (turn % n) else n - (turn % n)
 
 -- The share of each of these pairs, of so many shares.
 pub record AreShares (a b : Circuit) (pairs : List Subject) (n : ℕ) (shares : List ℕ) : Type 0 where

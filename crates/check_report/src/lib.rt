@@ -22,6 +22,7 @@ mod picking;
 mod reading;
 mod report;
 mod settings;
+mod sharing;
 mod spreading;
 mod subject;
 mod task;

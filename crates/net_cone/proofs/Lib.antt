@@ -1,6 +1,7 @@
 pub mod Functions
 pub mod Closed
 pub mod Marking
+pub mod Unmarking
 pub mod Walking
 pub mod Lists
 pub mod Names
