@@ -24,21 +24,25 @@ use Rattle.check_report.specs.Comparing.{IsInside}
 use Rattle.check_report.specs.Conditions.{HoldsWhere, everywhere, output_of}
 use Rattle.check_report.specs.Cones.{AreCones, IsLeftWithin, IsTold, IsToldOf}
 use Rattle.check_report.specs.Cones.IsToldOf.{decided, undecided}
-use Rattle.check_report.specs.Coning.{IsKnown, left_of}
+use Rattle.std.specs.Borrow.{Bor}
+use Rattle.std.specs.Option.{option_copied}
+use Rattle.net_cone.specs.declared.cone.Cone.{Cone}
+use Rattle.check_report.specs.declared.picked.Picked.{Picked}
+use Rattle.check_report.specs.Coning.{IsKnown, circuit_in, circuit_of, left_of}
 use Rattle.check_report.specs.Limits.{Exceeds}
 use Rattle.check_report.specs.Picking.{ArePicked, is_pair_of, of_share}
 use Rattle.check_report.specs.Picking.ArePicked.{all, named, shared}
 use Rattle.check_report.specs.Report.{AreVerdicts, Compared, subjects}
 use Rattle.check_report.specs.Spreading.{IsConePairing, IsOfNet, widened_verdict}
-use Rattle.check_report.specs.Trials.{AsksMore, IsPassed, NeedsMore}
+use Rattle.check_report.specs.Trials.{IsPassed}
 use Rattle.check_report.specs.Widths.{IsTooWide}
 use Rattle.check_report.proofs.ConeVerdicts.{told_widened}
 
 -- ---- what a pair is told
 
 -- what is told of a pair that is decided is told of it, whatever is left
-pub told_yes : (left other : Subject → Type 0) (a b : Circuit) (given : Option Circuit) (p : Paired) (s : Subject) (v : Verdict) → IsTold (λ t. ⊥) a b given p s v → IsTold other a b given p s v
-told_yes left other a b given p s v t = record {
+pub told_yes : (other : Subject → Type 0) (a b : Circuit) (given : Option Circuit) (p : Paired) (s : Subject) (v : Verdict) → IsTold (λ t. ⊥) a b given p s v → IsTold other a b given p s v
+told_yes other a b given p s v t = record {
   holds = t.holds;
   condition = t.condition;
   compared = t.compared;
@@ -48,7 +52,7 @@ told_yes left other a b given p s v t = record {
   where
     by : (n : ℕ) (holds : List Bool → Bool) (c : Compared) (v : Verdict) → IsToldOf n ⊥ holds c v → IsToldOf n (other s) holds c v
     by n holds c v (decided is equal) = decided is equal
-    by n holds c v (undecided no) = absurd no
+    by n holds c v (undecided never) = absurd never
 
 some_holds : (given : Option Circuit) (p : Paired) → IfSome given IsOfNet → (holds : List Bool → Bool) × HoldsWhere given p holds
 some_holds None p is = (everywhere, refl)
@@ -82,18 +86,10 @@ told_left left n m given p s first second net is =
 
 -- ---- a comparison of cones
 
--- an attempt that was given up
-GivenUpIn : (budget : ℕ) (bound : Option ℕ) → Match → Circuit → Circuit → Option Circuit → Order → Type 0
-GivenUpIn budget bound how a b given order = (q : Paired) × IsPairing how a b given order q × (Exceeds budget a b given q ⊎ IsTooWide (min (budget * 8) (most_of bound)) a b given q)
-
 module _ {H : Type 0} (task : Task H) (k m : Circuit) (w : Option Circuit) (by_name : task.settings.now.matching ≡ Name) (first : circuit task.first.now ≡ k) (second : circuit task.second.now ≡ m) (given : condition task.given ≡ w) where
   as_cones : (P : Match → Circuit → Circuit → Option Circuit → Type 0) → P task.settings.now.matching (circuit task.first.now) (circuit task.second.now) (condition task.given) → P Name k m w
   as_cones P h = subst (λ g. P Name k m g) given (subst (λ c. P Name k c (condition task.given)) second
       (subst (λ c. P Name c (circuit task.second.now) (condition task.given)) first (subst (λ how. P how (circuit task.first.now) (circuit task.second.now) (condition task.given)) by_name h)))
-
-  back : (P : Match → Circuit → Circuit → Option Circuit → Type 0) → P Name k m w → P task.settings.now.matching (circuit task.first.now) (circuit task.second.now) (condition task.given)
-  back P h = subst (λ how. P how (circuit task.first.now) (circuit task.second.now) (condition task.given)) (sym by_name) (subst (λ c. P Name c (circuit task.second.now) (condition task.given)) (sym first)
-      (subst (λ c. P Name k c (condition task.given)) (sym second) (subst (λ g. P Name k m g) (sym given) h)))
 
   pub pairing_of_cones : (order : Order) (q : Paired) → IsPairing task.settings.now.matching (circuit task.first.now) (circuit task.second.now) (condition task.given) order q → IsPairing Name k m w order q
   pairing_of_cones order q h = as_cones (λ how a b g. IsPairing how a b g order q) h
@@ -118,8 +114,8 @@ pub known_by_cones : (a b : Circuit) (given : Option Circuit) (p : Paired) (s : 
     told ≡ option_map (widened_verdict s.role (name_of a s.named) (length p.names) places) found →
     IfSome found (λ v. AreVerdicts false k m w q (record { variables = q.names; verdicts = v ∷ [] })) → (found ≡ None → left s) →
     IsKnown (IsTold (λ t. ⊥) a b given p) left s told
-known_by_cones a b given p s k m w places q is left None told e are no = subst (IsKnown (IsTold (λ t. ⊥) a b given p) left s) (sym e) (no refl)
-known_by_cones a b given p s k m w places q is left (Some v) told e are no =
+known_by_cones a b given p s k m w places q is left None told e are none = subst (IsKnown (IsTold (λ t. ⊥) a b given p) left s) (sym e) (none refl)
+known_by_cones a b given p s k m w places q is left (Some v) told e are none =
     subst (IsKnown (IsTold (λ t. ⊥) a b given p) left s) (sym e) (told_widened a b given p s k m w places q is (λ t. ⊥) v are)
 
 -- ---- turns
@@ -157,18 +153,21 @@ ended_zip R (t ∷ turns) (o ∷ found) h e =
 pair_inside : (P : Subject → Type 0) (k : ℕ) (ss : List Subject) (shares : List ℕ) → All P ss → All P (of_share k (zip ss shares))
 pair_inside P k [] shares h = h
 pair_inside P k (s ∷ ss) [] h = All-nil P
-pair_inside P k (s ∷ ss) (n ∷ shares) h = by (n == k) refl
+pair_inside P k (s ∷ ss) (n ∷ shares) h = by (pair_inside P k ss shares (All-tail P s ss h)) (n == k)
   where
-    rest : All P (of_share k (zip ss shares))
-    rest = pair_inside P k ss shares (All-tail P s ss h)
-
-    by : (b : Bool) → (n == k) ≡ b → All P (map (λ (x : Subject × ℕ). x.0) (cond b ((s, n) ∷ filter (λ (x : Subject × ℕ). x.1 == k) (zip ss shares)) (filter (λ (x : Subject × ℕ). x.1 == k) (zip ss shares))))
-    by true e = All-cons P s (of_share k (zip ss shares)) (All-head P s ss h) rest
-    by false e = rest
+    by : All P (of_share k (zip ss shares)) → (b : Bool) →
+        All P (map (λ (x : Subject × ℕ). x.0) (cond b ((s, n) ∷ filter (λ (x : Subject × ℕ). x.1 == k) (zip ss shares)) (filter (λ (x : Subject × ℕ). x.1 == k) (zip ss shares))))
+    by rest true = All-cons P s (of_share k (zip ss shares)) (All-head P s ss h) rest
+    by rest false = rest
 
 -- the pairs that are picked are some of all
-pub picked_inside : (P : Subject → Type 0) (a b : Circuit) (p : Paired) {picked : Rattle.check_report.specs.declared.picked.Picked.Picked} {pairs : List Subject} {lone : List Verdict} →
+pub picked_inside : (P : Subject → Type 0) (a b : Circuit) (p : Paired) {picked : Picked} {pairs : List Subject} {lone : List Verdict} →
     ArePicked a b p picked pairs lone → All P (subjects a b p) → All P pairs
 picked_inside P a b p all h = h
 picked_inside P a b p (named {names = names} of) h = All-filter (is_pair_of a names.items) P (subjects a b p) h
 picked_inside P a b p (shared {share = share} {shares = shares} of) h = pair_inside P share.number (subjects a b p) shares h
+
+-- the condition's cone, as it is lent
+pub as_cone : (o : Option Cone) (r : Option (Bor Cone)) → option_copied r ≡ o → circuit_in o ≡ circuit_of r
+as_cone o None e = ap circuit_in (sym e)
+as_cone o (Some cone) e = ap circuit_in (sym e)

@@ -1,11 +1,11 @@
 -- The names of variables that a pairing gives: distinct for distinct variables of a netlist.
-use Rattle.std.proofs.Common.{◌≡◌, ◌≢◌, ◌∙◌, ap, sym, refl, subst, arith, inl, inr, ◌⊎◌, ℕ, zero, suc, ◌<◌, ◌≤◌, Bool, true, false, List, [], ◌∷◌, ◌+◌, length, get_or, map, set, take, All, Contains, Option, Some, None}
+use Rattle.std.proofs.Common.{◌≡◌, ◌≢◌, ◌∙◌, ap, sym, refl, subst, arith, inl, inr, ◌⊎◌, ℕ, zero, suc, ◌<◌, ◌≤◌, Bool, true, false, List, [], ◌∷◌, ◌++◌, ◌+◌, length, length-append, get_or, map, set, take, All, Contains, Option, Some, None}
 use Rattle.std.specs.Prelude.{◌==◌, ◌||◌, cond, slice_index, IfSome}
 use Rattle.std.specs.declared.alloc.Global.{Global}
 use Rattle.std.specs.declared.vec.Vec.{Vec}
 use Rattle.std.proofs.lemmas.Bool.{cases_eq, cases_lt}
-use Rattle.std.proofs.lemmas.List.{get_or-set_other, get_or-set_same, length-map, map-set}
-use Rattle.std.proofs.lemmas.List.Elements.{All-contains, All-more, All-weaker}
+use Rattle.std.proofs.lemmas.List.{get_or-set_other, get_or-set_same, length-map, map-append, map-set, map_more}
+use Rattle.std.proofs.lemmas.List.Elements.{All-contains, All-more, All-weaker, Contains-get_or}
 use Rattle.net_bench.specs.Circuit.{AreOnce, Circuit, IsNet, Net, circuit, is_name_in, variables_of}
 use Rattle.net_bench.proofs.Numbers.{in_distinct, number_at}
 use Rattle.net_cone.specs.Cones.{AreNames}
@@ -64,7 +64,8 @@ partner_later x t s xs ts e = ap (λ b. cond b t (partner xs ts s)) e
 partners_apart : (xs ts : List ℕ) → AreOnce ts → length xs ≡ length ts → (s u : ℕ) → is_member s xs ≡ true → is_member u xs ≡ true → partner xs ts s ≡ partner xs ts u → s ≡ u
 partners_apart [] ts once long s u ms mu e = absurd (no_true ms)
 partners_apart (x ∷ xs) [] once long s u ms mu e = absurd (omega arith)
-partners_apart (x ∷ xs) (t ∷ ts) once long s u ms mu e = by (x == s) (x == u) refl refl
+partners_apart (x ∷ xs) (t ∷ ts) once long s u ms mu e =
+    by (λ hs hu same. partners_apart xs ts (once_rest t ts once) (omega (arith, long)) s u hs hu same) (x == s) (x == u) refl refl
   where
     size : length xs ≡ length ts
     size = omega (arith, long)
@@ -72,12 +73,12 @@ partners_apart (x ∷ xs) (t ∷ ts) once long s u ms mu e = by (x == s) (x == u
     not_t : (v : ℕ) → is_member v xs ≡ true → t ≢ partner xs ts v
     not_t v m = partner_in (λ w. t ≢ w) xs ts v (others t ts once) size m
 
-    by : (b c : Bool) → (x == s) ≡ b → (x == u) ≡ c → s ≡ u
-    by true true es eu = sym (equal_numbers x s es) ∙ equal_numbers x u eu
-    by true false es eu = absurd (not_t u (behind (x == u) (is_member u xs) eu mu) (sym (partner_here x t s xs ts es) ∙ e ∙ partner_later x t u xs ts eu))
-    by false true es eu = absurd (not_t s (behind (x == s) (is_member s xs) es ms) (sym (partner_here x t u xs ts eu) ∙ sym e ∙ partner_later x t s xs ts es))
-    by false false es eu =
-        partners_apart xs ts (once_rest t ts once) size s u (behind (x == s) (is_member s xs) es ms) (behind (x == u) (is_member u xs) eu mu)
+    by : (is_member s xs ≡ true → is_member u xs ≡ true → partner xs ts s ≡ partner xs ts u → s ≡ u) → (b c : Bool) → (x == s) ≡ b → (x == u) ≡ c → s ≡ u
+    by rest true true es eu = sym (equal_numbers x s es) ∙ equal_numbers x u eu
+    by rest true false es eu = absurd (not_t u (behind (x == u) (is_member u xs) eu mu) (sym (partner_here x t s xs ts es) ∙ e ∙ partner_later x t u xs ts eu))
+    by rest false true es eu = absurd (not_t s (behind (x == s) (is_member s xs) es ms) (sym (partner_here x t u xs ts eu) ∙ sym e ∙ partner_later x t s xs ts es))
+    by rest false false es eu =
+        rest (behind (x == s) (is_member s xs) es ms) (behind (x == u) (is_member u xs) eu mu)
         (sym (partner_later x t s xs ts es) ∙ e ∙ partner_later x t u xs ts eu)
 
 -- ---- a pairing's names
@@ -134,7 +135,7 @@ second_apart Position n m given order p h first second s t cs ct e =
     partners_apart vs ws first.variables_once long s t ms mt (own_names_apart n first (partner vs ws s) (partner vs ws t) (low s ms) (low t mt) e)
   where
     as_many : (n m : Net) → length n.inputs ≡ length m.inputs → length (registers_of (circuit n)) ≡ length (registers_of (circuit m)) → length (variables_of (circuit m)) ≡ length (variables_of (circuit n))
-    as_many n m inputs registers = grind (arith, inputs, registers)
+    as_many n m inputs registers = omega (arith, inputs, registers, length-append m.inputs (registers_of (circuit m)), length-append n.inputs (registers_of (circuit n)))
 
 pub second_names : (how : Match) (n m : Net) (given : Option Circuit) (order : Order) (p : Paired) → IsPairing how (circuit n) (circuit m) given order p → IsNet n → IsNet m →
     (names : List (List ℕ)) → AreNamed (circuit m) p.second p names → AreNames m names
@@ -165,3 +166,13 @@ named_more f names v vs i s lt at low is before =
       | inl same ↦ subst (λ u. get_or (texts (set names s v)) u [] ≡ f u) (sym same) (texts_here names s v low ∙ is)
       | inr other ↦ texts_at names s t v other ∙ e
     ]
+
+-- one more name at the end
+pub texts_more : (f : ℕ → List ℕ) (old new : List (Vec ℕ Global)) (v : Vec ℕ Global) (places : List ℕ) (i : ℕ) → i < length places → new ≡ old ++ v ∷ [] → v.items ≡ f (get_or places i 0) →
+    texts old ≡ map f (take i places) → texts new ≡ map f (take (i + 1) places)
+texts_more f old new v places i lt grown is before =
+    ap texts grown ∙ map-append (λ (w : Vec ℕ Global). w.items) old (v ∷ []) ∙ ap (λ ts. ts ++ v.items ∷ []) before ∙ ap (λ n. map f (take i places) ++ n ∷ []) is ∙ sym (map_more f places i 0 lt)
+
+-- the levels of variables, place by place
+pub all_below : (vs : List ℕ) (level : ℕ → ℕ) (n : ℕ) → ((s : ℕ) → Contains vs s → level s < n) → All (λ s. level s < n) vs
+all_below vs level n h i d lt = h (get_or vs i d) (Contains-get_or vs i d lt)

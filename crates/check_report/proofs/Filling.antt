@@ -25,10 +25,16 @@ length_filled (o ∷ known) found = let e = length_filled known (rest_found o fo
 
 -- the verdicts that are told
 pub told_known : (a : Circuit) (told : Subject → Verdict → Type 0) (left : Subject → Type 0) (out : Subject → Verdict → Type 0) → ((s : Subject) (v : Verdict) → told s v → out s v) →
-    (ss : List Subject) → ((s : Subject) → (i : ℕ) × (i < length ss) × (Rattle.std.specs.Prelude.slice_index_or ss i s ≡ s) → left s → out s (told_of a s None)) →
-    (known : List (Option Verdict)) → AllZip (IsKnown told left) ss known → AllZip out ss (all_told a ss known)
-told_known a told left out yes [] no [] h = tt
-told_known a told left out yes [] no (o ∷ known) h = absurd h
-told_known a told left out yes (s ∷ ss) no [] h = absurd h
-told_known a told left out yes (s ∷ ss) no (Some v ∷ known) h = (yes s v h.0, told_known a told left out yes ss (λ t at. no t (Rattle.std.proofs.Common.suc at.0, omega (arith, at.1), at.2)) known h.1)
-told_known a told left out yes (s ∷ ss) no (None ∷ known) h = (no s (0, omega arith, refl) h.0, told_known a told left out yes ss (λ t at. no t (Rattle.std.proofs.Common.suc at.0, omega (arith, at.1), at.2)) known h.1)
+    ((s : Subject) → left s → out s (told_of a s None)) → (ss : List Subject) (known : List (Option Verdict)) → AllZip (IsKnown told left) ss known → AllZip out ss (all_told a ss known)
+told_known a told left out at_told at_left [] [] h = tt
+told_known a told left out at_told at_left [] (o ∷ known) h = absurd h
+told_known a told left out at_told at_left (s ∷ ss) [] h = absurd h
+told_known a told left out at_told at_left (s ∷ ss) (Some v ∷ known) h = (at_told s v h.0, told_known a told left out at_told at_left ss known h.1)
+told_known a told left out at_told at_left (s ∷ ss) (None ∷ known) h = (at_left s h.0, told_known a told left out at_told at_left ss known h.1)
+
+-- there is one for each pair
+pub length_known : (told : Subject → Verdict → Type 0) (left : Subject → Type 0) (ss : List Subject) (known : List (Option Verdict)) → AllZip (IsKnown told left) ss known → length known ≡ length ss
+length_known told left [] [] h = refl
+length_known told left [] (o ∷ known) h = absurd h
+length_known told left (s ∷ ss) [] h = absurd h
+length_known told left (s ∷ ss) (o ∷ known) h = let e = length_known told left ss known h.1 in omega (arith, e)

@@ -14,7 +14,8 @@ use Rattle.check_report.specs.declared.fault.CheckFault.{CheckFault}
 use Rattle.check_report.specs.declared.fault.CheckFault.TheVariants.{GivenUp, Only, Wave, Write}
 use Rattle.check_report.specs.declared.settings.Settings.{Settings}
 use Rattle.check_report.specs.declared.task.Task.{Task}
-use Rattle.check_report.specs.Best.{IsBudget, IsChosen, order_of, whole_limit}
+use Rattle.net_order.specs.declared.order.Match.{Match}
+use Rattle.check_report.specs.Best.{IsAllowed, IsBudget, IsChosen, order_of, whole_limit}
 use Rattle.check_report.specs.Check.{AreAccepted, AreGiven, IsCheckFault, IsJudged, IsLate}
 use Rattle.check_report.specs.Coning.{EndsAuto, EndsCones, IsToldByCones}
 use Rattle.check_report.specs.Deciding.{HasCause, IsFoundBy}
@@ -65,9 +66,9 @@ cones_end fault (inr ends) = inr ends.1
 
 -- a comparison by cones does not end with what an attempt at once does not
 pub never : {A : Type 0} (X : CheckFault) → X ≢ Only → ((f : CheckFault) → EndsAtOnce f → f ≢ X) → (r : Result A CheckFault) → IfErr r EndsAuto → r ≢ Err X
-never X other no (Ok v) ends e = cc
-never X other no (Err f) (inl only) e = let same : f ≡ X = cc in other (sym same ∙ only)
-never X other no (Err f) (inr ends) e = let same : f ≡ X = cc in no f ends same
+never X other ended (Ok v) ends e = cc
+never X other ended (Err f) (inl only) e = let same : f ≡ X = cc in other (sym same ∙ only)
+never X other ended (Err f) (inr ends) e = let same : f ≡ X = cc in no f ends same
 
 pub never_full : {A : Type 0} (r : Result A CheckFault) → IfErr r EndsAuto → r ≢ Err (Wave Full)
 never_full r ends = never (Wave Full) (λ e. cc) (λ f h. h.nodes) r ends
@@ -86,4 +87,10 @@ never_served r ends = never (Wave NoWorker) (λ e. cc) (λ f h. h.search.alone) 
 
 -- the end of a search that was not given up
 pub not_giving_up : (fault : CheckFault) → EndsSearch fault → (IsGivingUp fault → ⊥) → EndsAuto fault
-not_giving_up fault ends no = inr (record { search = ends; nodes = λ e. no (inl e); given_up = λ e. no (inr e) })
+not_giving_up fault ends ended = inr (record { search = ends; nodes = λ e. ended (inl e); given_up = λ e. no (inr e) })
+
+-- a fault in an order that is allowed
+pub allowed_fault : {A : Type 0} (told : Told) (how : Match) (choice : Choice) (order : Order) → IsAllowed choice order → (r : Result A CheckFault) → IfErr r (IsCheckFault told ⊥ ⊥ ⊥ how order) →
+    IfErr r (λ fault. (o : Order) × IsAllowed choice o × IsCheckFault told ⊥ ⊥ ⊥ how o fault)
+allowed_fault told how choice order allowed (Ok v) h = tt
+allowed_fault told how choice order allowed (Err fault) h = (order, allowed, h)

@@ -24,3 +24,6 @@ pub mod Filling
 pub mod ByCones
 pub mod Findings
 pub mod Dealing
+pub mod Turning
+pub mod Ended
+pub mod ConeTasks

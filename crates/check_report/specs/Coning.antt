@@ -59,8 +59,8 @@ pub record IsReady {H : Type 0} (whole : Whole H) : Type 0 where
   pub first_apart : AreNames whole.task.now.first.now (texts whole.first.now)
   pub second : AreNamed (circuit whole.task.now.second.now) whole.pairing.now.second whole.pairing.now (texts whole.second.now)
   pub second_apart : AreNames whole.task.now.second.now (texts whole.second.now)
-  pub condition : IsConditionCone (condition whole.task.now.given) whole.pairing.now (circuit_of whole.given)
-  pub condition_net : IfSome (condition whole.task.now.given) IsOfNet
+  pub conditional : IsConditionCone (condition whole.task.now.given) whole.pairing.now (circuit_of whole.given)
+  pub conditional_net : IfSome (condition whole.task.now.given) IsOfNet
   pub by_name : whole.settings.now.matching ≡ Name
   pub no_sizes : whole.settings.now.sizes ≡ false
 

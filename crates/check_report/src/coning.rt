@@ -1,5 +1,5 @@
 //! The cones of one pair, and the comparison that they make.
-ghost use Rattle.std.specs.Prelude.{◌≡◌, ◌<◌, ◌≤◌, length, map, All, IfOk, IfErr};
+ghost use Rattle.std.specs.Prelude.{◌≡◌, ◌<◌, ◌≤◌, ◌∷◌, length, map, All, IfOk, IfErr};
 ghost use Rattle.net_bench.specs.Circuit.{circuit};
 ghost use Rattle.net_cone.specs.Cones.{variable_name};
 ghost use Rattle.net_order.specs.declared.order.Order.{Order as OrderValue};
@@ -45,10 +45,10 @@ pub struct Cones {
 }
 
 /// The cones of a pair.
-pub fn cones_of<H>(whole: &Whole<'_, H>, subject: Subject) -> Result<Cones, AllocError>
+pub fn cones_of<H>(whole: &Whole<'_, H>, subject: &Subject) -> Result<Cones, AllocError>
     requires ready { IsReady whole.now }
-    requires inside { IsOf whole.now subject }
-    ensures { IfOk result (AreConesOf whole.now subject) }
+    requires inside { IsOf whole.now subject.now }
+    ensures { IfOk result (AreConesOf whole.now subject.now) }
 {
     let task = whole.task;
     Ok(Cones {

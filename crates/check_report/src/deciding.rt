@@ -149,18 +149,21 @@ fn by_auto<H: Threads + Wait + Sync, G: Gate>(
         Err(fault) => return Err(fault),
     };
     let limit = WHOLE_LIMIT.min(task.settings.limit);
-    match find_attempt(task, Some(&declared), limit, gate) {
+    let fault = match find_attempt(task, Some(&declared), limit, gate) {
         Ok(decided) => {
             let attempt = Attempt {
                 order: decided.trial.candidate,
                 budget: decided.budget,
             };
             let Decided { verdicts, .. } = decided;
-            Ok((Verdicts::of(declared, verdicts), Some(attempt)))
+            return Ok((Verdicts::of(declared, verdicts), Some(attempt)));
         }
-        Err(fault) if is_giving_up(fault) => by_cones_in(task, declared, gate),
-        Err(fault) => Err(fault),
+        Err(fault) => fault,
+    };
+    if is_giving_up(fault) {
+        return by_cones_in(task, declared, gate);
     }
+    Err(fault)
 }
 
 /// Compares each pair that is picked by its cones.

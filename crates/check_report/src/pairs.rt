@@ -48,26 +48,25 @@ fn try_cones<H: Threads + Wait + Sync, G: Gate>(
     ensures ends { IfErr result EndsAtOnce }
 {
     let mut trials = Vec::new(task.alloc);
-    match try_first(task, Some(pairing), &mut trials, budget, gate) {
-        Ok(Round::Decided(decided)) => {
+    match try_first(task, Some(pairing), &mut trials, budget, gate)? {
+        Round::Decided(decided) => {
             let Decided { verdicts, .. } = decided;
             Ok(Some(only_one(verdicts)))
         }
-        Ok(Round::GivenUp { .. }) => Ok(None),
-        Err(fault) => Err(fault),
+        Round::GivenUp { .. } => Ok(None),
     }
 }
 
 /// The verdict of a pair over all variables, where there is one over those at these levels.
 fn told_over<H>(
     whole: &Whole<'_, H>,
-    subject: Subject,
+    subject: &Subject,
     places: &[u16],
     found: Option<Verdict>,
 ) -> Result<Option<Verdict>, AllocError>
-    requires inside { IsOf whole.now subject }
+    requires inside { IsOf whole.now subject.now }
     requires low { All (λ place. place < length whole.now.pairing.now.names) places.now }
-    ensures { IfOk result (IsWidened whole.now subject places.now found) }
+    ensures { IfOk result (IsWidened whole.now subject.now places.now found) }
 {
     let Some(verdict) = found else {
         return Ok(None);
@@ -81,16 +80,16 @@ fn told_over<H>(
 /// Judges a pair by its cones.
 fn judge_cones<H: Threads + Wait + Sync, G: Gate>(
     whole: &Whole<'_, H>,
-    subject: Subject,
+    subject: &Subject,
     cones: &Cones,
     budget: u64,
     gate: &G,
 ) -> Result<Option<Verdict>, CheckFault>
     requires small { budget < 2 ^ 32 }
     requires ready { IsReady whole.now }
-    requires inside { IsOf whole.now subject }
-    requires cones { AreConesOf whole.now subject cones.now }
-    ensures { IsEndedIn whole.now budget (G.bound gate.now) subject result }
+    requires inside { IsOf whole.now subject.now }
+    requires cones { AreConesOf whole.now subject.now cones.now }
+    ensures { IsEndedIn whole.now budget (G.bound gate.now) subject.now result }
 {
     let _ = whole.task.first.inputs();
     let _ = whole.task.second.inputs();
@@ -116,14 +115,14 @@ fn judge_cones<H: Threads + Wait + Sync, G: Gate>(
 /// is given back.
 pub fn judge_pair<H: Threads + Wait + Sync, G: Gate>(
     whole: &Whole<'_, H>,
-    subject: Subject,
+    subject: &Subject,
     budget: u64,
     gate: &G,
 ) -> Result<Option<Verdict>, CheckFault>
     requires small { budget < 2 ^ 32 }
     requires ready { IsReady whole.now }
-    requires inside { IsOf whole.now subject }
-    ensures { IsEndedIn whole.now budget (G.bound gate.now) subject result }
+    requires inside { IsOf whole.now subject.now }
+    ensures { IsEndedIn whole.now budget (G.bound gate.now) subject.now result }
 {
     match cones_of(whole, subject) {
         Ok(cones) => judge_cones(whole, subject, &cones, budget, gate),

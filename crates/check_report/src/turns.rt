@@ -1,5 +1,5 @@
 //! Pairs that are judged by their cones, in rounds of budgets that grow.
-ghost use Rattle.std.specs.Prelude.{◌≡◌, ◌<◌, ◌≤◌, ◌^◌, ◌⊎◌, ℕ, length, map, None, Ok, Err, All, IfOk, IfErr, slice_index_or};
+ghost use Rattle.std.specs.Prelude.{◌≡◌, ◌<◌, ◌≤◌, ◌^◌, ◌⊎◌, ◌∷◌, ◌++◌, [], ℕ, length, map, None, Ok, Err, All, IfOk, IfErr, OnOk, slice_index_or};
 ghost use Rattle.std.specs.List.{AllZip};
 ghost use Rattle.check_report.specs.declared.turns.Turn.{Turn as TurnValue};
 ghost use Rattle.check_report.specs.Cones.{cone_limit};
@@ -38,7 +38,29 @@ impl Turn {
         ensures subject { self.new.subject ≡ self.old.subject }
         ensures ended { IsEndedIn whole.now budget (G.bound gate.now) self.old.subject self.new.ended }
     {
-        self.ended = judge_pair(whole, self.subject, budget, gate);
+        self.ended = judge_pair(whole, &self.subject, budget, gate);
+    }
+}
+
+/// Puts a turn of the pair at the end, if it has no verdict yet.
+fn add_turn(
+    turns: &mut Vec<Turn>,
+    subject: &Subject,
+    known: &Option<Verdict>,
+) -> Result<(), AllocError>
+    ensures { OnOk result (map (λ (t : TurnValue). t.subject) turns.new.items ≡ map (λ (t : TurnValue). t.subject) turns.old.items ++ left_of (subject.now ∷ []) (known.now ∷ [])) }
+{
+    if known.is_some() {
+        return Ok(());
+    }
+    let subject = *subject;
+    let turn = Turn {
+        subject,
+        ended: Ok(None),
+    };
+    match turns.push(turn) {
+        Ok(()) => Ok(()),
+        Err(_) => Err(AllocError),
     }
 }
 
@@ -53,12 +75,7 @@ fn turns_of(
 {
     let mut turns = Vec::new(alloc);
     for place in 0..subjects.len() {
-        if known[place].is_none() {
-            turns.push(Turn {
-                subject: subjects[place],
-                ended: Ok(None),
-            })?;
-        }
+        add_turn(&mut turns, &subjects[place], &known[place])?;
     }
     Ok(turns)
 }

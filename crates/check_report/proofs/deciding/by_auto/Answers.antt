@@ -1,10 +1,15 @@
-use Rattle.std.proofs.Common.{◌≡◌, ap, sym, subst, refl, inr, Some, Err, min}
+use Rattle.std.proofs.Common.{◌≡◌, ◌∙◌, sym, subst, refl, inr, Some}
 use Rattle.net_order.specs.declared.order.Order.TheVariants as orders
+use Rattle.std.proofs.lemmas.Bool.{true≢false}
+use Rattle.check_report.specs.declared.choice.Attempt.{Attempt}
 use Rattle.check_report.specs.declared.choice.Candidate.TheVariants.{Declared}
+use Rattle.check_report.specs.declared.choice.Choice.TheVariants.{Auto}
+use Rattle.check_report.specs.declared.fault.CheckFault.TheVariants.{Only}
 use Rattle.check_report.specs.Best.{AreGivenUp, IsBudget, IsChosen, order_of}
 use Rattle.check_report.specs.Deciding.IsFoundBy.{in_order}
 use Rattle.check_report.specs.Trials.{AreAllPassed}
-use Rattle.check_report.proofs.Findings.{auto_cause, not_giving_up}
+use Rattle.check_report.proofs.Findings.{allowed_fault, auto_cause, not_giving_up}
+use Rattle.check_report.proofs.Printing.{never_tried}
 use Rattle.check_report.proofs.Rounds.{judged, order_ends, told_before, within}
 use Rattle.check_report.proofs.deciding.by_auto.Goals as goal
 
@@ -14,17 +19,45 @@ returns-in-Ok-find_attempt-clause-found g c = λ told ga.
     let d = c.in-Ok-find_attempt.ensures.decided in
     let t = c.in-Ok-find_attempt.decided.trial in
     in_order orders.Declared (judged task told ga orders.Declared c.in-Ok.declared _ _ c.in-Ok.ensures.paired c.of.ensures d.verdicts_of)
-    (subst (λ o. IsChosen told task.settings.now.matching o task.settings.now.limit (Some (record { order = t.candidate; budget = c.in-Ok-find_attempt.decided.budget })) orders.Declared) (sym c.requires)
+    (subst (λ o. IsChosen told task.settings.now.matching o task.settings.now.limit (Some (record { order = t.candidate; budget = c.in-Ok-find_attempt.decided.budget })) orders.Declared) (sym c.requires.auto)
     (refl, subst (λ n. IsBudget n c.in-Ok-find_attempt.decided.budget) c.min-limit.ensures c.in-Ok-find_attempt.ensures.budget,
     within task told ga (order_of t.candidate) t.pairing c.in-Ok-find_attempt.decided.budget d.paired d.within))
 
 pub returns-in-Ok-find_attempt-clause-passed : goal.returns-in-Ok-find_attempt-clause-passed
 returns-in-Ok-find_attempt-clause-passed g c = λ told ga.
-    subst (λ n. AreGivenUp told c.args.task.now.settings.now.matching n (g.G.Gate.bound c.args.gate.now) _) c.min-limit.ensures
-    (told_before c.args.task.now told ga c.min-limit.result (g.G.Gate.bound c.args.gate.now) _ c.in-Ok-find_attempt.ensures.passed)
+    let t : Attempt = record { order = c.in-Ok-find_attempt.decided.trial.candidate; budget = c.in-Ok-find_attempt.decided.budget } in
+    subst (λ n. AreGivenUp told c.args.task.now.settings.now.matching n (g.G.Gate.bound c.args.gate.now) t) c.min-limit.ensures
+    (told_before c.args.task.now told ga c.min-limit.result (g.G.Gate.bound c.args.gate.now) t c.in-Ok-find_attempt.ensures.passed)
 
 pub returns-in-Err-clause-fault : goal.returns-in-Err-clause-fault
 returns-in-Err-clause-fault g c = λ told ga. (orders.Declared, (Declared, refl), c.in-Err.ensures.fault told ga)
 
 pub returns-in-Err-clause-ends : goal.returns-in-Err-clause-ends
 returns-in-Err-clause-ends g c = inr (order_ends c.in-Err.fault c.in-Err.ensures.refused.0 c.in-Err.ensures.refused.1)
+
+pub returns-then-is_giving_up-clause-found : goal.returns-then-is_giving_up-clause-found
+returns-then-is_giving_up-clause-found g c = λ told ga.
+    let task = c.args.task.now in
+    let bound = g.G.Gate.bound c.args.gate.now in
+    c.by_cones_in.ensures.found told ga (auto_cause task told ga bound c.requires.auto (subst (λ n. AreAllPassed task n bound) c.min-limit.ensures (c.in-Err-find_attempt.ensures.given_up (c.is_giving_up.ensures.0 c.if-is_giving_up.true))))
+
+pub returns-then-is_giving_up-clause-fault : goal.returns-then-is_giving_up-clause-fault
+returns-then-is_giving_up-clause-fault g c = λ told ga.
+    allowed_fault told c.args.task.now.settings.now.matching Auto orders.Declared (Declared, refl) c.by_cones_in.result (c.by_cones_in.ensures.fault told ga)
+
+pub returns-then-is_giving_up-clause-passed : goal.returns-then-is_giving_up-clause-passed
+returns-then-is_giving_up-clause-passed g c = λ told ga. never_tried _ c.by_cones_in.result c.by_cones_in.ensures.untried
+
+pub returns-clause-fault : goal.returns-clause-fault
+returns-clause-fault g c = λ told ga.
+    let w = c.in-Err-find_attempt.ensures.fault told ga in
+    (order_of w.0, (w.0, refl), w.1)
+
+pub returns-clause-ends : goal.returns-clause-ends
+returns-clause-ends g c =
+    not_giving_up c.in-Err-find_attempt.fault c.in-Err-find_attempt.ensures.ends (λ giving. true≢false (sym (c.is_giving_up.ensures.1 giving) ∙ c.if-is_giving_up.false))
+
+pub returns-clause-only : goal.returns-clause-only
+returns-clause-only g c = λ told ga e.
+    let same : c.in-Err-find_attempt.fault ≡ Only = cc in
+    absurd (c.in-Err-find_attempt.ensures.ends.only same)
