@@ -1,5 +1,5 @@
 -- Pairs that are dealt to shares, those of the largest cones first.
-use Rattle.std.proofs.Common.{◌≡◌, ◌≢◌, ◌⊎◌, inl, inr, ℕ, zero, suc, ◌+◌, ◌-◌, ◌<◌, ◌≤◌, List, [], ◌∷◌, ◌++◌, Bool, true, false, refl, sym, ap, ◌∙◌, subst, map, length, get_or, arith, All}
+use Rattle.std.proofs.Common.{◌≡◌, inl, inr, ℕ, zero, suc, ◌+◌, ◌<◌, ◌≤◌, List, [], ◌∷◌, ◌++◌, true, false, refl, sym, ap, ◌∙◌, subst, map, length, get_or, arith, All}
 use Rattle.std.specs.Prelude.{cond, nat_le, slice_index}
 use Rattle.std.specs.List.{AllZip}
 use Rattle.std.specs.List.Sorted.{IsPermutation}
@@ -7,14 +7,15 @@ use Rattle.std.proofs.lemmas.Bool.{cases_lt}
 use Rattle.std.proofs.lemmas.Bool.Decides.{nat_tests}
 use Rattle.std.proofs.lemmas.List.{length-append, get_or_append_left}
 use Rattle.std.proofs.Math.Seq.{get_or-append_seam}
-use Rattle.std.proofs.lemmas.List.Elements.{All-cons, All-tail}
+use Rattle.std.proofs.lemmas.List.Elements.{All-cons, All-map, All-tail}
 use Rattle.std.proofs.lemmas.List.Sorted.{All-permutation, length_permutation}
 use Rattle.net_bench.specs.Circuit.{AreOnce, Circuit}
 use Rattle.net_cone.specs.Cones.{HasGates}
 use Rattle.net_order.specs.Force.{numbers_below}
 use Rattle.net_order.specs.Order.{falling, put_by_rank}
 use Rattle.check_report.specs.declared.subject.Subject.{Subject}
-use Rattle.check_report.specs.Picking.{ComesBefore, HasWeight}
+use Rattle.check_report.specs.Comparing.{IsInside}
+use Rattle.check_report.specs.Picking.{AreShares, ComesBefore, HasWeight}
 
 -- ---- the numbers below a number
 
@@ -94,11 +95,11 @@ put_descends : (w : List ℕ) (s : ℕ) (ts : List ℕ) → All (λ t. s < t) ts
 put_descends w s [] low d = (λ i e less. absurd (omega arith), tt)
 put_descends w s (t ∷ ts) low d =
     elim (nat_le (slice_index w t) (slice_index w s)) as
-      (λ b. nat_le (slice_index w t) (slice_index w s) ≡ b → Descends w (cond b (s ∷ t ∷ ts) (t ∷ put_by_rank (slice_index w) s ts))) [
+    (λ b. nat_le (slice_index w t) (slice_index w s) ≡ b → Descends w (cond b (s ∷ t ∷ ts) (t ∷ put_by_rank (slice_index w) s ts))) [
       | true ↦ λ e.
           let high : slice_index w t ≤ slice_index w s = grind (arith, nat_tests) in (
             All-cons (ComesBefore w s) t ts (before_it w s t high (low 0 t (omega arith)))
-            (λ i k less. before_more w s t (get_or ts i k) high (low (suc i) k (omega arith)) (d.0 i k less)),
+                (λ i k less. before_more w s t (get_or ts i k) high (low (suc i) k (omega arith)) (d.0 i k less)),
             d,
           )
       | false ↦ λ e.
@@ -150,6 +151,12 @@ pub map_long : {A B : Type 0} (f : A → B) (xs : List A) → length (map f xs) 
 map_long f [] = refl
 map_long f (x ∷ xs) = ap suc (map_long f xs)
 
+pub inside_first : (a b : Circuit) (ss : List Subject) → All (IsInside a b) ss → All (λ s. s < length a.names) (map (λ (s : Subject). s.first) ss)
+inside_first a b ss all = All-map (λ s. s < length a.names) (λ (s : Subject). s.first) ss (λ i d low. (all i d low).1)
+
+pub inside_second : (a b : Circuit) (ss : List Subject) → All (IsInside a b) ss → All (λ s. s < length b.names) (map (λ (s : Subject). s.second) ss)
+inside_second a b ss all = All-map (λ s. s < length b.names) (λ (s : Subject). s.second) ss (λ i d low. (all i d low).2)
+
 pub weighed : (a b : Circuit) (ss : List Subject) (xs ys zs : List ℕ) → AllZip (HasGates a) (map (λ (s : Subject). s.first) ss) xs → AllZip (HasGates b) (map (λ (s : Subject). s.second) ss) ys →
     length zs ≡ length xs → ((i : ℕ) → i < length xs → slice_index zs i ≡ slice_index xs i + slice_index ys i) → AllZip (HasWeight a b) ss zs
 weighed a b [] [] [] [] first second long sums = tt
@@ -163,3 +170,6 @@ weighed a b (s ∷ ss) (x ∷ xs) (y ∷ ys) (z ∷ zs) first second long sums =
   record { first_gates = x; second_gates = y; first = first.0; second = second.0; sum = sums 0 (omega arith) },
   weighed a b ss xs ys zs first.1 second.1 (omega arith) (λ i low. sums (suc i) (omega arith)),
 )
+
+pub shares_long : (a b : Circuit) (pairs : List Subject) (n : ℕ) (shares : List ℕ) → AreShares a b pairs n shares → length shares ≡ length pairs
+shares_long a b pairs n shares are = are.each ∙ zip_long (HasWeight a b) pairs are.weights are.weighed

@@ -68,7 +68,7 @@ cones_end fault (inr ends) = inr ends.1
 pub never : {A : Type 0} (X : CheckFault) → X ≢ Only → ((f : CheckFault) → EndsAtOnce f → f ≢ X) → (r : Result A CheckFault) → IfErr r EndsAuto → r ≢ Err X
 never X other ended (Ok v) ends e = cc
 never X other ended (Err f) (inl only) e = let same : f ≡ X = cc in other (sym same ∙ only)
-never X other ended (Err f) (inr ends) e = let same : f ≡ X = cc in no f ends same
+never X other ended (Err f) (inr ends) e = let same : f ≡ X = cc in ended f ends same
 
 pub never_full : {A : Type 0} (r : Result A CheckFault) → IfErr r EndsAuto → r ≢ Err (Wave Full)
 never_full r ends = never (Wave Full) (λ e. cc) (λ f h. h.nodes) r ends
@@ -87,7 +87,7 @@ never_served r ends = never (Wave NoWorker) (λ e. cc) (λ f h. h.search.alone) 
 
 -- the end of a search that was not given up
 pub not_giving_up : (fault : CheckFault) → EndsSearch fault → (IsGivingUp fault → ⊥) → EndsAuto fault
-not_giving_up fault ends ended = inr (record { search = ends; nodes = λ e. ended (inl e); given_up = λ e. no (inr e) })
+not_giving_up fault ends apart = inr (record { search = ends; nodes = λ e. apart (inl e); given_up = λ e. apart (inr e) })
 
 -- a fault in an order that is allowed
 pub allowed_fault : {A : Type 0} (told : Told) (how : Match) (choice : Choice) (order : Order) → IsAllowed choice order → (r : Result A CheckFault) → IfErr r (IsCheckFault told ⊥ ⊥ ⊥ how order) →

@@ -27,3 +27,5 @@ pub mod Dealing
 pub mod Turning
 pub mod Ended
 pub mod ConeTasks
+pub mod Picks
+pub mod Shares

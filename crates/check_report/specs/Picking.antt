@@ -7,9 +7,8 @@ use Rattle.net_bench.specs.Circuit.{Circuit}
 use Rattle.net_cone.specs.Cones.{HasGates}
 use Rattle.net_order.specs.Force.{numbers_below}
 use Rattle.net_order.specs.Order.{Paired, name_of, registers_of}
-use Rattle.report_text.specs.declared.outcome.Role.TheVariants.{Output, NextState}
 use Rattle.report_text.specs.declared.outcome.Share.{Share}
-use Rattle.report_text.specs.declared.outcome.Side.TheVariants.{First, Second}
+use Rattle.report_text.specs.declared.outcome.Side.TheVariants.{First}
 use Rattle.report_text.specs.declared.verdict.Verdict.{Verdict}
 use Rattle.report_text.specs.declared.verdict.Verdict.TheVariants.{Equal, Differs, Lone, Undecided}
 use Rattle.check_report.specs.declared.picked.Picked.{Picked}
@@ -47,7 +46,7 @@ ComesBefore weights i j = (slice_index weights j < slice_index weights i) ⊎ ((
 
 -- shares are dealt to and fro: 1, 2 .. n, n .. 2, 1, 1, 2 .., so this one is the share of the pair that so many come before
 abbrev pub dealt : (n turn : ℕ) → ℕ
-dealt n turn = if (turn / n) % 2 == 0 then suc (turn % n) else n - (turn % n)
+dealt n turn = if turn / n % 2 == 0 then suc (turn % n) else n - turn % n
 
 -- The share of each of these pairs, of so many shares.
 pub record AreShares (a b : Circuit) (pairs : List Subject) (n : ℕ) (shares : List ℕ) : Type 0 where
@@ -61,9 +60,13 @@ pub record AreShares (a b : Circuit) (pairs : List Subject) (n : ℕ) (shares : 
 
 -- ---- what is picked
 
+-- A signal of one of these names.
+abbrev pub is_one_of : Circuit → List (List ℕ) → ℕ → Bool
+is_one_of a names s = is_among names (name_of a s)
+
 -- A pair of one of these names.
 abbrev pub is_pair_of : Circuit → List (List ℕ) → Subject → Bool
-is_pair_of a names s = is_among names (name_of a s.named)
+is_pair_of a names s = is_one_of a names s.named
 
 -- What has no partner in the second netlist, of one of these names.
 abbrev pub is_lone_of : List (List ℕ) → Verdict → Bool

@@ -1,10 +1,10 @@
 //! Which pairs of outputs and of next states are compared, and which lines there are of what has no partner.
-ghost use Rattle.std.specs.Prelude.{◌≡◌, ◌⊎◌, ◌↔◌, ℕ, ◌<◌, List, true, false, All, Contains, IfErr, IfOk, IsTrue, filter, length, map, zip};
+ghost use Rattle.std.specs.Prelude.{◌≡◌, ◌⊎◌, ◌↔◌, ℕ, ◌<◌, List, [], true, false, if◌then◌else◌, ◌==◌, All, Contains, Err, IfErr, IfOk, IsTrue, filter, length, map, zip};
 ghost use Rattle.net_bench.specs.Circuit.{circuit};
 ghost use Rattle.net_order.specs.Order.{name_of, registers_of};
 ghost use Rattle.check_report.specs.declared.picked.Picked.TheVariants.{All as AllPairs, Only as OnlyNamed, Share as InShare};
 ghost use Rattle.check_report.specs.Comparing.{AreSignals};
-ghost use Rattle.check_report.specs.Picking.{ArePicked, HasUnknown, IsNamedIn, is_among, is_lone_of, is_pair_of, of_share};
+ghost use Rattle.check_report.specs.Picking.{ArePicked, HasUnknown, IsNamedIn, is_among, is_lone_of, is_one_of, is_pair_of, of_share};
 ghost use Rattle.check_report.specs.Report.{lone_side, lone_verdicts, subjects};
 
 use crate::compare::{add_first_lone, add_lone, add_second_lone};
@@ -109,7 +109,7 @@ fn named_signals(
     signals: &[Signal],
 ) -> Result<Vec<Signal>, AllocError>
     requires { All (λ s. s < length net.now.names) signals.now }
-    ensures { IfOk result (λ v. v.items ≡ filter (λ s. is_among names.now (name_of (circuit net.now) s)) signals.now) }
+    ensures { IfOk result (λ v. v.items ≡ filter (is_one_of (circuit net.now) names.now) signals.now) }
 {
     let mut picked = Vec::new(alloc);
     for place in 0..signals.len() {
@@ -135,8 +135,22 @@ fn named_lone(
     let outputs = named_signals(alloc, net, names, pairing.only_first())?;
     let registers = named_signals(alloc, net, names, pairing.only_first_next())?;
     let mut lone = Vec::new(alloc);
-    add_lone(alloc, &mut lone, Side::First, Role::Output, net, outputs.as_slice())?;
-    add_lone(alloc, &mut lone, Side::First, Role::NextState, net, registers.as_slice())?;
+    add_lone(
+        alloc,
+        &mut lone,
+        Side::First,
+        Role::Output,
+        net,
+        outputs.as_slice(),
+    )?;
+    add_lone(
+        alloc,
+        &mut lone,
+        Side::First,
+        Role::NextState,
+        net,
+        registers.as_slice(),
+    )?;
     Ok(lone)
 }
 
@@ -166,67 +180,80 @@ fn pairs_in(
     requires { length shares.now ≡ length subjects.now }
     ensures { IfOk result (λ v. v.items ≡ of_share share (zip subjects.now shares.now)) }
 {
-    let mut picked = Vec::new(alloc);
+    let mut pairs = Vec::new(alloc);
     for place in 0..subjects.len() {
         if shares[place] == share {
-            picked.push(subjects[place])?;
+            pairs.push(subjects[place])?;
         }
     }
-    Ok(picked)
+    Ok(pairs)
+}
+
+/// The lines of all that has no partner, where it is the first share.
+fn lone_in(
+    alloc: Global,
+    first: &Netlist,
+    second: &Netlist,
+    pairing: &Pairing,
+    share: u32,
+) -> Result<Vec<Verdict>, AllocError>
+    requires { AreSignals (circuit first.now) (circuit second.now) pairing.now }
+    ensures { IfOk result (λ v. v.items ≡ (if share == 1 then lone_verdicts (circuit first.now) (circuit second.now) pairing.now else [])) }
+{
+    if share == 1 {
+        let lone = all_lone(alloc, first, second, pairing)?;
+        Ok(lone)
+    } else {
+        Ok(Vec::new(alloc))
+    }
 }
 
 /// The pairs of a share, and with the first share all that has no partner.
 fn shared<H>(
     task: &Task<'_, H>,
     pairing: &Pairing,
-    subjects: Vec<Subject>,
+    pairs: Vec<Subject>,
     share: Share,
 ) -> Result<Picks, AllocError>
     requires signals { AreSignals (circuit task.now.first.now) (circuit task.now.second.now) pairing.now }
-    requires all { subjects.items ≡ subjects (circuit task.now.first.now) (circuit task.now.second.now) pairing.now }
+    requires all { pairs.items ≡ subjects (circuit task.now.first.now) (circuit task.now.second.now) pairing.now }
     ensures { IfOk result (λ r. ArePicked (circuit task.now.first.now) (circuit task.now.second.now) pairing.now (InShare share) r.subjects.items r.lone.items) }
 {
     let alloc = task.alloc;
-    let pairs = subjects.as_slice();
-    let shares = shares_of(alloc, task.first, task.second, pairs, share.of)?;
-    let picked = pairs_in(alloc, share.number, shares.as_slice(), pairs)?;
-    let lone = if share.number == 1 {
-        all_lone(alloc, task.first, task.second, pairing)?
-    } else {
-        Vec::new(alloc)
-    };
-    Ok(Picks { subjects: picked, lone })
+    let shares = shares_of(alloc, task.first, task.second, pairs.as_slice(), share.of)?;
+    let subjects = pairs_in(alloc, share.number, shares.as_slice(), pairs.as_slice())?;
+    let lone = lone_in(alloc, task.first, task.second, pairing, share.number)?;
+    Ok(Picks { subjects, lone })
 }
 
 /// The pairs of these names, and the first netlist's outputs and registers of these names that have no partner.
 fn named<H>(
     task: &Task<'_, H>,
     pairing: &Pairing,
-    subjects: Vec<Subject>,
+    pairs: Vec<Subject>,
     names: &Vec<Name>,
 ) -> Result<Picks, AllocError>
     requires signals { AreSignals (circuit task.now.first.now) (circuit task.now.second.now) pairing.now }
-    requires all { subjects.items ≡ subjects (circuit task.now.first.now) (circuit task.now.second.now) pairing.now }
+    requires all { pairs.items ≡ subjects (circuit task.now.first.now) (circuit task.now.second.now) pairing.now }
     requires named { (n : List ℕ) → Contains names.now.items n → IsNamedIn (circuit task.now.first.now) n }
     ensures { IfOk result (λ r. ArePicked (circuit task.now.first.now) (circuit task.now.second.now) pairing.now (OnlyNamed names.now) r.subjects.items r.lone.items) }
 {
-    let picked = named_subjects(task.alloc, task.first, names.as_slice(), subjects.as_slice())?;
+    let subjects = named_subjects(task.alloc, task.first, names.as_slice(), pairs.as_slice())?;
     let lone = named_lone(task.alloc, task.first, names.as_slice(), pairing)?;
-    Ok(Picks { subjects: picked, lone })
+    Ok(Picks { subjects, lone })
 }
 
 /// All pairs, and all that has no partner.
-fn whole<H>(
-    task: &Task<'_, H>,
-    pairing: &Pairing,
-    subjects: Vec<Subject>,
-) -> Result<Picks, AllocError>
+fn whole<H>(task: &Task<'_, H>, pairing: &Pairing, pairs: Vec<Subject>) -> Result<Picks, AllocError>
     requires signals { AreSignals (circuit task.now.first.now) (circuit task.now.second.now) pairing.now }
-    requires all { subjects.items ≡ subjects (circuit task.now.first.now) (circuit task.now.second.now) pairing.now }
+    requires all { pairs.items ≡ subjects (circuit task.now.first.now) (circuit task.now.second.now) pairing.now }
     ensures { IfOk result (λ r. ArePicked (circuit task.now.first.now) (circuit task.now.second.now) pairing.now AllPairs r.subjects.items r.lone.items) }
 {
     let lone = all_lone(task.alloc, task.first, task.second, pairing)?;
-    Ok(Picks { subjects, lone })
+    Ok(Picks {
+        subjects: pairs,
+        lone,
+    })
 }
 
 /// Want of memory as a fault of a comparison.
@@ -247,17 +274,17 @@ pub fn picks_of<H>(task: &Task<'_, H>, pairing: &Pairing) -> Result<Picks, Check
     ensures unknown { result ≡ Err CheckFault.Only → HasUnknown (circuit task.now.first.now) task.now.settings.now.picked }
     ensures err { IfErr result (λ fault. (fault ≡ CheckFault.Only) ⊎ (fault ≡ CheckFault.OutOfMemory)) }
 {
-    let Ok(subjects) = subjects_of(task.alloc, task.first, task.second, pairing) else {
+    let Ok(pairs) = subjects_of(task.alloc, task.first, task.second, pairing) else {
         return Err(CheckFault::OutOfMemory);
     };
     match &task.settings.picked {
-        Picked::All => told(whole(task, pairing, subjects)),
+        Picked::All => told(whole(task, pairing, pairs)),
         Picked::Only(names) => {
             if !are_named(task.first, names.as_slice()) {
                 return Err(CheckFault::Only);
             }
-            told(named(task, pairing, subjects, names))
+            told(named(task, pairing, pairs, names))
         }
-        Picked::Share(share) => told(shared(task, pairing, subjects, *share)),
+        Picked::Share(share) => told(shared(task, pairing, pairs, *share)),
     }
 }

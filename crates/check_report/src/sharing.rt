@@ -58,7 +58,8 @@ fn weights_of(
     let ones = gates_below(alloc, first, roots.as_slice())?;
     let roots = second_roots(alloc, subjects)?;
     let others = gates_below(alloc, second, roots.as_slice())?;
-    sums_of(alloc, ones.as_slice(), others.as_slice())
+    let sums = sums_of(alloc, ones.as_slice(), others.as_slice())?;
+    Ok(sums)
 }
 
 /// The weight at a place, 0 where there is none.
@@ -137,5 +138,6 @@ pub fn shares_of(
 {
     let weights = weights_of(alloc, first, second, subjects)?;
     let order = order_of(alloc, weights.as_slice())?;
-    shares_by(alloc, of, order.as_slice())
+    let shares = shares_by(alloc, of, order.as_slice())?;
+    Ok(shares)
 }

@@ -5,4 +5,4 @@ use Rattle.check_report.proofs.picking.pairs_in.Given as goal
 
 -- what is still to be added completes the list
 abbrev pub invariant-loop-place : goal.invariant-loop-place
-invariant-loop-place l = l.picked.items ++ of_share l.share (zip (drop l.place l.subjects) (drop l.place l.shares)) ≡ of_share l.share (zip l.subjects l.shares)
+invariant-loop-place l = l.pairs.items ++ of_share l.share (zip (drop l.place l.subjects) (drop l.place l.shares)) ≡ of_share l.share (zip l.subjects l.shares)

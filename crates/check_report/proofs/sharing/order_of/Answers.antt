@@ -1,10 +1,9 @@
-use Rattle.std.proofs.Common.{rules, ◌≡◌, ◌∙◌, ℕ, length, subst}
+use Rattle.std.proofs.Common.{rules, ◌≡◌, ℕ, length, subst}
 use Rattle.std.specs.Prelude.{slice_index}
 use Rattle.std.specs.declared.cmp.Reverse.{Reverse}
 use Rattle.std.specs.List.Sorted.{IsPermutation, IsStableBy}
 use Rattle.std.proofs.lemmas.Fn.{always_returns_same}
 use Rattle.net_order.specs.Force.{numbers_below}
-use Rattle.net_order.specs.Order.{falling}
 use Rattle.net_order.proofs.Falling.{before, sorted_is}
 use Rattle.check_report.proofs.Dealing.{order_falls}
 use Rattle.check_report.proofs.sharing.order_of.Goals as goal
