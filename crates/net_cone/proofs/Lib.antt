@@ -7,3 +7,4 @@ pub mod Lists
 pub mod Names
 pub mod Numbered
 pub mod Drawn
+pub mod Spreading
