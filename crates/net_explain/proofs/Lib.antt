@@ -8,3 +8,4 @@ pub mod Inners
 pub mod Counting
 pub mod Wording
 pub mod Codes
+pub mod Identifiers
