@@ -9,3 +9,4 @@ pub mod Counting
 pub mod Wording
 pub mod Codes
 pub mod Identifiers
+pub mod Exactly
