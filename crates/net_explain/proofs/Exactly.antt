@@ -1,14 +1,13 @@
 -- The list of inner signals that differ has exactly these.
-use Rattle.std.proofs.Common.{◌≡◌, ◌≢◌, ◌⊎◌, inl, inr, ℕ, zero, suc, ◌+◌, ◌<◌, ◌≤◌, ◌==◌, Bool, true, false, not, cond, ◌&&◌, List, [], ◌∷◌, ◌++◌, Option, Some, None, refl, sym, ap, ◌∙◌, subst, length, get_or, eq-eqb, add-one, arith}
-use Rattle.std.specs.Prelude.{Contains, filter_map, option_to_list, find as first_with, slice_get}
+use Rattle.std.proofs.Common.{◌≡◌, ◌⊎◌, inl, inr, ℕ, zero, suc, ◌<◌, ◌≤◌, ◌==◌, Bool, true, false, not, cond, ◌&&◌, List, [], ◌∷◌, ◌++◌, Option, Some, None, refl, sym, ap, ◌∙◌, subst, length, get_or, eq-eqb, arith}
+use Rattle.std.specs.Prelude.{Contains, filter_map, option_to_list}
 use Rattle.std.proofs.lemmas.Bool.{ne_eqb}
 use Rattle.std.proofs.lemmas.Bool.Decides.{nat_tests}
-use Rattle.std.proofs.lemmas.List.{get_or_default}
 use Rattle.std.proofs.lemmas.Option.{get_or_from_slice_get, slice_get-get_or, slice_get_within}
 use Rattle.net_bench.specs.declared.netlist.GateLine.{GateLine}
 use Rattle.net_bench.specs.Circuit.{Net, IsNet, find, gate_of}
 use Rattle.net_bench.specs.Labels.{bit_of}
-use Rattle.net_bench.proofs.Found.{found_at, found_low}
+use Rattle.net_bench.proofs.Found.{found_at}
 use Rattle.net_bench.proofs.Names.{found_place}
 use Rattle.net_bench.proofs.OneLabelling.{at_contained}
 use Rattle.net_bench.specs.NameTable.{IsEachOnce}
@@ -18,7 +17,7 @@ use Rattle.net_explain.specs.declared.differing.Inner.{Inner}
 use Rattle.net_explain.specs.Explaining.{IsInner, Viewed, differ, differing, gate_line, inner_at, inner_on, inner_to, inner_with, is_inner, line_of}
 use Rattle.net_explain.specs.Ranked.{highest, rank_of, rank_row}
 use Rattle.net_explain.proofs.Lists.{same_or}
-use Rattle.net_explain.proofs.Rows.{in_row, rank_low, rank_top, row_gate}
+use Rattle.net_explain.proofs.Rows.{in_row, rank_low, rank_top}
 
 -- ---- lists
 

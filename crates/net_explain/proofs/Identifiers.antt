@@ -1,9 +1,9 @@
 -- Different numbers have different identifiers.
-use Rattle.std.proofs.Common.{◌≡◌, ◌⊎◌, inl, inr, ℕ, zero, suc, ◌+◌, ◌-◌, ◌/◌, ◌%◌, ◌<◌, ◌≤◌, Bool, true, false, List, [], ◌∷◌, refl, sym, ap, ◌∙◌, subst, cond, arith}
+use Rattle.std.proofs.Common.{◌≡◌, inl, inr, ℕ, zero, suc, ◌+◌, ◌-◌, ◌/◌, ◌%◌, ◌<◌, ◌≤◌, List, [], ◌∷◌, refl, sym, ap, ◌∙◌, cond, arith}
 use Rattle.std.specs.Prelude.{nat_lt}
 use Rattle.std.proofs.lemmas.Bool.{cases_lt}
 use Rattle.net_explain.specs.Vcd.{code, code_within}
-use Rattle.net_explain.proofs.Codes.{last_byte, less, not_less}
+use Rattle.net_explain.proofs.Codes.{less, not_less}
 
 -- the bytes behind the first
 abbrev behind : ℕ → ℕ → List ℕ
