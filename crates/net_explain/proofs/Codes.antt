@@ -1,13 +1,13 @@
 -- Identifiers, byte by byte.
-use Rattle.std.proofs.Common.{◌≡◌, ℕ, zero, suc, ◌+◌, ◌-◌, ◌/◌, ◌%◌, ◌<◌, ◌≤◌, Bool, true, false, List, [], ◌∷◌, ◌++◌, refl, sym, ap, ◌∙◌, cond, append_assoc, arith}
+use Rattle.std.proofs.Common.{◌≡◌, ℕ, zero, suc, ◌+◌, ◌-◌, ◌/◌, ◌%◌, ◌<◌, ◌≤◌, true, false, List, [], ◌∷◌, ◌++◌, refl, sym, ap, ◌∙◌, cond, append_assoc, arith}
 use Rattle.std.specs.Prelude.{nat_lt}
 use Rattle.std.proofs.lemmas.Bool.Decides.{nat_tests}
 use Rattle.net_explain.specs.Vcd.{code, code_within}
 
-not_less : (k : ℕ) → 94 ≤ k → nat_lt k 94 ≡ false
+pub not_less : (k : ℕ) → 94 ≤ k → nat_lt k 94 ≡ false
 not_less k h = grind (arith, nat_tests)
 
-less : (k : ℕ) → k < 94 → nat_lt k 94 ≡ true
+pub less : (k : ℕ) → k < 94 → nat_lt k 94 ≡ true
 less k h = grind (arith, nat_tests)
 
 -- the last byte

@@ -1,5 +1,5 @@
 -- Gates are counted.
-use Rattle.std.proofs.Common.{◌≡◌, ℕ, ◌<◌, Bool, true, false, not, ◌&&◌, List, ◌∷◌, [], Some, None, refl, subst, get_or, length, arith}
+use Rattle.std.proofs.Common.{◌≡◌, ◌<◌, Bool, true, false, not, ◌&&◌, List, ◌∷◌, [], Some, None, refl, subst, get_or, length, arith}
 use Rattle.net_bench.specs.Circuit.{Net}
 use Rattle.net_explain.specs.declared.differing.Inner.{Inner}
 use Rattle.net_explain.specs.declared.explaining.Part.{Part}

@@ -8,3 +8,5 @@ pub mod Inners
 pub mod Counting
 pub mod Wording
 pub mod Codes
+pub mod Identifiers
+pub mod Exactly

@@ -1,5 +1,5 @@
 -- Marks of signals.
-use Rattle.std.proofs.Common.{◌≡◌, ◌⊎◌, ◌↔◌, inl, inr, ℕ, zero, suc, ◌<◌, Bool, true, false, List, [], refl, sym, ap, ◌∙◌, subst, length, get_or, set, replicate, take, drop, ◌++◌, arith}
+use Rattle.std.proofs.Common.{◌≡◌, ◌⊎◌, ◌↔◌, inl, inr, ℕ, zero, suc, ◌<◌, Bool, true, false, List, sym, ap, ◌∙◌, subst, length, set, replicate, take, drop, ◌++◌}
 use Rattle.std.specs.Prelude.{Contains, All, IsTrue}
 use Rattle.std.proofs.lemmas.List.{get_or-set_same, get_or-set_other}
 use Rattle.std.proofs.Math.Seq.{take-append_seam}

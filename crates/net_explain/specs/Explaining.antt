@@ -1,5 +1,5 @@
 -- Which inner signals of two netlists have one name and other values at an assignment.
-use Rattle.std.specs.Prelude.{◌≡◌, ◌<◌, ◌↔◌, ◌+◌, ℕ, zero, suc, ◌==◌, Bool, true, not, ◌&&◌, cond, if◌then◌else◌, List, [], ◌∷◌, ◌++◌, filter_map, length, slice_index_or, Option, Some, None, count_by, All}
+use Rattle.std.specs.Prelude.{◌≡◌, ◌↔◌, ℕ, zero, suc, ◌==◌, Bool, true, not, ◌&&◌, cond, if◌then◌else◌, List, [], ◌∷◌, ◌++◌, filter_map, length, slice_index_or, Option, Some, None, count_by, Contains}
 use Rattle.net_bench.specs.declared.netlist.GateLine.{GateLine}
 use Rattle.net_bench.specs.Circuit.{Net, circuit, find, gate_of}
 use Rattle.net_bench.specs.Labels.{IsLabelling, bit_of}
@@ -67,6 +67,26 @@ inner_to a b v w (suc r) = inner_to a b v w r ++ filter_map (inner_at a b v w) (
 -- *the inner signals that differ*, by rank in the first netlist, those of one rank in the order of its text
 abbrev pub differing : Net → Net → Viewed → Viewed → List Inner
 differing a b v w = inner_to a b v w (highest a)
+
+-- An inner signal that differs, whatever the list: a signal of a gate of each netlist, on these lines.
+pub record IsInner (a b : Net) (v w : Viewed) (i : Inner) : Type 0 where
+  pub gate : GateLine
+  pub other_gate : GateLine
+  pub among : Contains a.gates gate
+  pub other_among : Contains b.gates other_gate
+  pub out : gate.out ≡ i.first
+  pub other_out : other_gate.out ≡ i.second
+  pub line : gate.line ≡ i.first_line
+  pub other_line : other_gate.line ≡ i.second_line
+  -- the two have one name
+  pub name : slice_index_or a.names i.first [] ≡ slice_index_or b.names i.second []
+  -- both are below the signals that are compared, and they are not these two
+  pub below : bit_of v.below i.first ≡ true
+  pub other_below : bit_of w.below i.second ≡ true
+  pub apart : i.first ≡ v.root → i.second ≡ w.root → ⊥
+  -- they have other values
+  pub value : bit_of v.values i.first ≡ i.value
+  pub other_value : bit_of w.values i.second ≡ not i.value
 
 -- how many gates are below what is seen, and how many of these are not below the signal
 pub record IsPart (n : Net) (v : Viewed) (low : ℕ) (p : Part) : Type 0 where

@@ -1,5 +1,5 @@
 -- The lines of an explanation. A name is a list of bytes.
-use Rattle.std.specs.Prelude.{ℕ, Bool, true, false, not, List, [], ◌∷◌, ◌++◌, Option, Some, None, codes, decimal, length, slice_index_or}
+use Rattle.std.specs.Prelude.{ℕ, Bool, true, false, not, List, [], ◌∷◌, ◌++◌, Option, Some, codes, decimal, length, slice_index_or}
 use Rattle.net_explain.specs.declared.differing.Inner.{Inner}
 use Rattle.net_explain.specs.declared.explaining.Part.{Part}
 use Rattle.net_explain.specs.Explaining.{Explained}

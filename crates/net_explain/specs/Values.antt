@@ -1,5 +1,5 @@
 -- The values of a netlist's signals at an assignment of the variables of a pairing.
-use Rattle.std.specs.Prelude.{◌≡◌, ◌≤◌, ◌⊎◌, ◌+◌, ℕ, Bool, List, length, map, Contains, All}
+use Rattle.std.specs.Prelude.{◌≡◌, ◌≤◌, ◌⊎◌, ℕ, Bool, List, length, map, Contains, All}
 use Rattle.net_bench.specs.declared.netlist.GateLine.{GateLine}
 use Rattle.net_bench.specs.Circuit.{Net, circuit, variables_of}
 use Rattle.net_bench.specs.Labels.{bit_of, value_of}

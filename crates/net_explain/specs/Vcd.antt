@@ -1,5 +1,5 @@
 -- The values of the signals of two netlists as a VCD (value change dump, IEEE 1364) of one step.
-use Rattle.std.specs.Prelude.{ℕ, zero, suc, ◌+◌, ◌-◌, ◌/◌, ◌%◌, Bool, true, false, nat_lt, if◌then◌else◌, List, [], ◌∷◌, ◌++◌, codes, length}
+use Rattle.std.specs.Prelude.{ℕ, zero, suc, ◌+◌, ◌-◌, ◌/◌, ◌%◌, Bool, nat_lt, if◌then◌else◌, List, [], ◌∷◌, ◌++◌, codes, length}
 use Rattle.net_explain.specs.Text.{bit_text}
 
 -- an identifier by its number, of so many bytes at most: printable ASCII, 94 of one byte first, then those of two, and so on

@@ -6,6 +6,7 @@ mod differing;
 mod evaluate;
 mod explaining;
 mod gates;
+pub mod laws;
 mod ranked;
 mod text;
 mod vcd;

@@ -1,4 +1,4 @@
-use Rattle.std.proofs.Common.{◌∙◌, length, map, sym}
+use Rattle.std.proofs.Common.{◌∙◌, length, sym}
 use Rattle.std.proofs.lemmas.List.{length-map}
 use Rattle.net_explain.specs.Values.{level_in}
 use Rattle.net_explain.proofs.Setting.{labelling_of}
