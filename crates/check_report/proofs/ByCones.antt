@@ -1,8 +1,8 @@
 -- Pairs that are judged by their cones: what a comparison of cones says of the whole.
-use Rattle.std.proofs.Common.{◌≡◌, ◌∙◌, ap, sym, refl, subst, arith, inl, inr, ◌⊎◌, ℕ, zero, suc, ◌<◌, ◌*◌, Bool, true, false, List, [], ◌∷◌, ◌++◌, map, length, get_or, All, Option, Some, None, Result, Ok, Err, min}
-use Rattle.std.specs.Prelude.{◌==◌, Contains, IfSome, cond, filter, zip, option_map, slice_index, bytes_eq}
+use Rattle.std.proofs.Common.{◌≡◌, ap, sym, refl, subst, arith, ◌⊎◌, ℕ, suc, ◌<◌, ◌*◌, Bool, true, false, List, [], ◌∷◌, map, length, get_or, All, Option, Some, None, Result, Ok, min}
+use Rattle.std.specs.Prelude.{◌==◌, IfSome, cond, filter, zip, option_map, slice_index}
 use Rattle.std.specs.List.{AllZip}
-use Rattle.std.proofs.lemmas.List.Elements.{All-append, All-cons, All-filter, All-head, All-map, All-nil, All-tail}
+use Rattle.std.proofs.lemmas.List.Elements.{All-cons, All-filter, All-head, All-nil, All-tail}
 use Rattle.expand_work.specs.Bounds.{most_of}
 use Rattle.gate_plan.proofs.Signals.{function, some_function}
 use Rattle.net_bench.specs.Circuit.{Circuit, Net, IsNet, circuit}
@@ -20,7 +20,6 @@ use Rattle.check_report.specs.declared.turns.Turn.{Turn}
 use Rattle.check_report.specs.declared.subject.Subject.{Subject}
 use Rattle.check_report.specs.declared.task.Task.{Task}
 use Rattle.check_report.specs.Best.{order_of}
-use Rattle.check_report.specs.Comparing.{IsInside}
 use Rattle.check_report.specs.Conditions.{HoldsWhere, everywhere, output_of}
 use Rattle.check_report.specs.Cones.{AreCones, IsLeftWithin, IsTold, IsToldOf}
 use Rattle.check_report.specs.Cones.IsToldOf.{decided, undecided}

@@ -1,5 +1,5 @@
 -- The names of variables that a pairing gives: distinct for distinct variables of a netlist.
-use Rattle.std.proofs.Common.{◌≡◌, ◌≢◌, ◌∙◌, ap, sym, refl, subst, arith, inl, inr, ◌⊎◌, ℕ, zero, suc, ◌<◌, ◌≤◌, Bool, true, false, List, [], ◌∷◌, ◌++◌, ◌+◌, length, length-append, get_or, map, set, take, All, Contains, Option, Some, None}
+use Rattle.std.proofs.Common.{◌≡◌, ◌≢◌, ◌∙◌, ap, sym, refl, subst, arith, inl, inr, ℕ, zero, suc, ◌<◌, Bool, true, false, List, [], ◌∷◌, ◌++◌, ◌+◌, length, length-append, get_or, map, set, take, All, Contains, Option, Some}
 use Rattle.std.specs.Prelude.{◌==◌, ◌||◌, cond, slice_index, IfSome}
 use Rattle.std.specs.declared.alloc.Global.{Global}
 use Rattle.std.specs.declared.vec.Vec.{Vec}
@@ -12,7 +12,7 @@ use Rattle.net_cone.specs.Cones.{AreNames}
 use Rattle.net_order.specs.declared.order.Match.{Match}
 use Rattle.net_order.specs.declared.order.Match.TheVariants.{Name, Position}
 use Rattle.net_order.specs.declared.order.Order.{Order}
-use Rattle.net_order.specs.Order.{HasLevels, IsPairing, Paired, Sided, all_names, both, given_side, is_member, level_of, name_of, named, names_by, own, partner, registers_of, variables_in}
+use Rattle.net_order.specs.Order.{HasLevels, IsPairing, Paired, Sided, all_names, both, given_side, is_member, level_of, name_of, named, names_by, own, partner, registers_of}
 use Rattle.net_order.specs.Tables.{IsKnown}
 use Rattle.net_order.proofs.AllNames.{known_given, known_sides}
 use Rattle.net_order.proofs.Members.{contains_member, equal_numbers, no_true}

@@ -1,9 +1,8 @@
 -- The comparison of a pair's cones, and what it says of the pair.
-use Rattle.std.proofs.Common.{◌≡◌, ◌∙◌, ap, sym, refl, subst, ℕ, ◌∷◌, [], List, Option, Some, None, length, map, false}
+use Rattle.std.proofs.Common.{◌≡◌, ◌∙◌, ap, refl, ℕ, ◌∷◌, [], List, Option, Some, None, length, map, false}
 use Rattle.std.specs.Prelude.{IfSome}
-use Rattle.net_bench.specs.Circuit.{Circuit, Net, IsNet, circuit}
+use Rattle.net_bench.specs.Circuit.{IsNet, circuit}
 use Rattle.net_cone.specs.Cones.{variable_name}
-use Rattle.net_order.specs.declared.order.Match.{Match}
 use Rattle.net_order.specs.declared.order.Match.TheVariants.{Name}
 use Rattle.net_order.specs.declared.order.Order.{Order}
 use Rattle.net_order.specs.declared.order.Order.TheVariants.{Declared}

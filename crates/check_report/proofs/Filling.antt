@@ -1,9 +1,9 @@
 -- Verdicts that are found for the pairs that are left, in the places of those.
-use Rattle.std.proofs.Common.{◌≡◌, ◌∙◌, ap, sym, refl, subst, arith, ℕ, ◌<◌, List, [], ◌∷◌, ◌++◌, map, length, Option, Some, None}
+use Rattle.std.proofs.Common.{◌≡◌, refl, arith, List, [], ◌∷◌, length, Option, Some, None}
 use Rattle.std.specs.List.{AllZip}
 use Rattle.report_text.specs.declared.verdict.Verdict.{Verdict}
 use Rattle.check_report.specs.declared.subject.Subject.{Subject}
-use Rattle.check_report.specs.Coning.{IsKnown, all_told, filled, first_filled, left_of, rest_found, told_of}
+use Rattle.check_report.specs.Coning.{IsKnown, all_told, filled, left_of, rest_found, told_of}
 use Rattle.net_bench.specs.Circuit.{Circuit}
 
 -- what is known of all pairs after a round, in which each that was left had its turn

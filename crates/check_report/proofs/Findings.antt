@@ -1,5 +1,5 @@
 -- What a comparison finds by its settings, and the faults that it does not end with.
-use Rattle.std.proofs.Common.{◌≡◌, ◌≢◌, ◌∙◌, ap, sym, refl, subst, inl, inr, ◌⊎◌, ℕ, List, Option, Some, None, Result, Ok, Err, IfErr}
+use Rattle.std.proofs.Common.{◌≡◌, ◌≢◌, ◌∙◌, sym, subst, inl, inr, ℕ, Option, None, Result, Ok, Err, IfErr}
 use Rattle.std.specs.Prelude.{IfOk}
 use Rattle.expand_work.specs.declared.fault.WaveFault.TheVariants.{Full, NoWorker, TooManyRequests}
 use Rattle.net_bench.specs.Circuit.{circuit}
@@ -15,8 +15,8 @@ use Rattle.check_report.specs.declared.fault.CheckFault.TheVariants.{GivenUp, On
 use Rattle.check_report.specs.declared.settings.Settings.{Settings}
 use Rattle.check_report.specs.declared.task.Task.{Task}
 use Rattle.net_order.specs.declared.order.Match.{Match}
-use Rattle.check_report.specs.Best.{IsAllowed, IsBudget, IsChosen, order_of, whole_limit}
-use Rattle.check_report.specs.Check.{AreAccepted, AreGiven, IsCheckFault, IsJudged, IsLate}
+use Rattle.check_report.specs.Best.{IsAllowed, IsChosen, whole_limit}
+use Rattle.check_report.specs.Check.{AreGiven, IsCheckFault, IsJudged}
 use Rattle.check_report.specs.Coning.{EndsAuto, EndsCones, IsToldByCones}
 use Rattle.check_report.specs.Deciding.{HasCause, IsFoundBy}
 use Rattle.check_report.specs.Deciding.IsFoundBy.{by_cones, in_order}

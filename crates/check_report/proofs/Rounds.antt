@@ -1,5 +1,5 @@
 -- Candidates that are tried in turn, and those that are given up.
-use Rattle.std.proofs.Common.{◌≡◌, ◌≢◌, ◌⊎◌, ◌&&◌, inl, inr, ◌∙◌, ap, sym, subst, arith, refl, lit<, get_or, length, take, ◌+◌, ℕ, zero, suc, ◌*◌, ◌^◌, ◌<◌, ◌≤◌, min, Bool, true, false, List, [], ◌∷◌, ◌++◌, All, Contains, Option, Some, None, IfSome}
+use Rattle.std.proofs.Common.{◌≡◌, ◌≢◌, ◌⊎◌, ◌&&◌, inl, inr, ◌∙◌, sym, subst, arith, refl, lit<, get_or, length, take, ◌+◌, ℕ, zero, suc, ◌*◌, ◌^◌, ◌<◌, ◌≤◌, Bool, true, false, List, [], ◌∷◌, ◌++◌, All, Contains, Option, IfSome}
 use Rattle.std.proofs.lemmas.List.Elements.{All-contains, All-more, All-push, Contains-append_left, Contains-push}
 use Rattle.std.proofs.lemmas.List.Sorted.{All-permutation, Contains-permutation}
 use Rattle.std.proofs.lemmas.List.{take_all}
@@ -14,17 +14,17 @@ use Rattle.check_report.specs.declared.choice.Attempt.{Attempt}
 use Rattle.check_report.specs.declared.choice.Candidate.{Candidate}
 use Rattle.check_report.specs.declared.choice.Candidate.TheVariants.{Interleave, Force, Index, Depth, Declared}
 use Rattle.check_report.specs.declared.fault.CheckFault.{CheckFault}
-use Rattle.check_report.specs.declared.fault.CheckFault.TheVariants.{Order as OrderRefused, Wave, GivenUp, Write, OutOfMemory}
+use Rattle.check_report.specs.declared.fault.CheckFault.TheVariants.{Order as OrderRefused, Wave, GivenUp, OutOfMemory}
 use Rattle.check_report.specs.declared.task.Task.{Task}
 use Rattle.check_report.specs.declared.trials.Trial.{Trial}
-use Rattle.check_report.specs.Best.{AllBefore, AreGivenUp, IsBudget, IsGivenUpWithin, first_budget, order_of}
+use Rattle.check_report.specs.Best.{AllBefore, AreGivenUp, IsGivenUpWithin, first_budget, order_of}
 use Rattle.report_text.specs.Lines.{Found}
 use Rattle.check_report.specs.Check.{AreAccepted, AreGiven, IsCheckFault, IsJudged, IsLate}
 use Rattle.check_report.specs.Report.{AreVerdicts}
 use Rattle.check_report.specs.Devices.{Told}
 use Rattle.check_report.specs.Limits.{AreBeyond, AreWithin, Exceeds, FitsWithin}
 use Rattle.check_report.proofs.Budgets.{each_smaller}
-use Rattle.check_report.specs.Trials.{AreGivenUpTrials, ArePassed, ArePassedBefore, AreTrials, AsksMore, EndsAtOnce, EndsSearch, IsFull, IsPairingIn, IsPassed, IsTrial, IsTried, NeedsMore, WasGivenUp}
+use Rattle.check_report.specs.Trials.{AreGivenUpTrials, ArePassed, ArePassedBefore, AreTrials, AsksMore, EndsAtOnce, IsFull, IsPairingIn, IsPassed, IsTrial, IsTried, NeedsMore, WasGivenUp}
 
 -- ---- orders
 

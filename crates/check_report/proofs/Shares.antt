@@ -1,5 +1,5 @@
 -- Each pair is dealt to one share.
-use Rattle.std.proofs.Common.{◌≡◌, ◌⊎◌, inl, inr, ℕ, zero, suc, ◌+◌, ◌-◌, ◌/◌, ◌%◌, ◌<◌, ◌≤◌, List, [], ◌∷◌, Bool, true, false, refl, sym, ap, ◌∙◌, subst, length, get_or, arith, All}
+use Rattle.std.proofs.Common.{◌≡◌, ◌⊎◌, inl, inr, ℕ, zero, suc, ◌+◌, ◌-◌, ◌/◌, ◌%◌, ◌<◌, ◌≤◌, List, [], ◌∷◌, Bool, true, false, refl, sym, ap, ◌∙◌, subst, length, arith, All}
 use Rattle.std.specs.Prelude.{Contains, IsTrue, ◌==◌, cond, count_by, slice_index, ◌↔◌}
 use Rattle.std.specs.List.{AllZip}
 use Rattle.std.specs.List.Sorted.{IsPermutation}
@@ -12,7 +12,7 @@ use Rattle.net_cone.specs.Cones.{HasGates, IsBelow}
 use Rattle.net_order.specs.Force.{numbers_below}
 use Rattle.check_report.specs.declared.subject.Subject.{Subject}
 use Rattle.check_report.specs.Picking.{AreShares, ComesBefore, HasWeight, dealt}
-use Rattle.check_report.proofs.Dealing.{number_at, numbers_long, order_long, shares_long}
+use Rattle.check_report.proofs.Dealing.{number_at, numbers_long, shares_long}
 
 -- ---- a pair's share is one of those that there are
 

@@ -6,7 +6,6 @@ use Rattle.std.specs.Borrow.{Bor}
 use Rattle.net_order.specs.declared.order.Match.{Match}
 use Rattle.net_order.specs.declared.order.Order.{Order}
 use Rattle.net_order.specs.declared.order.Order.TheVariants as orders
-use Rattle.check_report.specs.declared.choice.Candidate.{Candidate}
 use Rattle.check_report.specs.declared.choice.Candidate.TheVariants.{Interleave, Declared}
 use Rattle.check_report.specs.declared.choice.Choice.{Choice}
 use Rattle.check_report.specs.declared.choice.Choice.TheVariants.{One, Best, Auto, Cones}

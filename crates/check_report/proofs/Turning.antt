@@ -1,17 +1,14 @@
 -- Turns of pairs, and rounds of budgets.
-use Rattle.std.proofs.Common.{◌≡◌, ◌∙◌, ap, sym, refl, subst, arith, inl, inr, ◌⊎◌, ℕ, zero, suc, ◌+◌, ◌<◌, ◌≤◌, ◌*◌, ◌^◌, List, [], ◌∷◌, ◌++◌, map, length, get_or, drop, All, Option, Some, None, Result, Ok, Err, append_assoc, length-append}
-use Rattle.std.specs.Prelude.{slice_index}
+use Rattle.std.proofs.Common.{◌≡◌, ◌∙◌, ap, sym, refl, subst, arith, ℕ, zero, suc, ◌+◌, ◌<◌, ◌≤◌, ◌*◌, ◌^◌, List, [], ◌∷◌, ◌++◌, length, get_or, drop, All, Option, None, append_assoc, length-append}
 use Rattle.std.specs.List.{AllZip}
-use Rattle.std.proofs.lemmas.Bool.{cases_lt}
 use Rattle.std.proofs.lemmas.List.{drop_more}
 use Rattle.report_text.specs.declared.verdict.Verdict.{Verdict}
 use Rattle.net_bench.specs.Circuit.{Circuit}
 use Rattle.check_report.specs.declared.coning.Whole.{Whole}
-use Rattle.check_report.specs.declared.fault.CheckFault.{CheckFault}
 use Rattle.check_report.specs.declared.subject.Subject.{Subject}
 use Rattle.check_report.specs.declared.turns.Turn.{Turn}
 use Rattle.check_report.specs.Best.{IsBudget}
-use Rattle.check_report.specs.Coning.{IsKnown, IsLeftIn, IsRoundOf, IsToldIn, all_told, filled, first_filled, left_of, rest_found, told_of}
+use Rattle.check_report.specs.Coning.{IsKnown, IsLeftIn, IsRoundOf, IsToldIn, all_told, told_of}
 use Rattle.check_report.proofs.Budgets.{each_budget, tried_next}
 use Rattle.check_report.proofs.Filling.{filled_known}
 

@@ -15,7 +15,7 @@ use Rattle.check_report.specs.declared.choice.Choice.TheVariants.{One, Best, Aut
 use Rattle.check_report.specs.declared.picked.Picked.{Picked}
 use Rattle.check_report.specs.declared.settings.Settings.{Settings}
 use Rattle.check_report.specs.declared.subject.Subject.{Subject}
-use Rattle.check_report.specs.Best.{IsBudget, IsChosen, IsGivenUpWithin, MayGoByCones, order_of, told_kind, whole_limit}
+use Rattle.check_report.specs.Best.{IsBudget, IsChosen, IsGivenUpWithin, order_of, told_kind, whole_limit}
 use Rattle.check_report.specs.Check.{ArePaired, Gives, IsJudged}
 use Rattle.check_report.specs.Cones.{AreTold, IsLeft}
 use Rattle.check_report.specs.Devices.{Told}

@@ -73,7 +73,14 @@ fn told_over<H>(
     };
     let name = whole.task.first.name(subject.named);
     let levels = whole.pairing.names().len();
-    let verdict = widened(whole.task.alloc, verdict, subject.role, name, levels, places)?;
+    let verdict = widened(
+        whole.task.alloc,
+        verdict,
+        subject.role,
+        name,
+        levels,
+        places,
+    )?;
     Ok(Some(verdict))
 }
 

@@ -1,7 +1,6 @@
-use Rattle.std.proofs.Common.{◌≡◌, ◌∙◌, ◌<◌, ◌≤◌, ◌*◌, ◌^◌, ℕ, subst, sym, arith}
-use Rattle.check_report.specs.declared.attempts.Round.TheVariants.{Decided}
+use Rattle.std.proofs.Common.{◌≡◌, ◌∙◌, ◌≤◌, subst, sym, arith}
 use Rattle.check_report.specs.declared.choice.Candidate.TheVariants.{Interleave}
-use Rattle.check_report.specs.Best.{AllBefore, first_budget, order_of}
+use Rattle.check_report.specs.Best.{AllBefore, order_of}
 use Rattle.check_report.specs.Trials.{ArePassed, Decides, IsFirstRound, IsPassed, IsRound}
 use Rattle.check_report.proofs.Budgets.{each_budget, first_is_one}
 use Rattle.check_report.specs.declared.choice.Candidate.{Candidate}

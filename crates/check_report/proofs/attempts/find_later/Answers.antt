@@ -1,4 +1,4 @@
-use Rattle.std.proofs.Common.{◌≡◌, ◌<◌, ◌≤◌, ◌*◌, ◌^◌, suc, subst, sym, refl, arith, lit<}
+use Rattle.std.proofs.Common.{◌≡◌, ◌≤◌, ◌*◌, ◌^◌, suc, subst, refl, arith, lit<}
 use Rattle.check_report.specs.declared.choice.Candidate.{Candidate}
 use Rattle.check_report.specs.declared.choice.Candidate.TheVariants.{Interleave}
 use Rattle.check_report.specs.Best.{order_of}

@@ -1,4 +1,4 @@
-use Rattle.std.proofs.Common.{◌≡◌, ◌∙◌, ap, sym, subst, inl, inr, All}
+use Rattle.std.proofs.Common.{◌∙◌, ap, sym, subst, All}
 use Rattle.std.specs.List.{AllZip}
 use Rattle.net_bench.specs.Circuit.{circuit}
 use Rattle.net_order.specs.declared.order.Order.TheVariants.{Declared}

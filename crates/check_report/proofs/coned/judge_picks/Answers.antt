@@ -1,7 +1,6 @@
-use Rattle.std.proofs.Common.{◌≡◌, ◌∙◌, ap, sym, subst, refl, length}
+use Rattle.std.proofs.Common.{sym, subst, length}
 use Rattle.std.specs.Prelude.{slice_index}
 use Rattle.net_bench.specs.Circuit.{circuit, variables_of}
-use Rattle.net_cone.specs.Cones.{AreNames}
 use Rattle.net_order.specs.declared.order.Order.TheVariants.{Declared}
 use Rattle.net_order.specs.Order.{condition}
 use Rattle.net_order.proofs.InputLevels.{first_below, second_below}

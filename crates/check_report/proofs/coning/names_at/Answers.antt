@@ -1,8 +1,6 @@
-use Rattle.std.proofs.Common.{◌≡◌, ◌∙◌, ◌++◌, ◌∷◌, [], ap, sym, map, take, get_or, arith}
-use Rattle.std.proofs.lemmas.List.{map_more}
+use Rattle.std.proofs.Common.{◌≡◌, ◌∙◌, ◌∷◌, [], ap, sym, get_or}
 use Rattle.std.proofs.lemmas.Option.{get_or_from_slice_get}
 use Rattle.net_cone.specs.Cones.{variable_name}
-use Rattle.check_report.specs.Coning.{texts}
 use Rattle.check_report.proofs.Called.{texts_more}
 use Rattle.check_report.proofs.coning.names_at.Goals as goal
 

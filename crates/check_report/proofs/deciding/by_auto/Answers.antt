@@ -19,9 +19,11 @@ returns-in-Ok-find_attempt-clause-found g c = λ told ga.
     let d = c.in-Ok-find_attempt.ensures.decided in
     let t = c.in-Ok-find_attempt.decided.trial in
     in_order orders.Declared (judged task told ga orders.Declared c.in-Ok.declared _ _ c.in-Ok.ensures.paired c.of.ensures d.verdicts_of)
-    (subst (λ o. IsChosen told task.settings.now.matching o task.settings.now.limit (Some (record { order = t.candidate; budget = c.in-Ok-find_attempt.decided.budget })) orders.Declared) (sym c.requires.auto)
-    (refl, subst (λ n. IsBudget n c.in-Ok-find_attempt.decided.budget) c.min-limit.ensures c.in-Ok-find_attempt.ensures.budget,
-    within task told ga (order_of t.candidate) t.pairing c.in-Ok-find_attempt.decided.budget d.paired d.within))
+    (subst (λ o. IsChosen told task.settings.now.matching o task.settings.now.limit (Some (record { order = t.candidate; budget = c.in-Ok-find_attempt.decided.budget })) orders.Declared) (sym c.requires.auto) (
+      refl,
+      subst (λ n. IsBudget n c.in-Ok-find_attempt.decided.budget) c.min-limit.ensures c.in-Ok-find_attempt.ensures.budget,
+      within task told ga (order_of t.candidate) t.pairing c.in-Ok-find_attempt.decided.budget d.paired d.within,
+    ))
 
 pub returns-in-Ok-find_attempt-clause-passed : goal.returns-in-Ok-find_attempt-clause-passed
 returns-in-Ok-find_attempt-clause-passed g c = λ told ga.

@@ -1,4 +1,4 @@
-use Rattle.std.proofs.Common.{◌≡◌, ap, subst, sym, Err}
+use Rattle.std.proofs.Common.{◌≡◌, ap, Err}
 use Rattle.net_bench.specs.Circuit.{circuit}
 use Rattle.check_report.specs.declared.fault.CheckFault.TheVariants.{Only}
 use Rattle.check_report.proofs.Findings.{cones_end, cones_fault, found_by_cones}

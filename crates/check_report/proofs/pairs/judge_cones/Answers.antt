@@ -1,4 +1,4 @@
-use Rattle.std.proofs.Common.{◌≡◌, ap, sym, subst, map, Ok}
+use Rattle.std.proofs.Common.{◌≡◌, ap, subst, map, Ok}
 use Rattle.net_cone.specs.Cones.{variable_name}
 use Rattle.check_report.specs.Coning.{IsWidened}
 use Rattle.check_report.proofs.ConeTasks.{judged_pair, one_pair}

@@ -1,4 +1,4 @@
-use Rattle.std.proofs.Common.{◌≡◌, ◌<◌, ◌≤◌, ◌*◌, ◌^◌, ℕ, IfOk, refl, subst, suc, arith, lit<}
+use Rattle.std.proofs.Common.{◌<◌, ◌≤◌, ◌*◌, ◌^◌, ℕ, IfOk, refl, subst, suc, arith, lit<}
 use Rattle.check_report.proofs.Budgets.{next_budget}
 use Rattle.check_report.proofs.Filling.{length_known}
 use Rattle.check_report.specs.Best.{IsBudget}

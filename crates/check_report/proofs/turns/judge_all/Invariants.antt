@@ -1,4 +1,4 @@
-use Rattle.std.proofs.Common.{◌-◌, ◌≡◌, ◌<◌, ◌*◌, ◌^◌, ℕ, length}
+use Rattle.std.proofs.Common.{◌-◌, ◌≡◌, ◌<◌, ◌*◌, ◌^◌, ℕ}
 use Rattle.std.specs.List.{AllZip}
 use Rattle.check_report.specs.Coning.{IsKnown, IsLeftIn, IsToldIn}
 use Rattle.check_report.proofs.turns.judge_all.Given as goal
