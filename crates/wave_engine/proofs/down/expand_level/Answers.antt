@@ -32,10 +32,7 @@ loop-place-preserved c =
     let U : List (List Key) = c.place_child.new.requests in
     let V : List (List Key) = c.place_child-in-loop-place.new.requests in
     let more : open_of c.push.new.self ≡ open_of c.loop-place.rows ++ (c.in_ok-low.low, c.in_ok-high.high) ∷ [] = c.in_ok-push.ensures.pushed in
-    record {
-      lists = c.push.ensures.lists ∙ c.loop-place.invariant.lists;
-      expanded = subst (IsRowExpanded c.args.store.now c.args.entries.now c.args.requests.now c.args.table.now v (i + 1) V) (sym more)
-          (row_more c.args.store.now c.levels.ensures.sound c.args.entries.now c.args.requests.now c.args.table.now v i T (open_of c.loop-place.rows) c.loop-place.invariant.expanded k here own c.in_ok-low.low c.in_ok-high.high U V
-          (subst (λ z. Admits T z U) low_is c.place_child.ensures.admits) (subst (IsPlaced U c.in_ok-low.low) low_is c.in_ok-low.ensures.placed)
-          (subst (λ z. Admits U z V) high_is c.place_child-in-loop-place.ensures.admits) (subst (IsPlaced V c.in_ok-high.high) high_is c.in_ok-high.ensures.placed));
-    }
+    record { lists = c.push.ensures.lists ∙ c.loop-place.invariant.lists; expanded = subst (IsRowExpanded c.args.store.now c.args.entries.now c.args.requests.now c.args.table.now v (i + 1) V) (sym more)
+    (row_more c.args.store.now c.levels.ensures.sound c.args.entries.now c.args.requests.now c.args.table.now v i T (open_of c.loop-place.rows) c.loop-place.invariant.expanded k here own c.in_ok-low.low c.in_ok-high.high U V
+    (subst (λ z. Admits T z U) low_is c.place_child.ensures.admits) (subst (IsPlaced U c.in_ok-low.low) low_is c.in_ok-low.ensures.placed)
+    (subst (λ z. Admits U z V) high_is c.place_child-in-loop-place.ensures.admits) (subst (IsPlaced V c.in_ok-high.high) high_is c.in_ok-high.ensures.placed)) }
