@@ -3,7 +3,6 @@
 use Rattle.std.specs.Prelude.{ℕ, ◌+◌, ◌*◌, ◌/◌, ◌%◌, ◌^◌, ◌<◌, ◌==◌, if◌then◌else◌}
 use Rattle.dd_store.specs.declared.reference.Ref.{Ref}
 use Rattle.dd_store.specs.Words.{word_of, reference_of, IsWord}
-use Rattle.slot_table.specs.Mixing.{mix_of}
 use Rattle.req_table.specs.declared.Op.{Op}
 use Rattle.req_table.specs.declared.Op.TheVariants.{And, Or, Xor, Nand, Nor, Xnor}
 use Rattle.req_table.specs.declared.Operation.{Operation}
@@ -19,10 +18,6 @@ op_of n = if n == 0 then And else (if n == 1 then Or else (if n == 2 then Xor el
 -- all sixteen bytes as a number: the word of the second operand above the first word
 abbrev pub key_word : Operation → ℕ
 key_word k = word_of k.g * 2 ^ 64 + first_word k.op k.f
-
--- the number that spreads a request over slots
-abbrev pub key_spread : Operation → ℕ
-key_spread k = mix_of (first_word k.op k.f) (word_of k.g)
 
 -- what a first word says, with the second operand
 abbrev pub operation_of : ℕ → Ref → Operation

@@ -6,17 +6,14 @@ ghost use Rattle.req_table.specs.Operation.{IsRequest};
 ghost use Rattle.req_table.specs.Short.{op_number};
 ghost use Rattle.req_table.specs.Words.{op_of};
 
-mod distinct;
 mod memo;
 mod placed;
 pub mod requests;
 mod table;
 
 use dd_store::Ref;
-pub use distinct::Distinct;
 pub use memo::Memo;
 pub use placed::{Placed, PlacedChild};
-use slot_table::{Spread, mix};
 use std::collections::LinkedList;
 use std::fmt;
 use std::hash::{Hash, Hasher};
@@ -192,19 +189,6 @@ impl Hash for Key {
     fn hash<H: Hasher>(&self, state: &mut H) {
         state.write_u128(self.second.word() as u128 * SECOND_BIT + self.first as u128);
     }
-}
-
-impl Spread for Key {
-    ghost use Rattle.req_table.specs.Words.{key_spread};
-    ghost use Rattle.req_table.specs.Equal.{key_same};
-
-    ghost spread_of = { key_spread };
-
-    fn spread(&self) -> u64 {
-        mix(self.first, self.second.word())
-    }
-
-    ghost same = { key_same };
 }
 
 /// What an operation comes to: its answer, or the request to make at a level; `mark` says that it is the complement of what the request

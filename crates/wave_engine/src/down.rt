@@ -17,7 +17,7 @@ use crate::workspace::Down;
 use dd_store::{Ref, Store};
 use expand_work::WaveFault;
 use req_table::requests::{child, split};
-use req_table::{Child, Distinct, Op, Placed};
+use req_table::{Child, Op, Placed, Table};
 use std::alloc::AllocError;
 
 /// Places a child: a request is asked for at its level.
@@ -65,7 +65,7 @@ pub(crate) fn place_roots(
 fn expand_level(
     store: &Store,
     entries: &[(Op, Ref, Ref)],
-    table: &Distinct,
+    table: &Table,
     requests: &mut Requests,
     rows: &mut ByLevel<(Placed, Placed)>,
     level: u16,

@@ -20,7 +20,7 @@ use crate::up::{reduce, resolve};
 use dd_store::{Ref, Store};
 use expand_work::{Crew, Gate, WaveFault};
 use reduce_up::Rooms;
-use req_table::{Distinct, Op, Placed};
+use req_table::{Op, Placed, Table};
 use std::alloc::{AllocError, Global};
 use std::sync::Wait;
 use std::thread::Threads;
@@ -31,7 +31,7 @@ use std::thread::Threads;
 pub(crate) struct Down {
     pub(crate) requests: Requests,
     /// The requests of the level that was come to last. All levels use it in turn.
-    pub(crate) table: Distinct,
+    pub(crate) table: Table,
     pub(crate) places: ByLevel<u32>,
     pub(crate) rows: ByLevel<(Placed, Placed)>,
     pub(crate) roots: Vec<Placed>,
@@ -127,7 +127,7 @@ impl<'a, R: Threads + Wait + Sync, G: Gate> Workspace<'a, R, G> {
             crew,
             down: Down {
                 requests: Requests::new(alloc),
-                table: Distinct::new(alloc),
+                table: Table::new(alloc),
                 places: ByLevel::new(alloc),
                 rows: ByLevel::new(alloc),
                 roots: Vec::new(alloc),

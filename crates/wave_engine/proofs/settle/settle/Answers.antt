@@ -9,7 +9,7 @@ use Rattle.wave_engine.proofs.settle.settle.Goals as goal
 pub loop-key-init : goal.loop-key-init
 loop-key-init c = record {
   lists = refl;
-  noted = subst (λ (z : List Key). AreNoted [] z (open_of c.args.places.now)) (sym c.clear.ensures) (subst (λ (z : List ℕ). AreNoted [] [] z) (sym c.requires) none_noted);
+  noted = subst (λ (z : List Key). AreNoted [] z (open_of c.args.places.now)) (sym c.restart.ensures) (subst (λ (z : List ℕ). AreNoted [] [] z) (sym c.requires) none_noted);
 }
 
 pub loop-key-preserved : goal.loop-key-preserved
