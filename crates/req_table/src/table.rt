@@ -11,9 +11,6 @@ use std::marker::Model;
 /// A table that has room for more than so many times the requests that it holds gives its memory back when it is emptied.
 const MOST_ROOM: usize = 8;
 
-/// A table that begins anew keeps the memory that so many requests would need, whatever it is to hold.
-const LEAST_KEPT: usize = 8;
-
 /// Requests, each once, in the order of their admission. A place is a number of 32 bits.
 #[derive(Drop)]
 pub struct Table {
@@ -92,33 +89,18 @@ impl Table {
         self.keys.as_slice()
     }
 
-    /// Removes all requests. The memory serves on, unless it is much more than so many need.
-    fn empty(&mut self, count: usize)
-        ensures { self.new ≡ [] }
-    {
-        if self.keys.capacity() / MOST_ROOM > count {
-            self.keys = IndexSet::new(*self.keys.allocator());
-        } else {
-            self.keys.clear();
-        }
-    }
-
     /// Removes all requests. The memory serves on, unless it is much more than these requests needed.
     pub fn clear(&mut self)
         ensures { self.new ≡ [] }
     {
         let count = self.len();
-        if count > 0 {
-            self.empty(count);
+        if count == 0 {
+            return;
         }
-    }
-
-    /// Removes all requests, and has room for so many. The memory serves on, unless it is much more than that.
-    pub fn restart(&mut self, most: usize) -> Result<(), AllocError>
-        ensures { self.new ≡ [] }
-    {
-        self.empty(most.max(LEAST_KEPT));
-        self.keys.reserve(most)?;
-        Ok(())
+        if self.keys.capacity() / MOST_ROOM > count {
+            self.keys = IndexSet::new(*self.keys.allocator());
+        } else {
+            self.keys.clear();
+        }
     }
 }

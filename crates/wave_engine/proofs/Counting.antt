@@ -17,8 +17,7 @@ use Rattle.expand_work.proofs.Once.{append_cases, once_append}
 use Rattle.reduce_up.specs.Waves.{Entry, requests_of}
 use Rattle.reduce_up.proofs.Rooted.{of_entry}
 use Rattle.wave_engine.specs.Bounds.{AreMoreThan, AreAtMost}
-use Rattle.wave_engine.specs.Down.{IsAdmitted, AreAdmitted, IsLevelExpanded, AreExpanded, IsSplitAt}
-use Rattle.wave_engine.specs.Settled.{IsSettled}
+use Rattle.wave_engine.specs.Down.{AreAdmitted, AreExpanded, IsSplitAt}
 use Rattle.wave_engine.specs.Places.{row, StandsAt, IsPlaced, AreNone, IsNextLevel}
 use Rattle.wave_engine.proofs.Placing.{in_lists, stands_some, root_for}
 
@@ -35,51 +34,39 @@ in_back : {X : Type 0} (a b : List X) (x : X) → IsIn b x → IsIn (a ++ b) x
 in_back [] b x h = h
 in_back (y ∷ a) b x h = let w = in_back a b x h in (suc w.0, w.1)
 
--- Of the requests counted before level v, and those of a level u behind them, whose keys are the distinct ones of what is asked there.
-module _ (s : Nodes) (entries : List Entry) (T : List (List Key)) (admitted : AreAdmitted s entries T) (bound left v : ℕ) (c : IsCounted s entries T bound left v) (u : ℕ) (behind : v ≤ u) (keys : List Key) (places : List ℕ)
-    (own : IsSettled (row T u) keys places) where
+-- Of the requests counted before level v, and those of a level u behind them.
+module _ (s : Nodes) (entries : List Entry) (T : List (List Key)) (admitted : AreAdmitted s entries T) (bound left v : ℕ) (c : IsCounted s entries T bound left v) (u : ℕ) (behind : v ≤ u) (own : IsOnce (row T u)) where
   abbrev all : List Key
-  all = c.requests ++ keys
-
-  key_admitted : (p : ℕ) (k : Key) → slice_get keys p ≡ Some k → IsAdmitted s entries u k
-  key_admitted p k h = let q = own.noted.asked p k h in admitted.keys u q.0 k q.1
+  all = c.requests ++ row T u
 
   all_once : IsOnce all
-  all_once = once_append c.requests keys c.once own.once (λ k a b. let m = c.above k a in let at : level_of s k ≡ u = (key_admitted b.0 k b.1).level in omega (arith, m, at, behind))
+  all_once = once_append c.requests (row T u) c.once own (λ k a b. let m = c.above k a in let at : level_of s k ≡ u = (admitted.keys u b.0 k b.1).level in omega (arith, m, at, behind))
 
   all_reached : (k : Key) → IsIn all k → IsReached (wave_of s 1) (requests_of entries) k
-  all_reached k h = elim (append_cases c.requests keys h.0 k h.1) [ inl g ↦ c.reached k (h.0, g) | inr g ↦ (key_admitted g.0 k g.2).reached ]
+  all_reached k h = elim (append_cases c.requests (row T u) h.0 k h.1) [ inl g ↦ c.reached k (h.0, g) | inr g ↦ (admitted.keys u g.0 k g.2).reached ]
 
   all_above : (k : Key) → IsIn all k → level_of s k < u + 1
   all_above k h =
-      elim (append_cases c.requests keys h.0 k h.1) [
+      elim (append_cases c.requests (row T u) h.0 k h.1) [
         | inl g ↦ let m = c.above k (h.0, g) in omega (arith, m, behind)
-        | inr g ↦ let at : level_of s k ≡ u = (key_admitted g.0 k g.2).level in omega (arith, at)
+        | inr g ↦ let at : level_of s k ≡ u = (admitted.keys u g.0 k g.2).level in omega (arith, at)
       ]
 
-  long : length all ≡ length c.requests + length keys
-  long = length-append c.requests keys
-
-  -- what is asked for is one of the keys
-  asked_in : (q : ℕ) (k : Key) → StandsAt T u q k → IsIn keys k
-  asked_in q k h =
-      let n : length places ≡ length (row T u) = own.noted.count in
-      let lt : q < length (row T u) = slice_get_within (row T u) q k h in
-      let p : (x : ℕ) × (slice_get places q ≡ Some x) = stands_some places q (omega (arith, n, lt)) in
-      (p.0, own.noted.placed q p.0 k h p.1)
+  long : length all ≡ length c.requests + length (row T u)
+  long = length-append c.requests (row T u)
 
   all_whole : AreNone T v u → (w q : ℕ) (k : Key) → w ≤ u → StandsAt T w q k → IsIn all k
   all_whole none w q k le h =
       elim (cases_lt w v) [
-        | inl before ↦ let m = c.whole w q k before h in (m.0, slice_get-append c.requests keys m.0 k m.1)
+        | inl before ↦ let m = c.whole w q k before h in (m.0, slice_get-append c.requests (row T u) m.0 k m.1)
         | inr from ↦ elim (cases_lt w u) [
           | inl lt ↦ absurd (none w q k from lt h)
-          | inr ge ↦ let same : w ≡ u = omega (arith, le, ge) in in_back c.requests keys k (asked_in q k (subst (λ z. StandsAt T z q k) same h))
+          | inr ge ↦ let same : w ≡ u = omega (arith, le, ge) in in_back c.requests (row T u) k (q, subst (λ z. StandsAt T z q k) same h)
         ]
       ]
 
   -- those of the level are counted too, in tables that have the same of it and of the levels before
-  pub more_counted : AreNone T v u → (U : List (List Key)) → ((w : ℕ) → w ≤ u → row U w ≡ row T w) → (count rest : ℕ) → count ≡ length keys → rest + count ≡ left → IsCounted s entries U bound rest (u + 1)
+  pub more_counted : AreNone T v u → (U : List (List Key)) → ((w : ℕ) → w ≤ u → row U w ≡ row T w) → (count rest : ℕ) → count ≡ length (row T u) → rest + count ≡ left → IsCounted s entries U bound rest (u + 1)
   more_counted none U still count rest e f = record {
     requests = all;
     once = all_once;
@@ -90,7 +77,7 @@ module _ (s : Nodes) (entries : List Entry) (T : List (List Key)) (admitted : Ar
   }
 
   -- or are too many
-  pub too_many : (count : ℕ) → count ≡ length keys → left < count → AreMoreThan bound s entries
+  pub too_many : (count : ℕ) → count ≡ length (row T u) → left < count → AreMoreThan bound s entries
   too_many count e lt = record {
     requests = all;
     once = all_once;
@@ -99,7 +86,7 @@ module _ (s : Nodes) (entries : List Entry) (T : List (List Key)) (admitted : Ar
   }
 
 -- Of tables whose levels are all expanded.
-module _ (s : Nodes) (entries : List Entry) (roots : List Placed) (T : List (List Key)) (places : List (List ℕ)) (rows : List (List (Placed × Placed))) (x : AreExpanded s entries roots s.levels T places rows) where
+module _ (s : Nodes) (entries : List Entry) (roots : List Placed) (T : List (List Key)) (rows : List (List (Placed × Placed))) (x : AreExpanded s entries roots s.levels T rows) where
   abbrev Stands : Key → Type 0
   Stands k = (w : ℕ) × (q : ℕ) × StandsAt T w q k
 
@@ -110,20 +97,14 @@ module _ (s : Nodes) (entries : List Entry) (roots : List Placed) (T : List (Lis
   children_stand : (k : Key) → Stands k → (b : Bool) (l : ℕ) (c : Key) (m : Bool) → child_of s k b ≡ child.Ask l c m → Stands c
   children_stand k (w, q, h) b l c m asks = by b asks
     where
-      level : IsLevelExpanded s T (row T w) (row places w) (row rows w)
-      level = x.expanded w q k (let lt : w < length T = in_lists T w q k h in let n : length T ≡ s.levels = x.admitted.levels in omega (arith, lt, n)) h
+      fit : w < s.levels
+      fit = let lt : w < length T = in_lists T w q k h in let n : length T ≡ s.levels = x.admitted.levels in omega (arith, lt, n)
 
-      place : (p : ℕ) × (slice_get (row places w) q ≡ Some p)
-      place = stands_some (row places w) q (let n : length (row places w) ≡ length (row T w) = level.settled.noted.count in let lt : q < length (row T w) = slice_get_within (row T w) q k h in omega (arith, n, lt))
-
-      here : slice_get level.keys place.0 ≡ Some k
-      here = level.settled.noted.placed q place.0 k h place.1
-
-      pair : (d : Placed × Placed) × StandsAt rows w place.0 d
-      pair = stands_some (row rows w) place.0 (let n : length (row rows w) ≡ length level.keys = level.count in let lt : place.0 < length level.keys = slice_get_within level.keys place.0 k here in omega (arith, n, lt))
+      pair : (d : Placed × Placed) × StandsAt rows w q d
+      pair = stands_some (row rows w) q (let n : length (row rows w) ≡ length (row T w) = x.counts w q k fit h in let lt : q < length (row T w) = slice_get_within (row T w) q k h in omega (arith, n, lt))
 
       split : IsSplitAt s T k pair.0
-      split = level.split place.0 k pair.0 here pair.1
+      split = x.split w q k pair.0 fit h pair.1
 
       by : (b : Bool) → child_of s k b ≡ child.Ask l c m → Stands c
       by false e = asked_stands pair.0.0 l c m (subst (IsPlaced T pair.0.0) e split.0)

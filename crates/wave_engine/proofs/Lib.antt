@@ -1,7 +1,5 @@
 pub mod Marking
 pub mod Placing
-pub mod Settling
-pub mod Listing
 pub mod Marked
 pub mod Wanted
 pub mod Raising

@@ -14,6 +14,7 @@ use Rattle.req_table.specs.declared.Child.TheVariants as child
 use Rattle.req_table.specs.Keys.{IsKey, IsChildIn, level_of, normal_of, child as child_at, child_of, answer_of}
 use Rattle.req_table.specs.Reached.{root as root_of, child as child_from}
 use Rattle.req_table.specs.Short.{short_of}
+use Rattle.req_table.specs.Tables.{Offers}
 use Rattle.req_table.proofs.Waved.{told, held, deeper, bounded}
 use Rattle.reduce_up.specs.Waves.{Entry, requests_of}
 use Rattle.reduce_up.proofs.Noting.{nothing, in_cases}
@@ -21,8 +22,7 @@ use Rattle.reduce_up.proofs.Rooted.{to_request}
 use Rattle.req_table.specs.declared.placed.Placed.{Placed}
 use Rattle.req_table.specs.declared.placed.PlacedChild.TheVariants.{Done, Ask}
 use Rattle.wave_engine.specs.Places.{row, StandsAt, Enters, IsPlaced, AsksAt, Admits, AreNone}
-use Rattle.wave_engine.specs.Down.{IsAdmitted, AreAdmitted, IsSplitAt, Grow, IsRowExpanded, IsLevelExpanded, AreExpanded}
-use Rattle.wave_engine.specs.Settled.{IsSettled}
+use Rattle.wave_engine.specs.Down.{IsAdmitted, AreAdmitted, IsSplitAt, Grow, IsRowExpanded, AreExpanded}
 
 pub same_level : (w l : ℕ) → (w ≡ l) ⊎ (w ≢ l)
 same_level w l =
@@ -48,12 +48,25 @@ row_own lists v xs lt = get_or-set_same lists v xs [] lt
 pub row_other : {X : Type 0} (lists : List (List X)) (v : ℕ) (xs : List X) (w : ℕ) → w ≢ v → row (set lists v xs) w ≡ row lists w
 row_other lists v xs w ne = get_or-set_other lists v w xs [] ne
 
+-- a key that was offered to a table, and its place there
+pub offered_enters : (old new : List Key) (k : Key) (p : ℕ) (fresh : Bool) → Offers old k fresh new → slice_get new p ≡ Some k → Enters old k p new
+offered_enters old new k p true o at = (at, inr o.1)
+offered_enters old new k p false o at = (at, inl o.1)
+
 -- the place of a key that entered
 entered_kept : (old new : List Key) (k : Key) (p : ℕ) → Enters old k p new → (q : ℕ) (x : Key) → slice_get old q ≡ Some x → slice_get new q ≡ Some x
-entered_kept old new k p e q x h = subst (λ (z : List Key). slice_get z q ≡ Some x) (sym e.1) (slice_get-append old (k ∷ []) q x h)
+entered_kept old new k p e q x h =
+    elim e.1 [
+      | inl same ↦ subst (λ (z : List Key). slice_get z q ≡ Some x) (sym same) h
+      | inr more ↦ subst (λ (z : List Key). slice_get z q ≡ Some x) (sym more) (slice_get-append old (k ∷ []) q x h)
+    ]
 
 entered_only : (old new : List Key) (k : Key) (p : ℕ) → Enters old k p new → (q : ℕ) (x : Key) → slice_get new q ≡ Some x → (slice_get old q ≡ Some x) ⊎ (x ≡ k)
-entered_only old new k p e q x h = elim (slice_get_cases-push old k q x (subst (λ (z : List Key). slice_get z q ≡ Some x) e.1 h)) [ inl o ↦ inl o | inr n ↦ inr n.1 ]
+entered_only old new k p e q x h =
+    elim e.1 [
+      | inl same ↦ inl (subst (λ (z : List Key). slice_get z q ≡ Some x) same h)
+      | inr more ↦ elim (slice_get_cases-push old k q x (subst (λ (z : List Key). slice_get z q ≡ Some x) more h)) [ inl o ↦ inl o | inr n ↦ inr n.1 ]
+    ]
 
 -- a request is placed
 pub ask_admits : (T : List (List Key)) (l : ℕ) (k : Key) (p : ℕ) (new : List Key) → l < length T → Enters (row T l) k p new → (m : Bool) → Admits T (child.Ask l k m) (set T l new)
@@ -141,21 +154,24 @@ child_below S sound es v k b a l c h =
     let m : level_of S k ≡ v = a.level in
     omega (arith, d, t, m)
 
-pub row_start : (S : Nodes) (es : List Entry) (T : List (List Key)) (keys : List Key) (v : ℕ) → AreAdmitted S es T → IsRowExpanded S es T keys v 0 T []
-row_start S es T keys v a = record { admitted = a; grown = λ w q k h. h; above = λ w le. refl; count = refl; split = λ p k d h g. absurd (stands_none [] p d refl g) }
+pub row_start : (S : Nodes) (es : List Entry) (T : List (List Key)) (v : ℕ) → AreAdmitted S es T → IsRowExpanded S es T v 0 T []
+row_start S es T v a = record { admitted = a; grown = λ w q k h. h; above = λ w le. refl; count = refl; split = λ q k d h g. absurd (stands_none [] q d refl g) }
 
 -- one request more is expanded
-pub row_more : (S : Nodes) → IsSound S → (es : List Entry) (T0 : List (List Key)) (keys : List Key) (v i : ℕ) (T : List (List Key)) (pairs : List (Placed × Placed)) → IsRowExpanded S es T0 keys v i T pairs →
-    (k : Key) → slice_get keys i ≡ Some k → IsAdmitted S es v k → (low high : Placed) (T1 T2 : List (List Key)) → Admits T (child_of S k false) T1 → IsPlaced T1 low (child_of S k false) →
-    Admits T1 (child_of S k true) T2 → IsPlaced T2 high (child_of S k true) → IsRowExpanded S es T0 keys v (i + 1) T2 (pairs ++ (low, high) ∷ [])
-row_more S sound es T0 keys v i T pairs so k at own low high T1 T2 m1 p1 m2 p2 = record {
+pub row_more : (S : Nodes) → IsSound S → (es : List Entry) (T0 : List (List Key)) (v i : ℕ) (T : List (List Key)) (pairs : List (Placed × Placed)) → IsRowExpanded S es T0 v i T pairs →
+    (k : Key) → StandsAt T v i k → (low high : Placed) (T1 T2 : List (List Key)) → Admits T (child_of S k false) T1 → IsPlaced T1 low (child_of S k false) →
+    Admits T1 (child_of S k true) T2 → IsPlaced T2 high (child_of S k true) → IsRowExpanded S es T0 v (i + 1) T2 (pairs ++ (low, high) ∷ [])
+row_more S sound es T0 v i T pairs so k at low high T1 T2 m1 p1 m2 p2 = record {
   admitted = admitted_more S es T1 (child_of S k true) T2 (admitted_more S es T (child_of S k false) T1 so.admitted m1 (child_admitted S sound es v k false own)) m2 (child_admitted S sound es v k true own);
   grown = λ w q x h. grown w q x (so.grown w q x h);
   above = λ w le. still w le ∙ so.above w le;
   count = simp length-append (omega (arith, so.count));
-  split = λ p x d h g. by p x d h (slice_get_cases-push pairs (low, high) p d g);
+  split = λ q x d h g. by q x d h (slice_get_cases-push pairs (low, high) q d g);
 }
   where
+    own : IsAdmitted S es v k
+    own = so.admitted.keys v i k at
+
     grown : Grow T T2
     grown w q x h = m2.kept w q x (m1.kept w q x h)
 
@@ -164,92 +180,70 @@ row_more S sound es T0 keys v i T pairs so k at own low high T1 T2 m1 p1 m2 p2 =
         m2.others w (λ x e. let lt : v < w = child_below S sound es v k true own w x e in omega (arith, lt, le))
         ∙ m1.others w (λ x e. let lt : v < w = child_below S sound es v k false own w x e in omega (arith, lt, le))
 
-    by : (p : ℕ) (x : Key) (d : Placed × Placed) → slice_get keys p ≡ Some x → (slice_get pairs p ≡ Some d) ⊎ ((p ≡ length pairs) × (d ≡ (low, high))) → IsSplitAt S T2 x d
-    by p x d h (inl g) =
-        let s = so.split p x d h g in
+    back : (q : ℕ) (x : Key) → StandsAt T2 v q x → StandsAt T v q x
+    back q x h = subst (λ (z : List Key). slice_get z q ≡ Some x) (still v (let le : v ≤ v = omega arith in le)) h
+
+    by : (q : ℕ) (x : Key) (d : Placed × Placed) → StandsAt T2 v q x → (slice_get pairs q ≡ Some d) ⊎ ((q ≡ length pairs) × (d ≡ (low, high))) → IsSplitAt S T2 x d
+    by q x d h (inl g) =
+        let s = so.split q x d (back q x h) g in
         (placed_kept T T2 grown d.0 (child_of S x false) s.0, placed_kept T T2 grown d.1 (child_of S x true) s.1)
-    by p x d h (inr g) =
-        let here : slice_get keys i ≡ Some x = subst (λ z. slice_get keys z ≡ Some x) (g.0 ∙ so.count) h in
-        let same : k ≡ x = some_same (slice_get keys i) k x at here in
+    by q x d h (inr g) =
+        let here : StandsAt T v i x = subst (λ z. StandsAt T v z x) (g.0 ∙ so.count) (back q x h) in
+        let same : k ≡ x = some_same (slice_get (row T v) i) k x at here in
         subst (λ z. IsSplitAt S T2 z d) same
         (subst (λ (z : Placed × Placed). IsSplitAt S T2 k z) (sym g.1) (placed_kept T1 T2 m2.kept low (child_of S k false) p1, p2))
 
 -- before the first level
-pub start_expanded : (S : Nodes) (es : List Entry) (roots : List Placed) (T : List (List Key)) (places : List (List ℕ)) (rows : List (List (Placed × Placed))) → AreAdmitted S es T →
-    AllZip (λ e p. IsPlaced T p (child_at S e.0 e.1 e.2)) es roots → length places ≡ S.levels → length rows ≡ S.levels → AreExpanded S es roots 0 T places rows
-start_expanded S es roots T places rows a z n l = record {
+pub start_expanded : (S : Nodes) (es : List Entry) (roots : List Placed) (T : List (List Key)) (rows : List (List (Placed × Placed))) → AreAdmitted S es T →
+    AllZip (λ e p. IsPlaced T p (child_at S e.0 e.1 e.2)) es roots → length rows ≡ S.levels → AreExpanded S es roots 0 T rows
+start_expanded S es roots T rows a z l = record {
   admitted = a;
   rooted = z;
   levels = l;
-  noted = n;
-  expanded = λ w q k lt h. absurd (omega arith);
-}
-
--- the places of a level that is not expanded may be any
-pub places_beside : (S : Nodes) (es : List Entry) (roots : List Placed) (v : ℕ) (T : List (List Key)) (places : List (List ℕ)) (rows : List (List (Placed × Placed))) (new : List ℕ) →
-    AreExpanded S es roots v T places rows → AreExpanded S es roots v T (set places v new) rows
-places_beside S es roots v T places rows new e = record {
-  admitted = e.admitted;
-  rooted = e.rooted;
-  levels = e.levels;
-  noted = length-set places v new ∙ e.noted;
-  expanded = λ w q k l h. subst (λ (z : List ℕ). IsLevelExpanded S T (row T w) z (row rows w)) (sym (row_other places v new w (λ m. omega (arith, m, l)))) (e.expanded w q k l h);
-}
-
--- a level that is expanded stays so as the tables grow
-pub level_kept : (S : Nodes) (T U : List (List Key)) → Grow T U → (asks : List Key) (places : List ℕ) (pairs : List (Placed × Placed)) → IsLevelExpanded S T asks places pairs → IsLevelExpanded S U asks places pairs
-level_kept S T U g asks places pairs l = record {
-  keys = l.keys;
-  settled = l.settled;
-  count = l.count;
-  split = λ p k d h f. let s = l.split p k d h f in (placed_kept T U g d.0 (child_of S k false) s.0, placed_kept T U g d.1 (child_of S k true) s.1);
+  counts = λ w q k lt h. absurd (omega arith);
+  split = λ w q k d lt. absurd (omega arith);
 }
 
 -- one level more is expanded
-pub level_more : (S : Nodes) (es : List Entry) (roots : List Placed) (v : ℕ) (T : List (List Key)) (places : List (List ℕ)) (rows : List (List (Placed × Placed))) → v < S.levels → AreExpanded S es roots v T places rows →
-    (keys : List Key) (noted : List ℕ) → IsSettled (row T v) keys noted →
-    (U : List (List Key)) (pairs : List (Placed × Placed)) → IsRowExpanded S es T keys v (length keys) U pairs → AreExpanded S es roots (v + 1) U (set places v noted) (set rows v pairs)
-level_more S es roots v T places rows lt e keys noted settled U pairs r = record {
+pub level_more : (S : Nodes) (es : List Entry) (roots : List Placed) (v : ℕ) (T : List (List Key)) (rows : List (List (Placed × Placed))) → v < S.levels → AreExpanded S es roots v T rows →
+    (U : List (List Key)) (pairs : List (Placed × Placed)) → IsRowExpanded S es T v (length (row T v)) U pairs → AreExpanded S es roots (v + 1) U (set rows v pairs)
+level_more S es roots v T rows lt e U pairs r = record {
   admitted = r.admitted;
   rooted = all_placed_kept S T U r.grown es roots e.rooted;
   levels = length-set rows v pairs ∙ e.levels;
-  noted = length-set places v noted ∙ e.noted;
-  expanded = λ w q k l h. expanded w q k l h (same_level w v);
+  counts = λ w q k l h. counts w q k l h (same_level w v);
+  split = λ w q k d l h g. split w q k d l h g (same_level w v);
 }
   where
-    rowed : v < length rows
-    rowed = let m : length rows ≡ S.levels = e.levels in omega (arith, m, lt)
+    here : v < length rows
+    here = let m : length rows ≡ S.levels = e.levels in omega (arith, m, lt)
 
-    placed : v < length places
-    placed = let m : length places ≡ S.levels = e.noted in omega (arith, m, lt)
-
-    own : IsLevelExpanded S U (row T v) noted pairs
-    own = record { keys = keys; settled = settled; count = r.count; split = r.split }
-
-    at_own : IsLevelExpanded S U (row U v) (row (set places v noted) v) (row (set rows v pairs) v)
-    at_own =
-        subst (λ (z : List (Placed × Placed)). IsLevelExpanded S U (row U v) (row (set places v noted) v) z) (sym (row_own rows v pairs rowed))
-        (subst (λ (z : List ℕ). IsLevelExpanded S U (row U v) z pairs) (sym (row_own places v noted placed))
-        (subst (λ (z : List Key). IsLevelExpanded S U z noted pairs) (sym (r.above v (let le : v ≤ v = omega arith in le))) own))
-
-    expanded : (w q : ℕ) (k : Key) → w < v + 1 → StandsAt U w q k → (w ≡ v) ⊎ (w ≢ v) → IsLevelExpanded S U (row U w) (row (set places v noted) w) (row (set rows v pairs) w)
-    expanded w q k l h (inl d) = subst (λ z. IsLevelExpanded S U (row U z) (row (set places v noted) z) (row (set rows v pairs) z)) (sym d) at_own
-    expanded w q k l h (inr d) =
+    counts : (w q : ℕ) (k : Key) → w < v + 1 → StandsAt U w q k → (w ≡ v) ⊎ (w ≢ v) → length (row (set rows v pairs) w) ≡ length (row U w)
+    counts w q k l h (inl d) =
+        subst (λ z. length (row (set rows v pairs) z) ≡ length (row U z)) (sym d)
+        (ap length (row_own rows v pairs here) ∙ r.count ∙ sym (ap length (r.above v (let le : v ≤ v = omega arith in le))))
+    counts w q k l h (inr d) =
         let le : w < v = grind (arith, l, d) in
-        let same : row U w ≡ row T w = r.above w (omega (arith, le)) in
-        let was : IsLevelExpanded S T (row T w) (row places w) (row rows w) = e.expanded w q k le (subst (λ (z : List Key). slice_get z q ≡ Some k) same h) in
-        subst (λ (z : List (Placed × Placed)). IsLevelExpanded S U (row U w) (row (set places v noted) w) z) (sym (row_other rows v pairs w d))
-        (subst (λ (z : List ℕ). IsLevelExpanded S U (row U w) z (row rows w)) (sym (row_other places v noted w d))
-        (subst (λ (z : List Key). IsLevelExpanded S U z (row places w) (row rows w)) (sym same) (level_kept S T U r.grown (row T w) (row places w) (row rows w) was)))
+        ap length (row_other rows v pairs w d) ∙ e.counts w q k le (subst (λ (z : List Key). slice_get z q ≡ Some k) (r.above w (omega (arith, le))) h) ∙ sym (ap length (r.above w (omega (arith, le))))
 
--- levels where nothing is asked are passed over
-pub levels_passed : (S : Nodes) (es : List Entry) (roots : List Placed) (v u : ℕ) (T : List (List Key)) (places : List (List ℕ)) (rows : List (List (Placed × Placed))) → AreExpanded S es roots v T places rows → AreNone T v u → AreExpanded S es roots u T places rows
-levels_passed S es roots v u T places rows e none = record {
+    split : (w q : ℕ) (k : Key) (d : Placed × Placed) → w < v + 1 → StandsAt U w q k → StandsAt (set rows v pairs) w q d → (w ≡ v) ⊎ (w ≢ v) → IsSplitAt S U k d
+    split w q k d l h g (inl m) =
+        r.split q k d (subst (λ z. StandsAt U z q k) m h)
+        (subst (λ (z : List (Placed × Placed)). slice_get z q ≡ Some d) (row_own rows v pairs here) (subst (λ z. StandsAt (set rows v pairs) z q d) m g))
+    split w q k d l h g (inr m) =
+        let le : w < v = grind (arith, l, m) in
+        let s = e.split w q k d le (subst (λ (z : List Key). slice_get z q ≡ Some k) (r.above w (omega (arith, le))) h)
+        (subst (λ (z : List (Placed × Placed)). slice_get z q ≡ Some d) (row_other rows v pairs w m) g) in
+        (placed_kept T U r.grown d.0 (child_of S k false) s.0, placed_kept T U r.grown d.1 (child_of S k true) s.1)
+
+-- levels without requests are passed over
+pub levels_passed : (S : Nodes) (es : List Entry) (roots : List Placed) (v u : ℕ) (T : List (List Key)) (rows : List (List (Placed × Placed))) → AreExpanded S es roots v T rows → AreNone T v u → AreExpanded S es roots u T rows
+levels_passed S es roots v u T rows e none = record {
   admitted = e.admitted;
   rooted = e.rooted;
   levels = e.levels;
-  noted = e.noted;
-  expanded = λ w q k lt h. elim (cases_lt w v) [ inl l ↦ e.expanded w q k l h | inr le ↦ absurd (none w q k le lt h) ];
+  counts = λ w q k lt h. elim (cases_lt w v) [ inl l ↦ e.counts w q k l h | inr le ↦ absurd (none w q k le lt h) ];
+  split = λ w q k d lt h g. elim (cases_lt w v) [ inl l ↦ e.split w q k d l h g | inr le ↦ absurd (none w q k le lt h) ];
 }
 
 -- a request that is told with its level fits the tables

@@ -34,9 +34,8 @@ use Rattle.reduce_up.proofs.Rooted.{of_entry, requests_good}
 use Rattle.req_table.specs.declared.placed.Placed.{Placed}
 use Rattle.req_table.specs.declared.placed.PlacedChild.TheVariants.{Done, Ask}
 use Rattle.wave_engine.specs.Places.{row, StandsAt, IsPlaced, AreNone}
-use Rattle.wave_engine.specs.Down.{IsAdmitted, IsLevelExpanded, AreExpanded}
-use Rattle.wave_engine.specs.Settled.{IsAt}
-use Rattle.wave_engine.specs.Up.{ComesTo, IsBelow, IsKnown, AskedAt, IsReadyAt, IsLevelReduced, AreSpread, IsLevelFault, AreReducedBelow}
+use Rattle.wave_engine.specs.Down.{IsAdmitted, AreExpanded}
+use Rattle.wave_engine.specs.Up.{ComesTo, IsBelow, IsKnown, AskedAt, IsReadyAt, IsLevelReduced, IsLevelFault, AreReducedBelow}
 use Rattle.wave_engine.proofs.Placing.{some_same, stands_none, stands_some}
 use Rattle.wave_engine.proofs.Wanted.{level_adds, lacks_wanted}
 
@@ -49,12 +48,27 @@ one_answer : (A : List (List Ref)) (d : Placed) (r s : Ref) → ComesTo A d r �
 one_answer A (Done x) r s e f = e ∙ sym f
 one_answer A (Ask l p m) r s e f = e.2 ∙ ap (mark_by m) (some_same (slice_get (row A l) p) e.0 f.0 e.1 f.1) ∙ sym f.2
 
+-- answers of another level leave it
+comes_on : (A B : List (List Ref)) (v : ℕ) → ((w : ℕ) → (w ≡ v → ⊥) → row B w ≡ row A w) → (d : Placed) → IsBelow v d → (r : Ref) → ComesTo A d r → ComesTo B d r
+comes_on A B v same (Done x) b r c = c
+comes_on A B v same (Ask l p m) b r c = (c.0, subst (λ (z : List Ref). slice_get z p ≡ Some c.0) (sym (same l (λ e. omega (arith, e, b)))) c.1, c.2)
+
+-- answers of a level leave it ready
+pub ready_beside : (s : Nodes) (T : List (List Key)) (pairs : List (Placed × Placed)) (A B : List (List Ref)) (v : ℕ) → ((w : ℕ) → (w ≡ v → ⊥) → row B w ≡ row A w) → IsReadyAt s T pairs A v → IsReadyAt s T pairs B v
+ready_beside s T pairs A B v same R = record {
+  bounded = R.bounded;
+  counts = R.counts;
+  keys = R.keys;
+  low = λ q k d h g. let n = R.low q k d h g in (n.0, (n.1.0, comes_on A B v same d.0 n.0 n.1.0 n.1.1, n.1.2));
+  high = λ q k d h g. let n = R.high q k d h g in (n.0, (n.1.0, comes_on A B v same d.1 n.0 n.1.0 n.1.1, n.1.2));
+}
+
 -- Of level v the first i requests are reduced, and one more is to be.
-module _ (s0 : Nodes) (sound : IsSound s0) (T : List (List Key)) (places : List ℕ) (pairs : List (Placed × Placed)) (A : List (List Ref)) (v : ℕ) (R : IsReadyAt s0 T places pairs A v)
-    (i : ℕ) (s : Nodes) (own : List Ref) (so : IsLevelReduced s0 T places v i s own) (d : Placed × Placed) (at : slice_get pairs i ≡ Some d) where
+module _ (s0 : Nodes) (sound : IsSound s0) (T : List (List Key)) (pairs : List (Placed × Placed)) (A : List (List Ref)) (v : ℕ) (R : IsReadyAt s0 T pairs A v)
+    (i : ℕ) (s : Nodes) (own : List Ref) (so : IsLevelReduced s0 T v i s own) (d : Placed × Placed) (at : slice_get pairs i ≡ Some d) where
   -- the request at that place
-  pub here : (k : Key) × IsAt (row T v) places i k
-  here = R.asked i d at
+  pub here : (k : Key) × StandsAt T v i k
+  here = stands_some (row T v) i (let e : length pairs ≡ length (row T v) = R.counts in let lt : i < length pairs = slice_get_within pairs i d at in omega (arith, e, lt))
 
   pub low_comes : (r : Ref) × ComesTo A d.0 r
   low_comes = let k = R.low i here.0 d here.1 at in (k.1.0, k.1.1)
@@ -70,7 +84,7 @@ module _ (s0 : Nodes) (sound : IsSound s0) (T : List (List Key)) (places : List 
       let el : low.1.0 ≡ lo = one_answer A d.0 low.1.0 lo low.1.1 cl in
       let eh : high.1.0 ≡ hi = one_answer A d.1 high.1.0 hi high.1.1 ch in
       record_kept s0 s sound so.adds.keeps v (rec here.0 lo hi) (record {
-        key = R.keys here.1.0 here.0 here.1.1;
+        key = R.keys i here.0 here.1;
         low = subst (IsAnswerAt s0 v here.0 false) el low.1.2;
         high = subst (IsAnswerAt s0 v here.0 true) eh high.1.2;
       })
@@ -86,7 +100,7 @@ module _ (s0 : Nodes) (sound : IsSound s0) (T : List (List Key)) (places : List 
       L = j.keeps
 
       key : IsKeyAt s0 v here.0
-      key = R.keys here.1.0 here.0 here.1.1
+      key = R.keys i here.0 here.1
 
       earlier : (m : Ref) → Has s m → Has s0 m ⊎ ((w : ℕ) × (lo : Ref) × (hi : Ref) × (part s m ≡ node w lo hi) × OfEither (AskedAt s0 T v w) (den s m)) → Has s0 m ⊎ ((w : ℕ) × (lo : Ref) × (hi : Ref) × (part u m ≡ node w lo hi) × OfEither (AskedAt s0 T v w) (den u m))
       earlier m h (inl k) = inl k
@@ -98,38 +112,38 @@ module _ (s0 : Nodes) (sound : IsSound s0) (T : List (List Key)) (places : List 
       of_level : (w : ℕ) (f : List Bool → Bool) → AskedBy s v (rec here.0 lo hi ∷ []) w f → AskedAt s0 T v w f
       of_level w f (at, (r, c, e)) =
           let same : r ≡ rec here.0 lo hi = only_entry r c in
-          (at, (here.1.0, here.0, here.1.1, λ x hx. e x (hx ∙ sym K.levels) ∙ ap (λ (r : Record). meaning s r.key x) same ∙ kept_meaning s0 s sound K here.0 key.first key.second x))
+          (at, (i, here.0, here.1, λ x hx. e x (hx ∙ sym K.levels) ∙ ap (λ (r : Record). meaning s r.key x) same ∙ kept_meaning s0 s sound K here.0 key.first key.second x))
 
       later : (m : Ref) → Has s m ⊎ ((w : ℕ) × (lo' : Ref) × (hi' : Ref) × (part u m ≡ node w lo' hi') × OfEither (AskedBy s v (rec here.0 lo hi ∷ []) w) (den u m)) → Has s0 m ⊎ ((w : ℕ) × (lo : Ref) × (hi : Ref) × (part u m ≡ node w lo hi) × OfEither (AskedAt s0 T v w) (den u m))
       later m (inl h) = earlier m h (so.adds.described m h)
       later m (inr k) = inr (k.0, k.1, k.2, k.3, either_more (AskedBy s v (rec here.0 lo hi ∷ []) k.0) (AskedAt s0 T v k.0) (of_level k.0) (den u m) k.4)
 
   -- its answer stands next
-  pub one_more : (lo hi : Ref) (u : Nodes) → IsSound u → AddsDescribed s u (AskedBy s v (rec here.0 lo hi ∷ [])) → (r : Ref) → IsAnswer u here.0 r → (new : List Ref) → new ≡ own ++ r ∷ [] → IsLevelReduced s0 T places v (i + 1) u new
+  pub one_more : (lo hi : Ref) (u : Nodes) → IsSound u → AddsDescribed s u (AskedBy s v (rec here.0 lo hi ∷ [])) → (r : Ref) → IsAnswer u here.0 r → (new : List Ref) → new ≡ own ++ r ∷ [] → IsLevelReduced s0 T v (i + 1) u new
   one_more lo hi u su j r a new e = record {
     held = su;
     adds = adds_one lo hi u j;
     count = ap length e ∙ simp length-append (omega (arith, so.count));
-    answered = λ p k x h g. by p k x h (slice_get_cases-push own r p x (subst (λ (z : List Ref). slice_get z p ≡ Some x) e g));
+    answered = λ q k x h g. by q k x h (slice_get_cases-push own r q x (subst (λ (z : List Ref). slice_get z q ≡ Some x) e g));
   }
     where
-      by : (p : ℕ) (k : Key) (x : Ref) → IsAt (row T v) places p k → (slice_get own p ≡ Some x) ⊎ ((p ≡ length own) × (x ≡ r)) → IsAnswer u k x
-      by p k x h (inl g) = answer_kept s u so.held j.keeps k x (so.answered p k x h g)
-      by p k x h (inr g) =
-          let k-is : here.0 ≡ k = R.same i here.0 k here.1 (subst (λ z. IsAt (row T v) places z k) (g.0 ∙ so.count) h) in
+      by : (q : ℕ) (k : Key) (x : Ref) → StandsAt T v q k → (slice_get own q ≡ Some x) ⊎ ((q ≡ length own) × (x ≡ r)) → IsAnswer u k x
+      by q k x h (inl g) = answer_kept s u so.held j.keeps k x (so.answered q k x h g)
+      by q k x h (inr g) =
+          let k-is : here.0 ≡ k = some_same (slice_get (row T v) i) here.0 k here.1 (subst (λ z. StandsAt T v z k) (g.0 ∙ so.count) h) in
           subst (λ z. IsAnswer u z x) k-is (subst (IsAnswer u here.0) (sym g.1) a)
 
   -- the cause of its refusal
   pub one_fault : (u : Nodes) (f : StoreFault) → IsRecordFault u v here.0 f → IsLevelFault u T v (wave_fault f)
   one_fault u store_faults.OutOfMemory x = tt
-  one_fault u store_faults.Full x = (here.1.0, here.0, here.1.1, elim (eq-or-lt_of_le x.0) [ inl e ↦ inr (sym e, x.1) | inr lt ↦ inl lt ])
+  one_fault u store_faults.Full x = (i, here.0, here.1, elim (eq-or-lt_of_le x.0) [ inl e ↦ inr (sym e, x.1) | inr lt ↦ inl lt ])
 
-pub level_start : (s : Nodes) (T : List (List Key)) (places : List ℕ) (pairs : List (Placed × Placed)) (A : List (List Ref)) (v : ℕ) → IsSound s → IsReadyAt s T places pairs A v → IsLevelReduced s T places v 0 s []
-level_start s T places pairs A v S R = record {
+pub level_start : (s : Nodes) (T : List (List Key)) (pairs : List (Placed × Placed)) (A : List (List Ref)) (v : ℕ) → IsSound s → IsReadyAt s T pairs A v → IsLevelReduced s T v 0 s []
+level_start s T pairs A v S R = record {
   held = S;
   adds = adds_none s s (AskedAt s T v) refl;
   count = refl;
-  answered = λ p k r h g. absurd (stands_none [] p r refl g);
+  answered = λ q k r h g. absurd (stands_none [] q r refl g);
 }
 
 -- a placed child whose request has its answer is known
@@ -149,7 +163,7 @@ known s T A v k b (Ask l p m) c h i counts answered =
     (j.0, (mark_by m a.0, (a.0, a.1, refl), resolved s v k b (child.Ask l x m) ((x, a.0) ∷ []) (mark_by m a.0) j only (a.0, (0, omega arith, refl), refl)))
 
 -- Of a wave over the store S.
-module _ (S : Nodes) (w : IsSound S) (entries : List Entry) (good : All (IsEntry S) entries) (roots : List Placed) (T : List (List Key)) (places : List (List ℕ)) (rows : List (List (Placed × Placed))) (from : ℕ) (E : AreExpanded S entries roots from T places rows) where
+module _ (S : Nodes) (w : IsSound S) (entries : List Entry) (good : All (IsEntry S) entries) (roots : List Placed) (T : List (List Key)) (rows : List (List (Placed × Placed))) (from : ℕ) (E : AreExpanded S entries roots from T rows) where
   splits : (v : ℕ) (k : Key) → IsAdmitted S entries v k → IsRecordAt S v (record_of S k)
   splits v k a = subst (λ z. IsRecordAt S z (record_of S k)) a.level (record {
     key = key_at S w 1 (requests_of entries) (requests_good S entries good) k a.key;
@@ -157,65 +171,39 @@ module _ (S : Nodes) (w : IsSound S) (entries : List Entry) (good : All (IsEntry
     high = right S w 1 (requests_of entries) (requests_good S entries good) k true (child_of S k true) a.key refl;
   })
 
-  -- a level where something is asked is expanded
-  at_level : (v : ℕ) → v < from → 0 < length (row T v) → IsLevelExpanded S T (row T v) (row places v) (row rows v)
-  at_level v lt some = let k = stands_some (row T v) 0 some in E.expanded v 0 k.0 lt k.1
+  all_split : (v : ℕ) → v < from → 0 < length (row T v) → length (row rows v) ≡ length (row T v)
+  all_split v lt some = let k = stands_some (row T v) 0 some in E.counts v 0 k.0 lt k.1
 
   -- an expanded level whose deeper levels have their answers can be reduced
-  pub level_ready : (v : ℕ) (s : Nodes) (A : List (List Ref)) → v < from → v < S.levels → 0 < length (row T v) → AreReducedBelow S entries T (v + 1) s A → IsReadyAt s T (row places v) (row rows v) A v
+  pub level_ready : (v : ℕ) (s : Nodes) (A : List (List Ref)) → v < from → v < S.levels → 0 < length (row T v) → AreReducedBelow S entries T (v + 1) s A → IsReadyAt s T (row rows v) A v
   level_ready v s A lt fit some d = record {
     bounded = let e : s.levels ≡ S.levels = d.adds.keeps.levels in omega (arith, e, fit);
-    counts = L.settled.noted.count;
-    within = λ q p h.
-        let k = stands_some (row T v) q (let n : length (row places v) ≡ length (row T v) = L.settled.noted.count in let lt : q < length (row places v) = slice_get_within (row places v) q p h in omega (arith, n, lt)) in
-        let fits : p < length L.keys = slice_get_within L.keys p k.0 (L.settled.noted.placed q p k.0 k.1 h) in
-        let n : length (row rows v) ≡ length L.keys = L.count in
-        omega (arith, fits, n);
-    asked = λ p e h.
-        let k = stands_some L.keys p (let n : length (row rows v) ≡ length L.keys = L.count in let lt : p < length (row rows v) = slice_get_within (row rows v) p e h in omega (arith, n, lt)) in
-        (k.0, L.settled.noted.asked p k.0 k.1);
-    same = λ p k l a b. some_same (slice_get L.keys p) k l (key_of p k a) (key_of p l b);
+    counts = all_split v lt some;
     keys = λ q k h. (at q k h).key;
-    low = λ p k e a g. known s T A v k false e.0 (child_of S k false) (L.split p k e (key_of p k a) g).0 (at a.0 k a.1).low (λ u x y le. d.counts u x y (omega (arith, le))) (λ u x y r le. d.answered u x y r (omega (arith, le)));
-    high = λ p k e a g. known s T A v k true e.1 (child_of S k true) (L.split p k e (key_of p k a) g).1 (at a.0 k a.1).high (λ u x y le. d.counts u x y (omega (arith, le))) (λ u x y r le. d.answered u x y r (omega (arith, le)));
+    low = λ q k p h g. known s T A v k false p.0 (child_of S k false) (E.split v q k p lt h g).0 (at q k h).low (λ u x y le. d.counts u x y (omega (arith, le))) (λ u x y r le. d.answered u x y r (omega (arith, le)));
+    high = λ q k p h g. known s T A v k true p.1 (child_of S k true) (E.split v q k p lt h g).1 (at q k h).high (λ u x y le. d.counts u x y (omega (arith, le))) (λ u x y r le. d.answered u x y r (omega (arith, le)));
   }
     where
-      L : IsLevelExpanded S T (row T v) (row places v) (row rows v)
-      L = at_level v lt some
-
-      key_of : (p : ℕ) (k : Key) → IsAt (row T v) (row places v) p k → slice_get L.keys p ≡ Some k
-      key_of p k a = L.settled.noted.placed a.0 p k a.1 a.2
-
       at : (q : ℕ) (k : Key) → StandsAt T v q k → IsRecordAt s v (record_of S k)
       at q k h = record_kept S s w d.adds.keeps v (record_of S k) (splits v k (E.admitted.keys v q k h))
 
   -- one level more is reduced
-  pub level_next : (v : ℕ) (s : Nodes) (A : List (List Ref)) → v < from → 0 < length (row T v) → AreReducedBelow S entries T (v + 1) s A → (u : Nodes) (own : List Ref) → IsLevelReduced s T (row places v) v (length (row rows v)) u own →
-      count_of u ≤ u.limit → (new : List Ref) → AreSpread own (row places v) new → (B : List (List Ref)) → length B ≡ length A → row B v ≡ new → ((w : ℕ) → (w ≡ v → ⊥) → row B w ≡ row A w) → AreReducedBelow S entries T v u B
-  level_next v s A lt some d u own so within new spread B len here others = record {
+  pub level_next : (v : ℕ) (s : Nodes) (A : List (List Ref)) → v < from → 0 < length (row T v) → AreReducedBelow S entries T (v + 1) s A → (u : Nodes) (own : List Ref) → IsLevelReduced s T v (length (row rows v)) u own → count_of u ≤ u.limit →
+      (B : List (List Ref)) → length B ≡ length A → row B v ≡ own → ((w : ℕ) → (w ≡ v → ⊥) → row B w ≡ row A w) → AreReducedBelow S entries T v u B
+  level_next v s A lt some d u own so within B len here others = record {
     held = so.held;
     adds = level_adds S w entries good T v s u E.admitted d.held so.held d.adds so.adds;
     levels = len ∙ d.levels;
     counts = λ x q k le h. elim (eq-or-lt_of_le le) [
-      | inl e ↦ subst (λ z. length (row B z) ≡ length (row T z)) e (ap length here ∙ spread.count ∙ L.settled.noted.count)
+      | inl e ↦ subst (λ z. length (row B z) ≡ length (row T z)) e (ap length here ∙ so.count ∙ all_split v lt some)
       | inr l ↦ ap length (others x (λ e. omega (arith, e, l))) ∙ d.counts x q k (omega (arith, l)) h
     ];
     answered = λ x q k r le h g. elim (eq-or-lt_of_le le) [
-      | inl e ↦ own_answer q k r (subst (λ z. StandsAt T z q k) (sym e) h) (subst (λ (z : List Ref). slice_get z q ≡ Some r) here (subst (λ z. StandsAt B z q r) (sym e) g))
+      | inl e ↦ so.answered q k r (subst (λ z. StandsAt T z q k) (sym e) h) (subst (λ (z : List Ref). slice_get z q ≡ Some r) here (subst (λ z. StandsAt B z q r) (sym e) g))
       | inr l ↦ answer_kept s u d.held so.adds.keeps k r (d.answered x q k r (omega (arith, l)) h (subst (λ (z : List Ref). slice_get z q ≡ Some r) (others x (λ e. omega (arith, e, l))) g))
     ];
     within = inl within;
   }
-    where
-      L : IsLevelExpanded S T (row T v) (row places v) (row rows v)
-      L = at_level v lt some
-
-      own_answer : (q : ℕ) (k : Key) (r : Ref) → StandsAt T v q k → slice_get new q ≡ Some r → IsAnswer u k r
-      own_answer q k r h g =
-          let n : length (row places v) ≡ length (row T v) = L.settled.noted.count in
-          let fits : q < length (row T v) = slice_get_within (row T v) q k h in
-          let p : (x : ℕ) × (slice_get (row places v) q ≡ Some x) = stands_some (row places v) q (omega (arith, n, fits)) in
-          so.answered p.0 k r (q, h, p.1) (spread.placed q p.0 r p.1 g)
 
   -- levels without requests are passed over
   pub levels_left : (v u : ℕ) (s : Nodes) (A : List (List Ref)) → AreNone T v u → AreReducedBelow S entries T u s A → AreReducedBelow S entries T v s A

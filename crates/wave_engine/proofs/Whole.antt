@@ -39,7 +39,7 @@ use Rattle.reduce_up.proofs.Rooted.{all_of, requests_good}
 use Rattle.req_table.specs.declared.placed.Placed.{Placed}
 use Rattle.req_table.specs.declared.placed.PlacedChild.TheVariants.{Done, Ask}
 use Rattle.wave_engine.specs.Places.{row, StandsAt, IsPlaced}
-use Rattle.wave_engine.specs.Down.{IsAdmitted, AreAdmitted, IsLevelExpanded, AreExpanded}
+use Rattle.wave_engine.specs.Down.{IsAdmitted, AreAdmitted, AreExpanded}
 use Rattle.wave_engine.specs.Up.{ComesTo, IsWithinBelow}
 use Rattle.wave_engine.proofs.Placing.{stands_some, root_for}
 
@@ -100,27 +100,18 @@ module _ (S : Nodes) (w : IsSound S) (entries : List Entry) (good : All (IsEntry
   entries_kept = all_of (IsEntry U) entries (λ e c. let i : IsEntry S e = All-contains (IsEntry S) entries e good c in (K.has e.1 i.0, K.has e.2 i.1))
 
   -- what is expanded for the one is expanded for the other
-  pub expanded_kept : (roots : List Placed) (v : ℕ) (T : List (List Key)) (places : List (List ℕ)) (rows : List (List (Placed × Placed))) → AreExpanded S entries roots v T places rows → AreExpanded U entries roots v T places rows
-  expanded_kept roots v T places rows x = record {
+  pub expanded_kept : (roots : List Placed) (v : ℕ) (T : List (List Key)) (rows : List (List (Placed × Placed))) → AreExpanded S entries roots v T rows → AreExpanded U entries roots v T rows
+  expanded_kept roots v T rows x = record {
     admitted = all_admitted_kept T x.admitted;
     rooted = all entries roots x.rooted;
     levels = x.levels ∙ sym K.levels;
-    noted = x.noted ∙ sym K.levels;
-    expanded = λ u q k lt h. level_kept u (x.expanded u q k lt h);
+    counts = x.counts;
+    split = λ u q k d lt h g.
+        let s = x.split u q k d lt h g in
+        let i : IsKey S k = (x.admitted.keys u q k h).key in
+        (subst (IsPlaced T d.0) (sym (child_kept k false i)) s.0, subst (IsPlaced T d.1) (sym (child_kept k true i)) s.1);
   }
     where
-      level_kept : (u : ℕ) → IsLevelExpanded S T (row T u) (row places u) (row rows u) → IsLevelExpanded U T (row T u) (row places u) (row rows u)
-      level_kept u l = record {
-        keys = l.keys;
-        settled = l.settled;
-        count = l.count;
-        split = λ p k d h g.
-            let s = l.split p k d h g in
-            let q = l.settled.noted.asked p k h in
-            let i : IsKey S k = (x.admitted.keys u q.0 k q.1).key in
-            (subst (IsPlaced T d.0) (sym (child_kept k false i)) s.0, subst (IsPlaced T d.1) (sym (child_kept k true i)) s.1);
-      }
-
       all : (es : List Entry) (ps : List Placed) → AllZip (λ e p. IsPlaced T p (child_at S e.0 e.1 e.2)) es ps → AllZip (λ e p. IsPlaced T p (child_at U e.0 e.1 e.2)) es ps
       all [] [] z = z
       all [] (p ∷ ps) z = z

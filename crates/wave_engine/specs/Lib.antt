@@ -1,7 +1,5 @@
 pub mod Marks
 pub mod Places
-pub mod Settled
-pub mod ByLevel
 pub mod Down
 pub mod Up
 pub mod Front

@@ -1,4 +1,4 @@
--- Asks by number: what stands at a place of a level, and what is placed there.
+-- Requests by place: what stands at a place of a level, and what is placed there.
 use Rattle.std.specs.Prelude.{◌≡◌, ℕ, ◌+◌, ◌*◌, ◌^◌, ◌<◌, ◌≤◌, ◌⊎◌, Bool, List, [], ◌∷◌, ◌++◌, length, slice_get, slice_index_or, Option, None, Some}
 use Rattle.req_table.specs.declared.Key.{Key}
 use Rattle.req_table.specs.declared.Child.{Child}
@@ -15,9 +15,9 @@ row lists v = slice_index_or lists v []
 abbrev pub StandsAt : {X : Type 0} → List (List X) → ℕ → ℕ → X → Type 0
 StandsAt lists l p x = slice_get (row lists l) p ≡ Some x
 
--- the key k has the place p in the list `new`, which is the list old with k last
+-- the key k has the place p in the list `new`, which is the list old, with k last if it was not there
 abbrev pub Enters : List Key → Key → ℕ → List Key → Type 0
-Enters old k p new = (slice_get new p ≡ Some k) × (new ≡ old ++ k ∷ [])
+Enters old k p new = (slice_get new p ≡ Some k) × ((new ≡ old) ⊎ (new ≡ old ++ k ∷ []))
 
 -- what a placed child stands for: its answer, or the request at its place
 abbrev pub IsPlaced : List (List Key) → Placed → Child → Type 0

@@ -13,7 +13,6 @@ use Rattle.reduce_up.specs.Waves.{Entry, IsWanted}
 use Rattle.req_table.specs.declared.placed.Placed.{Placed}
 use Rattle.req_table.specs.declared.placed.PlacedChild.TheVariants.{Done, Ask}
 use Rattle.wave_engine.specs.Places.{row, StandsAt}
-use Rattle.wave_engine.specs.Settled.{IsAt}
 
 -- what a placed child comes to by the answers
 abbrev pub ComesTo : List (List Ref) → Placed → Ref → Type 0
@@ -37,28 +36,20 @@ IsAnswered s answers w q k = (r : Ref) × StandsAt answers w q r × IsAnswer s k
 abbrev pub AskedAt : Nodes → List (List Key) → ℕ → ℕ → (List Bool → Bool) → Type 0
 AskedAt s tables v w f = (w ≡ v) × ((q : ℕ) × (k : Key) × StandsAt tables v q k × Agree s.levels f (meaning s k))
 
--- level v can be reduced: each of its requests has its pair of children, and their answers are known
-pub record IsReadyAt (s : Nodes) (tables : List (List Key)) (places : List ℕ) (pairs : List (Placed × Placed)) (answers : List (List Ref)) (v : ℕ) : Type 0 where
+-- level v can be reduced: each key has its pair of children, and their answers are known
+pub record IsReadyAt (s : Nodes) (tables : List (List Key)) (pairs : List (Placed × Placed)) (answers : List (List Ref)) (v : ℕ) : Type 0 where
   pub bounded : v < s.levels
-  pub counts : length places ≡ length (row tables v)
-  pub within : (q p : ℕ) → slice_get places q ≡ Some p → p < length pairs
-  pub asked : (p : ℕ) (d : Placed × Placed) → slice_get pairs p ≡ Some d → (k : Key) × IsAt (row tables v) places p k
-  pub same : (p : ℕ) (k l : Key) → IsAt (row tables v) places p k → IsAt (row tables v) places p l → k ≡ l
+  pub counts : length pairs ≡ length (row tables v)
   pub keys : (q : ℕ) (k : Key) → StandsAt tables v q k → IsKeyAt s v k
-  pub low : (p : ℕ) (k : Key) (d : Placed × Placed) → IsAt (row tables v) places p k → slice_get pairs p ≡ Some d → IsKnown s answers v k false d.0
-  pub high : (p : ℕ) (k : Key) (d : Placed × Placed) → IsAt (row tables v) places p k → slice_get pairs p ≡ Some d → IsKnown s answers v k true d.1
+  pub low : (q : ℕ) (k : Key) (d : Placed × Placed) → StandsAt tables v q k → slice_get pairs q ≡ Some d → IsKnown s answers v k false d.0
+  pub high : (q : ℕ) (k : Key) (d : Placed × Placed) → StandsAt tables v q k → slice_get pairs q ≡ Some d → IsKnown s answers v k true d.1
 
--- of level v the first i requests are reduced, from the store `start` to the store s, with these answers
-pub record IsLevelReduced (start : Nodes) (tables : List (List Key)) (places : List ℕ) (v i : ℕ) (s : Nodes) (own : List Ref) : Type 0 where
+-- of level v the first i keys are reduced, from the store `start` to the store s, with these answers
+pub record IsLevelReduced (start : Nodes) (tables : List (List Key)) (v i : ℕ) (s : Nodes) (own : List Ref) : Type 0 where
   pub held : IsSound s
   pub adds : AddsDescribed start s (AskedAt start tables v)
   pub count : length own ≡ i
-  pub answered : (p : ℕ) (k : Key) (r : Ref) → IsAt (row tables v) places p k → slice_get own p ≡ Some r → IsAnswer s k r
-
--- each ask has the answer of its request
-pub record AreSpread (own : List Ref) (places : List ℕ) (answers : List Ref) : Type 0 where
-  pub count : length answers ≡ length places
-  pub placed : (q p : ℕ) (r : Ref) → slice_get places q ≡ Some p → slice_get answers q ≡ Some r → slice_get own p ≡ Some r
+  pub answered : (q : ℕ) (k : Key) (r : Ref) → StandsAt tables v q k → slice_get own q ≡ Some r → IsAnswer s k r
 
 -- the cause of the answer Full for a level: it has a key, and the store has more nodes than its limit, or as many and
 -- lacks the node of some key of the level

@@ -1,26 +1,21 @@
-//! Expansion, from the first level down. A request's children wait as asks of their levels; when a level is come to, its asks are made
-//! distinct, and its requests are expanded.
-ghost use Rattle.std.specs.Prelude.{◌≡◌, ◌≢◌, ◌<◌, ◌≤◌, ◌-◌, ◌^◌, ℕ, [], length, slice_get, Some, Err, IfOk, IfErr, OnOk, All};
+//! Expansion, from the first level down: each request's children are placed in the tables of their levels at once.
+ghost use Rattle.std.specs.Prelude.{◌≡◌, ◌≢◌, ◌<◌, ◌≤◌, ◌-◌, ◌^◌, ℕ, [], length, Err, IfOk, IfErr, OnOk, All};
 ghost use Rattle.std.specs.List.{AllZip};
-ghost use Rattle.req_table.specs.declared.Key.{Key as KeyValue};
 ghost use Rattle.req_table.specs.Keys.{IsChildIn, child as child_spec};
 ghost use Rattle.reduce_up.specs.Waves.{IsEntry};
 ghost use Rattle.wave_engine.specs.Places.{row, IsPlaced, Admits};
-ghost use Rattle.wave_engine.specs.ByLevel.{lists_of, open_of};
 ghost use Rattle.wave_engine.specs.Bounds.{AreMoreThan, AreAtMost};
-ghost use Rattle.wave_engine.specs.Down.{IsAdmitted, AreAdmitted, IsRowExpanded, AreExpanded, IsWide};
+ghost use Rattle.wave_engine.specs.Down.{AreAdmitted, IsRowExpanded, AreExpanded};
 
-use crate::by_level::ByLevel;
+use crate::lists::Row;
 use crate::requests::Requests;
-use crate::settle::settle;
-use crate::workspace::Down;
 use dd_store::{Ref, Store};
 use expand_work::WaveFault;
 use req_table::requests::{child, split};
-use req_table::{Child, Op, Placed, Table};
+use req_table::{Child, Op, Placed};
 use std::alloc::AllocError;
 
-/// Places a child: a request is asked for at its level.
+/// Places a child: a request is admitted to the table of its level.
 fn place_child(store: &Store, requests: &mut Requests, asked: Child) -> Result<Placed, AllocError>
     requires levels { length requests.old ≡ store.now.levels }
     requires stands { IsChildIn store.now asked }
@@ -31,8 +26,8 @@ fn place_child(store: &Store, requests: &mut Requests, asked: Child) -> Result<P
     match asked {
         Child::Done(answer) => Ok(Placed::done(answer)),
         Child::Ask { level, key, mark } => {
-            let number = requests.ask(level, key)?;
-            Ok(Placed::ask(level, number, mark))
+            let place = requests.admit(level, key)?;
+            Ok(Placed::ask(level, place, mark))
         }
     }
 }
@@ -61,29 +56,29 @@ pub(crate) fn place_roots(
     Ok(())
 }
 
-/// Places the children of a level's requests, and adds them behind the rows of earlier levels.
+/// Places the children of a level's requests.
 fn expand_level(
     store: &Store,
     entries: &[(Op, Ref, Ref)],
-    table: &Table,
     requests: &mut Requests,
-    rows: &mut ByLevel<(Placed, Placed)>,
+    pairs: &mut Row,
     level: u16,
 ) -> Result<(), AllocError>
     requires admitted { AreAdmitted store.now entries.now requests.old }
-    requires own { (p : ℕ) (k : KeyValue) → slice_get table.now p ≡ Some k → IsAdmitted store.now entries.now level k }
-    requires open { open_of rows.old ≡ [] }
+    requires level { level < store.now.levels }
     ensures levels { length requests.new ≡ length requests.old }
-    ensures lists { lists_of rows.new ≡ lists_of rows.old }
-    ensures expanded { OnOk result (IsRowExpanded store.now entries.now requests.old table.now level (length table.now) requests.new (open_of rows.new)) }
+    ensures expanded { OnOk result (IsRowExpanded store.now entries.now requests.old level (length (row requests.old level)) requests.new pairs.new) }
 {
     let _ = store.levels();
     let _ = entries.len();
-    for place in 0..table.len() {
-        let record = split(store, table.key_at(place));
+    let count = requests.count(level);
+    pairs.restart(count)?;
+    for place in 0..count {
+        let key = requests.key_at(level, place);
+        let record = split(store, key);
         let low = place_child(store, requests, record.low)?;
         let high = place_child(store, requests, record.high)?;
-        rows.push((low, high))?;
+        pairs.push((low, high))?;
     }
     Ok(())
 }
@@ -102,16 +97,15 @@ pub(crate) struct Limits {
 pub(crate) fn expand(
     store: &Store,
     entries: &[(Op, Ref, Ref)],
-    down: &mut Down,
+    requests: &mut Requests,
+    rows: &mut Vec<Row>,
+    roots: &[Placed],
     limits: Limits,
 ) -> Result<u16, WaveFault>
-    requires start { AreExpanded store.now entries.now down.old.roots.items 0 down.old.requests (lists_of down.old.places) (lists_of down.old.rows) }
-    requires noted { open_of down.old.places ≡ [] }
-    requires rowed { open_of down.old.rows ≡ [] }
+    requires start { AreExpanded store.now entries.now roots.now 0 requests.old rows.old.items }
     ensures bound { IfOk result (λ v. v ≤ store.now.levels) }
-    ensures roots { down.new.roots ≡ down.old.roots }
-    ensures expanded { IfOk result (λ v. AreExpanded store.now entries.now down.old.roots.items v down.new.requests (lists_of down.new.places) (lists_of down.new.rows)) }
-    ensures wide { IfOk result (λ v. v < store.now.levels → IsWide limits.level (row down.new.requests v)) }
+    ensures expanded { IfOk result (λ v. AreExpanded store.now entries.now roots.now v requests.new rows.new.items) }
+    ensures wide { IfOk result (λ v. v < store.now.levels → limits.level < length (row requests.new v)) }
     ensures alone { limits.level ≡ 2 ^ 64 - 1 → IfOk result (λ v. v ≡ store.now.levels) }
     ensures refused { IfErr result (λ e. e ≢ WaveFault.Full) }
     ensures served { IfErr result (λ e. e ≢ WaveFault.NoWorker) }
@@ -120,13 +114,12 @@ pub(crate) fn expand(
     ensures within_bound { limits.wave < 2 ^ 64 - 1 → IfOk result (λ v. v ≡ store.now.levels → AreAtMost limits.wave store.now entries.now) }
 {
     let _ = entries.len();
+    let _ = roots.len();
     let levels = store.levels();
     let mut level = 0;
     let mut left = limits.wave;
-    while let Some(next) = down.requests.next_level(level) {
-        let asks = down.requests.keys(next);
-        let count = settle(asks, &mut down.table, &mut down.places)?;
-        down.places.close(next);
+    while let Some(next) = requests.next_level(level) {
+        let count = requests.count(next);
         if limits.wave < usize::MAX && count > left {
             return Err(WaveFault::TooManyRequests);
         }
@@ -134,15 +127,7 @@ pub(crate) fn expand(
             return Ok(next);
         }
         left = left.saturating_sub(count);
-        expand_level(
-            store,
-            entries,
-            &down.table,
-            &mut down.requests,
-            &mut down.rows,
-            next,
-        )?;
-        down.rows.close(next);
+        expand_level(store, entries, requests, &mut rows[next as usize], next)?;
         level = next + 1;
     }
     Ok(levels)

@@ -4,12 +4,11 @@ ghost use Rattle.dd_store.specs.Nodes.{IsSound};
 ghost use Rattle.expand_work.specs.Gathered.{HaveExpanded};
 ghost use Rattle.reduce_up.specs.Reducing.{AddsDescribed};
 ghost use Rattle.reduce_up.specs.Waves.{IsEntry, IsWanted, IsWaveFault};
-ghost use Rattle.wave_engine.specs.ByLevel.{lists_of, open_of};
 ghost use Rattle.wave_engine.specs.Down.{AreAdmitted};
 ghost use Rattle.wave_engine.specs.Up.{AreReducedBelow, IsWithinBelow};
 ghost use Rattle.wave_engine.specs.Front.{keys_from, IsCopied, ArePut};
 
-use crate::by_level::ByLevel;
+use crate::lists::Answers;
 use crate::requests::Requests;
 use dd_store::{Ref, Store};
 use expand_work::{Crew, Gate, WaveFault};
@@ -32,25 +31,24 @@ fn frontier_of(alloc: Global, requests: &Requests, from: u16) -> Result<Vec<Key>
     ensures { IfOk result (λ ks. ks.items ≡ keys_from from requests.now) }
 {
     let mut front = Vec::new(alloc);
-    for level in from..requests.levels() {
+    for level in from as usize..requests.levels() {
         front.extend_from_slice(requests.keys(level))?;
     }
     Ok(front)
 }
 
-/// Adds so many of the answers, from a place on, behind the answers of other levels. The answer is the place behind them.
+/// Puts so many of the answers, from a place on, into a list. The answer is the place behind them.
 fn put_level(
-    answers: &mut ByLevel<Ref>,
+    answers: &mut Answers,
     count: usize,
     found: &[Ref],
     at: usize,
 ) -> Result<usize, AllocError>
     requires room { at + count ≤ length found.now }
-    requires open { open_of answers.old ≡ [] }
     ensures next { IfOk result (λ n. n ≡ at + count) }
-    ensures lists { lists_of answers.new ≡ lists_of answers.old }
-    ensures copied { OnOk result (IsCopied found.now at count (open_of answers.new)) }
+    ensures copied { OnOk result (IsCopied found.now at count answers.new) }
 {
+    answers.restart(count)?;
     for place in 0..count {
         answers.push(found[at + place])?;
     }
@@ -59,23 +57,20 @@ fn put_level(
 
 /// Puts answers in their places, from a level on.
 fn put_answers(
-    answers: &mut ByLevel<Ref>,
+    answers: &mut Vec<Answers>,
     requests: &Requests,
     from: u16,
     found: &[Ref],
 ) -> Result<(), AllocError>
     requires bound { from ≤ length requests.now }
-    requires levels { length (lists_of answers.old) ≡ length requests.now }
-    requires open { open_of answers.old ≡ [] }
+    requires levels { length answers.old.items ≡ length requests.now }
     requires all { length found.now ≡ length (keys_from from requests.now) }
-    ensures put { OnOk result (ArePut requests.now from found.now (length requests.now) (lists_of answers.new)) }
-    ensures open { OnOk result (open_of answers.new ≡ []) }
+    ensures { OnOk result (ArePut requests.now from found.now (length requests.now) answers.new.items) }
 {
     let mut at = 0;
-    for level in from..requests.levels() {
+    for level in from as usize..requests.levels() {
         let count = requests.keys(level).len();
-        at = put_level(answers, count, found, at)?;
-        answers.close(level);
+        at = put_level(&mut answers[level], count, found, at)?;
     }
     Ok(())
 }
@@ -88,17 +83,15 @@ pub(crate) fn hand_over<R: Threads + Wait + Sync, G: Gate>(
     store: &mut Store,
     entries: &[(Op, Ref, Ref)],
     frontier: &Frontier<'_>,
-    answers: &mut ByLevel<Ref>,
+    answers: &mut Vec<Answers>,
 ) -> Result<usize, WaveFault>
     requires operands { All (IsEntry store.old) entries.now }
     requires admitted { AreAdmitted store.old entries.now frontier.now.requests.now }
     requires bound { frontier.now.from ≤ store.old.levels }
-    requires levels { length (lists_of answers.old) ≡ store.old.levels }
-    requires open { open_of answers.old ≡ [] }
+    requires levels { length answers.old.items ≡ store.old.levels }
     ensures sound { IsSound store.new }
     ensures adds { AddsDescribed store.old store.new (IsWanted store.old entries.now) }
-    ensures reduced { OnOk result (AreReducedBelow store.new entries.now frontier.now.requests.now frontier.now.from store.new (lists_of answers.new)) }
-    ensures open { OnOk result (open_of answers.new ≡ []) }
+    ensures reduced { OnOk result (AreReducedBelow store.new entries.now frontier.now.requests.now frontier.now.from store.new answers.new.items) }
     ensures within { OnOk result (IsWithinBelow store.old frontier.now.requests.now frontier.now.from store.new) }
     ensures expanded { OnOk result (HaveExpanded store.old crew.now.workers.count (keys_from frontier.now.from frontier.now.requests.now) rooms.old rooms.new) }
     ensures fault { IfErr result (λ e. IsWaveFault store.old entries.now store.new e) }

@@ -1,14 +1,12 @@
 //! Waves that begin on the caller's own thread, by places, and call in the workers where a level is wide.
 #![tactic(auto)]
 
-mod by_level;
 mod down;
 mod engine;
 mod front;
 mod lists;
 mod marks;
 mod requests;
-mod settle;
 mod sizes;
 mod up;
 mod waves;

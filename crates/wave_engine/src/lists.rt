@@ -1,77 +1,58 @@
-//! What is asked at a level, and the answers of a level that is reduced.
-ghost use Rattle.std.specs.Prelude.{◌≡◌, ◌<◌, ◌++◌, ◌∷◌, [], length, slice_get, Some, IfOk, OnOk, OnErr};
-ghost use Rattle.wave_engine.specs.Places.{Enters};
+//! What a wave keeps of a level beside its requests: the children of each, and the answer of each, by place.
+ghost use Rattle.std.specs.Prelude.{◌≡◌, ◌<◌, ◌++◌, ◌∷◌, [], length, slice_get, Some, OnOk, OnErr};
 
 use dd_store::Ref;
-use req_table::Key;
+use req_table::Placed;
 use std::alloc::{AllocError, Global};
 use std::marker::Model;
 
-/// A list that has room for more than so many times what it holds gives its memory back when it is emptied.
-const MOST_ROOM: usize = 8;
-
-/// The requests that are asked for at a level, in the order of the asks, each as often as it is asked for.
+/// The children of a level's requests, low and high, by place.
 #[derive(Drop)]
-pub(crate) struct Asks {
-    keys: Vec<Key>,
+pub(crate) struct Row {
+    pairs: Vec<(Placed, Placed)>,
 }
 
-impl Model for Asks {
+impl Model for Row {
     ghost use Rattle.std.specs.Prelude.{List};
-    ghost use Rattle.req_table.specs.declared.Key.{Key};
+    ghost use Rattle.req_table.specs.declared.placed.Placed.{Placed};
 
-    ghost Value = { List Key };
+    ghost Value = { List (Placed × Placed) };
 
-    ghost view = { λ a. a.keys.items };
+    ghost view = { λ r. r.pairs.items };
 }
 
-impl Asks {
-    /// No asks. It takes no memory yet.
-    pub(crate) fn new(alloc: Global) -> Asks
+impl Row {
+    /// No pairs. It takes no memory yet.
+    pub(crate) fn new(alloc: Global) -> Row
         ensures { result ≡ [] }
     {
-        Asks {
-            keys: Vec::new(alloc),
+        Row {
+            pairs: Vec::new(alloc),
         }
     }
 
-    /// Adds an ask. The answer is its number, of 32 bits.
-    pub(crate) fn push(&mut self, key: Key) -> Result<u32, AllocError>
-        ensures enters { IfOk result (λ n. Enters self.old key n self.new) }
-        ensures refused { OnErr result (self.new ≡ self.old) }
+    /// Adds the children of the next place.
+    pub(crate) fn push(&mut self, pair: (Placed, Placed)) -> Result<(), AllocError>
+        ensures { OnOk result (self.new ≡ self.old ++ pair ∷ []) }
     {
-        let number = self.keys.len();
-        if number >= u32::MAX as usize {
-            return Err(AllocError);
-        }
-        self.keys.push(key)?;
-        Ok(number as u32)
+        self.pairs.push(pair)?;
+        Ok(())
     }
 
-    /// The number of asks.
-    pub(crate) fn len(&self) -> usize
-        ensures { result ≡ length self.now }
-    {
-        self.keys.len()
-    }
-
-    /// The request of each ask, in order.
-    pub(crate) fn keys(&self) -> &[Key]
+    /// All pairs, in order.
+    pub(crate) fn pairs(&self) -> &[(Placed, Placed)]
         ensures { result.now ≡ self.now }
     {
-        self.keys.as_slice()
+        self.pairs.as_slice()
     }
 
-    /// Removes all asks. The memory serves on, unless it is much more than these needed.
-    pub(crate) fn clear(&mut self)
+    /// Removes all pairs, keeps the memory, and has room for so many.
+    pub(crate) fn restart(&mut self, count: usize) -> Result<(), AllocError>
         ensures { self.new ≡ [] }
     {
-        let count = self.keys.len();
-        if self.keys.capacity() / MOST_ROOM > count {
-            self.keys = Vec::new(*self.keys.allocator());
-        } else {
-            self.keys.clear();
-        }
+        self.pairs.clear();
+        self.pairs.reserve_exact(count)?;
+        Ok(())
     }
 }
 

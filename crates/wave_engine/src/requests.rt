@@ -1,19 +1,18 @@
-//! What is asked in a wave, by level.
+//! The requests of a wave, by level.
 ghost use Rattle.std.specs.Prelude.{◌≡◌, ◌<◌, ◌≤◌, [], ℕ, Bool, length, set, IfOk, OnOk, MatchOption};
+ghost use Rattle.slot_table.specs.Lists.{IsOnce};
 ghost use Rattle.req_table.specs.declared.Child.TheVariants as child;
 ghost use Rattle.wave_engine.specs.Places.{row, StandsAt, Admits, AreEmpty, IsNextLevel, IsLastLevel};
 
-use crate::lists::Asks;
 use crate::marks::Marks;
-use req_table::Key;
+use req_table::{Key, Table};
 use std::alloc::{AllocError, Global};
 use std::marker::Model;
 
-/// The requests that are asked for at each level, as often as they are asked for. They wait there until the wave comes to the level.
-/// A level that has some is marked, so that levels without are passed over.
+/// The requests of each level, each once. A level that has some is marked, so that levels without are passed over.
 #[derive(Drop)]
 pub(crate) struct Requests {
-    asks: Vec<Asks>,
+    tables: Vec<Table>,
     marks: Marks,
 }
 
@@ -25,20 +24,20 @@ impl Model for Requests {
 
     ghost use Rattle.wave_engine.specs.Places.{AreMarked};
 
-    ghost view = { λ r. r.asks.items };
+    ghost view = { λ r. r.tables.items };
 
-    ghost invariant = { λ r. AreMarked r.marks r.asks.items };
+    ghost invariant = { λ r. AreMarked r.marks r.tables.items };
 }
 
-/// So many empty lists.
-fn empty_lists(alloc: Global, levels: u16) -> Result<Vec<Asks>, AllocError>
-    ensures { IfOk result (λ lists. AreEmpty lists.items levels) }
+/// So many empty tables.
+fn empty_tables(alloc: Global, levels: u16) -> Result<Vec<Table>, AllocError>
+    ensures { IfOk result (λ tables. AreEmpty tables.items levels) }
 {
-    let mut lists = Vec::new(alloc);
+    let mut tables = Vec::new(alloc);
     for made in 0..levels {
-        lists.push(Asks::new(alloc))?;
+        tables.push(Table::new(alloc))?;
     }
-    Ok(lists)
+    Ok(tables)
 }
 
 impl Requests {
@@ -47,7 +46,7 @@ impl Requests {
         ensures { result ≡ [] }
     {
         Requests {
-            asks: Vec::new(alloc),
+            tables: Vec::new(alloc),
             marks: Marks::new(alloc),
         }
     }
@@ -57,7 +56,7 @@ impl Requests {
         ensures { IfOk result (λ r. AreEmpty r levels) }
     {
         Ok(Requests {
-            asks: empty_lists(alloc, levels)?,
+            tables: empty_tables(alloc, levels)?,
             marks: Marks::with_room(alloc, levels)?,
         })
     }
@@ -67,7 +66,7 @@ impl Requests {
         requires { level < length self.old }
         ensures { self.new ≡ set self.old level [] }
     {
-        self.asks[level as usize].clear();
+        self.tables[level as usize].clear();
         self.marks.unmark(level);
     }
 
@@ -75,7 +74,7 @@ impl Requests {
     pub(crate) fn restart(&mut self, alloc: Global, levels: u16) -> Result<(), AllocError>
         ensures { OnOk result (AreEmpty self.new levels) }
     {
-        if self.asks.len() != levels as usize {
+        if self.tables.len() != levels as usize {
             *self = Requests::with_levels(alloc, levels)?;
             return Ok(());
         }
@@ -87,41 +86,50 @@ impl Requests {
         Ok(())
     }
 
-    /// Asks for a request at its level. The answer is the ask's number there.
-    pub(crate) fn ask(&mut self, level: u16, key: Key) -> Result<u32, AllocError>
+    /// The place of a request among those of its level, to which it is admitted if it was not there.
+    pub(crate) fn admit(&mut self, level: u16, key: Key) -> Result<u32, AllocError>
         requires { level < length self.old }
-        ensures stands { IfOk result (λ n. StandsAt self.new level n key) }
+        ensures stands { IfOk result (λ p. StandsAt self.new level p key) }
         ensures admits { (mark : Bool) → Admits self.old (child.Ask level key mark) self.new }
     {
         let count = self.count(level);
-        let number = self.asks[level as usize].push(key)?;
+        let (place, _) = self.tables[level as usize].admit(key)?;
         if count == 0 {
             self.marks.mark(level);
         }
-        Ok(number)
+        Ok(place)
     }
 
     /// The number of levels.
-    pub(crate) fn levels(&self) -> u16
+    pub(crate) fn levels(&self) -> usize
         ensures { result ≡ length self.now }
     {
-        self.asks.len() as u16
+        self.tables.len()
     }
 
-    /// The number of asks of a level.
-    fn count(&self, level: u16) -> usize
+    /// The number of requests of a level.
+    pub(crate) fn count(&self, level: u16) -> usize
         requires { level < length self.now }
-        ensures { result ≡ length (row self.now level) }
+        ensures value { result ≡ length (row self.now level) }
+        ensures once { IsOnce (row self.now level) }
     {
-        self.asks[level as usize].len()
+        self.tables[level as usize].len()
     }
 
-    /// The request of each ask of a level, by number.
-    pub(crate) fn keys(&self, level: u16) -> &[Key]
+    /// The request at a place of a level.
+    pub(crate) fn key_at(&self, level: u16, place: usize) -> Key
+        requires { place < length (row self.now level) }
+        ensures { StandsAt self.now level place result }
+    {
+        self.tables[level as usize].key_at(place)
+    }
+
+    /// The requests of a level, by place.
+    pub(crate) fn keys(&self, level: usize) -> &[Key]
         requires { level < length self.now }
         ensures { result.now ≡ row self.now level }
     {
-        self.asks[level as usize].keys()
+        self.tables[level].keys()
     }
 
     /// The first level from one on that has requests.

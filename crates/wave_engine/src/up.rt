@@ -1,31 +1,31 @@
-//! Reduction, from the last level up: each request's answer is made of its children's, which are read by the number of their asks.
-ghost use Rattle.std.specs.Prelude.{◌≡◌, ◌≢◌, ◌<◌, ◌≤◌, ℕ, [], length, slice_get, Some, All, IfErr, OnOk};
+//! Reduction, from the last level up: each request's answer is made of its children's, which are read by place.
+ghost use Rattle.std.specs.Prelude.{◌≡◌, ◌≢◌, ◌<◌, ◌≤◌, ℕ, length, All, IfErr, OnOk};
 ghost use Rattle.dd_store.specs.declared.reference.Ref.{Ref as RefValue};
 ghost use Rattle.dd_store.specs.Nodes.{IsSound};
 ghost use Rattle.expand_work.specs.Fault.{wave_fault as wave_fault_of};
 ghost use Rattle.reduce_up.specs.Reducing.{AddsDescribed};
 ghost use Rattle.reduce_up.specs.Waves.{IsWanted, IsWaveFault, IsEntry};
-ghost use Rattle.wave_engine.specs.ByLevel.{lists_of, open_of};
 ghost use Rattle.wave_engine.specs.Down.{AreExpanded};
-ghost use Rattle.wave_engine.specs.Up.{ComesTo, IsReadyAt, AskedAt, IsLevelReduced, AreSpread, IsLevelFault, AreReducedBelow};
+ghost use Rattle.wave_engine.specs.Up.{ComesTo, IsReadyAt, AskedAt, IsLevelReduced, IsLevelFault, AreReducedBelow};
 
-use crate::by_level::ByLevel;
 use crate::lists::Answers;
 use crate::requests::Requests;
 use crate::workspace::Down;
 use dd_store::{Ref, Store, StoreFault};
 use expand_work::WaveFault;
 use req_table::{Op, Placed, PlacedChild};
-use std::alloc::AllocError;
+use std::mem;
 
 /// What a placed child comes to.
-pub(crate) fn resolve(answers: &ByLevel<Ref>, child: Placed) -> Ref
-    requires { (r : RefValue) × ComesTo (lists_of answers.now) child r }
-    ensures { ComesTo (lists_of answers.now) child result }
+pub(crate) fn resolve(answers: &[Answers], child: Placed) -> Ref
+    requires { (r : RefValue) × ComesTo answers.now child r }
+    ensures { ComesTo answers.now child result }
 {
     match child.view() {
         PlacedChild::Done(answer) => answer,
-        PlacedChild::Ask { level, place, mark } => answers.at(level, place as usize).marked(mark),
+        PlacedChild::Ask { level, place, mark } => answers[level as usize]
+            .at(place as usize)
+            .marked(mark),
     }
 }
 
@@ -39,37 +39,30 @@ fn wave_fault(fault: StoreFault) -> WaveFault
     }
 }
 
-/// A level that is expanded: the place of each ask's request, and the children of each request.
-#[derive(Drop)]
-struct Expanded<'a> {
-    requests: &'a Requests,
-    level: u16,
-    places: &'a [u32],
-    pairs: &'a [(Placed, Placed)],
-}
-
-/// Adds the answers of a level's requests, which are answered by place.
+/// Adds the answers of a level's requests.
 fn reduce_level(
     store: &mut Store,
-    expanded: &Expanded<'_>,
-    answers: &ByLevel<Ref>,
+    requests: &Requests,
+    pairs: &[(Placed, Placed)],
+    answers: &[Answers],
     own: &mut Answers,
+    level: u16,
 ) -> Result<(), WaveFault>
     requires held { IsSound store.old }
-    requires ready { IsReadyAt store.old expanded.now.requests.now expanded.now.places.now expanded.now.pairs.now (lists_of answers.now) expanded.now.level }
+    requires ready { IsReadyAt store.old requests.now pairs.now answers.now level }
     ensures sound { IsSound store.new }
-    ensures adds { AddsDescribed store.old store.new (AskedAt store.old expanded.now.requests.now expanded.now.level) }
-    ensures whole { OnOk result (IsLevelReduced store.old expanded.now.requests.now expanded.now.places.now expanded.now.level (length expanded.now.pairs.now) store.new own.new) }
-    ensures fault { IfErr result (λ e. IsLevelFault store.new expanded.now.requests.now expanded.now.level e) }
+    ensures adds { AddsDescribed store.old store.new (AskedAt store.old requests.now level) }
+    ensures whole { OnOk result (IsLevelReduced store.old requests.now level (length pairs.now) store.new own.new) }
+    ensures fault { IfErr result (λ e. IsLevelFault store.new requests.now level e) }
 {
-    let pairs = expanded.pairs;
+    let _ = requests.levels();
     if own.restart(pairs.len()).is_err() {
         return Err(WaveFault::OutOfMemory);
     }
     for pair in pairs {
         let low = resolve(answers, pair.0);
         let high = resolve(answers, pair.1);
-        let answer = match store.make(expanded.level, low, high) {
+        let answer = match store.make(level, low, high) {
             Ok(answer) => answer,
             Err(fault) => return Err(wave_fault(fault)),
         };
@@ -80,54 +73,42 @@ fn reduce_level(
     Ok(())
 }
 
-/// Gives each ask of a level the answer of its request, behind the answers of other levels.
-fn spread(own: &Answers, places: &[u32], answers: &mut ByLevel<Ref>) -> Result<(), AllocError>
-    requires places { (q p : ℕ) → slice_get places.now q ≡ Some p → p < length own.now }
-    requires open { open_of answers.old ≡ [] }
-    ensures lists { lists_of answers.new ≡ lists_of answers.old }
-    ensures spread { OnOk result (AreSpread own.now places.now (open_of answers.new)) }
-{
-    for place in places {
-        answers.push(own.at(*place as usize))?;
-    }
-    Ok(())
-}
-
-/// Adds the answers of the levels before `from` where something is asked, and sees after each that the store is within its limit. The
-/// answers of one level's requests stand in `own` meanwhile.
+/// Adds the answers of the levels before `from` that have requests, and sees after each that the store is within its limit.
 pub(crate) fn reduce(
     store: &mut Store,
     entries: &[(Op, Ref, Ref)],
     down: &Down,
-    own: &mut Answers,
-    answers: &mut ByLevel<Ref>,
+    answers: &mut Vec<Answers>,
     from: u16,
 ) -> Result<(), WaveFault>
     requires held { IsSound store.old }
     requires operands { All (IsEntry store.old) entries.now }
     requires bound { from ≤ store.old.levels }
-    requires expanded { AreExpanded store.old entries.now down.now.roots.items from down.now.requests (lists_of down.now.places) (lists_of down.now.rows) }
-    requires reduced { AreReducedBelow store.old entries.now down.now.requests from store.old (lists_of answers.old) }
-    requires open { open_of answers.old ≡ [] }
+    requires expanded { AreExpanded store.old entries.now down.now.roots.items from down.now.requests down.now.rows.items }
+    requires reduced { AreReducedBelow store.old entries.now down.now.requests from store.old answers.old.items }
     ensures sound { IsSound store.new }
     ensures adds { AddsDescribed store.old store.new (IsWanted store.old entries.now) }
-    ensures reduced { OnOk result (AreReducedBelow store.old entries.now down.now.requests 0 store.new (lists_of answers.new)) }
+    ensures reduced { OnOk result (AreReducedBelow store.old entries.now down.now.requests 0 store.new answers.new.items) }
     ensures fault { IfErr result (λ e. IsWaveFault store.old entries.now store.new e) }
     ensures served { IfErr result (λ e. e ≢ WaveFault.NoWorker) }
     ensures unbounded { IfErr result (λ e. e ≢ WaveFault.TooManyRequests) }
 {
     let _ = entries.len();
+    let alloc = *answers.allocator();
     let mut end = from;
     while let Some(level) = down.requests.last_level(end) {
-        let expanded = Expanded {
-            requests: &down.requests,
+        // the level's own list is taken out, since the lists below it are read meanwhile
+        let mut own = mem::replace(&mut answers[level as usize], Answers::new(alloc));
+        let pairs = down.rows[level as usize].pairs();
+        reduce_level(
+            store,
+            &down.requests,
+            pairs,
+            answers.as_slice(),
+            &mut own,
             level,
-            places: down.places.list(level),
-            pairs: down.rows.list(level),
-        };
-        reduce_level(store, &expanded, answers, own)?;
-        spread(own, expanded.places, answers)?;
-        answers.close(level);
+        )?;
+        answers[level as usize] = own;
         if store.count() > store.limit() {
             return Err(WaveFault::Full);
         }

@@ -1,40 +1,65 @@
 //! Waves without a memo, and the memory that lasts from wave to wave.
-ghost use Rattle.std.specs.Prelude.{◌≡◌, ◌≢◌, ◌<◌, ◌≤◌, ◌-◌, ◌^◌, ℕ, [], length, Err, All, IfOk, IfErr, OnOk};
+ghost use Rattle.std.specs.Prelude.{◌≡◌, ◌≢◌, ◌<◌, ◌≤◌, ◌-◌, ◌^◌, ℕ, length, Err, All, IfOk, IfErr, OnOk};
 ghost use Rattle.std.specs.List.{AllZip};
 ghost use Rattle.dd_store.specs.declared.reference.Ref.{Ref as RefValue};
 ghost use Rattle.dd_store.specs.Nodes.{IsSound};
 ghost use Rattle.reduce_up.specs.Waves.{IsEntry, AnswersWave};
 ghost use Rattle.expand_work.specs.Bounds.{most_of};
 ghost use Rattle.wave_engine.specs.Bounds.{AreMoreThan, AreAtMost, ArePast};
-ghost use Rattle.wave_engine.specs.ByLevel.{lists_of, open_of};
 ghost use Rattle.wave_engine.specs.Down.{IsDown};
 ghost use Rattle.wave_engine.specs.Up.{ComesTo};
 
-use crate::by_level::ByLevel;
 use crate::down::{Limits, expand, place_roots};
 use crate::front::{Frontier, hand_over};
-use crate::lists::Answers;
+use crate::lists::{Answers, Row};
 use crate::requests::Requests;
 use crate::sizes::Sizes;
 use crate::up::{reduce, resolve};
 use dd_store::{Ref, Store};
 use expand_work::{Crew, Gate, WaveFault};
 use reduce_up::Rooms;
-use req_table::{Op, Placed, Table};
+use req_table::{Op, Placed};
 use std::alloc::{AllocError, Global};
 use std::sync::Wait;
 use std::thread::Threads;
 
-/// What a wave's expansion leaves: what is asked at each level, the place of each ask's request, the children of each request by place,
-/// and what the entries come to.
+/// What a wave's expansion leaves: the requests by level, the children of each by place, and what the entries come to. A level
+/// without requests may have old children.
 #[derive(Drop)]
 pub(crate) struct Down {
     pub(crate) requests: Requests,
-    /// The requests of the level that was come to last. All levels use it in turn.
-    pub(crate) table: Table,
-    pub(crate) places: ByLevel<u32>,
-    pub(crate) rows: ByLevel<(Placed, Placed)>,
+    pub(crate) rows: Vec<Row>,
     pub(crate) roots: Vec<Placed>,
+}
+
+/// Makes a row for each level.
+fn fit_rows(alloc: Global, rows: &mut Vec<Row>, levels: u16) -> Result<(), AllocError>
+    ensures { OnOk result (length rows.new.items ≡ levels) }
+{
+    if rows.len() == levels as usize {
+        return Ok(());
+    }
+    let mut fresh = Vec::new(alloc);
+    for made in 0..levels {
+        fresh.push(Row::new(alloc))?;
+    }
+    *rows = fresh;
+    Ok(())
+}
+
+/// Makes a list of answers for each level.
+fn fit_answers(alloc: Global, answers: &mut Vec<Answers>, levels: u16) -> Result<(), AllocError>
+    ensures { OnOk result (length answers.new.items ≡ levels) }
+{
+    if answers.len() == levels as usize {
+        return Ok(());
+    }
+    let mut fresh = Vec::new(alloc);
+    for made in 0..levels {
+        fresh.push(Answers::new(alloc))?;
+    }
+    *answers = fresh;
+    Ok(())
 }
 
 /// Places and expands what the entries ask for, down to the first level with more requests than its limit. It refuses where they are
@@ -44,12 +69,11 @@ fn go_down(
     store: &Store,
     entries: &[(Op, Ref, Ref)],
     down: &mut Down,
-    answers: &mut ByLevel<Ref>,
+    answers: &mut Vec<Answers>,
     limits: Limits,
 ) -> Result<u16, WaveFault>
     requires operands { All (IsEntry store.now) entries.now }
-    ensures down { IfOk result (λ v. IsDown store.now entries.now v down.new.requests (lists_of down.new.places) (lists_of down.new.rows) down.new.roots.items (lists_of answers.new)) }
-    ensures open { OnOk result (open_of answers.new ≡ []) }
+    ensures down { IfOk result (λ v. IsDown store.now entries.now v down.new.requests down.new.rows.items down.new.roots.items answers.new.items) }
     ensures alone { limits.level ≡ 2 ^ 64 - 1 → IfOk result (λ v. v ≡ store.now.levels) }
     ensures refused { IfErr result (λ e. e ≢ WaveFault.Full) }
     ensures served { IfErr result (λ e. e ≢ WaveFault.NoWorker) }
@@ -59,25 +83,29 @@ fn go_down(
 {
     let levels = store.levels();
     down.requests.restart(alloc, levels)?;
-    down.places.restart(alloc, levels)?;
-    down.rows.restart(alloc, levels)?;
-    answers.restart(alloc, levels)?;
+    fit_rows(alloc, &mut down.rows, levels)?;
+    fit_answers(alloc, answers, levels)?;
     down.roots.clear();
     place_roots(store, entries, &mut down.requests, &mut down.roots)?;
-    expand(store, entries, down, limits)
+    expand(
+        store,
+        entries,
+        &mut down.requests,
+        &mut down.rows,
+        down.roots.as_slice(),
+        limits,
+    )
 }
 
 /// Tells the gate how many requests the caller's thread has expanded, those of the levels in front of one, and answers it.
-fn tell_requests<G: Gate>(gate: &G, down: &Down, from: u16) -> usize
-    requires { length (lists_of down.now.rows) ≡ length down.now.requests }
-{
+fn tell_requests<G: Gate>(gate: &G, requests: &Requests, from: u16) -> usize {
     let mut told: usize = 0;
     let mut level = 0;
-    while let Some(next) = down.requests.next_level(level) {
+    while let Some(next) = requests.next_level(level) {
         if next >= from {
             return told;
         }
-        let count = down.rows.list(next).len();
+        let count = requests.count(next);
         gate.at_requests(count);
         told = told.saturating_add(count);
         level = next + 1;
@@ -89,10 +117,10 @@ fn tell_requests<G: Gate>(gate: &G, down: &Down, from: u16) -> usize
 fn root_answers(
     alloc: Global,
     roots: &[Placed],
-    answers: &ByLevel<Ref>,
+    answers: &[Answers],
 ) -> Result<Vec<Ref>, AllocError>
-    requires { All (λ p. (r : RefValue) × ComesTo (lists_of answers.now) p r) roots.now }
-    ensures { IfOk result (λ refs. AllZip (ComesTo (lists_of answers.now)) roots.now refs.items) }
+    requires { All (λ p. (r : RefValue) × ComesTo answers.now p r) roots.now }
+    ensures { IfOk result (λ refs. AllZip (ComesTo answers.now) roots.now refs.items) }
 {
     let mut refs = Vec::new(alloc);
     for root in roots {
@@ -107,10 +135,7 @@ fn root_answers(
 pub(crate) struct Workspace<'a, R, G> {
     pub(crate) crew: &'a Crew<'a, R, G>,
     down: Down,
-    /// The answers of the requests of one level, by place.
-    own: Answers,
-    /// The answers of the asks of each level.
-    answers: ByLevel<Ref>,
+    answers: Vec<Answers>,
     /// The memory of the workers.
     rooms: Rooms,
     /// How large the waves before were, of those that came to be reduced.
@@ -127,13 +152,10 @@ impl<'a, R: Threads + Wait + Sync, G: Gate> Workspace<'a, R, G> {
             crew,
             down: Down {
                 requests: Requests::new(alloc),
-                table: Table::new(alloc),
-                places: ByLevel::new(alloc),
-                rows: ByLevel::new(alloc),
+                rows: Vec::new(alloc),
                 roots: Vec::new(alloc),
             },
-            own: Answers::new(alloc),
-            answers: ByLevel::new(alloc),
+            answers: Vec::new(alloc),
             rooms: Rooms::new(alloc),
             sizes: Sizes::new(),
         }
@@ -176,7 +198,7 @@ impl<'a, R: Threads + Wait + Sync, G: Gate> Workspace<'a, R, G> {
             &mut self.answers,
             limits,
         )?;
-        let alone = tell_requests(self.crew.gate, &self.down, from);
+        let alone = tell_requests(self.crew.gate, &self.down.requests, from);
         let frontier = Frontier {
             requests: &self.down.requests,
             from,
@@ -190,15 +212,8 @@ impl<'a, R: Threads + Wait + Sync, G: Gate> Workspace<'a, R, G> {
             &mut self.answers,
         )?;
         self.sizes = self.sizes.then(alone.saturating_add(shared));
-        reduce(
-            store,
-            entries,
-            &self.down,
-            &mut self.own,
-            &mut self.answers,
-            from,
-        )?;
-        match root_answers(alloc, self.down.roots.as_slice(), &self.answers) {
+        reduce(store, entries, &self.down, &mut self.answers, from)?;
+        match root_answers(alloc, self.down.roots.as_slice(), self.answers.as_slice()) {
             Ok(answers) => Ok(answers),
             Err(_) => Err(WaveFault::OutOfMemory),
         }

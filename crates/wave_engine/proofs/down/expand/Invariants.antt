@@ -1,5 +1,4 @@
-use Rattle.std.proofs.Common.{◌≡◌, [], ◌≤◌, ◌<◌, ◌-◌, ◌^◌}
-use Rattle.wave_engine.specs.ByLevel.{lists_of, open_of}
+use Rattle.std.proofs.Common.{◌≤◌, ◌<◌, ◌-◌, ◌^◌}
 use Rattle.wave_engine.specs.Down.{AreExpanded}
 use Rattle.wave_engine.proofs.Counting.{IsCounted}
 use Rattle.wave_engine.proofs.down.expand.Given as goal
@@ -8,11 +7,8 @@ abbrev pub invariant-loop-next : goal.invariant-loop-next
 invariant-loop-next l = record {
   bound : l.level ≤ l.store.levels;
   few : l.store.levels < 2 ^ 16;
-  roots : l.down.roots ≡ l.fn.down.roots;
-  counted : l.limits.wave < 2 ^ 64 - 1 → IsCounted l.store l.entries l.down.requests l.limits.wave l.left l.level;
-  expanded : AreExpanded l.store l.entries l.fn.down.roots.items l.level l.down.requests (lists_of l.down.places) (lists_of l.down.rows);
-  noted : open_of l.down.places ≡ [];
-  rowed : open_of l.down.rows ≡ [];
+  counted : l.limits.wave < 2 ^ 64 - 1 → IsCounted l.store l.entries l.requests l.limits.wave l.left l.level;
+  expanded : AreExpanded l.store l.entries l.roots l.level l.requests l.rows.items;
 }
 
 abbrev pub decreases-loop-next : goal.decreases-loop-next

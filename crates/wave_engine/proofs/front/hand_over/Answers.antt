@@ -5,7 +5,6 @@ use Rattle.dd_store.specs.declared.reference.Ref.{Ref}
 use Rattle.dd_store.specs.Nodes.{IsDiagram, count_of}
 use Rattle.reduce_up.specs.Reducing.{AddsDescribed}
 use Rattle.reduce_up.specs.Waves.{Entry, entry_value, entries_for, IsWanted, AnswersEach, IsWithinLimit, IsWaveFault}
-use Rattle.wave_engine.specs.ByLevel.{lists_of}
 use Rattle.wave_engine.specs.Front.{keys_from, ArePut}
 use Rattle.req_table.specs.Keys.{IsKey}
 use Rattle.req_table.specs.declared.Key.{Key}
@@ -18,7 +17,7 @@ pub returns-then-is_empty-clause-reduced : goal.returns-then-is_empty-clause-red
 returns-then-is_empty-clause-reduced g c =
     let front : c.in-Ok.front.items ≡ keys_from c.args.frontier.now.from c.args.frontier.now.requests.now = c.in-Ok.ensures in
     let none : keys_from c.args.frontier.now.from c.args.frontier.now.requests.now ≡ [] = front_none (keys_from c.args.frontier.now.from c.args.frontier.now.requests.now) (let z : (length c.as_slice-asked.result.now == 0) ≡ true = sym c.is_empty.ensures ∙ c.if-is_empty.true in let l : length c.as_slice-asked.result.now ≡ 0 = grind (arith, nat_tests, z) in sym (ap length (c.as_slice-asked.ensures.value ∙ front)) ∙ l) in
-    none_over c.args.store.now c.levels.ensures.sound c.args.entries.now c.requires.operands c.args.frontier.now.requests.now c.requires.admitted c.args.frontier.now.from none (lists_of c.args.answers.now) c.requires.levels
+    none_over c.args.store.now c.levels.ensures.sound c.args.entries.now c.requires.operands c.args.frontier.now.requests.now c.requires.admitted c.args.frontier.now.from none c.args.answers.now.items c.requires.levels
 
 pub returns-then-is_empty-clause-within : goal.returns-then-is_empty-clause-within
 returns-then-is_empty-clause-within g c =
@@ -71,8 +70,8 @@ returns-in-Ok-put_answers-clause-reduced g c =
     let some : keys_from c.args.frontier.now.from c.args.frontier.now.requests.now ≡ [] → ⊥ = λ e. (let z : (length c.as_slice-asked.result.now == 0) ≡ false = sym c.is_empty.ensures ∙ c.if-is_empty.false in let l : length c.as_slice-asked.result.now ≡ 0 = ap length (c.as_slice-asked.ensures.value ∙ front ∙ e) in grind (arith, nat_tests, z, l)) in
     let within : count_of c.shared_wave.new.store ≤ c.shared_wave.new.store.limit = over_within c.args.store.now c.levels.ensures.sound c.args.entries.now c.requires.operands c.args.frontier.now.requests.now c.requires.admitted c.args.frontier.now.from c.shared_wave.new.store c.shared_wave.ensures.wave.sound adds some (subst (λ (z : List Entry). IsWithinLimit c.args.store.now z c.shared_wave.new.store) slice c.in-Ok-shared_wave.ensures.wave.within) in
     let answers : AnswersEach c.args.store.now (entries_for (keys_from c.args.frontier.now.from c.args.frontier.now.requests.now)) c.shared_wave.new.store c.in-Ok-shared_wave.found.items = subst (λ (z : List Entry). AnswersEach c.args.store.now z c.shared_wave.new.store c.in-Ok-shared_wave.found.items) slice c.in-Ok-shared_wave.ensures.wave.answers in
-    let put : ArePut c.args.frontier.now.requests.now c.args.frontier.now.from c.in-Ok-shared_wave.found.items (length c.args.frontier.now.requests.now) (lists_of c.put_answers.new.answers) = subst (λ (z : List Ref). ArePut c.args.frontier.now.requests.now c.args.frontier.now.from z (length c.args.frontier.now.requests.now) (lists_of c.put_answers.new.answers)) c.as_slice.ensures.value c.in-Ok-put_answers.ensures.put in
-    over_reduced c.args.store.now c.levels.ensures.sound c.args.entries.now c.requires.operands c.args.frontier.now.requests.now c.requires.admitted c.args.frontier.now.from c.shared_wave.new.store c.shared_wave.ensures.wave.sound adds c.in-Ok-shared_wave.found.items (lists_of c.put_answers.new.answers) answers put within
+    let put : ArePut c.args.frontier.now.requests.now c.args.frontier.now.from c.in-Ok-shared_wave.found.items (length c.args.frontier.now.requests.now) c.put_answers.new.answers.items = subst (λ (z : List Ref). ArePut c.args.frontier.now.requests.now c.args.frontier.now.from z (length c.args.frontier.now.requests.now) c.put_answers.new.answers.items) c.as_slice.ensures.value c.in-Ok-put_answers.ensures in
+    over_reduced c.args.store.now c.levels.ensures.sound c.args.entries.now c.requires.operands c.args.frontier.now.requests.now c.requires.admitted c.args.frontier.now.from c.shared_wave.new.store c.shared_wave.ensures.wave.sound adds c.in-Ok-shared_wave.found.items c.put_answers.new.answers.items answers put within
 
 pub returns-in-Ok-put_answers-clause-within : goal.returns-in-Ok-put_answers-clause-within
 returns-in-Ok-put_answers-clause-within g c =

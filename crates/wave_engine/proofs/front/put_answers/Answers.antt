@@ -1,13 +1,11 @@
-use Rattle.std.proofs.Common.{◌≡◌, ◌∙◌, ◌<◌, ◌≤◌, ◌+◌, ℕ, List, length, set, sym, ap, subst, arith}
-use Rattle.dd_store.specs.declared.reference.Ref.{Ref}
+use Rattle.std.proofs.Common.{◌≡◌, ◌<◌, ◌≤◌, ◌+◌, ℕ, length, ap, subst, arith}
 use Rattle.wave_engine.specs.Places.{row}
-use Rattle.wave_engine.specs.ByLevel.{lists_of, open_of}
-use Rattle.wave_engine.specs.Front.{IsCopied, ArePut, keys_from, count_before}
+use Rattle.wave_engine.specs.Front.{IsCopied, keys_from, count_before}
 use Rattle.wave_engine.proofs.Fronting.{before_next, before_all, put_more}
 use Rattle.wave_engine.proofs.front.put_answers.Goals as goal
 
-pub put_level-requires-clause-room : goal.put_level-requires-clause-room
-put_level-requires-clause-room c =
+pub put_level-requires : goal.put_level-requires
+put_level-requires c =
     let u : ℕ = c.loop-level.level in
     let fits : u < length c.args.requests.now = omega arith in
     let count : length c.keys-count.result.now ≡ length (row c.args.requests.now u) = ap length c.keys-count.ensures in
@@ -24,13 +22,9 @@ loop-level-preserved c =
     let next : count_before c.args.from (u + 1) c.args.requests.now ≡ count_before c.args.from u c.args.requests.now + length (row c.args.requests.now u) = before_next c.args.requests.now c.args.from u c.loop-level.invariant.bound fits in
     let all : count_before c.args.from (u + 1) c.args.requests.now ≤ length (keys_from c.args.from c.args.requests.now) = before_all c.args.requests.now c.args.from (u + 1) in
     let so : c.loop-level.at ≡ count_before c.args.from u c.args.requests.now = c.loop-level.invariant.reached in
-    let own : List Ref = open_of c.put_level.new.answers in
-    let closed : lists_of c.close.new.self ≡ set (lists_of c.loop-level.answers) u own = c.close.ensures.lists ∙ ap (λ (z : List (List Ref)). set z u own) c.put_level.ensures.lists in
     record {
       bound = omega (arith, c.loop-level.invariant.bound);
-      put = subst (ArePut c.args.requests.now c.args.from c.args.found.now (u + 1)) (sym closed)
-          (put_more c.args.requests.now c.args.from c.args.found.now u (lists_of c.loop-level.answers) c.loop-level.invariant.put c.loop-level.invariant.bound fits (open_of c.put_level.new.answers)
-          (subst (λ n. IsCopied c.args.found.now n (length (row c.args.requests.now u)) (open_of c.put_level.new.answers)) so (subst (λ n. IsCopied c.args.found.now c.loop-level.at n (open_of c.put_level.new.answers)) count c.in_ok-at.ensures.copied)));
-      idle = c.close.ensures.open;
+      put = put_more c.args.requests.now c.args.from c.args.found.now u c.loop-level.answers.items c.loop-level.invariant.put c.loop-level.invariant.bound fits c.put_level.new.answers
+          (subst (λ n. IsCopied c.args.found.now n (length (row c.args.requests.now u)) c.put_level.new.answers) so (subst (λ n. IsCopied c.args.found.now c.loop-level.at n c.put_level.new.answers) count c.in_ok-at.ensures.copied));
       reached = let n : c.in_ok-at.at ≡ c.loop-level.at + length c.keys-count.result.now = c.in_ok-at.ensures.next in omega (arith, so, count, next, n);
     }

@@ -1,4 +1,4 @@
-use Rattle.std.proofs.Common.{rules, ◌≡◌, ℕ, ◌+◌, ◌<◌, ◌≤◌, ◌∙◌, List, length, set, Some, slice_get, sym, ap, subst, arith}
+use Rattle.std.proofs.Common.{rules, ◌≡◌, ℕ, ◌+◌, ◌<◌, ◌≤◌, ◌∙◌, List, length, set, Some, sym, subst, arith}
 use Rattle.std.proofs.lemmas.List.{length-set}
 use Rattle.dd_store.specs.declared.reference.Ref.{Ref}
 use Rattle.dd_store.specs.Nodes.{Nodes, count_of}
@@ -6,12 +6,11 @@ use Rattle.req_table.specs.declared.Key.{Key}
 use Rattle.reduce_up.specs.Waves.{Entry, IsWaveFault}
 use Rattle.req_table.specs.declared.placed.Placed.{Placed}
 use Rattle.wave_engine.specs.Places.{row, IsLastLevel}
-use Rattle.wave_engine.specs.ByLevel.{lists_of, open_of}
-use Rattle.wave_engine.specs.Up.{IsReadyAt, IsLevelReduced, AreSpread, AreReducedBelow}
+use Rattle.wave_engine.specs.Up.{IsReadyAt, IsLevelReduced, AreReducedBelow}
 use Rattle.dd_store.proofs.View.{keeps-trans}
-use Rattle.wave_engine.proofs.Placing.{row_own, row_other}
+use Rattle.wave_engine.proofs.Placing.{row_read, row_own, row_other}
 use Rattle.wave_engine.proofs.Wanted.{level_adds}
-use Rattle.wave_engine.proofs.Raising.{level_ready, level_next, levels_left, level_refused, over_limit}
+use Rattle.wave_engine.proofs.Raising.{level_ready, level_next, levels_left, level_refused, over_limit, ready_beside}
 use Rattle.wave_engine.proofs.up.reduce.Goals as goal
 
 pub reduce_level-requires-clause-ready : goal.reduce_level-requires-clause-ready
@@ -20,45 +19,21 @@ reduce_level-requires-clause-ready c =
     let es : List Entry = c.args.entries.now in
     let ps : List Placed = c.args.down.now.roots.items in
     let T : List (List Key) = c.args.down.now.requests in
-    let places : List (List ℕ) = lists_of c.args.down.now.places in
-    let rows : List (List (Placed × Placed)) = lists_of c.args.down.now.rows in
+    let rows : List (List (Placed × Placed)) = c.args.down.now.rows.items in
     let s : Nodes = c.loop-level.store in
-    let A : List (List Ref) = lists_of c.loop-level.answers in
+    let A : List (List Ref) = c.loop-level.answers.items in
     let v : ℕ = c.in-Some.level in
     let h : IsLastLevel T c.loop-level.end (Some v) = c.in-Some.ensures in
     let lt : v < c.args.from = let x : v < c.loop-level.end = h.0 in let y : c.loop-level.end ≤ c.args.from = c.loop-level.invariant.bound in omega (arith, x, y) in
     let fit : v < S.levels = let y : c.args.from ≤ S.levels = c.requires.bound in omega (arith, lt, y) in
-    let d : AreReducedBelow S es T (v + 1) s A = levels_left S c.requires.held es c.requires.operands ps T places rows c.args.from c.requires.expanded (v + 1) c.loop-level.end s A h.2 c.loop-level.invariant.reduced in
-    let pairs_are : c.list-in-Some.result.now ≡ row rows v = c.list-in-Some.ensures in
-    let places_are : c.list.result.now ≡ row places v = c.list.ensures in
-    let ready : IsReadyAt s T (row places v) (row rows v) A v = level_ready S c.requires.held es c.requires.operands ps T places rows c.args.from c.requires.expanded v s A lt fit h.1 d in
-    subst (λ (z : List (Placed × Placed)). IsReadyAt s T c.list.result.now z A v) (sym pairs_are) (subst (λ (z : List ℕ). IsReadyAt s T z (row rows v) A v) (sym places_are) ready)
-
-pub spread-requires-clause-places : goal.spread-requires-clause-places
-spread-requires-clause-places c = λ q p at.
-    let S : Nodes = c.args.store.now in
-    let es : List Entry = c.args.entries.now in
-    let ps : List Placed = c.args.down.now.roots.items in
-    let T : List (List Key) = c.args.down.now.requests in
-    let places : List (List ℕ) = lists_of c.args.down.now.places in
-    let rows : List (List (Placed × Placed)) = lists_of c.args.down.now.rows in
-    let s : Nodes = c.loop-level.store in
-    let A : List (List Ref) = lists_of c.loop-level.answers in
-    let v : ℕ = c.in-Some.level in
-    let h : IsLastLevel T c.loop-level.end (Some v) = c.in-Some.ensures in
-    let lt : v < c.args.from = let x : v < c.loop-level.end = h.0 in let y : c.loop-level.end ≤ c.args.from = c.loop-level.invariant.bound in omega (arith, x, y) in
-    let fit : v < S.levels = let y : c.args.from ≤ S.levels = c.requires.bound in omega (arith, lt, y) in
-    let d : AreReducedBelow S es T (v + 1) s A = levels_left S c.requires.held es c.requires.operands ps T places rows c.args.from c.requires.expanded (v + 1) c.loop-level.end s A h.2 c.loop-level.invariant.reduced in
-    let pairs_are : c.list-in-Some.result.now ≡ row rows v = c.list-in-Some.ensures in
-    let places_are : c.list.result.now ≡ row places v = c.list.ensures in
-    let ready : IsReadyAt s T (row places v) (row rows v) A v = level_ready S c.requires.held es c.requires.operands ps T places rows c.args.from c.requires.expanded v s A lt fit h.1 d in
-    let u : Nodes = c.reduce_level.new.store in
-    let own : List Ref = c.reduce_level.new.own in
-    let so : IsLevelReduced s T (row places v) v (length (row rows v)) u own =
-    subst (λ (z : List (Placed × Placed)). IsLevelReduced s T (row places v) v (length z) u own) pairs_are (subst (λ (z : List ℕ). IsLevelReduced s T z v (length c.list-in-Some.result.now) u own) places_are c.in_ok-reduce_level.ensures.whole) in
-    let within : p < length (row rows v) = ready.within q p (subst (λ (z : List ℕ). slice_get z q ≡ Some p) places_are at) in
-    let count : length own ≡ length (row rows v) = so.count in
-    omega (arith, within, count)
+    let d : AreReducedBelow S es T (v + 1) s A = levels_left S c.requires.held es c.requires.operands ps T rows c.args.from c.requires.expanded (v + 1) c.loop-level.end s A h.2 c.loop-level.invariant.reduced in
+    let rowed : v < length rows = let len : length rows ≡ S.levels = c.requires.expanded.levels in omega (arith, len, fit) in
+    let read : c.pairs-pairs.result.now ≡ row rows v = c.pairs-pairs.ensures ∙ row_read rows v c.index.result.now rowed c.index.ensures in
+    let placed : v < length A = let len : length A ≡ S.levels = d.levels in omega (arith, len, fit) in
+    let B : List (List Ref) = set A v c.replace-own.new.dest in
+    let ready : IsReadyAt s T (row rows v) B v = ready_beside s T (row rows v) A B v (λ w ne. row_other A v c.replace-own.new.dest w ne)
+    (level_ready S c.requires.held es c.requires.operands ps T rows c.args.from c.requires.expanded v s A lt fit h.1 d) in
+    subst (λ (z : List (Placed × Placed)). IsReadyAt s T z c.as_slice.result.now v) (sym read) (subst (λ (z : List (List Ref)). IsReadyAt s T (row rows v) z v) (sym c.as_slice.ensures.value) ready)
 
 pub returns-in_err-reduce_level-clause-adds : goal.returns-in_err-reduce_level-clause-adds
 returns-in_err-reduce_level-clause-adds c =
@@ -66,15 +41,14 @@ returns-in_err-reduce_level-clause-adds c =
     let es : List Entry = c.args.entries.now in
     let ps : List Placed = c.args.down.now.roots.items in
     let T : List (List Key) = c.args.down.now.requests in
-    let places : List (List ℕ) = lists_of c.args.down.now.places in
-    let rows : List (List (Placed × Placed)) = lists_of c.args.down.now.rows in
+    let rows : List (List (Placed × Placed)) = c.args.down.now.rows.items in
     let s : Nodes = c.loop-level.store in
-    let A : List (List Ref) = lists_of c.loop-level.answers in
+    let A : List (List Ref) = c.loop-level.answers.items in
     let v : ℕ = c.in-Some.level in
     let h : IsLastLevel T c.loop-level.end (Some v) = c.in-Some.ensures in
     let lt : v < c.args.from = let x : v < c.loop-level.end = h.0 in let y : c.loop-level.end ≤ c.args.from = c.loop-level.invariant.bound in omega (arith, x, y) in
     let fit : v < S.levels = let y : c.args.from ≤ S.levels = c.requires.bound in omega (arith, lt, y) in
-    let d : AreReducedBelow S es T (v + 1) s A = levels_left S c.requires.held es c.requires.operands ps T places rows c.args.from c.requires.expanded (v + 1) c.loop-level.end s A h.2 c.loop-level.invariant.reduced in
+    let d : AreReducedBelow S es T (v + 1) s A = levels_left S c.requires.held es c.requires.operands ps T rows c.args.from c.requires.expanded (v + 1) c.loop-level.end s A h.2 c.loop-level.invariant.reduced in
     let u : Nodes = c.reduce_level.new.store in
     level_adds S c.requires.held es c.requires.operands T v s u c.requires.expanded.admitted d.held c.reduce_level.ensures.sound d.adds c.reduce_level.ensures.adds
 
@@ -84,37 +58,18 @@ returns-in_err-reduce_level-clause-fault c =
     let es : List Entry = c.args.entries.now in
     let ps : List Placed = c.args.down.now.roots.items in
     let T : List (List Key) = c.args.down.now.requests in
-    let places : List (List ℕ) = lists_of c.args.down.now.places in
-    let rows : List (List (Placed × Placed)) = lists_of c.args.down.now.rows in
+    let rows : List (List (Placed × Placed)) = c.args.down.now.rows.items in
     let s : Nodes = c.loop-level.store in
-    let A : List (List Ref) = lists_of c.loop-level.answers in
+    let A : List (List Ref) = c.loop-level.answers.items in
     let v : ℕ = c.in-Some.level in
     let h : IsLastLevel T c.loop-level.end (Some v) = c.in-Some.ensures in
     let lt : v < c.args.from = let x : v < c.loop-level.end = h.0 in let y : c.loop-level.end ≤ c.args.from = c.loop-level.invariant.bound in omega (arith, x, y) in
     let fit : v < S.levels = let y : c.args.from ≤ S.levels = c.requires.bound in omega (arith, lt, y) in
-    let d : AreReducedBelow S es T (v + 1) s A = levels_left S c.requires.held es c.requires.operands ps T places rows c.args.from c.requires.expanded (v + 1) c.loop-level.end s A h.2 c.loop-level.invariant.reduced in
+    let d : AreReducedBelow S es T (v + 1) s A = levels_left S c.requires.held es c.requires.operands ps T rows c.args.from c.requires.expanded (v + 1) c.loop-level.end s A h.2 c.loop-level.invariant.reduced in
     let u : Nodes = c.reduce_level.new.store in
     let f : IsWaveFault S es u c.in_err-reduce_level.field-0.0 =
-    level_refused S c.requires.held es c.requires.operands ps T places rows c.args.from c.requires.expanded v u (keeps-trans S s u d.adds.keeps c.reduce_level.ensures.adds.keeps) c.in_err-reduce_level.field-0.0 c.in_err-reduce_level.ensures.fault in
+    level_refused S c.requires.held es c.requires.operands ps T rows c.args.from c.requires.expanded v u (keeps-trans S s u d.adds.keeps c.reduce_level.ensures.adds.keeps) c.in_err-reduce_level.field-0.0 c.in_err-reduce_level.ensures.fault in
     search (rules, f)
-
-pub returns-in_err-spread-clause-adds : goal.returns-in_err-spread-clause-adds
-returns-in_err-spread-clause-adds c =
-    let S : Nodes = c.args.store.now in
-    let es : List Entry = c.args.entries.now in
-    let ps : List Placed = c.args.down.now.roots.items in
-    let T : List (List Key) = c.args.down.now.requests in
-    let places : List (List ℕ) = lists_of c.args.down.now.places in
-    let rows : List (List (Placed × Placed)) = lists_of c.args.down.now.rows in
-    let s : Nodes = c.loop-level.store in
-    let A : List (List Ref) = lists_of c.loop-level.answers in
-    let v : ℕ = c.in-Some.level in
-    let h : IsLastLevel T c.loop-level.end (Some v) = c.in-Some.ensures in
-    let lt : v < c.args.from = let x : v < c.loop-level.end = h.0 in let y : c.loop-level.end ≤ c.args.from = c.loop-level.invariant.bound in omega (arith, x, y) in
-    let fit : v < S.levels = let y : c.args.from ≤ S.levels = c.requires.bound in omega (arith, lt, y) in
-    let d : AreReducedBelow S es T (v + 1) s A = levels_left S c.requires.held es c.requires.operands ps T places rows c.args.from c.requires.expanded (v + 1) c.loop-level.end s A h.2 c.loop-level.invariant.reduced in
-    let u : Nodes = c.reduce_level.new.store in
-    level_adds S c.requires.held es c.requires.operands T v s u c.requires.expanded.admitted d.held c.reduce_level.ensures.sound d.adds c.reduce_level.ensures.adds
 
 pub returns-then-count-limit-clause-adds : goal.returns-then-count-limit-clause-adds
 returns-then-count-limit-clause-adds c =
@@ -122,15 +77,14 @@ returns-then-count-limit-clause-adds c =
     let es : List Entry = c.args.entries.now in
     let ps : List Placed = c.args.down.now.roots.items in
     let T : List (List Key) = c.args.down.now.requests in
-    let places : List (List ℕ) = lists_of c.args.down.now.places in
-    let rows : List (List (Placed × Placed)) = lists_of c.args.down.now.rows in
+    let rows : List (List (Placed × Placed)) = c.args.down.now.rows.items in
     let s : Nodes = c.loop-level.store in
-    let A : List (List Ref) = lists_of c.loop-level.answers in
+    let A : List (List Ref) = c.loop-level.answers.items in
     let v : ℕ = c.in-Some.level in
     let h : IsLastLevel T c.loop-level.end (Some v) = c.in-Some.ensures in
     let lt : v < c.args.from = let x : v < c.loop-level.end = h.0 in let y : c.loop-level.end ≤ c.args.from = c.loop-level.invariant.bound in omega (arith, x, y) in
     let fit : v < S.levels = let y : c.args.from ≤ S.levels = c.requires.bound in omega (arith, lt, y) in
-    let d : AreReducedBelow S es T (v + 1) s A = levels_left S c.requires.held es c.requires.operands ps T places rows c.args.from c.requires.expanded (v + 1) c.loop-level.end s A h.2 c.loop-level.invariant.reduced in
+    let d : AreReducedBelow S es T (v + 1) s A = levels_left S c.requires.held es c.requires.operands ps T rows c.args.from c.requires.expanded (v + 1) c.loop-level.end s A h.2 c.loop-level.invariant.reduced in
     let u : Nodes = c.reduce_level.new.store in
     level_adds S c.requires.held es c.requires.operands T v s u c.requires.expanded.admitted d.held c.reduce_level.ensures.sound d.adds c.reduce_level.ensures.adds
 
@@ -140,17 +94,16 @@ returns-then-count-limit-clause-fault c =
     let es : List Entry = c.args.entries.now in
     let ps : List Placed = c.args.down.now.roots.items in
     let T : List (List Key) = c.args.down.now.requests in
-    let places : List (List ℕ) = lists_of c.args.down.now.places in
-    let rows : List (List (Placed × Placed)) = lists_of c.args.down.now.rows in
+    let rows : List (List (Placed × Placed)) = c.args.down.now.rows.items in
     let s : Nodes = c.loop-level.store in
-    let A : List (List Ref) = lists_of c.loop-level.answers in
+    let A : List (List Ref) = c.loop-level.answers.items in
     let v : ℕ = c.in-Some.level in
     let h : IsLastLevel T c.loop-level.end (Some v) = c.in-Some.ensures in
     let lt : v < c.args.from = let x : v < c.loop-level.end = h.0 in let y : c.loop-level.end ≤ c.args.from = c.loop-level.invariant.bound in omega (arith, x, y) in
     let fit : v < S.levels = let y : c.args.from ≤ S.levels = c.requires.bound in omega (arith, lt, y) in
-    let d : AreReducedBelow S es T (v + 1) s A = levels_left S c.requires.held es c.requires.operands ps T places rows c.args.from c.requires.expanded (v + 1) c.loop-level.end s A h.2 c.loop-level.invariant.reduced in
+    let d : AreReducedBelow S es T (v + 1) s A = levels_left S c.requires.held es c.requires.operands ps T rows c.args.from c.requires.expanded (v + 1) c.loop-level.end s A h.2 c.loop-level.invariant.reduced in
     let u : Nodes = c.reduce_level.new.store in
-    over_limit S c.requires.held es c.requires.operands ps T places rows c.args.from c.requires.expanded v u h.1 (omega arith)
+    over_limit S c.requires.held es c.requires.operands ps T rows c.args.from c.requires.expanded v u h.1 (omega arith)
 
 pub loop-level-preserved : goal.loop-level-preserved
 loop-level-preserved c =
@@ -158,32 +111,28 @@ loop-level-preserved c =
     let es : List Entry = c.args.entries.now in
     let ps : List Placed = c.args.down.now.roots.items in
     let T : List (List Key) = c.args.down.now.requests in
-    let places : List (List ℕ) = lists_of c.args.down.now.places in
-    let rows : List (List (Placed × Placed)) = lists_of c.args.down.now.rows in
+    let rows : List (List (Placed × Placed)) = c.args.down.now.rows.items in
     let s : Nodes = c.loop-level.store in
-    let A : List (List Ref) = lists_of c.loop-level.answers in
+    let A : List (List Ref) = c.loop-level.answers.items in
     let v : ℕ = c.in-Some.level in
     let h : IsLastLevel T c.loop-level.end (Some v) = c.in-Some.ensures in
     let lt : v < c.args.from = let x : v < c.loop-level.end = h.0 in let y : c.loop-level.end ≤ c.args.from = c.loop-level.invariant.bound in omega (arith, x, y) in
     let fit : v < S.levels = let y : c.args.from ≤ S.levels = c.requires.bound in omega (arith, lt, y) in
-    let d : AreReducedBelow S es T (v + 1) s A = levels_left S c.requires.held es c.requires.operands ps T places rows c.args.from c.requires.expanded (v + 1) c.loop-level.end s A h.2 c.loop-level.invariant.reduced in
-    let pairs_are : c.list-in-Some.result.now ≡ row rows v = c.list-in-Some.ensures in
-    let places_are : c.list.result.now ≡ row places v = c.list.ensures in
-    let ready : IsReadyAt s T (row places v) (row rows v) A v = level_ready S c.requires.held es c.requires.operands ps T places rows c.args.from c.requires.expanded v s A lt fit h.1 d in
+    let d : AreReducedBelow S es T (v + 1) s A = levels_left S c.requires.held es c.requires.operands ps T rows c.args.from c.requires.expanded (v + 1) c.loop-level.end s A h.2 c.loop-level.invariant.reduced in
+    let rowed : v < length rows = let len : length rows ≡ S.levels = c.requires.expanded.levels in omega (arith, len, fit) in
+    let read : c.pairs-pairs.result.now ≡ row rows v = c.pairs-pairs.ensures ∙ row_read rows v c.index.result.now rowed c.index.ensures in
+    let placed : v < length A = let len : length A ≡ S.levels = d.levels in omega (arith, len, fit) in
     let u : Nodes = c.reduce_level.new.store in
     let own : List Ref = c.reduce_level.new.own in
-    let so : IsLevelReduced s T (row places v) v (length (row rows v)) u own =
-    subst (λ (z : List (Placed × Placed)). IsLevelReduced s T (row places v) v (length z) u own) pairs_are (subst (λ (z : List ℕ). IsLevelReduced s T z v (length c.list-in-Some.result.now) u own) places_are c.in_ok-reduce_level.ensures.whole) in
-    let new : List Ref = open_of c.spread.new.answers in
-    let spread : AreSpread own (row places v) new = subst (λ (z : List ℕ). AreSpread own z new) places_are c.in_ok-spread.ensures.spread in
-    let closed : lists_of c.close.new.self ≡ set A v new = c.close.ensures.lists ∙ ap (λ (z : List (List Ref)). set z v new) c.spread.ensures.lists in
+    let B : List (List Ref) = set A v c.replace-own.new.dest in
+    let so : IsLevelReduced s T v (length (row rows v)) u own =
+    subst (λ (z : List (Placed × Placed)). IsLevelReduced s T v (length z) u own) read c.in_ok-reduce_level.ensures.whole in
     let within : count_of u ≤ u.limit = omega arith in
-    let there : v < length A = let len : length A ≡ S.levels = d.levels in omega (arith, len, fit) in
+    let len : length B ≡ length A = length-set A v c.replace-own.new.dest in
     record {
       bound = omega (arith, lt);
-      reduced = subst (AreReducedBelow S es T v u) (sym closed)
-          (level_next S c.requires.held es c.requires.operands ps T places rows c.args.from c.requires.expanded v s A lt h.1 d u own so within new spread (set A v new) (length-set A v new) (row_own A v new there) (λ w ne. row_other A v new w ne));
-      idle = c.close.ensures.open;
+      reduced = level_next S c.requires.held es c.requires.operands ps T rows c.args.from c.requires.expanded v s A lt h.1 d u own so within (set B v own) (length-set B v own ∙ len)
+          (row_own B v own (omega (arith, len, placed))) (λ w ne. row_other B v own w ne ∙ row_other A v c.replace-own.new.dest w ne);
     }
 
 pub returns-clause-reduced : goal.returns-clause-reduced
@@ -192,8 +141,7 @@ returns-clause-reduced c =
     let es : List Entry = c.args.entries.now in
     let ps : List Placed = c.args.down.now.roots.items in
     let T : List (List Key) = c.args.down.now.requests in
-    let places : List (List ℕ) = lists_of c.args.down.now.places in
-    let rows : List (List (Placed × Placed)) = lists_of c.args.down.now.rows in
+    let rows : List (List (Placed × Placed)) = c.args.down.now.rows.items in
     let s : Nodes = c.loop-level.store in
-    let A : List (List Ref) = lists_of c.loop-level.answers in
-    levels_left S c.requires.held es c.requires.operands ps T places rows c.args.from c.requires.expanded 0 c.loop-level.end s A c.in_default.ensures c.loop-level.invariant.reduced
+    let A : List (List Ref) = c.loop-level.answers.items in
+    levels_left S c.requires.held es c.requires.operands ps T rows c.args.from c.requires.expanded 0 c.loop-level.end s A c.in_default.ensures c.loop-level.invariant.reduced

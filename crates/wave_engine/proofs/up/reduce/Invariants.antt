@@ -1,13 +1,11 @@
-use Rattle.std.proofs.Common.{◌≡◌, ◌≤◌, []}
-use Rattle.wave_engine.specs.ByLevel.{lists_of, open_of}
+use Rattle.std.proofs.Common.{◌≤◌}
 use Rattle.wave_engine.specs.Up.{AreReducedBelow}
 use Rattle.wave_engine.proofs.up.reduce.Given as goal
 
 abbrev pub invariant-loop-level : goal.invariant-loop-level
 invariant-loop-level l = record {
   bound : l.end ≤ l.from;
-  reduced : AreReducedBelow l.fn.store l.entries l.down.requests l.end l.store (lists_of l.answers);
-  idle : open_of l.answers ≡ [];
+  reduced : AreReducedBelow l.fn.store l.entries l.down.requests l.end l.store l.answers.items;
 }
 
 abbrev pub decreases-loop-level : goal.decreases-loop-level

@@ -1,13 +1,14 @@
-use Rattle.std.proofs.Common.{sym, ◌∙◌, subst}
+use Rattle.std.proofs.Common.{◌<◌, List, length, sym, ◌∙◌, subst}
 use Rattle.std.proofs.lemmas.Option.{slice_get_within}
 use Rattle.dd_store.specs.declared.reference.Ref.{Ref}
 use Rattle.req_table.specs.declared.placed.PlacedChild.TheVariants.{Ask}
 use Rattle.wave_engine.specs.Places.{row}
-use Rattle.wave_engine.specs.ByLevel.{lists_of}
 use Rattle.wave_engine.specs.Up.{ComesTo}
+use Rattle.wave_engine.proofs.Placing.{row_read, in_lists}
 use Rattle.wave_engine.proofs.up.resolve.Goals as goal
 
 pub at-requires : goal.at-requires
 at-requires c =
-    let s : (r : Ref) × ComesTo (lists_of c.args.answers.now) (Ask c.in-Ask.level c.in-Ask.place c.in-Ask.mark) r = subst (λ z. (r : Ref) × ComesTo (lists_of c.args.answers.now) z r) (sym c.view.ensures ∙ c.in-Ask.is) c.requires in
-    slice_get_within (row (lists_of c.args.answers.now) c.in-Ask.level) c.in-Ask.place s.1.0 s.1.1
+    let s : (r : Ref) × ComesTo c.args.answers.now (Ask c.in-Ask.level c.in-Ask.place c.in-Ask.mark) r = subst (λ z. (r : Ref) × ComesTo c.args.answers.now z r) (sym c.view.ensures ∙ c.in-Ask.is) c.requires in
+    let fits : c.in-Ask.level < length c.args.answers.now = in_lists c.args.answers.now c.in-Ask.level c.in-Ask.place s.1.0 s.1.1 in
+    subst (λ (z : List Ref). c.in-Ask.place < length z) (sym (row_read c.args.answers.now c.in-Ask.level c.index-answers-level.result fits c.index-answers-level.is)) (slice_get_within (row c.args.answers.now c.in-Ask.level) c.in-Ask.place s.1.0 s.1.1)

@@ -5,14 +5,13 @@ use Rattle.std.proofs.lemmas.Slice.Zip.{all_zipped_more}
 use Rattle.dd_store.specs.declared.reference.Ref.{Ref}
 use Rattle.reduce_up.proofs.Rooted.{item_at, item_next}
 use Rattle.req_table.specs.declared.placed.Placed.{Placed}
-use Rattle.wave_engine.specs.ByLevel.{lists_of}
 use Rattle.wave_engine.specs.Up.{ComesTo}
 use Rattle.wave_engine.proofs.workspace.root_answers.Goals as goal
 
 pub resolve-requires : goal.resolve-requires
 resolve-requires c =
     let p : Placed = c.root-item.result in
-    All-contains (λ (q : Placed). (r : Ref) × ComesTo (lists_of c.args.answers.now) q r) c.args.roots.now p c.requires (item_at c.args.roots.now c.loop-root.root-index p c.loop-root-test.true c.root-item.is)
+    All-contains (λ (q : Placed). (r : Ref) × ComesTo c.args.answers.now q r) c.args.roots.now p c.requires (item_at c.args.roots.now c.loop-root.root-index p c.loop-root-test.true c.root-item.is)
 
 pub loop-root-preserved : goal.loop-root-preserved
 loop-root-preserved c =
@@ -20,5 +19,5 @@ loop-root-preserved c =
     let p : Placed = c.root-item.result in
     let grown : c.push.new.self.items ≡ c.loop-root.refs.items ++ c.resolve.result ∷ [] = search rules in
     rw (item_next c.args.roots.now i p c.loop-root-test.true c.root-item.is)
-    (subst (AllZip (ComesTo (lists_of c.args.answers.now)) (take i c.args.roots.now ++ p ∷ [])) (sym grown)
-    (all_zipped_more (ComesTo (lists_of c.args.answers.now)) (take i c.args.roots.now) c.loop-root.refs.items p c.resolve.result c.loop-root.invariant c.resolve.ensures))
+    (subst (AllZip (ComesTo c.args.answers.now) (take i c.args.roots.now ++ p ∷ [])) (sym grown)
+    (all_zipped_more (ComesTo c.args.answers.now) (take i c.args.roots.now) c.loop-root.refs.items p c.resolve.result c.loop-root.invariant c.resolve.ensures))

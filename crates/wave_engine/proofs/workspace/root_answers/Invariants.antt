@@ -1,8 +1,7 @@
 use Rattle.std.proofs.Common.{take}
 use Rattle.std.specs.List.{AllZip}
-use Rattle.wave_engine.specs.ByLevel.{lists_of}
 use Rattle.wave_engine.specs.Up.{ComesTo}
 use Rattle.wave_engine.proofs.workspace.root_answers.Given as goal
 
 abbrev pub invariant-loop-root : goal.invariant-loop-root
-invariant-loop-root l = AllZip (ComesTo (lists_of l.answers)) (take l.root-index l.roots) l.refs.items
+invariant-loop-root l = AllZip (ComesTo l.answers) (take l.root-index l.roots) l.refs.items

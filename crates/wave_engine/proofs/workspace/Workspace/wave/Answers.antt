@@ -1,4 +1,4 @@
-use Rattle.std.proofs.Common.{◌≡◌, ◌∙◌, ℕ, List, All, length, sym, subst, arith}
+use Rattle.std.proofs.Common.{List, All, sym, subst, arith}
 use Rattle.std.specs.List.{AllZip}
 use Rattle.dd_store.specs.declared.reference.Ref.{Ref}
 use Rattle.req_table.specs.declared.Key.{Key}
@@ -7,7 +7,6 @@ use Rattle.reduce_up.specs.Waves.{IsWanted, AnswersEach, IsWaveFault}
 use Rattle.reduce_up.proofs.Waving.{not_full, wave_unchanged, wave_given_up, wave_done}
 use Rattle.std.proofs.lemmas.Result.{err_from_is_err_and}
 use Rattle.req_table.specs.declared.placed.Placed.{Placed}
-use Rattle.wave_engine.specs.ByLevel.{lists_of}
 use Rattle.wave_engine.specs.Down.{AreExpanded, IsDown}
 use Rattle.wave_engine.specs.Up.{ComesTo, AreReducedBelow, IsWithinBelow}
 use Rattle.wave_engine.proofs.Whole.{expanded_kept, adds_both, fault_back, roots_come, roots_answered, within_both}
@@ -16,11 +15,10 @@ use Rattle.wave_engine.proofs.workspace.Workspace.wave.Goals as goal
 pub reduce-requires-clause-expanded : goal.reduce-requires-clause-expanded
 reduce-requires-clause-expanded g c =
     let T : List (List Key) = c.go_down.new.down.requests in
-    let noted : List (List ℕ) = lists_of c.go_down.new.down.places in
-    let rows : List (List (Placed × Placed)) = lists_of c.go_down.new.down.rows in
+    let rows : List (List (Placed × Placed)) = c.go_down.new.down.rows.items in
     let ps : List Placed = c.go_down.new.down.roots.items in
-    let D : IsDown c.args.store.now c.args.entries.now c.in_ok-from.from T noted rows ps (lists_of c.go_down.new.answers) = c.in_ok-from.ensures.down in
-    let E : AreExpanded c.hand_over.new.store c.args.entries.now ps c.in_ok-from.from T noted rows = expanded_kept c.args.store.now c.levels.ensures.sound c.args.entries.now c.requires.operands c.hand_over.new.store c.hand_over.ensures.adds.keeps ps c.in_ok-from.from T noted rows D.expanded in
+    let D : IsDown c.args.store.now c.args.entries.now c.in_ok-from.from T rows ps c.go_down.new.answers.items = c.in_ok-from.ensures.down in
+    let E : AreExpanded c.hand_over.new.store c.args.entries.now ps c.in_ok-from.from T rows = expanded_kept c.args.store.now c.levels.ensures.sound c.args.entries.now c.requires.operands c.hand_over.new.store c.hand_over.ensures.adds.keeps ps c.in_ok-from.from T rows D.expanded in
     E
 
 pub returns-in_err-from-clause-wave : goal.returns-in_err-from-clause-wave
@@ -46,26 +44,27 @@ returns-in_err-reduce-clause-wave g c =
 pub root_answers-requires : goal.root_answers-requires
 root_answers-requires g c =
     let T : List (List Key) = c.go_down.new.down.requests in
-    let noted : List (List ℕ) = lists_of c.go_down.new.down.places in
-    let rows : List (List (Placed × Placed)) = lists_of c.go_down.new.down.rows in
+    let rows : List (List (Placed × Placed)) = c.go_down.new.down.rows.items in
     let ps : List Placed = c.go_down.new.down.roots.items in
-    let D : IsDown c.args.store.now c.args.entries.now c.in_ok-from.from T noted rows ps (lists_of c.go_down.new.answers) = c.in_ok-from.ensures.down in
-    let R : AreReducedBelow c.hand_over.new.store c.args.entries.now T 0 c.reduce.new.store (lists_of c.reduce.new.answers) = c.in_ok-reduce.ensures.reduced in
-    subst (λ (z : List Placed). All (λ p. (r : Ref) × ComesTo (lists_of c.reduce.new.answers) p r) z) (sym c.as_slice.ensures.value)
-    (roots_come c.args.store.now c.levels.ensures.sound c.args.entries.now c.requires.operands T (lists_of c.reduce.new.answers) (λ v q k h. R.counts v q k (omega arith) h) ps D.expanded.rooted)
+    let D : IsDown c.args.store.now c.args.entries.now c.in_ok-from.from T rows ps c.go_down.new.answers.items = c.in_ok-from.ensures.down in
+    let R : AreReducedBelow c.hand_over.new.store c.args.entries.now T 0 c.reduce.new.store c.reduce.new.answers.items = c.in_ok-reduce.ensures.reduced in
+    subst (λ (z : List Placed). All (λ p. (r : Ref) × ComesTo c.as_slice-2.result.now p r) z) (sym c.as_slice.ensures.value)
+    (subst (λ (z : List (List Ref)). All (λ p. (r : Ref) × ComesTo z p r) ps) (sym c.as_slice-2.ensures.value)
+    (roots_come c.args.store.now c.levels.ensures.sound c.args.entries.now c.requires.operands T c.reduce.new.answers.items (λ v q k h. R.counts v q k (omega arith) h) ps D.expanded.rooted))
 
 pub returns-in-Ok-clause-wave : goal.returns-in-Ok-clause-wave
 returns-in-Ok-clause-wave g c =
     let T : List (List Key) = c.go_down.new.down.requests in
-    let noted : List (List ℕ) = lists_of c.go_down.new.down.places in
-    let rows : List (List (Placed × Placed)) = lists_of c.go_down.new.down.rows in
+    let rows : List (List (Placed × Placed)) = c.go_down.new.down.rows.items in
     let ps : List Placed = c.go_down.new.down.roots.items in
-    let D : IsDown c.args.store.now c.args.entries.now c.in_ok-from.from T noted rows ps (lists_of c.go_down.new.answers) = c.in_ok-from.ensures.down in
-    let R : AreReducedBelow c.hand_over.new.store c.args.entries.now T 0 c.reduce.new.store (lists_of c.reduce.new.answers) = c.in_ok-reduce.ensures.reduced in
-    let come : AllZip (ComesTo (lists_of c.reduce.new.answers)) ps c.in-Ok.answers.items = subst (λ (z : List Placed). AllZip (ComesTo (lists_of c.reduce.new.answers)) z c.in-Ok.answers.items) c.as_slice.ensures.value c.in-Ok.ensures in
+    let D : IsDown c.args.store.now c.args.entries.now c.in_ok-from.from T rows ps c.go_down.new.answers.items = c.in_ok-from.ensures.down in
+    let R : AreReducedBelow c.hand_over.new.store c.args.entries.now T 0 c.reduce.new.store c.reduce.new.answers.items = c.in_ok-reduce.ensures.reduced in
+    let come : AllZip (ComesTo c.reduce.new.answers.items) ps c.in-Ok.answers.items =
+    subst (λ (z : List Placed). AllZip (ComesTo c.reduce.new.answers.items) z c.in-Ok.answers.items) c.as_slice.ensures.value
+    (subst (λ (z : List (List Ref)). AllZip (ComesTo z) c.as_slice.result.now c.in-Ok.answers.items) c.as_slice-2.ensures.value c.in-Ok.ensures) in
     let adds : AddsDescribed c.args.store.now c.reduce.new.store (IsWanted c.args.store.now c.args.entries.now) = adds_both c.args.store.now c.levels.ensures.sound c.args.entries.now c.requires.operands c.hand_over.new.store c.hand_over.ensures.adds.keeps c.hand_over.ensures.sound c.reduce.new.store c.hand_over.ensures.adds c.reduce.ensures.adds in
     let answers : AnswersEach c.args.store.now c.args.entries.now c.reduce.new.store c.in-Ok.answers.items =
-    roots_answered c.args.store.now c.levels.ensures.sound c.args.entries.now c.requires.operands T (lists_of c.reduce.new.answers) c.reduce.new.store D.expanded.admitted adds.keeps (λ v q k r h g. R.answered v q k r (omega arith) h g) c.args.entries.now c.requires.operands ps D.expanded.rooted c.in-Ok.answers.items come in
+    roots_answered c.args.store.now c.levels.ensures.sound c.args.entries.now c.requires.operands T c.reduce.new.answers.items c.reduce.new.store D.expanded.admitted adds.keeps (λ v q k r h g. R.answered v q k r (omega arith) h g) c.args.entries.now c.requires.operands ps D.expanded.rooted c.in-Ok.answers.items come in
     let first : IsWithinBelow c.args.store.now T c.in_ok-from.from c.hand_over.new.store = c.in_ok-shared.ensures.within in
     wave_done c.args.store.now c.args.entries.now c.args.entries.now c.reduce.new.store c.in-Ok.answers c.reduce.ensures.sound adds answers
     (within_both c.args.store.now c.levels.ensures.sound c.args.entries.now c.requires.operands T ps D.expanded.rooted c.in_ok-from.from c.hand_over.new.store c.reduce.new.store first R.within)
