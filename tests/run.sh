@@ -5,7 +5,7 @@
 #
 # usage: tests/run.sh [--seed N] [--long] [PART ..]
 #
-# PART is stored, examples, papers, linked, edits, objects, devices, signals, refusals, growths, fuzz, second or flows; all of them where none is named. Second is a
+# PART is stored, examples, papers, linked, edits, joining, objects, devices, signals, refusals, growths, fuzz, second or flows; all of them where none is named. Second is a
 # part of these on the program as the kit's other compiler builds it, where rt ci has left that. --long goes on with
 # refusals and fuzz, by other seeds, until it is stopped or something fails. BDDCHECK names another program than the proved one.
 cd "$(dirname "$0")/.." || exit 2
@@ -18,7 +18,7 @@ while :; do
     *) break ;;
     esac
 done
-[ $# -gt 0 ] || set -- stored examples papers linked edits objects devices signals refusals growths fuzz second flows
+[ $# -gt 0 ] || set -- stored examples papers linked edits joining objects devices signals refusals growths fuzz second flows
 
 # What the parts print goes on, and their last lines are added up.
 passed=0 failed=0
@@ -71,7 +71,7 @@ parts() {
     for name; do
         case $name in
         stored | examples | papers | objects | devices | signals) part "$name" python3 "tests/$name.py" "$program" ;;
-        edits | linked) part "$name" python3 "tests/$name.py" ;;
+        edits | linked | joining) part "$name" python3 "tests/$name.py" ;;
         refusals | fuzz) part "$name" python3 "tests/$name.py" "$program" ${seed:+--seed "$seed"} ;;
         growths) part growths python3 tests/growths.py crates ;;
         second) second ;;

@@ -1,5 +1,5 @@
 -- The budgets within which candidates are tried.
-use Rattle.std.proofs.Common.{◌≡◌, ◌⊎◌, inl, inr, ◌∙◌, ap, sym, subst, arith, ℕ, zero, suc, ◌*◌, ◌^◌, ◌<◌, ◌≤◌, min}
+use Rattle.std.proofs.Common.{◌≡◌, ◌⊎◌, inl, inr, ◌∙◌, ap, sym, subst, arith, ℕ, suc, ◌*◌, ◌^◌, ◌<◌, ◌≤◌}
 use Rattle.std.proofs.Math.Nat.{pow-suc, pow-le-pow_right}
 use Rattle.std.proofs.lemmas.Bool.{cases_lt}
 use Rattle.check_report.specs.Best.{IsBudget, first_budget}
@@ -37,3 +37,8 @@ first_is_one limit b e = by (cases_lt 16384 limit)
     by : (16384 < limit) ⊎ (limit ≤ 16384) → IsBudget limit b
     by (inl lt) = inl (0, (let same : b ≡ 16384 = omega (arith, e, lt) in same), (let less : b < limit = omega (arith, e, lt) in less))
     by (inr le) = inr (omega (arith, e, le))
+
+-- what holds of the budgets before one and of the limit holds of each budget
+pub each_budget : (P : ℕ → Type 0) (limit k : ℕ) → ((j : ℕ) → j < k → P (16384 * 16 ^ j)) → limit ≤ 16384 * 16 ^ k → P limit → (budget : ℕ) → IsBudget limit budget → P budget
+each_budget P limit k tried most last budget (inl (j, power, less)) = each_smaller P limit k limit tried most (omega arith) budget (inl (j, power, less)) less
+each_budget P limit k tried most last budget (inr same) = subst P (sym same) last

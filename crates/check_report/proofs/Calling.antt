@@ -2,7 +2,7 @@
 use Rattle.std.proofs.Common.{ℕ, Bool, List}
 use Rattle.std.specs.Prelude.{◌↔◌}
 use Rattle.report_text.specs.declared.verdict.Verdict.{Verdict}
-use Rattle.report_text.specs.declared.verdict.Verdict.TheVariants.{Equal, Differs, Lone}
+use Rattle.report_text.specs.declared.verdict.Verdict.TheVariants.{Equal, Differs, Lone, Undecided}
 use Rattle.check_report.specs.Conditions.{AgreeWhere}
 use Rattle.check_report.specs.Report.{Compared, IsVerdictOf, CallsEqual}
 use Rattle.check_report.specs.Report.IsVerdictOf.{where_equal, where_different}
@@ -11,3 +11,4 @@ pub exact : (n : ℕ) (sizes : Bool) (holds : List Bool → Bool) (c : Compared)
 exact n sizes holds c (Equal role name shown) (where_equal agree size) = (λ _. agree, λ _. tt)
 exact n sizes holds c (Differs role name x first second shown) (where_different least size) = (λ called. absurd called, λ agree. absurd (least.differ (agree x least.bits least.satisfies)))
 exact n sizes holds c (Lone side role name) v = elim v [ ]
+exact n sizes holds c (Undecided role name) v = elim v [ ]

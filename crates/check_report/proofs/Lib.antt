@@ -15,3 +15,17 @@ pub mod Printing
 pub mod Widening
 pub mod Rounds
 pub mod Budgets
+pub mod Spread
+pub mod ConePairs
+pub mod ConeVerdicts
+pub mod Called
+pub mod Places
+pub mod Filling
+pub mod ByCones
+pub mod Findings
+pub mod Dealing
+pub mod Turning
+pub mod Ended
+pub mod ConeTasks
+pub mod Picks
+pub mod Shares

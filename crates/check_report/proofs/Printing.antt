@@ -5,7 +5,7 @@ use Rattle.net_order.specs.declared.order.Order.{Order}
 use Rattle.net_order.specs.OrderText.{order_text}
 use Rattle.check_report.specs.Devices.{Told}
 use Rattle.check_report.specs.declared.choice.Choice.{Choice}
-use Rattle.check_report.specs.declared.choice.Choice.TheVariants.{One, Best, Auto}
+use Rattle.check_report.specs.declared.choice.Choice.TheVariants.{One, Best, Auto, Cones}
 use Rattle.check_report.specs.declared.choice.Attempt.{Attempt}
 use Rattle.check_report.specs.declared.choice.Candidate.TheVariants.{Declared}
 use Rattle.check_report.specs.Best.{IsAllowed, IsFound}
@@ -22,6 +22,7 @@ found_allowed told how (One o) limit tried order f = f.1
 found_allowed told how Best limit None order f = absurd f
 found_allowed told how Best limit (Some t) order f = (t.order, f.0)
 found_allowed told how Auto limit tried order f = (Declared, f.1)
+found_allowed told how Cones limit tried order f = f.1
 
 -- where no order was tried, whatever is said of an attempt
 pub never_tried : {A B E : Type 0} (P : B → Type 0) (r : Result (A × Option B) E) → IfOk r (λ r. r.1 ≡ None) → IfOk r (λ r. IfSome r.1 P)

@@ -1,5 +1,5 @@
 -- Candidates that are tried in turn, and those that are given up.
-use Rattle.std.proofs.Common.{◌≡◌, ◌≢◌, ◌⊎◌, ◌&&◌, inl, inr, ◌∙◌, ap, sym, subst, arith, refl, lit<, get_or, length, take, ◌+◌, ℕ, zero, suc, ◌*◌, ◌^◌, ◌<◌, ◌≤◌, min, Bool, true, false, List, [], ◌∷◌, ◌++◌, All, Contains, Option, Some, None, IfSome}
+use Rattle.std.proofs.Common.{◌≡◌, ◌≢◌, ◌⊎◌, ◌&&◌, inl, inr, ◌∙◌, sym, subst, arith, refl, lit<, get_or, length, take, ◌+◌, ℕ, zero, suc, ◌*◌, ◌^◌, ◌<◌, ◌≤◌, Bool, true, false, List, [], ◌∷◌, ◌++◌, All, Contains, Option, IfSome}
 use Rattle.std.proofs.lemmas.List.Elements.{All-contains, All-more, All-push, Contains-append_left, Contains-push}
 use Rattle.std.proofs.lemmas.List.Sorted.{All-permutation, Contains-permutation}
 use Rattle.std.proofs.lemmas.List.{take_all}
@@ -14,17 +14,17 @@ use Rattle.check_report.specs.declared.choice.Attempt.{Attempt}
 use Rattle.check_report.specs.declared.choice.Candidate.{Candidate}
 use Rattle.check_report.specs.declared.choice.Candidate.TheVariants.{Interleave, Force, Index, Depth, Declared}
 use Rattle.check_report.specs.declared.fault.CheckFault.{CheckFault}
-use Rattle.check_report.specs.declared.fault.CheckFault.TheVariants.{Order as OrderRefused, Wave, GivenUp, Write, OutOfMemory}
+use Rattle.check_report.specs.declared.fault.CheckFault.TheVariants.{Order as OrderRefused, Wave, GivenUp, OutOfMemory}
 use Rattle.check_report.specs.declared.task.Task.{Task}
 use Rattle.check_report.specs.declared.trials.Trial.{Trial}
-use Rattle.check_report.specs.Best.{AllBefore, AreGivenUp, IsBudget, IsGivenUpWithin, first_budget, order_of}
+use Rattle.check_report.specs.Best.{AllBefore, AreGivenUp, IsGivenUpWithin, first_budget, order_of}
 use Rattle.report_text.specs.Lines.{Found}
 use Rattle.check_report.specs.Check.{AreAccepted, AreGiven, IsCheckFault, IsJudged, IsLate}
 use Rattle.check_report.specs.Report.{AreVerdicts}
 use Rattle.check_report.specs.Devices.{Told}
 use Rattle.check_report.specs.Limits.{AreBeyond, AreWithin, Exceeds, FitsWithin}
 use Rattle.check_report.proofs.Budgets.{each_smaller}
-use Rattle.check_report.specs.Trials.{AreGivenUpTrials, ArePassed, ArePassedBefore, AreTrials, AsksMore, EndsAtOnce, EndsSearch, IsFull, IsPairingIn, IsPassed, IsTrial, IsTried, NeedsMore, WasGivenUp}
+use Rattle.check_report.specs.Trials.{AreGivenUpTrials, ArePassed, ArePassedBefore, AreTrials, AsksMore, EndsAtOnce, IsFull, IsPairingIn, IsPassed, IsTrial, IsTried, NeedsMore, WasGivenUp}
 
 -- ---- orders
 
@@ -113,18 +113,8 @@ module _ {H : Type 0} (task : Task H) (told : Told) (given : AreGiven told (circ
   pub told_full : (budget : ℕ) (c : Candidate) → IsFull task budget c → AreBeyond told task.settings.now.matching (order_of c) budget
   told_full budget c p = (circuit task.first.now, circuit task.second.now, condition task.given, p.pairing, record { netlists = given; pairing = p.paired }, p.exceeds)
 
-  -- the fault of a search that is told where the verdicts are those of declared order
-  pub given_up_or_full : (bound : Option ℕ) (fault : CheckFault) → (fault ≡ GivenUp) ⊎ (fault ≡ Wave Full) → (fault ≡ GivenUp → (c : Candidate) → IsPassed task task.settings.now.limit bound c) →
-      (fault ≡ Wave Full → (c : Candidate) → IsFull task task.settings.now.limit c) → (c : Candidate) → IsGivenUpWithin told task.settings.now.matching task.settings.now.limit bound (order_of c)
-  given_up_or_full bound fault (inl e) passed full c = told_passed task.settings.now.limit bound c (passed e c)
-  given_up_or_full bound fault (inr e) passed full c = inl (told_full task.settings.now.limit c (full e c))
-
-  pub fault_in_no_order : (o : Order) (fault result : CheckFault) → ((fault ≡ Wave Full) × (result ≡ GivenUp)) ⊎ (result ≡ fault) → IsCheckFault told ⊥ ⊥ ⊥ task.settings.now.matching o fault → IsCheckFault told ⊥ ⊥ ⊥ task.settings.now.matching o result
-  fault_in_no_order o fault result (inl (e, r)) h = subst (IsCheckFault told ⊥ ⊥ ⊥ task.settings.now.matching o) (sym r) (subst (IsCheckFault told ⊥ ⊥ ⊥ task.settings.now.matching o) e h)
-  fault_in_no_order o fault result (inr r) h = subst (IsCheckFault told ⊥ ⊥ ⊥ task.settings.now.matching o) (sym r) h
-
-  pub told_before : (bound : Option ℕ) (t : Attempt) → ArePassedBefore task bound t → AreGivenUp told task.settings.now.matching task.settings.now.limit bound t
-  told_before bound t p = record {
+  pub told_before : (limit : ℕ) (bound : Option ℕ) (t : Attempt) → ArePassedBefore task limit bound t → AreGivenUp told task.settings.now.matching limit bound t
+  told_before limit bound t p = record {
     smaller = λ budget is lt c. told_passed budget bound c (p.smaller budget is lt c);
     first = λ e. all_before (IsPassed task t.budget bound) (λ c. IsGivenUpWithin told task.settings.now.matching t.budget bound (order_of c)) (told_passed t.budget bound) t.order (p.first e);
   }
@@ -213,17 +203,17 @@ module _ {H : Type 0} (task : Task H) where
       h.each
 
   -- an attempt within a later budget
-  pub passed_at : (bound : Option ℕ) (k budget : ℕ) (t : Attempt) → budget ≤ 16384 * 16 ^ k → budget ≤ task.settings.now.limit → 16384 < budget →
-      ((j : ℕ) → j < k → (c : Candidate) → IsPassed task (16384 * 16 ^ j) bound c) → t.budget ≡ budget → ArePassedBefore task bound t
-  passed_at bound k budget t most within more tried e = record {
-    smaller = each_smaller (λ n. (c : Candidate) → IsPassed task n bound c) task.settings.now.limit k t.budget tried (omega (arith, e, most)) (omega (arith, e, within));
+  pub passed_at : (limit : ℕ) (bound : Option ℕ) (k budget : ℕ) (t : Attempt) → budget ≤ 16384 * 16 ^ k → budget ≤ limit → 16384 < budget →
+      ((j : ℕ) → j < k → (c : Candidate) → IsPassed task (16384 * 16 ^ j) bound c) → t.budget ≡ budget → ArePassedBefore task limit bound t
+  passed_at limit bound k budget t most within more tried e = record {
+    smaller = each_smaller (λ n. (c : Candidate) → IsPassed task n bound c) limit k t.budget tried (omega (arith, e, most)) (omega (arith, e, within));
     first = λ same. absurd (omega (arith, same, e, more));
   }
 
   -- and one within the first
-  pub passed_first : (bound : Option ℕ) (t : Attempt) → t.budget ≡ first_budget task.settings.now.limit → AllBefore t.order (IsPassed task t.budget bound) → ArePassedBefore task bound t
-  passed_first bound t e before = record {
-    smaller = each_smaller (λ n. (c : Candidate) → IsPassed task n bound c) task.settings.now.limit 0 t.budget (λ j lt. absurd (omega (arith, lt))) (omega (arith, e)) (omega (arith, e));
+  pub passed_first : (limit : ℕ) (bound : Option ℕ) (t : Attempt) → t.budget ≡ first_budget limit → AllBefore t.order (IsPassed task t.budget bound) → ArePassedBefore task limit bound t
+  passed_first limit bound t e before = record {
+    smaller = each_smaller (λ n. (c : Candidate) → IsPassed task n bound c) limit 0 t.budget (λ j lt. absurd (omega (arith, lt))) (omega (arith, e)) (omega (arith, e));
     first = λ same. before;
   }
 
@@ -249,7 +239,7 @@ module _ {H : Type 0} (task : Task H) where
 -- a fault behind the pairing for which an attempt is not given up, and which is not want of a worker
 pub late_ends : (fault : CheckFault) → IsLate fault → fault ≢ Wave Full → fault ≢ Wave TooManyRequests → fault ≢ Wave NoWorker → EndsAtOnce fault
 late_ends fault late full wide alone = record {
-  search = record { written = λ e. subst IsLate e late; requests = wide; alone = alone };
+  search = record { written = λ e. subst IsLate e late; requests = wide; alone = alone; only = λ e. subst IsLate e late };
   nodes = full;
   given_up = λ e. subst IsLate e late;
 }
@@ -257,14 +247,14 @@ late_ends fault late full wide alone = record {
 -- one of the pairing, and want of memory
 pub order_ends : (fault : CheckFault) (f : OrderFault) → fault ≡ OrderRefused f → EndsAtOnce fault
 order_ends fault f is = record {
-  search = record { written = λ e. cc; requests = λ e. cc; alone = λ e. cc };
+  search = record { written = λ e. cc; requests = λ e. cc; alone = λ e. cc; only = λ e. cc };
   nodes = λ e. cc;
   given_up = λ e. cc;
 }
 
 pub memory_ends : EndsAtOnce OutOfMemory
 memory_ends = record {
-  search = record { written = λ e. cc; requests = λ e. cc; alone = λ e. cc };
+  search = record { written = λ e. cc; requests = λ e. cc; alone = λ e. cc; only = λ e. cc };
   nodes = λ e. cc;
   given_up = λ e. cc;
 }

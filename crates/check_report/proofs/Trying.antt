@@ -6,22 +6,25 @@ use Rattle.std.specs.Borrow.{Bor}
 use Rattle.net_order.specs.declared.order.Match.{Match}
 use Rattle.net_order.specs.declared.order.Order.{Order}
 use Rattle.net_order.specs.declared.order.Order.TheVariants as orders
-use Rattle.check_report.specs.declared.choice.Candidate.{Candidate}
 use Rattle.check_report.specs.declared.choice.Candidate.TheVariants.{Interleave, Declared}
 use Rattle.check_report.specs.declared.choice.Choice.{Choice}
-use Rattle.check_report.specs.declared.choice.Choice.TheVariants.{One, Best, Auto}
+use Rattle.check_report.specs.declared.choice.Choice.TheVariants.{One, Best, Auto, Cones}
 use Rattle.check_report.specs.declared.fault.CheckFault.{CheckFault}
-use Rattle.check_report.specs.declared.fault.CheckFault.TheVariants.{First, Second, Given, GivenOutputs, Order as OrderRefused, Wave, GivenUp, Write, OutOfMemory}
+use Rattle.check_report.specs.declared.fault.CheckFault.TheVariants.{First, Second, Given, GivenOutputs, Order as OrderRefused, Only, Wave, GivenUp, Write, OutOfMemory}
 use Rattle.check_report.specs.declared.choice.Attempt.{Attempt}
 use Rattle.check_report.specs.Best.{IsAllowed, IsChosen}
 use Rattle.net_bench.specs.Circuit.{Circuit, Net, circuit}
 use Rattle.net_order.specs.Order.{condition}
 use Rattle.check_report.specs.Devices.{Told, told_by}
 use Rattle.report_text.specs.declared.kind.OrderKind.{OrderKind}
+use Rattle.report_text.specs.declared.outcome.Share.{Share}
 use Rattle.report_text.specs.Json.{form_text}
 use Rattle.report_text.specs.Lines.{Found}
 use Rattle.net_bench.specs.declared.netlist.BenchFault.{BenchFault}
-use Rattle.check_report.specs.Check.{AreGiven, Gives, IsCondition, IsUnread, IsConditionFault, IsCheckFault}
+use Rattle.check_report.specs.declared.settings.Settings.{Settings}
+use Rattle.check_report.specs.Deciding.{HasCause, IsFoundBy}
+use Rattle.check_report.specs.Deciding.IsFoundBy.{by_cones, in_order}
+use Rattle.check_report.specs.Check.{AreAccepted, AreGiven, Gives, IsCondition, IsUnread, IsConditionFault, IsCheckFault}
 use Rattle.check_report.specs.Conditions.{HasOneOutput}
 
 -- each choice allows some order
@@ -29,6 +32,7 @@ pub some_order : (choice : Choice) → (order : Order) × IsAllowed choice order
 some_order (One o) = (o, refl)
 some_order Best = (orders.Interleave, (Interleave, refl))
 some_order Auto = (orders.Interleave, (Interleave, refl))
+some_order Cones = (orders.Declared, refl)
 
 -- a fault for which no device had to fail
 unread : (told : Option (List ℕ)) (failed : Type 0) (fault : BenchFault) → IsUnread told ⊥ fault → IsUnread told failed fault
@@ -44,6 +48,7 @@ none_failed told first second third how order (Second fault) c = (c.0, c.1, unre
 none_failed told first second third how order (Given fault) c = (c.0, c.1, c.2, c.3, uncondition told.given third fault c.4)
 none_failed told first second third how order GivenOutputs c = c
 none_failed told first second third how order (OrderRefused fault) c = c
+none_failed told first second third how order Only c = c
 none_failed told first second third how order (Wave fault) c = c
 none_failed told first second third how order GivenUp c = c
 none_failed told first second third how order Write c = c
@@ -63,6 +68,7 @@ condition_fault told a b first second third how order (Second fault) ga gb f = a
 condition_fault told a b first second third how order (Given fault) ga gb f = (a, b, ga, gb, f)
 condition_fault told a b first second third how order GivenOutputs ga gb f = (a, b, ga, gb, f)
 condition_fault told a b first second third how order (OrderRefused fault) ga gb f = absurd f
+condition_fault told a b first second third how order Only ga gb f = absurd f
 condition_fault told a b first second third how order (Wave fault) ga gb f = absurd f
 condition_fault told a b first second third how order GivenUp ga gb f = absurd f
 condition_fault told a b first second third how order Write ga gb f = absurd f
@@ -89,8 +95,9 @@ is_told tells None = refl
 is_told tells (Some device) = refl
 
 -- the bytes of a report, by whether there is a condition
-pub form_as : (json : Bool) (how : Match) (kind : OrderKind) (found : Found) (items : List ℕ) (h given : Bool) → items ≡ form_text json how kind h found → h ≡ given → items ≡ form_text json how kind given found
-form_as json how kind found items h given e told = e ∙ ap (λ z. form_text json how kind z found) told
+pub form_as : (json : Bool) (how : Match) (kind : OrderKind) (share : Option Share) (found : Found) (items : List ℕ) (h given : Bool) → items ≡ form_text json how kind h share found → h ≡ given →
+    items ≡ form_text json how kind given share found
+form_as json how kind share found items h given e told = e ∙ ap (λ z. form_text json how kind z share found) told
 
 -- the order of a report is allowed
 pub chosen_allowed : (told : Told) (how : Match) (choice : Choice) (limit : ℕ) (tried : Option Attempt) (order : Order) → IsChosen told how choice limit tried order → IsAllowed choice order
@@ -100,3 +107,16 @@ chosen_allowed told how Best limit None order c = absurd c
 chosen_allowed told how Best limit (Some t) order c = (t.order, c.0)
 chosen_allowed told how Auto limit None order c = absurd c
 chosen_allowed told how Auto limit (Some t) order c = (Declared, c.0)
+chosen_allowed told how Cones limit tried order c = absurd c
+
+-- what is found is accepted, in an order that is allowed
+pub found_accepted : (told : Told) (s : Settings) (bound : Option ℕ) (found : Found) (tried : Option Attempt) → IsFoundBy told s bound found tried →
+    (order : Order) × IsAllowed s.order order × AreAccepted told s.matching order
+found_accepted told s bound found tried (in_order order j chosen) = (order, chosen_allowed told s.matching s.order s.limit tried order chosen, (j.a, j.b, j.c, j.p, j.paired))
+found_accepted told s bound found None (by_cones cause j) = (orders.Declared, declared_allowed s.order cause, (j.a, j.b, j.c, j.p, j.paired))
+  where
+    declared_allowed : (choice : Choice) → HasCause told s bound choice → IsAllowed choice orders.Declared
+    declared_allowed (One o) cause = absurd cause
+    declared_allowed Best cause = absurd cause
+    declared_allowed Auto cause = (Declared, refl)
+    declared_allowed Cones cause = refl

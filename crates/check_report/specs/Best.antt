@@ -1,5 +1,5 @@
 -- Which orders are tried for a comparison, within how many nodes, and which attempt it ends with.
-use Rattle.std.specs.Prelude.{◌≡◌, ◌≢◌, ℕ, min, ◌*◌, ◌^◌, ◌<◌, ◌≤◌, ◌⊎◌, List, Option, Some, None, ⊤, codes}
+use Rattle.std.specs.Prelude.{◌≡◌, ℕ, min, ◌*◌, ◌^◌, ◌<◌, ◌⊎◌, List, Option, Some, None, ⊤, codes}
 use Rattle.expand_work.specs.Bounds.{most_of}
 use Rattle.net_order.specs.declared.order.Match.{Match}
 use Rattle.net_order.specs.declared.order.Order.{Order}

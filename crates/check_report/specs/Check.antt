@@ -1,5 +1,5 @@
 -- What a check has done: the report that it wrote, or why it wrote none.
-use Rattle.std.specs.Prelude.{◌≡◌, ◌⊎◌, ℕ, Bool, List, Option, Some, None, IfSome, IsSomeAnd, is_some}
+use Rattle.std.specs.Prelude.{◌≡◌, ◌⊎◌, ℕ, Bool, List, Option, Some, None, IfSome, IsSomeAnd}
 use Rattle.net_bench.specs.Circuit.{Circuit}
 use Rattle.net_bench.specs.Fault.{MakesNetlist, IsRefused as IsTextRefused}
 use Rattle.net_bench.specs.declared.netlist.BenchFault.{BenchFault}
@@ -8,15 +8,12 @@ use Rattle.net_order.specs.declared.order.Match.{Match}
 use Rattle.net_order.specs.declared.order.Order.{Order}
 use Rattle.net_order.specs.declared.order.OrderFault.TheVariants.{OutOfMemory as NoOrderMemory}
 use Rattle.net_order.specs.Order.{Paired, IsPairing, IsRefused}
-use Rattle.report_text.specs.declared.outcome.Outcome.{Outcome}
 use Rattle.check_report.specs.Devices.{Told}
 use Rattle.check_report.specs.declared.fault.CheckFault.{CheckFault}
 use Rattle.check_report.specs.declared.fault.CheckFault.TheVariants.{First, Second, Given, GivenOutputs, Order as OrderRefused, Only, Wave, GivenUp, Write, OutOfMemory}
 use Rattle.check_report.specs.Conditions.{HasOneOutput}
-use Rattle.report_text.specs.declared.kind.OrderKind.{OrderKind}
-use Rattle.report_text.specs.Json.{form_text}
 use Rattle.report_text.specs.Lines.{Found}
-use Rattle.check_report.specs.Report.{AreVerdicts, IsReport}
+use Rattle.check_report.specs.Report.{AreVerdicts}
 
 -- what a device told is the text of this netlist
 abbrev pub Gives : Option (List ℕ) → Circuit → Type 0

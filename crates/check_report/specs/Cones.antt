@@ -1,6 +1,5 @@
 -- Pairs that are judged alone, each by its cones.
-use Rattle.std.specs.Prelude.{◌≡◌, ◌⊎◌, ◌↔◌, ℕ, min, max, ◌*◌, ◌++◌, Bool, false, List, [], Option, Some, None, length, slice_index, All, ⊤}
-use Rattle.std.specs.Math.Nat.{_div}
+use Rattle.std.specs.Prelude.{◌≡◌, ◌/◌, ◌⊎◌, ◌↔◌, ℕ, min, max, ◌*◌, ◌++◌, Bool, false, List, [], Option, Some, None, length, slice_index, All, ⊤}
 use Rattle.std.specs.List.{AllZip, slice_index_or}
 use Rattle.expand_work.specs.Bounds.{most_of}
 use Rattle.net_bench.specs.Circuit.{Circuit, Net, circuit, variables_of}
@@ -53,7 +52,7 @@ pub record AreCones (a b : Circuit) (given : Option Circuit) (p : Paired) (s : S
 
 -- The most nodes that a pair may need by its cones: a quarter of the limit, so that four pairs are judged at once within it.
 abbrev pub cone_limit : (limit : ℕ) → ℕ
-cone_limit limit = max 1 (limit _div 4)
+cone_limit limit = max 1 (limit / 4)
 
 -- Within so many nodes a pair is not decided by its cones: in each candidate's order of their variables an attempt was given up, as they
 -- need more, or one wave reaches more requests than eight for each of these nodes, or than the gate's bound where that is less.

@@ -1,5 +1,5 @@
 -- How a comparison is decided: the whole in one order, or each pair by its cones.
-use Rattle.std.specs.Prelude.{◌≡◌, ℕ, List, Option, Some, None, is_some, Contains, ⊤}
+use Rattle.std.specs.Prelude.{◌≡◌, ℕ, List, Option, None, is_some, ⊤}
 use Rattle.net_bench.specs.Circuit.{Circuit}
 use Rattle.net_order.specs.declared.order.Order.{Order}
 use Rattle.net_order.specs.declared.order.Order.TheVariants as orders
@@ -13,14 +13,13 @@ use Rattle.check_report.specs.declared.choice.Candidate.{Candidate}
 use Rattle.check_report.specs.declared.choice.Choice.{Choice}
 use Rattle.check_report.specs.declared.choice.Choice.TheVariants.{One, Best, Auto, Cones}
 use Rattle.check_report.specs.declared.picked.Picked.{Picked}
-use Rattle.check_report.specs.declared.picked.Picked.TheVariants.{All, Only, Share as InShare}
 use Rattle.check_report.specs.declared.settings.Settings.{Settings}
 use Rattle.check_report.specs.declared.subject.Subject.{Subject}
-use Rattle.check_report.specs.Best.{IsBudget, IsChosen, IsGivenUpWithin, MayGoByCones, order_of, told_kind, whole_limit}
+use Rattle.check_report.specs.Best.{IsBudget, IsChosen, IsGivenUpWithin, order_of, told_kind, whole_limit}
 use Rattle.check_report.specs.Check.{ArePaired, Gives, IsJudged}
 use Rattle.check_report.specs.Cones.{AreTold, IsLeft}
 use Rattle.check_report.specs.Devices.{Told}
-use Rattle.check_report.specs.Picking.{ArePicked, IsNamedIn, share_of}
+use Rattle.check_report.specs.Picking.{ArePicked, HasUnknown, share_of}
 
 -- What a comparison by cones finds of what the devices gave, over the variables as they are declared.
 pub record IsJudgedByCones (told : Told) (s : Settings) (bound : Option ℕ) (found : Found) : Type 0 where
@@ -55,6 +54,4 @@ pub record IsReportBy (told : Told) (s : Settings) (bound : Option ℕ) (tried :
 
 -- One of the names that are picked is no output and no register of the first netlist that the devices gave.
 abbrev pub IsUnknown : Told → Picked → Type 0
-IsUnknown told All = ⊥
-IsUnknown told (Only names) = (a : Circuit) × Gives told.first a × (n : List ℕ) × Contains names.items n × (IsNamedIn a n → ⊥)
-IsUnknown told (InShare share) = ⊥
+IsUnknown told picked = (a : Circuit) × Gives told.first a × HasUnknown a picked

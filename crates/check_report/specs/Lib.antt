@@ -9,5 +9,10 @@ pub mod Limits
 pub mod Widths
 pub mod Best
 pub mod Trials
+pub mod Cones
+pub mod Coning
+pub mod Picking
+pub mod Deciding
 pub mod Texts
 pub mod Listing
+pub mod Spreading

@@ -1,14 +1,14 @@
 -- Which pairs are picked: all, those of some names, or those of one share.
-use Rattle.std.specs.Prelude.{◌≡◌, ◌+◌, ◌<◌, ◌==◌, ◌⊎◌, ◌↔◌, ℕ, suc, Bool, true, false, List, [], ◌∷◌, map, filter, fold, length, count_by, zip, Option, Some, None, IsTrue, if◌then◌else◌, nat_lt, slice_index, bytes_eq, ⊤}
-use Rattle.std.specs.Math.Nat.{_div, _mod}
+use Rattle.std.specs.Prelude.{◌≡◌, ◌+◌, ◌-◌, ◌/◌, ◌%◌, ◌<◌, ◌==◌, ◌⊎◌, ℕ, suc, Bool, false, List, [], map, filter, length, zip, Option, Some, None, IsTrue, Contains, if◌then◌else◌, slice_index, bytes_eq, Vec}
+use Rattle.std.specs.declared.alloc.Global.{Global}
 use Rattle.std.specs.List.{AllZip, list_any}
 use Rattle.std.specs.List.Sorted.{IsPermutation}
 use Rattle.net_bench.specs.Circuit.{Circuit}
-use Rattle.net_cone.specs.Cones.{IsBelow}
+use Rattle.net_cone.specs.Cones.{HasGates}
+use Rattle.net_order.specs.Force.{numbers_below}
 use Rattle.net_order.specs.Order.{Paired, name_of, registers_of}
-use Rattle.report_text.specs.declared.outcome.Role.TheVariants.{Output, NextState}
 use Rattle.report_text.specs.declared.outcome.Share.{Share}
-use Rattle.report_text.specs.declared.outcome.Side.TheVariants.{First, Second}
+use Rattle.report_text.specs.declared.outcome.Side.TheVariants.{First}
 use Rattle.report_text.specs.declared.verdict.Verdict.{Verdict}
 use Rattle.report_text.specs.declared.verdict.Verdict.TheVariants.{Equal, Differs, Lone, Undecided}
 use Rattle.check_report.specs.declared.picked.Picked.{Picked}
@@ -24,13 +24,13 @@ is_among names n = list_any (bytes_eq n) names
 abbrev pub IsNamedIn : Circuit → List ℕ → Type 0
 IsNamedIn a n = IsTrue (is_among (map (name_of a) (a.outputs)) n) ⊎ IsTrue (is_among (map (name_of a) (registers_of a)) n)
 
--- ---- shares
+-- one of the names that are picked is no output and no register of the first netlist
+abbrev pub HasUnknown : Circuit → Picked → Type 0
+HasUnknown a All = ⊥
+HasUnknown a (Only names) = (n : List ℕ) × Contains names.items n × (IsNamedIn a n → ⊥)
+HasUnknown a (InShare share) = ⊥
 
--- the gates below a signal are so many
-pub record HasGates (c : Circuit) (root : ℕ) (n : ℕ) : Type 0 where
-  pub met : ℕ → Bool
-  pub are_met : (s : ℕ) → IsTrue (met s) ↔ IsBelow c root s
-  pub count : n ≡ count_by (λ g. met g.out) c.gates
+-- ---- shares
 
 -- the gates of a pair's two cones are so many
 pub record HasWeight (a b : Circuit) (s : Subject) (w : ℕ) : Type 0 where
@@ -46,23 +46,27 @@ ComesBefore weights i j = (slice_index weights j < slice_index weights i) ⊎ ((
 
 -- shares are dealt to and fro: 1, 2 .. n, n .. 2, 1, 1, 2 .., so this one is the share of the pair that so many come before
 abbrev pub dealt : (n turn : ℕ) → ℕ
-dealt n turn = if (turn _div n) _mod 2 == 0 then suc (turn _mod n) else n - (turn _mod n)
+dealt n turn = if turn / n % 2 == 0 then suc (turn % n) else n - turn % n
 
--- The share of each pair of so many shares.
-pub record AreShares (a b : Circuit) (p : Paired) (n : ℕ) (shares : List ℕ) : Type 0 where
+-- The share of each of these pairs, of so many shares.
+pub record AreShares (a b : Circuit) (pairs : List Subject) (n : ℕ) (shares : List ℕ) : Type 0 where
   pub weights : List ℕ
-  pub weighed : AllZip (HasWeight a b) (subjects a b p) weights
+  pub weighed : AllZip (HasWeight a b) pairs weights
   pub order : List ℕ
-  pub places : IsPermutation (map (λ i. i) (upto (length weights))) order
+  pub places : IsPermutation (numbers_below (length weights)) order
   pub falls : (t u : ℕ) → t < u → u < length order → ComesBefore weights (slice_index order t) (slice_index order u)
   pub each : length shares ≡ length weights
   pub share : (t : ℕ) → t < length order → slice_index shares (slice_index order t) ≡ dealt n t
 
 -- ---- what is picked
 
+-- A signal of one of these names.
+abbrev pub is_one_of : Circuit → List (List ℕ) → ℕ → Bool
+is_one_of a names s = is_among names (name_of a s)
+
 -- A pair of one of these names.
 abbrev pub is_pair_of : Circuit → List (List ℕ) → Subject → Bool
-is_pair_of a names s = is_among names (name_of a s.named)
+is_pair_of a names s = is_one_of a names s.named
 
 -- What has no partner in the second netlist, of one of these names.
 abbrev pub is_lone_of : List (List ℕ) → Verdict → Bool
@@ -75,11 +79,13 @@ is_lone_of names (Undecided role name) = false
 abbrev pub of_share : ℕ → List (Subject × ℕ) → List Subject
 of_share k dealt_out = map (λ s. s.0) (filter (λ s. s.1 == k) dealt_out)
 
--- These pairs are picked, in their order, and these lines of what has no partner: of a share those of the first one have them all.
+-- These pairs are picked, in their order, and these lines of what has no partner: by names, each of which the first netlist has, those of
+-- that netlist; of a share the first one has them all.
 pub data ArePicked (a b : Circuit) (p : Paired) : Picked → List Subject → List Verdict → Type 0 where
   all : ArePicked a b p All (subjects a b p) (lone_verdicts a b p)
-  named : {names : Vec Name} → ArePicked a b p (Only names) (filter (is_pair_of a names.items) (subjects a b p)) (filter (is_lone_of names.items) (lone_side First a p.outputs.only_first p.registers.only_first))
-  shared : {share : Share} {shares : List ℕ} → AreShares a b p share.of shares →
+  named : {names : Vec (List ℕ) Global} → ((n : List ℕ) → Contains names.items n → IsNamedIn a n) →
+      ArePicked a b p (Only names) (filter (is_pair_of a names.items) (subjects a b p)) (filter (is_lone_of names.items) (lone_side First a p.outputs.only_first p.registers.only_first))
+  shared : {share : Share} {shares : List ℕ} → AreShares a b (subjects a b p) share.of shares →
       ArePicked a b p (InShare share) (of_share share.number (zip (subjects a b p) shares)) (if share.number == 1 then lone_verdicts a b p else [])
 
 -- the share that a report is of, where it is of one

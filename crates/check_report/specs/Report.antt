@@ -12,7 +12,7 @@ use Rattle.report_text.specs.declared.outcome.Side.{Side}
 use Rattle.report_text.specs.declared.outcome.Side.TheVariants.{First, Second}
 use Rattle.check_report.specs.declared.subject.Subject.{Subject}
 use Rattle.report_text.specs.declared.verdict.Verdict.{Verdict}
-use Rattle.report_text.specs.declared.verdict.Verdict.TheVariants.{Equal, Differs, Lone}
+use Rattle.report_text.specs.declared.verdict.Verdict.TheVariants.{Equal, Differs, Lone, Undecided}
 use Rattle.check_report.specs.Conditions.{HoldsWhere, restricted, AgreeWhere, IsLeastWhere}
 use Rattle.report_text.specs.Lines.{Found, counted}
 
@@ -76,6 +76,7 @@ abbrev pub CallsEqual : Verdict → Type 0
 CallsEqual (Equal role name size) = Unit {0}
 CallsEqual (Differs role name at first second sizes) = ⊥
 CallsEqual (Lone side role name) = ⊥
+CallsEqual (Undecided role name) = ⊥
 
 -- What a comparison finds of two netlists that are paired: a verdict for each pair of outputs, then for the next states of each pair of
 -- registers, then for the outputs and registers without a partner. A condition has no verdicts of its own. The variables stand by level.

@@ -5,7 +5,6 @@ use Rattle.expand_work.specs.Bounds.{most_of}
 use Rattle.expand_work.specs.declared.fault.WaveFault.TheVariants.{Full, TooManyRequests, NoWorker}
 use Rattle.net_bench.specs.Circuit.{circuit}
 use Rattle.net_order.specs.declared.order.Order.{Order}
-use Rattle.net_order.specs.declared.order.Order.TheVariants as orders
 use Rattle.net_order.specs.Order.{Paired, IsPairing, condition}
 use Rattle.report_text.specs.declared.verdict.Verdict.{Verdict}
 use Rattle.check_report.specs.declared.attempts.Decided.{Decided as DecidedValue}
@@ -16,7 +15,7 @@ use Rattle.check_report.specs.declared.attempts.Round.TheVariants as rounds
 use Rattle.check_report.specs.declared.choice.Attempt.{Attempt}
 use Rattle.check_report.specs.declared.choice.Candidate.{Candidate}
 use Rattle.check_report.specs.declared.fault.CheckFault.{CheckFault}
-use Rattle.check_report.specs.declared.fault.CheckFault.TheVariants.{Wave, GivenUp, Write}
+use Rattle.check_report.specs.declared.fault.CheckFault.TheVariants.{Wave, GivenUp, Only, Write}
 use Rattle.check_report.specs.declared.task.Task.{Task}
 use Rattle.check_report.specs.declared.trials.Trial.{Trial}
 use Rattle.check_report.specs.Best.{AllBefore, IsBudget, first_budget, order_of}
@@ -45,10 +44,10 @@ pub record AreTrials {H : Type 0} (task : Task H) (trials : List Trial) : Type 0
   pub own : All (IsTrial task) trials
   pub each : (c : Candidate) → IsTried task trials c
 
--- where verdicts are told in declared order, this is the pairing in it, and no sizes are asked for
+-- where verdicts are told in another order than the attempt's, this is a pairing in it, and no sizes are asked for
 abbrev pub IsTelling : {H : Type 0} → Task H → Option (Bor Paired) → Type 0
 IsTelling task None = ⊤
-IsTelling task (Some d) = IsPairingIn task orders.Declared d.now × (task.settings.now.sizes ≡ false)
+IsTelling task (Some d) = (order : Order) × IsPairingIn task order d.now × (task.settings.now.sizes ≡ false)
 
 -- the pairing over whose variables the verdicts of an attempt are told
 abbrev pub told_in : Option (Bor Paired) → Paired → Paired
@@ -133,16 +132,25 @@ IsFirstRound task budget bound (rounds.GivenUp full) = ⊤
 
 -- ---- the search
 
--- All attempts before this one that a search speaks of were given up.
-pub record ArePassedBefore {H : Type 0} (task : Task H) (bound : Option ℕ) (t : Attempt) : Type 0 where
-  pub smaller : (budget : ℕ) → IsBudget task.settings.now.limit budget → budget < t.budget → (c : Candidate) → IsPassed task budget bound c
-  pub first : t.budget ≡ first_budget task.settings.now.limit → AllBefore t.order (IsPassed task t.budget bound)
+-- All attempts before this one that a search up to a limit speaks of were given up.
+pub record ArePassedBefore {H : Type 0} (task : Task H) (limit : ℕ) (bound : Option ℕ) (t : Attempt) : Type 0 where
+  pub smaller : (budget : ℕ) → IsBudget limit budget → budget < t.budget → (c : Candidate) → IsPassed task budget bound c
+  pub first : t.budget ≡ first_budget limit → AllBefore t.order (IsPassed task t.budget bound)
+
+-- every attempt of a search up to a limit was given up
+abbrev pub AreAllPassed : {H : Type 0} → Task H → (limit : ℕ) → (bound : Option ℕ) → Type 0
+AreAllPassed task limit bound = (budget : ℕ) → IsBudget limit budget → (c : Candidate) → IsPassed task budget bound c
+
+-- the fault of a search whose attempts were all given up
+abbrev pub IsGivingUp : CheckFault → Type 0
+IsGivingUp fault = (fault ≡ Wave Full) ⊎ (fault ≡ GivenUp)
 
 -- A fault that a search ends with: nothing was to be written, and what a bounded wave cannot end with is none of it.
 pub record EndsSearch (fault : CheckFault) : Type 0 where
   pub written : fault ≢ Write
   pub requests : fault ≢ Wave TooManyRequests
   pub alone : fault ≢ Wave NoWorker
+  pub only : fault ≢ Only
 
 -- A fault that ends it at once: the attempt was not given up.
 pub record EndsAtOnce (fault : CheckFault) : Type 0 where

@@ -10,7 +10,7 @@ ghost use Rattle.check_report.specs.Check.{IsCheckFault, IsLate};
 ghost use Rattle.check_report.specs.Limits.{FitsWithin, Exceeds};
 ghost use Rattle.check_report.specs.Report.{AreVerdicts};
 ghost use Rattle.check_report.specs.Tasks.{OfTask};
-ghost use Rattle.check_report.specs.Trials.{ArePassedBefore, AreTrials, EndsAtOnce, EndsSearch, IsDecided, IsFirstRound, IsEnded, IsFull, IsPairingIn, IsPassed, IsRound, IsTelling, IsTrial, IsTurn, told_in};
+ghost use Rattle.check_report.specs.Trials.{AreAllPassed, ArePassedBefore, AreTrials, EndsAtOnce, EndsSearch, IsDecided, IsFirstRound, IsEnded, IsFull, IsGivingUp, IsPairingIn, IsPassed, IsRound, IsTelling, IsTrial, IsTurn, told_in};
 ghost use Rattle.check_report.specs.Widths.{IsTooWide};
 
 use crate::bounded::Bounded;
@@ -27,10 +27,10 @@ use std::sync::atomic::AtomicU32;
 use std::thread::Threads;
 
 /// The nodes of the first budget.
-const FIRST_BUDGET: u64 = 16_384;
+pub const FIRST_BUDGET: u64 = 16_384;
 
 /// Each budget has so many times the nodes of the one before it.
-const GROWTH: u64 = 16;
+pub const GROWTH: u64 = 16;
 
 /// A wave may have so many requests for each node of the budget.
 const REQUESTS: u64 = 8;
@@ -62,13 +62,13 @@ enum Ended {
 
 /// What the attempts within a budget come to.
 #[derive(Drop)]
-enum Round {
+pub enum Round {
     Decided(Decided),
     /// All were given up, each for its nodes or not.
     GivenUp { full: bool },
 }
 
-/// The verdicts of a comparison by this pairing, told over its variables, or in declared order.
+/// The verdicts of a comparison by this pairing, told over its variables, or over those of a pairing that is given.
 fn verdicts_by<H: Threads + Wait + Sync, G: Gate>(
     task: &Task<'_, H>,
     declared: Option<&Pairing>,
@@ -181,7 +181,7 @@ fn try_candidate<H: Threads + Wait + Sync, G: Gate>(
 }
 
 /// Tries the candidates in turn within the first budget, and keeps a trial of each order that was given up.
-fn try_first<H: Threads + Wait + Sync, G: Gate>(
+pub fn try_first<H: Threads + Wait + Sync, G: Gate>(
     task: &Task<'_, H>,
     declared: Option<&Pairing>,
     trials: &mut Vec<Trial>,
@@ -257,21 +257,22 @@ fn find_later<H: Threads + Wait + Sync, G: Gate>(
     task: &Task<'_, H>,
     declared: Option<&Pairing>,
     mut trials: Vec<Trial>,
+    limit: u64,
     gate: &G,
 ) -> Result<Decided, CheckFault>
+    requires small { limit < 2 ^ 32 }
     requires telling { IsTelling task.now declared }
     requires trials { AreTrials task.now trials.items }
-    requires more { FIRST_BUDGET < task.now.settings.now.limit }
+    requires more { FIRST_BUDGET < limit }
     requires first { (c : CandidateValue) → IsPassed task.now FIRST_BUDGET (G.bound gate.now) c }
     ensures decided { IfOk result (λ d. IsDecided task.now declared.entry d.budget d.trial d.verdicts.items) }
-    ensures budget { IfOk result (λ d. IsBudget task.now.settings.now.limit d.budget) }
-    ensures passed { IfOk result (λ d. ArePassedBefore task.now (G.bound gate.now) (record { order = d.trial.candidate; budget = d.budget })) }
-    ensures full { result ≡ Err (CheckFault.Wave WaveFault.Full) → (c : CandidateValue) → IsFull task.now task.now.settings.now.limit c }
-    ensures given_up { result ≡ Err CheckFault.GivenUp → (c : CandidateValue) → IsPassed task.now task.now.settings.now.limit (G.bound gate.now) c }
+    ensures budget { IfOk result (λ d. IsBudget limit d.budget) }
+    ensures passed { IfOk result (λ d. ArePassedBefore task.now limit (G.bound gate.now) (record { order = d.trial.candidate; budget = d.budget })) }
+    ensures full { result ≡ Err (CheckFault.Wave WaveFault.Full) → (c : CandidateValue) → IsFull task.now limit c }
+    ensures given_up { IfErr result (λ fault. IsGivingUp fault → AreAllPassed task.now limit (G.bound gate.now)) }
     ensures fault { OfTask task.now (λ told s. IfErr result (λ fault. (c : CandidateValue) × IsCheckFault told ⊥ ⊥ ⊥ s.matching (order_of c) fault)) }
     ensures ends { IfErr result EndsSearch }
 {
-    let limit = task.settings.limit;
     let mut budget = FIRST_BUDGET * GROWTH;
     while budget < limit {
         match try_again(task, declared, &mut trials, budget, gate)? {
@@ -287,27 +288,28 @@ fn find_later<H: Threads + Wait + Sync, G: Gate>(
 }
 
 /// Tries the candidates within budgets that grow up to the limit. The verdicts are told over the variables of the order that decides, or
-/// in declared order where its pairing is given.
+/// over those of a pairing that is given.
 pub fn find_attempt<H: Threads + Wait + Sync, G: Gate>(
     task: &Task<'_, H>,
     declared: Option<&Pairing>,
+    limit: u64,
     gate: &G,
 ) -> Result<Decided, CheckFault>
+    requires small { limit < 2 ^ 32 }
     requires telling { IsTelling task.now declared }
     ensures decided { IfOk result (λ d. IsDecided task.now declared.entry d.budget d.trial d.verdicts.items) }
-    ensures budget { IfOk result (λ d. IsBudget task.now.settings.now.limit d.budget) }
-    ensures passed { IfOk result (λ d. ArePassedBefore task.now (G.bound gate.now) (record { order = d.trial.candidate; budget = d.budget })) }
-    ensures full { result ≡ Err (CheckFault.Wave WaveFault.Full) → (c : CandidateValue) → IsFull task.now task.now.settings.now.limit c }
-    ensures given_up { result ≡ Err CheckFault.GivenUp → (c : CandidateValue) → IsPassed task.now task.now.settings.now.limit (G.bound gate.now) c }
+    ensures budget { IfOk result (λ d. IsBudget limit d.budget) }
+    ensures passed { IfOk result (λ d. ArePassedBefore task.now limit (G.bound gate.now) (record { order = d.trial.candidate; budget = d.budget })) }
+    ensures full { result ≡ Err (CheckFault.Wave WaveFault.Full) → (c : CandidateValue) → IsFull task.now limit c }
+    ensures given_up { IfErr result (λ fault. IsGivingUp fault → AreAllPassed task.now limit (G.bound gate.now)) }
     ensures fault { OfTask task.now (λ told s. IfErr result (λ fault. (c : CandidateValue) × IsCheckFault told ⊥ ⊥ ⊥ s.matching (order_of c) fault)) }
     ensures ends { IfErr result EndsSearch }
 {
-    let limit = task.settings.limit;
     let mut trials = Vec::new(task.alloc);
     let budget = FIRST_BUDGET.min(limit);
     match try_first(task, declared, &mut trials, budget, gate)? {
         Round::Decided(decided) => Ok(decided),
         Round::GivenUp { full } if limit <= FIRST_BUDGET => Err(fault_of(full)),
-        Round::GivenUp { .. } => find_later(task, declared, trials, gate),
+        Round::GivenUp { .. } => find_later(task, declared, trials, limit, gate),
     }
 }

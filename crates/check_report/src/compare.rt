@@ -203,7 +203,7 @@ fn verdicts_of_pairs(alloc: Global, of: &Comparison<'_>) -> Result<Vec<Verdict>,
 }
 
 /// Puts the verdicts of signals of one netlist that have no partner at the end.
-fn add_lone(
+pub fn add_lone(
     alloc: Global,
     verdicts: &mut Vec<Verdict>,
     side: Side,
@@ -222,59 +222,49 @@ fn add_lone(
 }
 
 /// Puts the verdicts of the first netlist's outputs that have no partner at the end, then of its registers.
-fn add_first_lone(
+pub fn add_first_lone(
     alloc: Global,
     verdicts: &mut Vec<Verdict>,
-    of: &Comparison<'_>,
+    net: &Netlist,
+    pairing: &Pairing,
 ) -> Result<(), AllocError>
-    requires { AreSignals (circuit of.now.first.now) (circuit of.now.second.now) of.now.pairing.now }
-    ensures { OnOk result (verdicts.new.items ≡ verdicts.old.items ++ lone_side Side.First (circuit of.now.first.now) of.now.pairing.now.outputs.only_first of.now.pairing.now.registers.only_first) }
+    requires outputs { All (λ s. s < length net.now.names) pairing.now.outputs.only_first }
+    requires registers { All (λ s. s < length net.now.names) pairing.now.registers.only_first }
+    ensures { OnOk result (verdicts.new.items ≡ verdicts.old.items ++ lone_side Side.First (circuit net.now) pairing.now.outputs.only_first pairing.now.registers.only_first) }
 {
-    let outputs = of.pairing.only_first();
-    let registers = of.pairing.only_first_next();
-    add_lone(
-        alloc,
-        verdicts,
-        Side::First,
-        Role::Output,
-        of.first,
-        outputs,
-    )?;
+    let outputs = pairing.only_first();
+    let registers = pairing.only_first_next();
+    add_lone(alloc, verdicts, Side::First, Role::Output, net, outputs)?;
     add_lone(
         alloc,
         verdicts,
         Side::First,
         Role::NextState,
-        of.first,
+        net,
         registers,
     )
 }
 
 /// Puts the verdicts of the second netlist's outputs that have no partner at the end, then of its registers.
-fn add_second_lone(
+pub fn add_second_lone(
     alloc: Global,
     verdicts: &mut Vec<Verdict>,
-    of: &Comparison<'_>,
+    net: &Netlist,
+    pairing: &Pairing,
 ) -> Result<(), AllocError>
-    requires { AreSignals (circuit of.now.first.now) (circuit of.now.second.now) of.now.pairing.now }
-    ensures { OnOk result (verdicts.new.items ≡ verdicts.old.items ++ lone_side Side.Second (circuit of.now.second.now) of.now.pairing.now.outputs.only_second of.now.pairing.now.registers.only_second) }
+    requires outputs { All (λ s. s < length net.now.names) pairing.now.outputs.only_second }
+    requires registers { All (λ s. s < length net.now.names) pairing.now.registers.only_second }
+    ensures { OnOk result (verdicts.new.items ≡ verdicts.old.items ++ lone_side Side.Second (circuit net.now) pairing.now.outputs.only_second pairing.now.registers.only_second) }
 {
-    let outputs = of.pairing.only_second();
-    let registers = of.pairing.only_second_next();
-    add_lone(
-        alloc,
-        verdicts,
-        Side::Second,
-        Role::Output,
-        of.second,
-        outputs,
-    )?;
+    let outputs = pairing.only_second();
+    let registers = pairing.only_second_next();
+    add_lone(alloc, verdicts, Side::Second, Role::Output, net, outputs)?;
     add_lone(
         alloc,
         verdicts,
         Side::Second,
         Role::NextState,
-        of.second,
+        net,
         registers,
     )
 }
@@ -286,7 +276,7 @@ pub fn verdicts_of(alloc: Global, of: &Comparison<'_>) -> Result<Vec<Verdict>, A
     ensures { IfOk result (λ v. AreVerdicts (tells_sizes of.now.telling) (circuit of.now.first.now) (circuit of.now.second.now) (condition of.now.given) of.now.pairing.now (record { variables = of.now.pairing.now.names; verdicts = v.items })) }
 {
     let mut verdicts = verdicts_of_pairs(alloc, of)?;
-    add_first_lone(alloc, &mut verdicts, of)?;
-    add_second_lone(alloc, &mut verdicts, of)?;
+    add_first_lone(alloc, &mut verdicts, of.first, of.pairing)?;
+    add_second_lone(alloc, &mut verdicts, of.second, of.pairing)?;
     Ok(verdicts)
 }

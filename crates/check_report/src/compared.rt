@@ -87,7 +87,7 @@ fn add_next_states(
 }
 
 /// All that is compared, in the order of the report.
-fn subjects_of(
+pub fn subjects_of(
     alloc: Global,
     first: &Netlist,
     second: &Netlist,

@@ -1,26 +1,35 @@
 //! A comparison in the order that is asked for, or in one that is found.
-ghost use Rattle.std.specs.Prelude.{◌≡◌, ◌≢◌, ◌<◌, ◌-◌, ◌^◌, ◌⊎◌, false, None, Option, Some, IfOk, IfErr, IfSome, IsSomeAnd, Err};
+ghost use Rattle.std.specs.Prelude.{◌≡◌, ◌≢◌, ◌<◌, ◌-◌, ◌^◌, ◌⊎◌, false, None, Option, Some, IfOk, IfErr, IfSome, IsSomeAnd, IsTrue, Err, ◌↔◌};
 ghost use Rattle.expand_work.specs.Bounds.{most_of};
 ghost use Rattle.net_order.specs.declared.order.Order.{Order as OrderValue};
+ghost use Rattle.net_order.specs.declared.order.Order.TheVariants as orders;
 ghost use Rattle.check_report.specs.declared.choice.Candidate.{Candidate as CandidateValue};
 ghost use Rattle.check_report.specs.declared.choice.Choice.{Choice as ChoiceValue};
-ghost use Rattle.check_report.specs.Best.{AreGivenUp, AreTried, IsAllowed, IsChosen, IsGivenUpWithin, order_of};
+ghost use Rattle.check_report.specs.Best.{AreGivenUp, AreTried, IsAllowed, IsChosen, IsGivenUpWithin, MayGoByCones, last_budget, order_of, whole_limit};
 ghost use Rattle.check_report.specs.Check.{IsJudged, IsCheckFault};
+ghost use Rattle.check_report.specs.Coning.{EndsAuto};
+ghost use Rattle.check_report.specs.Deciding.{HasCause, IsFoundBy, IsUnknown};
 ghost use Rattle.check_report.specs.Limits.{AreBeyond};
 ghost use Rattle.check_report.specs.Tasks.{OfTask};
+ghost use Rattle.check_report.specs.Trials.{IsGivingUp, IsPairingIn};
 ghost use Rattle.check_report.specs.Widths.{AreTooWide};
 
 use crate::attempts::{Decided, find_attempt};
 use crate::checking::compare;
 use crate::choice::{Attempt, Choice};
+use crate::coned::by_cones;
 use crate::fault::CheckFault;
 use crate::task::Task;
 use crate::trials::{Trial, paired};
 use expand_work::{Gate, WaveFault};
 use net_order::order::Order;
+use net_order::pairing::Pairing;
 use report_text::Verdicts;
 use std::sync::Wait;
 use std::thread::Threads;
+
+/// Where each pair can be judged by its cones, the whole is tried within so many nodes at most.
+const WHOLE_LIMIT: u64 = 262_144;
 
 /// Compares two netlists in this order.
 fn by_order<H: Threads + Wait + Sync, G: Gate>(
@@ -37,6 +46,7 @@ fn by_order<H: Threads + Wait + Sync, G: Gate>(
     ensures fault { OfTask task.now (λ told s.
         IfErr result (λ fault. (o : OrderValue) × IsAllowed (Choice.One order.now) o × IsCheckFault told ⊥ ⊥ ⊥ s.matching o fault)) }
     ensures unwritten { result ≢ Err CheckFault.Write }
+    ensures others { result ≢ Err CheckFault.Only }
     ensures past { OfTask task.now (λ told s.
         result ≡ Err (CheckFault.Wave WaveFault.TooManyRequests) → (o : OrderValue) × IsAllowed (Choice.One order.now) o × IsSomeAnd (G.bound gate.now) (AreTooWide told s.matching o)) }
     ensures untried { IfOk result (λ r. r.1 ≡ None) }
@@ -67,11 +77,12 @@ pub fn find_best<H: Threads + Wait + Sync, G: Gate>(
     ensures fault { OfTask task.now (λ told s.
         IfErr result (λ fault. (c : CandidateValue) × IsCheckFault told ⊥ ⊥ ⊥ s.matching (order_of c) fault)) }
     ensures unwritten { result ≢ Err CheckFault.Write }
+    ensures others { result ≢ Err CheckFault.Only }
     ensures unbounded { result ≢ Err (CheckFault.Wave WaveFault.TooManyRequests) }
     ensures passed { OfTask task.now (λ told s. IfOk result (λ r. AreGivenUp told s.matching s.limit (G.bound gate.now) r.1)) }
     ensures alone { result ≢ Err (CheckFault.Wave WaveFault.NoWorker) }
 {
-    match find_attempt(task, None, gate) {
+    match find_attempt(task, None, task.settings.limit, gate) {
         Ok(decided) => {
             let Decided {
                 trial,
@@ -90,52 +101,86 @@ pub fn find_best<H: Threads + Wait + Sync, G: Gate>(
     }
 }
 
-/// The fault of a search as it is told where the verdicts are those of declared order: that every order needs more nodes is that each
-/// attempt was given up.
-fn in_no_order(fault: CheckFault) -> CheckFault
-    ensures full { result ≢ CheckFault.Wave WaveFault.Full }
-    ensures given_up { result ≡ CheckFault.GivenUp → (fault ≡ CheckFault.GivenUp) ⊎ (fault ≡ CheckFault.Wave WaveFault.Full) }
-    ensures same { (fault ≡ CheckFault.Wave WaveFault.Full) × (result ≡ CheckFault.GivenUp) ⊎ (result ≡ fault) }
+/// Compares each pair that is picked by its cones, over the variables as they are declared.
+fn by_cones_in<H: Threads + Wait + Sync, G: Gate>(
+    task: &Task<'_, H>,
+    declared: Pairing,
+    gate: &G,
+) -> Result<(Verdicts, Option<Attempt>), CheckFault>
+    requires pairing { IsPairingIn task.now orders.Declared declared }
+    ensures found { OfTask task.now (λ told s. HasCause told s (G.bound gate.now) s.order → IfOk result (λ r. IsFoundBy told s (G.bound gate.now) r.0 r.1)) }
+    ensures fault { OfTask task.now (λ told s. IfErr result (IsCheckFault told ⊥ ⊥ ⊥ s.matching orders.Declared)) }
+    ensures only { OfTask task.now (λ told s. result ≡ Err CheckFault.Only → IsUnknown told s.picked) }
+    ensures ends { IfErr result EndsAuto }
+    ensures untried { IfOk result (λ r. r.1 ≡ None) }
 {
-    match fault {
-        CheckFault::Wave(WaveFault::Full) => CheckFault::GivenUp,
-        _ => fault,
+    match by_cones(task, declared, gate) {
+        Ok(verdicts) => Ok((verdicts, None)),
+        Err(fault) => Err(fault),
     }
 }
 
-/// Compares two netlists as `find_best` does, and tells the verdicts in declared order.
+/// Whether each attempt of a search that ends with this fault was given up.
+fn is_giving_up(fault: CheckFault) -> bool
+    ensures { IsTrue result ↔ IsGivingUp fault }
+{
+    matches!(
+        fault,
+        CheckFault::Wave(WaveFault::Full) | CheckFault::GivenUp
+    )
+}
+
+/// Compares two netlists within small budgets as `find_best` does, and where each attempt was given up, each pair by its cones. The
+/// verdicts are told in declared order.
 fn by_auto<H: Threads + Wait + Sync, G: Gate>(
     task: &Task<'_, H>,
     gate: &G,
 ) -> Result<(Verdicts, Option<Attempt>), CheckFault>
-    requires { task.now.settings.now.sizes ≡ false }
-    ensures chosen { OfTask task.now (λ told s.
-        IfOk result (λ r. (o : OrderValue) × IsJudged told s.matching o s.sizes r.0
-        × IsChosen told s.matching Choice.Auto s.limit r.1 o)) }
-    ensures in_no_order { result ≢ Err (CheckFault.Wave WaveFault.Full) }
-    ensures given_up { OfTask task.now (λ told s.
-        result ≡ Err CheckFault.GivenUp → (o : OrderValue) → IsAllowed Choice.Auto o → IsGivenUpWithin told s.matching s.limit (G.bound gate.now) o) }
+    requires auto { task.now.settings.now.order ≡ ChoiceValue.Auto }
+    ensures found { OfTask task.now (λ told s. IfOk result (λ r. IsFoundBy told s (G.bound gate.now) r.0 r.1)) }
     ensures fault { OfTask task.now (λ told s.
         IfErr result (λ fault. (o : OrderValue) × IsAllowed Choice.Auto o × IsCheckFault told ⊥ ⊥ ⊥ s.matching o fault)) }
-    ensures unwritten { result ≢ Err CheckFault.Write }
-    ensures unbounded { result ≢ Err (CheckFault.Wave WaveFault.TooManyRequests) }
-    ensures passed { OfTask task.now (λ told s. IfOk result (λ r. IfSome r.1 (AreGivenUp told s.matching s.limit (G.bound gate.now)))) }
-    ensures alone { result ≢ Err (CheckFault.Wave WaveFault.NoWorker) }
+    ensures only { OfTask task.now (λ told s. result ≡ Err CheckFault.Only → IsUnknown told s.picked) }
+    ensures ends { IfErr result EndsAuto }
+    ensures passed { OfTask task.now (λ told s. IfOk result (λ r. IfSome r.1 (AreGivenUp told s.matching (whole_limit s.limit) (G.bound gate.now)))) }
 {
     let declared = match paired(task, &Order::Declared) {
         Ok(declared) => declared,
         Err(fault) => return Err(fault),
     };
-    match find_attempt(task, Some(&declared), gate) {
+    let limit = WHOLE_LIMIT.min(task.settings.limit);
+    let fault = match find_attempt(task, Some(&declared), limit, gate) {
         Ok(decided) => {
             let attempt = Attempt {
                 order: decided.trial.candidate,
                 budget: decided.budget,
             };
             let Decided { verdicts, .. } = decided;
-            Ok((Verdicts::of(declared, verdicts), Some(attempt)))
+            return Ok((Verdicts::of(declared, verdicts), Some(attempt)));
         }
-        Err(fault) => Err(in_no_order(fault)),
+        Err(fault) => fault,
+    };
+    if is_giving_up(fault) {
+        return by_cones_in(task, declared, gate);
+    }
+    Err(fault)
+}
+
+/// Compares each pair that is picked by its cones.
+fn by_each<H: Threads + Wait + Sync, G: Gate>(
+    task: &Task<'_, H>,
+    gate: &G,
+) -> Result<(Verdicts, Option<Attempt>), CheckFault>
+    requires cones { task.now.settings.now.order ≡ ChoiceValue.Cones }
+    ensures found { OfTask task.now (λ told s. IfOk result (λ r. IsFoundBy told s (G.bound gate.now) r.0 r.1)) }
+    ensures fault { OfTask task.now (λ told s. IfErr result (IsCheckFault told ⊥ ⊥ ⊥ s.matching orders.Declared)) }
+    ensures only { OfTask task.now (λ told s. result ≡ Err CheckFault.Only → IsUnknown told s.picked) }
+    ensures ends { IfErr result EndsAuto }
+    ensures untried { IfOk result (λ r. r.1 ≡ None) }
+{
+    match paired(task, &Order::Declared) {
+        Ok(declared) => by_cones_in(task, declared, gate),
+        Err(fault) => Err(fault),
     }
 }
 
@@ -154,6 +199,7 @@ fn by_best<H: Threads + Wait + Sync, G: Gate>(
     ensures fault { OfTask task.now (λ told s.
         IfErr result (λ fault. (o : OrderValue) × IsAllowed Choice.Best o × IsCheckFault told ⊥ ⊥ ⊥ s.matching o fault)) }
     ensures unwritten { result ≢ Err CheckFault.Write }
+    ensures others { result ≢ Err CheckFault.Only }
     ensures unbounded { result ≢ Err (CheckFault.Wave WaveFault.TooManyRequests) }
     ensures passed { OfTask task.now (λ told s. IfOk result (λ r. IfSome r.1 (AreGivenUp told s.matching s.limit (G.bound gate.now)))) }
     ensures alone { result ≢ Err (CheckFault.Wave WaveFault.NoWorker) }
@@ -189,5 +235,6 @@ pub fn decide<H: Threads + Wait + Sync, G: Gate>(
         Choice::One(order) => by_order(task, order, gate),
         Choice::Best => by_best(task, gate),
         Choice::Auto => by_auto(task, gate),
+        Choice::Cones => by_each(task, gate),
     }
 }

@@ -1,5 +1,5 @@
 //! Laws of the definitions.
-ghost use Rattle.std.specs.Prelude.{◌≡◌, ◌↔◌, ℕ, Bool, List, Option, None, IfSome, option_map};
+ghost use Rattle.std.specs.Prelude.{◌≡◌, ◌↔◌, ◌≤◌, ℕ, All, Bool, List, Option, None, IfSome, length, option_map};
 ghost use Rattle.net_bench.specs.Circuit.{Circuit, Net, IsNet, circuit};
 ghost use Rattle.net_order.specs.declared.order.Match.{Match};
 ghost use Rattle.net_order.specs.declared.order.Order.{Order};
@@ -7,6 +7,8 @@ ghost use Rattle.net_order.specs.Order.{Paired, IsPairing};
 ghost use Rattle.dd_store.specs.Functions.{Agree, IsLeastDifference};
 ghost use Rattle.report_text.specs.declared.outcome.Outcome.{Outcome};
 ghost use Rattle.check_report.specs.Conditions.{HasOneOutput, HoldsWhere, restricted, AgreeWhere, IsLeastWhere};
+ghost use Rattle.check_report.specs.declared.subject.Subject.{Subject};
+ghost use Rattle.check_report.specs.Picking.{AreShares};
 ghost use Rattle.check_report.specs.Limits.{FitsWithin, Exceeds};
 ghost use Rattle.report_text.specs.Lines.{Found};
 ghost use Rattle.check_report.specs.Report.{IsReport};
@@ -37,4 +39,11 @@ pub fn without_condition()
 pub fn conjunctions()
     ensures equal { (n : ℕ) (holds f g : List Bool → Bool) → AgreeWhere n holds f g ↔ Agree n (restricted holds f) (restricted holds g) }
     ensures least { (n : ℕ) (holds f g : List Bool → Bool) (x : List Bool) → IsLeastWhere n holds f g x ↔ IsLeastDifference n (restricted holds f) (restricted holds g) x }
+{}
+
+/// Each pair is dealt to one of the shares that there are, and whoever deals comes to the same: n shares of one comparison, each from a
+/// run of its own, have each pair exactly once.
+pub fn shares()
+    ensures each { (a b : Circuit) (pairs : List Subject) (n : ℕ) (shares : List ℕ) → 1 ≤ n → AreShares a b pairs n shares → (length shares ≡ length pairs) × All (λ k. (1 ≤ k) × (k ≤ n)) shares }
+    ensures same { (a b : Circuit) (pairs : List Subject) (n : ℕ) (shares others : List ℕ) → AreShares a b pairs n shares → AreShares a b pairs n others → shares ≡ others }
 {}

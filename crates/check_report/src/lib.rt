@@ -8,27 +8,35 @@ mod checking;
 mod choice;
 mod compare;
 mod compared;
+mod coned;
+mod coning;
 mod deciding;
 mod fault;
 mod judging;
 pub mod laws;
 mod listing;
+mod naming;
+mod pairs;
 mod picked;
+mod picking;
 mod reading;
 mod report;
 mod settings;
+mod sharing;
+mod spreading;
 mod subject;
 mod task;
 mod telling;
 mod trials;
+mod turns;
 
 pub use choice::{Attempt, Candidate, Choice};
 pub use fault::CheckFault;
 pub use judging::{check, judge};
 pub use listing::print_order;
+pub use picked::Picked;
 pub use report_text::{
     Bits, Name, Outcome, Role, Share, Side, Verdict, Verdicts, json_of, report_of, write_whole,
 };
-pub use picked::Picked;
 pub use settings::Settings;
 pub use task::Context;

@@ -4,6 +4,7 @@ ghost use Rattle.std.specs.Io.KnownBytes.{Appends};
 ghost use Rattle.expand_work.specs.declared.fault.WaveFault.TheVariants.{Full, NoWorker, TooManyRequests};
 ghost use Rattle.expand_work.specs.Bounds.{most_of};
 ghost use Rattle.net_order.specs.declared.order.Order.{Order as OrderValue};
+ghost use Rattle.net_order.specs.declared.order.Order.TheVariants.{Declared};
 ghost use Rattle.net_order.specs.OrderText.{order_text};
 ghost use Rattle.report_text.specs.Writing.{AppendsFront};
 ghost use Rattle.check_report.specs.declared.choice.Attempt.{Attempt as AttemptValue};
@@ -89,14 +90,13 @@ fn given_text<H>(
     }
 }
 
-/// The order file of the variables of two netlists, in declared order, in which a report is told where another order is found for it.
+/// The order file of the variables of two netlists, in declared order, in which a report is told where other orders are taken for it.
 fn auto_text<H>(task: &Task<'_, H>) -> Result<(Vec<u8>, Option<Attempt>), CheckFault>
     ensures text { OfTask task.now (λ told s.
         IfOk result (λ r. (o : OrderValue) × IsOrderPrinted told s.matching o r.0.items
         × IsFound told s.matching Choice.Auto s.limit r.1 o)) }
     ensures untried { IfOk result (λ r. r.1 ≡ None) }
-    ensures fault { OfTask task.now (λ told s.
-        IfErr result (λ fault. (o : OrderValue) × IsAllowed Choice.Auto o × IsCheckFault told ⊥ ⊥ ⊥ s.matching o fault)) }
+    ensures fault { OfTask task.now (λ told s. IfErr result (IsCheckFault told ⊥ ⊥ ⊥ s.matching Declared)) }
     ensures unbuilt { result ≢ Err (CheckFault.Wave Full) }
     ensures kept { result ≢ Err CheckFault.GivenUp }
     ensures unbounded { result ≢ Err (CheckFault.Wave TooManyRequests) }
@@ -107,6 +107,22 @@ fn auto_text<H>(task: &Task<'_, H>) -> Result<(Vec<u8>, Option<Attempt>), CheckF
         Ok(text) => Ok((text, None)),
         Err(fault) => Err(fault),
     }
+}
+
+/// The same where each pair is judged by its cones.
+fn cones_text<H>(task: &Task<'_, H>) -> Result<(Vec<u8>, Option<Attempt>), CheckFault>
+    ensures text { OfTask task.now (λ told s.
+        IfOk result (λ r. (o : OrderValue) × IsOrderPrinted told s.matching o r.0.items
+        × IsFound told s.matching Choice.Cones s.limit r.1 o)) }
+    ensures untried { IfOk result (λ r. r.1 ≡ None) }
+    ensures fault { OfTask task.now (λ told s. IfErr result (IsCheckFault told ⊥ ⊥ ⊥ s.matching Declared)) }
+    ensures unbuilt { result ≢ Err (CheckFault.Wave Full) }
+    ensures kept { result ≢ Err CheckFault.GivenUp }
+    ensures unbounded { result ≢ Err (CheckFault.Wave TooManyRequests) }
+    ensures alone { result ≢ Err (CheckFault.Wave NoWorker) }
+    ensures unwritten { result ≢ Err CheckFault.Write }
+{
+    auto_text(task)
 }
 
 /// The order file of the variables of two netlists, in the best order.
@@ -162,6 +178,7 @@ fn text_for<H: Threads + Wait + Sync, G: Gate>(
         Choice::One(order) => given_text(task, order),
         Choice::Best => best_text(task, gate),
         Choice::Auto => auto_text(task),
+        Choice::Cones => cones_text(task),
     }
 }
 

@@ -47,7 +47,7 @@ pub fn paired<H>(task: &Task<'_, H>, order: &Order) -> Result<Pairing, CheckFaul
 }
 
 /// Whether two names are the same.
-fn is_same(name: &[u8], other: &[u8]) -> bool
+pub fn is_same(name: &[u8], other: &[u8]) -> bool
     ensures { result ≡ bytes_eq name.now other.now }
 {
     name == other

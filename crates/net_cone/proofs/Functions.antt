@@ -113,10 +113,23 @@ module _ (n : Net) (root : ℕ) (names : List (List ℕ)) (cone : Net) (from : L
   pub root_bit : bit_of lowered (length from) ≡ bit_of bits root
   root_bit = at_end
 
+-- the function of a cone's output is the root's, where each assignment has a labelling of the netlist
+pub from_cone : (n : Net) (root : ℕ) (names : List (List ℕ)) (cone : Net) (from : List ℕ) → IsCone n root names cone from →
+    (level inner : ℕ → ℕ) → ((t : ℕ) → Contains cone.inputs t → inner t ≡ level (slice_index from t)) →
+    ((x : List Bool) → (bits : List Bool) × IsLabelling (circuit n) level x bits) →
+    (count : ℕ) (f : List Bool → Bool) → IsFunctionOf (circuit cone) inner count (length from) f → IsFunctionOf (circuit n) level count root f
+from_cone n root names cone from is level inner meet labelled count f h x size =
+    let (inside, of_cone, at) = h x size in
+    let (bits, label) = labelled x in
+    let low : length from < length cone.names = omega (arith, is.count) in
+    let one = same_labelling cone is.sound inner x (map (bit_of bits) (from ++ root ∷ [])) inside
+    (below n root names cone from is level inner meet x bits label) of_cone (length from) low in
+    (bits, label, sym (root_bit n root names cone from is level inner meet x bits label) ∙ one ∙ at)
+
 pub same_function : (n : Net) (root : ℕ) (names : List (List ℕ)) (cone : Net) (from : List ℕ) → IsNet n → IsCone n root names cone from →
     (level inner : ℕ → ℕ) → ((t : ℕ) → Contains cone.inputs t → inner t ≡ level (slice_index from t)) →
     (count : ℕ) (f : List Bool → Bool) → IsFunctionOf (circuit n) level count root f ↔ IsFunctionOf (circuit cone) inner count (length from) f
-same_function n root names cone from net is level inner meet count f = (down, up)
+same_function n root names cone from net is level inner meet count f = (down, from_cone n root names cone from is level inner meet (has_labelling n net level) count f)
   where
     down : IsFunctionOf (circuit n) level count root f → IsFunctionOf (circuit cone) inner count (length from) f
     down h x size =
@@ -125,12 +138,3 @@ same_function n root names cone from net is level inner meet count f = (down, up
           below n root names cone from is level inner meet x bits label,
           root_bit n root names cone from is level inner meet x bits label ∙ at,
         )
-
-    up : IsFunctionOf (circuit cone) inner count (length from) f → IsFunctionOf (circuit n) level count root f
-    up h x size =
-        let (inside, of_cone, at) = h x size in
-        let (bits, label) = has_labelling n net level x in
-        let low : length from < length cone.names = omega (arith, is.count) in
-        let one = same_labelling cone is.sound inner x (map (bit_of bits) (from ++ root ∷ [])) inside
-        (below n root names cone from is level inner meet x bits label) of_cone (length from) low in
-        (bits, label, sym (root_bit n root names cone from is level inner meet x bits label) ∙ one ∙ at)

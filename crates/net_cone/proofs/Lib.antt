@@ -1,8 +1,10 @@
 pub mod Functions
 pub mod Closed
 pub mod Marking
+pub mod Unmarking
 pub mod Walking
 pub mod Lists
 pub mod Names
 pub mod Numbered
 pub mod Drawn
+pub mod Spreading

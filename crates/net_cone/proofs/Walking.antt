@@ -23,7 +23,7 @@ gate_found n sound g (i, low, at) =
     role_gate n sound g.out (gate i) (g, is, refl) ∙ is
 
 -- the last one of those that wait, or one of the others
-last_or : (xs : List ℕ) (y s : ℕ) → Contains (xs ++ y ∷ []) s → (y ≡ s) ⊎ Contains xs s
+pub last_or : (xs : List ℕ) (y s : ℕ) → Contains (xs ++ y ∷ []) s → (y ≡ s) ⊎ Contains xs s
 last_or [] y s (zero, low, at) = inl at
 last_or [] y s (suc i, low, at) = absurd (omega arith)
 last_or (x ∷ xs) y s (zero, low, at) = inr (0, omega arith, at)

@@ -1,5 +1,5 @@
 -- The cone of a signal: what a walk below it meets, as a netlist of its own.
-use Rattle.std.specs.Prelude.{◌≡◌, ◌+◌, ◌<◌, ℕ, Bool, List, [], ◌∷◌, ◌++◌, filter, map, length, slice_index, slice_index_or, Contains, All}
+use Rattle.std.specs.Prelude.{◌≡◌, ◌+◌, ◌<◌, ℕ, Bool, List, [], ◌∷◌, ◌++◌, ◌↔◌, IsTrue, count_by, filter, map, length, slice_index, slice_index_or, Contains, All}
 use Rattle.net_bench.specs.declared.netlist.GateLine.{GateLine}
 use Rattle.net_bench.specs.declared.netlist.Kind.TheVariants.{Buff}
 use Rattle.net_bench.specs.Circuit.{AreOnce, Circuit, Feeds, IsNet, Net, circuit, variables_of}
@@ -8,6 +8,12 @@ use Rattle.net_bench.specs.Circuit.{AreOnce, Circuit, Feeds, IsNet, Net, circuit
 pub data IsBelow (c : Circuit) (root : ℕ) : ℕ → Type 0 where
   here : IsBelow c root root
   deeper : {s t : ℕ} → IsBelow c root s → Feeds c t s → IsBelow c root t
+
+-- so many gates are below a signal
+pub record HasGates (c : Circuit) (root : ℕ) (n : ℕ) : Type 0 where
+  pub met : ℕ → Bool
+  pub are_met : (s : ℕ) → IsTrue (met s) ↔ IsBelow c root s
+  pub count : n ≡ count_by (λ g. met g.out) c.gates
 
 -- the names of variables, by signal: distinct for distinct variables
 pub record AreNames (n : Net) (names : List (List ℕ)) : Type 0 where

@@ -1,5 +1,5 @@
 -- What holds while a cone is made: the marks of its signals, and their numbers in it.
-use Rattle.std.specs.Prelude.{◌≡◌, ◌⊎◌, ◌<◌, ◌≤◌, ◌+◌, ℕ, Bool, true, false, if◌then◌else◌, List, [], ◌∷◌, ◌++◌, filter, fold, map, length, take, drop, slice_index, slice_index_or, Contains, All}
+use Rattle.std.specs.Prelude.{◌≡◌, ◌⊎◌, ◌<◌, ◌≤◌, ◌+◌, ℕ, Bool, true, false, if◌then◌else◌, List, [], ◌∷◌, ◌++◌, count_by, filter, fold, map, length, take, drop, slice_index, slice_index_or, Contains, All}
 use Rattle.net_bench.specs.declared.netlist.GateLine.{GateLine}
 use Rattle.net_bench.specs.Circuit.{Net, circuit, with_name}
 use Rattle.net_cone.specs.declared.cone.Numbers.{Numbers}
@@ -11,6 +11,10 @@ has_mark marks s = slice_index_or marks s false
 
 abbrev pub IsMarked : List Bool → ℕ → Type 0
 IsMarked marks s = has_mark marks s ≡ true
+
+-- how many gates' signals have one
+abbrev pub gates_marked : List Bool → List GateLine → ℕ
+gates_marked marks gates = count_by (λ g. has_mark marks g.out) gates
 
 -- how many signals have none
 abbrev pub unmarked : List Bool → ℕ

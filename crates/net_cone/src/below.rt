@@ -60,6 +60,8 @@ fn pass(
     requires inside { signal < length net.now.names }
     requires walking { IsWalking net.now root marks.old (waiting.old.items ++ signal ∷ []) }
     ensures walking { OnOk result (IsWalking net.now root marks.new waiting.new.items) }
+    ensures only { OnOk result ((s : ℕ) → IsMarked marks.new s → IsMarked marks.old s ⊎ Contains waiting.new.items s) }
+    ensures waiting { OnOk result ((s : ℕ) → Contains waiting.old.items s → Contains waiting.new.items s) }
     ensures steps { OnOk result (unmarked marks.new + length waiting.new.items ≡ unmarked marks.old + length waiting.old.items) }
 {
     let _ = root;
@@ -71,23 +73,27 @@ fn pass(
     Ok(())
 }
 
-/// Marks the signals below the root.
+/// Marks the signals below the root, and puts each at the end of those that were met.
 #[tactic(auto, using(crate::proofs::Walking::begun, crate::proofs::Walking::ended, crate::proofs::Walking::taken))]
-fn mark_below(
+pub fn mark_below(
     alloc: Global,
     net: &Netlist,
     root: Signal,
     marks: &mut [bool],
+    met: &mut Vec<Signal>,
 ) -> Result<(), AllocError>
     requires inside { root < length net.now.names }
     requires each { length marks.old ≡ length net.now.names }
     requires none { (s : ℕ) → IsMarked marks.old s → ⊥ }
     requires sound { IsNet net.now }
-    ensures { OnOk result (AreBelow net.now root marks.new) }
+    ensures below { OnOk result (AreBelow net.now root marks.new) }
+    ensures met { OnOk result ((s : ℕ) → IsMarked marks.new s → Contains met.new.items s) }
+    ensures inside { OnOk result (All (λ s. s < length net.now.names) met.old.items → All (λ s. s < length net.now.names) met.new.items) }
 {
     let mut waiting = Vec::new(alloc);
     visit(marks, &mut waiting, root)?;
     while let Some(signal) = waiting.pop() {
+        met.push(signal)?;
         pass(net, root, marks, &mut waiting, signal)?;
     }
     Ok(())
@@ -101,6 +107,7 @@ pub fn marks_below(alloc: Global, net: &Netlist, root: Signal) -> Result<Vec<boo
     ensures sound { IsNet net.now }
 {
     let mut marks = Vec::from_elem(alloc, false, net.count())?;
-    mark_below(alloc, net, root, marks.as_mut_slice())?;
+    let mut met = Vec::new(alloc);
+    mark_below(alloc, net, root, marks.as_mut_slice(), &mut met)?;
     Ok(marks)
 }

@@ -3,9 +3,11 @@
 
 mod below;
 mod cone;
+mod counting;
 pub mod laws;
 mod naming;
 mod numbering;
 
 pub use cone::{Cone, cone_of};
+pub use counting::gates_below;
 pub use naming::own_names;

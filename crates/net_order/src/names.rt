@@ -23,7 +23,7 @@ impl Model for Names {
 
 impl Names {
     /// The names of a list, as an order file gives them.
-    pub(crate) fn of(list: Vec<Vec<u8>>) -> Names
+    pub fn of(list: Vec<Vec<u8>>) -> Names
         requires { length list.items ≤ 67108864 }
         ensures { result ≡ map (λ v. v.items) list.items }
     {

@@ -1,9 +1,9 @@
-use Rattle.std.proofs.Common.{◌≡◌, ◌∙◌, subst, sym}
-use Rattle.check_report.specs.declared.attempts.Round.TheVariants.{Decided}
+use Rattle.std.proofs.Common.{◌≡◌, ◌∙◌, ◌≤◌, subst, sym, arith}
 use Rattle.check_report.specs.declared.choice.Candidate.TheVariants.{Interleave}
-use Rattle.check_report.specs.Best.{AllBefore, first_budget, order_of}
+use Rattle.check_report.specs.Best.{AllBefore, order_of}
 use Rattle.check_report.specs.Trials.{ArePassed, Decides, IsFirstRound, IsPassed, IsRound}
-use Rattle.check_report.proofs.Budgets.{first_is_one}
+use Rattle.check_report.proofs.Budgets.{each_budget, first_is_one}
+use Rattle.check_report.specs.declared.choice.Candidate.{Candidate}
 use Rattle.check_report.proofs.Rounds.{given_up_fault, passed_first}
 use Rattle.check_report.proofs.attempts.find_attempt.Goals as goal
 
@@ -11,7 +11,7 @@ pub returns-in-Decided-clause-budget : goal.returns-in-Decided-clause-budget
 returns-in-Decided-clause-budget g c =
     let d : Decides c.args.task.now c.args.declared c.min-budget.result c.in-Decided.decided =
     subst (IsRound c.args.task.now c.args.declared c.min-budget.result (g.G.Gate.bound c.args.gate.now) c.try_first.new.trials.items) c.in-Decided.is c.in_ok-decided.ensures.round in
-    first_is_one c.args.task.now.settings.now.limit c.in-Decided.decided.budget (d.1 ∙ c.min-budget.ensures)
+    first_is_one c.args.limit c.in-Decided.decided.budget (d.1 ∙ c.min-budget.ensures)
 
 pub returns-in-Decided-clause-passed : goal.returns-in-Decided-clause-passed
 returns-in-Decided-clause-passed g c =
@@ -21,7 +21,7 @@ returns-in-Decided-clause-passed g c =
     let d : Decides task c.args.declared c.min-budget.result t =
     subst (IsRound task c.args.declared c.min-budget.result bound c.try_first.new.trials.items) c.in-Decided.is c.in_ok-decided.ensures.round in
     let before : AllBefore t.trial.candidate (IsPassed task c.min-budget.result bound) = subst (IsFirstRound task c.min-budget.result bound) c.in-Decided.is c.in_ok-decided.ensures.first in
-    passed_first task bound (record { order = t.trial.candidate; budget = t.budget }) (d.1 ∙ c.min-budget.ensures)
+    passed_first task c.args.limit bound (record { order = t.trial.candidate; budget = t.budget }) (d.1 ∙ c.min-budget.ensures)
     (subst (λ n. AllBefore t.trial.candidate (IsPassed task n bound)) (sym d.1) before)
 
 pub returns-in-GivenUp-clause-fault : goal.returns-in-GivenUp-clause-fault
@@ -31,3 +31,14 @@ returns-in-GivenUp-clause-fault g c = λ told ga.
     let r : ArePassed task c.min-budget.result bound c.in-GivenUp.full c.try_first.new.trials.items =
     subst (IsRound task c.args.declared c.min-budget.result bound c.try_first.new.trials.items) c.in-GivenUp.is c.in_ok-decided.ensures.round in
     (Interleave, given_up_fault task told ga (order_of Interleave) (r.each Interleave).pairing c.fault_of.result (r.each Interleave).paired c.fault_of.ensures.which)
+
+pub returns-in-GivenUp-clause-given_up : goal.returns-in-GivenUp-clause-given_up
+returns-in-GivenUp-clause-given_up g c = λ _.
+    let task = c.args.task.now in
+    let bound = g.G.Gate.bound c.args.gate.now in
+    let r : ArePassed task c.min-budget.result bound c.in-GivenUp.full c.try_first.new.trials.items =
+    subst (IsRound task c.args.declared c.min-budget.result bound c.try_first.new.trials.items) c.in-GivenUp.is c.in_ok-decided.ensures.round in
+    let few : c.args.limit ≤ 16384 = omega arith in
+    let same : c.min-budget.result ≡ c.args.limit = omega (arith, c.min-budget.ensures) in
+    each_budget (λ n. (k : Candidate) → IsPassed task n bound k) c.args.limit 0 (λ j lt. absurd (omega (arith, lt))) (omega (arith, few))
+    (subst (λ n. (k : Candidate) → IsPassed task n bound k) same r.each)

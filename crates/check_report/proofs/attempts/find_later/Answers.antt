@@ -1,9 +1,9 @@
-use Rattle.std.proofs.Common.{◌≡◌, ◌<◌, ◌*◌, ◌^◌, suc, subst, sym, refl, arith, lit<}
+use Rattle.std.proofs.Common.{◌≡◌, ◌≤◌, ◌*◌, ◌^◌, suc, subst, refl, arith, lit<}
 use Rattle.check_report.specs.declared.choice.Candidate.{Candidate}
 use Rattle.check_report.specs.declared.choice.Candidate.TheVariants.{Interleave}
 use Rattle.check_report.specs.Best.{order_of}
 use Rattle.check_report.specs.Trials.{ArePassed, Decides, IsPassed, IsRound}
-use Rattle.check_report.proofs.Budgets.{next_budget, tried_next}
+use Rattle.check_report.proofs.Budgets.{each_budget, next_budget, tried_next}
 use Rattle.check_report.proofs.Rounds.{given_up_fault, passed_at}
 use Rattle.check_report.proofs.attempts.find_later.Goals as goal
 
@@ -19,7 +19,7 @@ returns-in-Decided-clause-passed g c =
     let p = c.loop-budget.invariant.power in
     let d : Decides c.args.task.now c.args.declared c.loop-budget.budget c.in-Decided.decided =
     subst (IsRound c.args.task.now c.args.declared c.loop-budget.budget (g.G.Gate.bound c.args.gate.now) c.try_again.new.trials.items) c.in-Decided.is c.in_ok-decided.ensures.round in
-    passed_at c.args.task.now (g.G.Gate.bound c.args.gate.now) p.0 c.loop-budget.budget (record { order = c.in-Decided.decided.trial.candidate; budget = c.in-Decided.decided.budget })
+    passed_at c.args.task.now c.args.limit (g.G.Gate.bound c.args.gate.now) p.0 c.loop-budget.budget (record { order = c.in-Decided.decided.trial.candidate; budget = c.in-Decided.decided.budget })
     (let e = p.1 in omega arith) (let lt = c.loop-budget-test.true in omega arith) c.loop-budget.invariant.more p.2 d.1
 
 pub loop-budget-preserved : goal.loop-budget-preserved
@@ -42,16 +42,26 @@ loop-budget-preserved g c =
 pub returns-in-Decided-2-clause-passed : goal.returns-in-Decided-2-clause-passed
 returns-in-Decided-2-clause-passed g c =
     let p = c.loop-budget.invariant.power in
-    let limit = c.args.task.now.settings.now.limit in
+    let limit = c.args.limit in
     let d : Decides c.args.task.now c.args.declared limit c.in-Decided-2.decided =
     subst (IsRound c.args.task.now c.args.declared limit (g.G.Gate.bound c.args.gate.now) c.try_again-2.new.trials.items) c.in-Decided-2.is c.in_ok-decided-2.ensures.round in
-    passed_at c.args.task.now (g.G.Gate.bound c.args.gate.now) p.0 limit (record { order = c.in-Decided-2.decided.trial.candidate; budget = c.in-Decided-2.decided.budget })
+    passed_at c.args.task.now c.args.limit (g.G.Gate.bound c.args.gate.now) p.0 limit (record { order = c.in-Decided-2.decided.trial.candidate; budget = c.in-Decided-2.decided.budget })
     (let e = p.1 in omega arith) (omega arith) c.requires.more p.2 d.1
 
 pub returns-clause-fault : goal.returns-clause-fault
 returns-clause-fault g c = λ told ga.
-    let limit = c.args.task.now.settings.now.limit in
+    let limit = c.args.limit in
     let bound = g.G.Gate.bound c.args.gate.now in
     let r : ArePassed c.args.task.now limit bound c.in-GivenUp-2.full c.try_again-2.new.trials.items =
     subst (IsRound c.args.task.now c.args.declared limit bound c.try_again-2.new.trials.items) c.in-GivenUp-2.is c.in_ok-decided-2.ensures.round in
     (Interleave, given_up_fault c.args.task.now told ga (order_of Interleave) (r.each Interleave).pairing c.fault_of.result (r.each Interleave).paired c.fault_of.ensures.which)
+
+pub returns-clause-given_up : goal.returns-clause-given_up
+returns-clause-given_up g c = λ _.
+    let limit = c.args.limit in
+    let bound = g.G.Gate.bound c.args.gate.now in
+    let p = c.loop-budget.invariant.power in
+    let r : ArePassed c.args.task.now limit bound c.in-GivenUp-2.full c.try_again-2.new.trials.items =
+    subst (IsRound c.args.task.now c.args.declared limit bound c.try_again-2.new.trials.items) c.in-GivenUp-2.is c.in_ok-decided-2.ensures.round in
+    let most : limit ≤ 16384 * 16 ^ p.0 = (let e = p.1 in omega arith) in
+    each_budget (λ n. (k : Candidate) → IsPassed c.args.task.now n bound k) limit p.0 p.2 most r.each

@@ -1,4 +1,4 @@
-use Rattle.std.proofs.Common.{◌-◌, ◌≡◌, ◌≤◌, ◌<◌, ◌*◌, ◌^◌, ℕ}
+use Rattle.std.proofs.Common.{◌-◌, ◌≡◌, ◌<◌, ◌*◌, ◌^◌, ℕ}
 use Rattle.check_report.specs.declared.choice.Candidate.{Candidate}
 use Rattle.check_report.specs.Trials.{AreTrials, IsPassed}
 use Rattle.check_report.proofs.attempts.find_later.Given as goal

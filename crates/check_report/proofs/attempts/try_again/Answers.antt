@@ -1,4 +1,4 @@
-use Rattle.std.proofs.Common.{◌≡◌, ◌<◌, ◌≤◌, ◌∙◌, subst, sym, arith, length}
+use Rattle.std.proofs.Common.{◌<◌, subst, arith, length}
 use Rattle.check_report.specs.Trials.{IsEnded, WasGivenUp}
 use Rattle.check_report.proofs.Rounds.{causes_more, moved, nodes_more, whole_round}
 use Rattle.check_report.proofs.attempts.try_again.Goals as goal

@@ -1,4 +1,4 @@
-use Rattle.std.proofs.Common.{◌≡◌, ◌⊎◌, All, take, true, vec_len}
+use Rattle.std.proofs.Common.{◌≡◌, ◌⊎◌, All, take, true}
 use Rattle.check_report.specs.declared.trials.Trial.{Trial}
 use Rattle.check_report.specs.Trials.{AreTrials, AsksMore, NeedsMore}
 use Rattle.check_report.proofs.attempts.try_again.Given as goal

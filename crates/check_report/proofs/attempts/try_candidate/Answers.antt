@@ -1,6 +1,4 @@
-use Rattle.std.proofs.Common.{◌≡◌, subst, sym}
-use Rattle.net_order.specs.Order.{Paired}
-use Rattle.check_report.specs.declared.trials.Trial.{Trial}
+use Rattle.std.proofs.Common.{subst, sym}
 use Rattle.check_report.specs.Best.{order_of}
 use Rattle.check_report.specs.Trials.{AreGivenUpTrials, IsEnded, IsPairingIn, IsTried}
 use Rattle.check_report.proofs.Rounds.{one_more, tried_last, tried_still}

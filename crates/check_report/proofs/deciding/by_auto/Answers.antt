@@ -1,37 +1,65 @@
-use Rattle.std.proofs.Common.{◌≡◌, ap, sym, subst, refl, inl, Err}
+use Rattle.std.proofs.Common.{◌≡◌, ◌∙◌, sym, subst, refl, inr, Some}
 use Rattle.net_order.specs.declared.order.Order.TheVariants as orders
-use Rattle.expand_work.specs.declared.fault.WaveFault.TheVariants.{Full}
+use Rattle.std.proofs.lemmas.Bool.{true≢false}
+use Rattle.check_report.specs.declared.choice.Attempt.{Attempt}
 use Rattle.check_report.specs.declared.choice.Candidate.TheVariants.{Declared}
-use Rattle.check_report.specs.declared.fault.CheckFault.TheVariants.{Wave, GivenUp}
-use Rattle.check_report.specs.Best.{IsGivenUpWithin, order_of}
-use Rattle.check_report.proofs.Rounds.{fault_in_no_order, given_up_or_full, judged, told_before, within}
+use Rattle.check_report.specs.declared.choice.Choice.TheVariants.{Auto}
+use Rattle.check_report.specs.declared.fault.CheckFault.TheVariants.{Only}
+use Rattle.check_report.specs.Best.{AreGivenUp, IsBudget, IsChosen, order_of}
+use Rattle.check_report.specs.Deciding.IsFoundBy.{in_order}
+use Rattle.check_report.specs.Trials.{AreAllPassed}
+use Rattle.check_report.proofs.Findings.{allowed_fault, auto_cause, not_giving_up}
+use Rattle.check_report.proofs.Printing.{never_tried}
+use Rattle.check_report.proofs.Rounds.{judged, order_ends, told_before, within}
 use Rattle.check_report.proofs.deciding.by_auto.Goals as goal
 
-pub returns-in-Ok-find_attempt-clause-chosen : goal.returns-in-Ok-find_attempt-clause-chosen
-returns-in-Ok-find_attempt-clause-chosen g c = λ told ga.
+pub returns-in-Ok-find_attempt-clause-found : goal.returns-in-Ok-find_attempt-clause-found
+returns-in-Ok-find_attempt-clause-found g c = λ told ga.
     let task = c.args.task.now in
     let d = c.in-Ok-find_attempt.ensures.decided in
-    let t = c.in-Ok-find_attempt.decided.trial in (
-      orders.Declared,
-      judged task told ga orders.Declared c.in-Ok.declared _ _ c.in-Ok.ensures.paired c.of.ensures d.verdicts_of,
-      (refl, c.in-Ok-find_attempt.ensures.budget, within task told ga (order_of t.candidate) t.pairing c.in-Ok-find_attempt.decided.budget d.paired d.within),
-    )
+    let t = c.in-Ok-find_attempt.decided.trial in
+    in_order orders.Declared (judged task told ga orders.Declared c.in-Ok.declared _ _ c.in-Ok.ensures.paired c.of.ensures d.verdicts_of)
+    (subst (λ o. IsChosen told task.settings.now.matching o task.settings.now.limit (Some (record { order = t.candidate; budget = c.in-Ok-find_attempt.decided.budget })) orders.Declared) (sym c.requires.auto) (
+      refl,
+      subst (λ n. IsBudget n c.in-Ok-find_attempt.decided.budget) c.min-limit.ensures c.in-Ok-find_attempt.ensures.budget,
+      within task told ga (order_of t.candidate) t.pairing c.in-Ok-find_attempt.decided.budget d.paired d.within,
+    ))
 
 pub returns-in-Ok-find_attempt-clause-passed : goal.returns-in-Ok-find_attempt-clause-passed
-returns-in-Ok-find_attempt-clause-passed g c = λ told ga. told_before c.args.task.now told ga (g.G.Gate.bound c.args.gate.now) _ c.in-Ok-find_attempt.ensures.passed
+returns-in-Ok-find_attempt-clause-passed g c = λ told ga.
+    let t : Attempt = record { order = c.in-Ok-find_attempt.decided.trial.candidate; budget = c.in-Ok-find_attempt.decided.budget } in
+    subst (λ n. AreGivenUp told c.args.task.now.settings.now.matching n (g.G.Gate.bound c.args.gate.now) t) c.min-limit.ensures
+    (told_before c.args.task.now told ga c.min-limit.result (g.G.Gate.bound c.args.gate.now) t c.in-Ok-find_attempt.ensures.passed)
 
 pub returns-in-Err-clause-fault : goal.returns-in-Err-clause-fault
 returns-in-Err-clause-fault g c = λ told ga. (orders.Declared, (Declared, refl), c.in-Err.ensures.fault told ga)
 
-pub returns-in-Err-find_attempt-clause-given_up : goal.returns-in-Err-find_attempt-clause-given_up
-returns-in-Err-find_attempt-clause-given_up g c = λ told ga e o allowed.
+pub returns-in-Err-clause-ends : goal.returns-in-Err-clause-ends
+returns-in-Err-clause-ends g c = inr (order_ends c.in-Err.fault c.in-Err.ensures.refused.0 c.in-Err.ensures.refused.1)
+
+pub returns-then-is_giving_up-clause-found : goal.returns-then-is_giving_up-clause-found
+returns-then-is_giving_up-clause-found g c = λ told ga.
     let task = c.args.task.now in
     let bound = g.G.Gate.bound c.args.gate.now in
-    let same : c.in_no_order.result ≡ GivenUp = cc in
-    subst (IsGivenUpWithin told task.settings.now.matching task.settings.now.limit bound) (sym allowed.1)
-    (given_up_or_full task told ga bound c.in-Err-find_attempt.fault (c.in_no_order.ensures.given_up same) (λ x. c.in-Err-find_attempt.ensures.given_up (ap Err x)) (λ x. c.in-Err-find_attempt.ensures.full (ap Err x)) allowed.0)
+    c.by_cones_in.ensures.found told ga (auto_cause task told ga bound c.requires.auto (subst (λ n. AreAllPassed task n bound) c.min-limit.ensures (c.in-Err-find_attempt.ensures.given_up (c.is_giving_up.ensures.0 c.if-is_giving_up.true))))
 
-pub returns-in-Err-find_attempt-clause-fault : goal.returns-in-Err-find_attempt-clause-fault
-returns-in-Err-find_attempt-clause-fault g c = λ told ga.
+pub returns-then-is_giving_up-clause-fault : goal.returns-then-is_giving_up-clause-fault
+returns-then-is_giving_up-clause-fault g c = λ told ga.
+    allowed_fault told c.args.task.now.settings.now.matching Auto orders.Declared (Declared, refl) c.by_cones_in.result (c.by_cones_in.ensures.fault told ga)
+
+pub returns-then-is_giving_up-clause-passed : goal.returns-then-is_giving_up-clause-passed
+returns-then-is_giving_up-clause-passed g c = λ told ga. never_tried _ c.by_cones_in.result c.by_cones_in.ensures.untried
+
+pub returns-clause-fault : goal.returns-clause-fault
+returns-clause-fault g c = λ told ga.
     let w = c.in-Err-find_attempt.ensures.fault told ga in
-    (order_of w.0, (w.0, refl), fault_in_no_order c.args.task.now told ga (order_of w.0) c.in-Err-find_attempt.fault c.in_no_order.result c.in_no_order.ensures.same w.1)
+    (order_of w.0, (w.0, refl), w.1)
+
+pub returns-clause-ends : goal.returns-clause-ends
+returns-clause-ends g c =
+    not_giving_up c.in-Err-find_attempt.fault c.in-Err-find_attempt.ensures.ends (λ giving. true≢false (sym (c.is_giving_up.ensures.1 giving) ∙ c.if-is_giving_up.false))
+
+pub returns-clause-only : goal.returns-clause-only
+returns-clause-only g c = λ told ga e.
+    let same : c.in-Err-find_attempt.fault ≡ Only = cc in
+    absurd (c.in-Err-find_attempt.ensures.ends.only same)

@@ -1,4 +1,4 @@
-use Rattle.std.proofs.Common.{◌≡◌, ap, refl, Err}
+use Rattle.std.proofs.Common.{◌≡◌, ap, refl, inr, Err}
 use Rattle.expand_work.specs.declared.fault.WaveFault.TheVariants.{Full}
 use Rattle.check_report.specs.declared.fault.CheckFault.TheVariants.{Wave, GivenUp}
 use Rattle.check_report.specs.Best.{order_of}
@@ -16,7 +16,7 @@ returns-in-Ok-clause-chosen g c = λ told ga.
     (refl, c.in-Ok.ensures.budget, within c.args.task.now told ga (order_of t.candidate) t.pairing c.in-Ok.decided.budget c.in-Ok.ensures.decided.paired c.in-Ok.ensures.decided.within)
 
 pub returns-in-Ok-clause-passed : goal.returns-in-Ok-clause-passed
-returns-in-Ok-clause-passed g c = λ told ga. told_before c.args.task.now told ga (g.G.Gate.bound c.args.gate.now) _ c.in-Ok.ensures.passed
+returns-in-Ok-clause-passed g c = λ told ga. told_before c.args.task.now told ga c.args.task.now.settings.now.limit (g.G.Gate.bound c.args.gate.now) _ c.in-Ok.ensures.passed
 
 pub returns-in-Err-clause-full : goal.returns-in-Err-clause-full
 returns-in-Err-clause-full g c = λ told ga e k.
@@ -26,4 +26,4 @@ returns-in-Err-clause-full g c = λ told ga e k.
 pub returns-in-Err-clause-given_up : goal.returns-in-Err-clause-given_up
 returns-in-Err-clause-given_up g c = λ told ga e k.
     let same : c.in-Err.fault ≡ GivenUp = cc in
-    told_passed c.args.task.now told ga c.args.task.now.settings.now.limit (g.G.Gate.bound c.args.gate.now) k (c.in-Err.ensures.given_up (ap Err same) k)
+    told_passed c.args.task.now told ga c.args.task.now.settings.now.limit (g.G.Gate.bound c.args.gate.now) k (c.in-Err.ensures.given_up (inr same) c.args.task.now.settings.now.limit (inr refl) k)

@@ -1,26 +1,26 @@
 use Rattle.std.proofs.Common.{◌≡◌, ap, subst, Err}
 use Rattle.std.specs.Io.KnownBytes.{Appends}
 use Rattle.report_text.specs.Writing.{AppendsFront}
-use Rattle.check_report.specs.declared.fault.CheckFault.TheVariants.{GivenUp}
-use Rattle.check_report.proofs.Trying.{chosen_allowed}
+use Rattle.check_report.specs.declared.fault.CheckFault.TheVariants.{GivenUp, Only}
+use Rattle.check_report.proofs.Trying.{found_accepted}
 use Rattle.check_report.proofs.judging.check.Goals as goal
 
 pub returns-in-Ok-write_whole-clause-report : goal.returns-in-Ok-write_whole-clause-report
-returns-in-Ok-write_whole-clause-report g c =
-    let w = c.in-Ok.ensures.report in
-    (w.0, c.in-Ok.text.items, w.1, w.2, subst (Appends _ _) c.as_slice.ensures.value c.in-Ok-write_whole.ensures.ok)
+returns-in-Ok-write_whole-clause-report g c = (c.in-Ok.text.items, c.in-Ok.ensures.report, subst (Appends _ _) c.as_slice.ensures.value c.in-Ok-write_whole.ensures.ok)
 
 pub returns-clause-fault : goal.returns-clause-fault
-returns-clause-fault g c =
-    let w = c.in-Ok.ensures.report in
-    (w.0, chosen_allowed _ _ _ _ c.in-Ok.tried w.0 w.2, (w.1.a, w.1.b, w.1.c, w.1.p, w.1.paired))
+returns-clause-fault g c = found_accepted _ _ _ _ _ c.in-Ok.ensures.report.by
 
 pub returns-clause-unwritten : goal.returns-clause-unwritten
 returns-clause-unwritten g c = λ _.
-    let w = c.in-Ok.ensures.report in
-    (c.in-Ok.outcome, c.in-Ok.tried, w.0, c.in-Ok.text.items, w.1, w.2, subst (AppendsFront _ _ _ _) c.as_slice.ensures.value c.in-Err-write_whole.ensures.err)
+    (c.in-Ok.outcome, c.in-Ok.tried, c.in-Ok.text.items, c.in-Ok.ensures.report, subst (AppendsFront _ _ _ _) c.as_slice.ensures.value c.in-Err-write_whole.ensures.err)
 
 pub returns-in-Err-clause-given_up : goal.returns-in-Err-clause-given_up
 returns-in-Err-clause-given_up g c = λ e.
     let same : c.in-Err.fault ≡ GivenUp = cc in
     c.in-Err.ensures.given_up (ap Err same)
+
+pub returns-in-Err-clause-only : goal.returns-in-Err-clause-only
+returns-in-Err-clause-only g c = λ e.
+    let same : c.in-Err.fault ≡ Only = cc in
+    c.in-Err.ensures.only (ap Err same)

@@ -10,7 +10,7 @@ returns-in-Err-clause-fault g c =
     (o.0, o.1, c.in-Err.ensures.fault c.args.context.now.settings.now.matching o.0)
 
 pub returns-clause-verdicts : goal.returns-clause-verdicts
-returns-clause-verdicts g c = c.decide.ensures.chosen _ (given_as _ _ _ _ _ c.as_ref-condition.ensures.value c.in-Ok.ensures.read)
+returns-clause-verdicts g c = c.decide.ensures.found _ (given_as _ _ _ _ _ c.as_ref-condition.ensures.value c.in-Ok.ensures.read)
 
 pub returns-clause-full : goal.returns-clause-full
 returns-clause-full g c = c.decide.ensures.full _ (given_as _ _ _ _ _ c.as_ref-condition.ensures.value c.in-Ok.ensures.read)
@@ -26,3 +26,6 @@ returns-clause-past g c = c.decide.ensures.past _ (given_as _ _ _ _ _ c.as_ref-c
 
 pub returns-clause-given_up : goal.returns-clause-given_up
 returns-clause-given_up g c = c.decide.ensures.given_up _ (given_as _ _ _ _ _ c.as_ref-condition.ensures.value c.in-Ok.ensures.read)
+
+pub returns-clause-only : goal.returns-clause-only
+returns-clause-only g c = c.decide.ensures.only _ (given_as _ _ _ _ _ c.as_ref-condition.ensures.value c.in-Ok.ensures.read)

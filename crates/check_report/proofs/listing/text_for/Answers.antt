@@ -1,3 +1,8 @@
+use Rattle.std.proofs.Common.{refl, subst, sym}
+use Rattle.net_order.specs.declared.order.Order.TheVariants as orders
+use Rattle.check_report.specs.declared.choice.Candidate.TheVariants.{Declared}
+use Rattle.check_report.specs.Best.{IsAllowed}
+use Rattle.check_report.proofs.Findings.{allowed_fault}
 use Rattle.check_report.proofs.Printing.{never_tried}
 use Rattle.check_report.proofs.listing.text_for.Goals as goal
 
@@ -20,10 +25,21 @@ pub returns-in-Auto-clause-text : goal.returns-in-Auto-clause-text
 returns-in-Auto-clause-text g c = λ told ga. rw c.in-Auto.is (c.auto_text.ensures.text told ga)
 
 pub returns-in-Auto-clause-fault : goal.returns-in-Auto-clause-fault
-returns-in-Auto-clause-fault g c = λ told ga. rw c.in-Auto.is (c.auto_text.ensures.fault told ga)
+returns-in-Auto-clause-fault g c = λ told ga.
+    allowed_fault told c.args.task.now.settings.now.matching c.args.task.now.settings.now.order orders.Declared (subst (λ o. IsAllowed o orders.Declared) (sym c.in-Auto.is) (Declared, refl)) c.auto_text.result (c.auto_text.ensures.fault told ga)
 
 pub returns-in-Auto-clause-passed : goal.returns-in-Auto-clause-passed
 returns-in-Auto-clause-passed g c = λ told ga. never_tried _ c.auto_text.result c.auto_text.ensures.untried
 
 pub returns-in-Best-clause-given_up : goal.returns-in-Best-clause-given_up
 returns-in-Best-clause-given_up g c = λ told ga. rw c.in-Best.is (λ e. (tt, c.best_text.ensures.given_up told ga e))
+
+pub returns-in-Cones-clause-text : goal.returns-in-Cones-clause-text
+returns-in-Cones-clause-text g c = λ told ga. rw c.in-Cones.is (c.cones_text.ensures.text told ga)
+
+pub returns-in-Cones-clause-fault : goal.returns-in-Cones-clause-fault
+returns-in-Cones-clause-fault g c = λ told ga.
+    allowed_fault told c.args.task.now.settings.now.matching c.args.task.now.settings.now.order orders.Declared (subst (λ o. IsAllowed o orders.Declared) (sym c.in-Cones.is) refl) c.cones_text.result (c.cones_text.ensures.fault told ga)
+
+pub returns-in-Cones-clause-passed : goal.returns-in-Cones-clause-passed
+returns-in-Cones-clause-passed g c = λ told ga. never_tried _ c.cones_text.result c.cones_text.ensures.untried

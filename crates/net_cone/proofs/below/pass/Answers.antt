@@ -1,4 +1,4 @@
-use Rattle.std.proofs.Common.{◌≡◌, ◌⊎◌, ◌∙◌, ℕ, ◌<◌, refl, subst, sym, ap, length}
+use Rattle.std.proofs.Common.{◌≡◌, ◌⊎◌, ◌∙◌, inl, inr, ℕ, ◌<◌, refl, subst, sym, ap, length}
 use Rattle.std.specs.Prelude.{All, Contains}
 use Rattle.std.proofs.lemmas.Option.{slice_get_within}
 use Rattle.net_bench.specs.declared.netlist.GateLine.{GateLine}
@@ -10,6 +10,8 @@ pub returns-in_default : goal.returns-in_default
 returns-in_default c = record {
   walking = pass_variable c.args.net.now c.role.ensures.sound c.args.root c.args.signal c.args.marks.now c.args.marks.now c.args.waiting.now.items c.args.waiting.now.items c.requires.walking
       (c.role.ensures.gate ∙ no_gate_by c.args.net.now.gates c.role.result c.in_default.not-Gate);
+  only = λ t now. inl now;
+  waiting = λ t waits. waits;
   steps = refl;
 }
 
@@ -38,3 +40,9 @@ returns-clause-walking c =
     (subst (All (IsMarked c.visit_all.new.marks)) operands c.in_ok-visit_all.ensures.here) c.in_ok-visit_all.ensures.kept
     (subst (λ os. (t : ℕ) → IsMarked c.visit_all.new.marks t → IsMarked c.args.marks.now t ⊎ (Contains os t × Contains c.visit_all.new.waiting.items t)) operands c.in_ok-visit_all.ensures.only)
     c.in_ok-visit_all.ensures.waiting c.in_ok-visit_all.ensures.marked
+
+pub returns-clause-only : goal.returns-clause-only
+returns-clause-only c = λ t now. elim (c.in_ok-visit_all.ensures.only t now) [
+  | inl was ↦ inl was
+  | inr (among, waits) ↦ inr waits
+]

@@ -1,0 +1,172 @@
+-- Pairs that are judged by their cones: what a comparison of cones says of the whole.
+use Rattle.std.proofs.Common.{◌≡◌, ap, sym, refl, subst, arith, ◌⊎◌, ℕ, suc, ◌<◌, ◌*◌, Bool, true, false, List, [], ◌∷◌, map, length, get_or, All, Option, Some, None, Result, Ok, min}
+use Rattle.std.specs.Prelude.{◌==◌, IfSome, cond, filter, zip, option_map, slice_index}
+use Rattle.std.specs.List.{AllZip}
+use Rattle.std.proofs.lemmas.List.Elements.{All-cons, All-filter, All-head, All-nil, All-tail}
+use Rattle.expand_work.specs.Bounds.{most_of}
+use Rattle.gate_plan.proofs.Signals.{function, some_function}
+use Rattle.net_bench.specs.Circuit.{Circuit, Net, IsNet, circuit}
+use Rattle.net_bench.specs.Labels.{IsFunctionOf}
+use Rattle.net_order.specs.declared.order.Match.{Match}
+use Rattle.net_order.specs.declared.order.Match.TheVariants.{Name}
+use Rattle.net_order.specs.declared.order.Order.{Order}
+use Rattle.net_order.specs.Order.{IsPairing, Paired, condition, name_of}
+use Rattle.report_text.specs.declared.verdict.Verdict.{Verdict}
+use Rattle.report_text.specs.declared.verdict.Verdict.TheVariants.{Undecided}
+use Rattle.report_text.specs.Lines.{Found}
+use Rattle.check_report.specs.declared.choice.Candidate.{Candidate}
+use Rattle.check_report.specs.declared.fault.CheckFault.{CheckFault}
+use Rattle.check_report.specs.declared.turns.Turn.{Turn}
+use Rattle.check_report.specs.declared.subject.Subject.{Subject}
+use Rattle.check_report.specs.declared.task.Task.{Task}
+use Rattle.check_report.specs.Best.{order_of}
+use Rattle.check_report.specs.Conditions.{HoldsWhere, everywhere, output_of}
+use Rattle.check_report.specs.Cones.{AreCones, IsLeftWithin, IsTold, IsToldOf}
+use Rattle.check_report.specs.Cones.IsToldOf.{decided, undecided}
+use Rattle.std.specs.Borrow.{Bor}
+use Rattle.std.specs.Option.{option_copied}
+use Rattle.net_cone.specs.declared.cone.Cone.{Cone}
+use Rattle.check_report.specs.declared.picked.Picked.{Picked}
+use Rattle.check_report.specs.Coning.{IsKnown, circuit_in, circuit_of, left_of}
+use Rattle.check_report.specs.Limits.{Exceeds}
+use Rattle.check_report.specs.Picking.{ArePicked, is_pair_of, of_share}
+use Rattle.check_report.specs.Picking.ArePicked.{all, named, shared}
+use Rattle.check_report.specs.Report.{AreVerdicts, Compared, subjects}
+use Rattle.check_report.specs.Spreading.{IsConePairing, IsOfNet, widened_verdict}
+use Rattle.check_report.specs.Trials.{IsPassed}
+use Rattle.check_report.specs.Widths.{IsTooWide}
+use Rattle.check_report.proofs.ConeVerdicts.{told_widened}
+
+-- ---- what a pair is told
+
+-- what is told of a pair that is decided is told of it, whatever is left
+pub told_yes : (other : Subject → Type 0) (a b : Circuit) (given : Option Circuit) (p : Paired) (s : Subject) (v : Verdict) → IsTold (λ t. ⊥) a b given p s v → IsTold other a b given p s v
+told_yes other a b given p s v t = record {
+  holds = t.holds;
+  condition = t.condition;
+  compared = t.compared;
+  functions = t.functions;
+  verdict = by (length p.names) t.holds t.compared v t.verdict;
+}
+  where
+    by : (n : ℕ) (holds : List Bool → Bool) (c : Compared) (v : Verdict) → IsToldOf n ⊥ holds c v → IsToldOf n (other s) holds c v
+    by n holds c v (decided is equal) = decided is equal
+    by n holds c v (undecided never) = absurd never
+
+some_holds : (given : Option Circuit) (p : Paired) → IfSome given IsOfNet → (holds : List Bool → Bool) × HoldsWhere given p holds
+some_holds None p is = (everywhere, refl)
+some_holds (Some c) p is =
+    let f = function is.net is.sound (slice_index p.given) (length p.names) (output_of c) in
+    (f, subst (λ (d : Circuit). IsFunctionOf d (slice_index p.given) (length p.names) (output_of c) f) is.is_circuit (some_function is.net is.sound (slice_index p.given) (length p.names) (output_of c)))
+
+-- a pair that is left is told as undecided
+pub told_left : (left : Subject → Type 0) (n m : Net) (given : Option Circuit) (p : Paired) (s : Subject) → IsNet n → IsNet m → IfSome given IsOfNet → left s →
+    IsTold left (circuit n) (circuit m) given p s (Undecided s.role (name_of (circuit n) s.named))
+told_left left n m given p s first second net is =
+    let c : Compared = record {
+      role = s.role;
+      name = name_of (circuit n) s.named;
+      first = function n first (slice_index p.first) (length p.names) s.first;
+      second = function m second (slice_index p.second) (length p.names) s.second;
+    } in
+    let holds = some_holds given p net in
+    record {
+      holds = holds.0;
+      condition = holds.1;
+      compared = c;
+      functions = record {
+        role = refl;
+        name = refl;
+        first = some_function n first (slice_index p.first) (length p.names) s.first;
+        second = some_function m second (slice_index p.second) (length p.names) s.second;
+      };
+      verdict = undecided is;
+    }
+
+-- ---- a comparison of cones
+
+module _ {H : Type 0} (task : Task H) (k m : Circuit) (w : Option Circuit) (by_name : task.settings.now.matching ≡ Name) (first : circuit task.first.now ≡ k) (second : circuit task.second.now ≡ m) (given : condition task.given ≡ w) where
+  as_cones : (P : Match → Circuit → Circuit → Option Circuit → Type 0) → P task.settings.now.matching (circuit task.first.now) (circuit task.second.now) (condition task.given) → P Name k m w
+  as_cones P h = subst (λ g. P Name k m g) given (subst (λ c. P Name k c (condition task.given)) second
+      (subst (λ c. P Name c (circuit task.second.now) (condition task.given)) first (subst (λ how. P how (circuit task.first.now) (circuit task.second.now) (condition task.given)) by_name h)))
+
+  pub pairing_of_cones : (order : Order) (q : Paired) → IsPairing task.settings.now.matching (circuit task.first.now) (circuit task.second.now) (condition task.given) order q → IsPairing Name k m w order q
+  pairing_of_cones order q h = as_cones (λ how a b g. IsPairing how a b g order q) h
+
+  pub verdicts_of_cones : (q : Paired) (found : Found) → AreVerdicts false (circuit task.first.now) (circuit task.second.now) (condition task.given) q found → AreVerdicts false k m w q found
+  verdicts_of_cones q found h = as_cones (λ how a b g. AreVerdicts false a b g q found) h
+
+  pub left_by_cones : (a b : Circuit) (c : Option Circuit) (p : Paired) (s : Subject) → AreCones a b c p s k m w → (budget : ℕ) (bound : Option ℕ) →
+      ((x : Candidate) → IsPassed task budget bound x) → IsLeftWithin budget bound a b c p s
+  left_by_cones a b c p s cones budget bound passed = record {
+    first = k;
+    second = m;
+    condition = w;
+    cones = cones;
+    each = λ x. as_cones (λ how a b g. (q : Paired) × IsPairing how a b g (order_of x) q × (Exceeds budget a b g q ⊎ IsTooWide (min (budget * 8) (most_of bound)) a b g q))
+        ((passed x).pairing, (passed x).paired, (passed x).cause);
+  }
+
+-- a verdict by cones, or none, over all variables
+pub known_by_cones : (a b : Circuit) (given : Option Circuit) (p : Paired) (s : Subject) (k m : Circuit) (w : Option Circuit) (places : List ℕ) (q : Paired) →
+    IsConePairing a b given p s k m w places q → (left : Subject → Type 0) (found told : Option Verdict) →
+    told ≡ option_map (widened_verdict s.role (name_of a s.named) (length p.names) places) found →
+    IfSome found (λ v. AreVerdicts false k m w q (record { variables = q.names; verdicts = v ∷ [] })) → (found ≡ None → left s) →
+    IsKnown (IsTold (λ t. ⊥) a b given p) left s told
+known_by_cones a b given p s k m w places q is left None told e are none = subst (IsKnown (IsTold (λ t. ⊥) a b given p) left s) (sym e) (none refl)
+known_by_cones a b given p s k m w places q is left (Some v) told e are none =
+    subst (IsKnown (IsTold (λ t. ⊥) a b given p) left s) (sym e) (told_widened a b given p s k m w places q is (λ t. ⊥) v are)
+
+-- ---- turns
+
+-- the pairs that are left are some of all
+pub all_left : (P : Subject → Type 0) (ss : List Subject) (known : List (Option Verdict)) → All P ss → All P (left_of ss known)
+all_left P [] known h = h
+all_left P (s ∷ ss) [] h = All-nil P
+all_left P (s ∷ ss) (None ∷ known) h = All-cons P s (left_of ss known) (All-head P s ss h) (all_left P ss known (All-tail P s ss h))
+all_left P (s ∷ ss) (Some v ∷ known) h = all_left P ss known (All-tail P s ss h)
+
+-- what holds of the pairs holds of their turns
+pub all_turns : (P : Subject → Type 0) (turns : List Turn) (ss : List Subject) → map (λ (t : Turn). t.subject) turns ≡ ss → All P ss → All (λ (t : Turn). P t.subject) turns
+all_turns P [] ss e h = All-nil (λ (t : Turn). P t.subject)
+all_turns P (t ∷ turns) [] e h = cc
+all_turns P (t ∷ turns) (s ∷ ss) e h =
+    let same : t.subject ≡ s = cc in
+    let rest : map (λ (u : Turn). u.subject) turns ≡ ss = cc in
+    All-cons (λ (u : Turn). P u.subject) t turns (subst P (sym same) (All-head P s ss h)) (all_turns P turns ss rest (All-tail P s ss h))
+
+-- what the turns came to, pair by pair
+pub ended_zip : (R : Subject → Result (Option Verdict) CheckFault → Type 0) (turns : List Turn) (found : List (Option Verdict)) →
+    ((i : ℕ) (t : Turn) → i < length turns → R (get_or turns i t).subject (get_or turns i t).ended) → map (λ (t : Turn). t.ended) turns ≡ map Ok found →
+    AllZip (λ s o. R s (Ok o)) (map (λ (t : Turn). t.subject) turns) found
+ended_zip R [] [] h e = tt
+ended_zip R [] (o ∷ found) h e = cc
+ended_zip R (t ∷ turns) [] h e = cc
+ended_zip R (t ∷ turns) (o ∷ found) h e =
+    let same : t.ended ≡ Ok o = cc in
+    let rest : map (λ (u : Turn). u.ended) turns ≡ map Ok found = cc in
+    (subst (R t.subject) same (h 0 t (omega arith)), ended_zip R turns found (λ i u lt. h (suc i) u (omega (arith, lt))) rest)
+
+-- ---- picks
+
+pair_inside : (P : Subject → Type 0) (k : ℕ) (ss : List Subject) (shares : List ℕ) → All P ss → All P (of_share k (zip ss shares))
+pair_inside P k [] shares h = h
+pair_inside P k (s ∷ ss) [] h = All-nil P
+pair_inside P k (s ∷ ss) (n ∷ shares) h = by (pair_inside P k ss shares (All-tail P s ss h)) (n == k)
+  where
+    by : All P (of_share k (zip ss shares)) → (b : Bool) →
+        All P (map (λ (x : Subject × ℕ). x.0) (cond b ((s, n) ∷ filter (λ (x : Subject × ℕ). x.1 == k) (zip ss shares)) (filter (λ (x : Subject × ℕ). x.1 == k) (zip ss shares))))
+    by rest true = All-cons P s (of_share k (zip ss shares)) (All-head P s ss h) rest
+    by rest false = rest
+
+-- the pairs that are picked are some of all
+pub picked_inside : (P : Subject → Type 0) (a b : Circuit) (p : Paired) {picked : Picked} {pairs : List Subject} {lone : List Verdict} →
+    ArePicked a b p picked pairs lone → All P (subjects a b p) → All P pairs
+picked_inside P a b p all h = h
+picked_inside P a b p (named {names = names} of) h = All-filter (is_pair_of a names.items) P (subjects a b p) h
+picked_inside P a b p (shared {share = share} {shares = shares} of) h = pair_inside P share.number (subjects a b p) shares h
+
+-- the condition's cone, as it is lent
+pub as_cone : (o : Option Cone) (r : Option (Bor Cone)) → option_copied r ≡ o → circuit_in o ≡ circuit_of r
+as_cone o None e = ap circuit_in (sym e)
+as_cone o (Some cone) e = ap circuit_in (sym e)

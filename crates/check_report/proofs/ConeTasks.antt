@@ -1,0 +1,73 @@
+-- The comparison of a pair's cones, and what it says of the pair.
+use Rattle.std.proofs.Common.{◌≡◌, ◌∙◌, ap, refl, ℕ, ◌∷◌, [], List, Option, Some, None, length, map, false}
+use Rattle.std.specs.Prelude.{IfSome}
+use Rattle.net_bench.specs.Circuit.{IsNet, circuit}
+use Rattle.net_cone.specs.Cones.{variable_name}
+use Rattle.net_order.specs.declared.order.Match.TheVariants.{Name}
+use Rattle.net_order.specs.declared.order.Order.{Order}
+use Rattle.net_order.specs.declared.order.Order.TheVariants.{Declared}
+use Rattle.net_order.specs.Order.{Paired, condition}
+use Rattle.report_text.specs.declared.verdict.Verdict.{Verdict}
+use Rattle.report_text.specs.Lines.{Found}
+use Rattle.check_report.specs.declared.choice.Candidate.{Candidate}
+use Rattle.check_report.specs.declared.coning.Cones.{Cones}
+use Rattle.check_report.specs.declared.coning.Whole.{Whole}
+use Rattle.check_report.specs.declared.settings.Settings.{Settings}
+use Rattle.check_report.specs.declared.subject.Subject.{Subject}
+use Rattle.check_report.specs.declared.task.Task.{Task}
+use Rattle.check_report.specs.Coning.{AreConesOf, IsConeTask, IsJudgedIn, IsLeftIn, IsReady, IsWidened, circuit_of}
+use Rattle.check_report.specs.Report.{AreVerdicts}
+use Rattle.check_report.specs.Spreading.{ArePlaces, IsConePairing}
+use Rattle.check_report.specs.Trials.{IsPairingIn, IsPassed}
+use Rattle.check_report.proofs.ByCones.{known_by_cones, left_by_cones, pairing_of_cones, verdicts_of_cones}
+use Rattle.check_report.proofs.ConeVerdicts.{one_verdict}
+
+module _ {H : Type 0} (whole : Whole H) (s : Subject) (cones : Cones) (task : Task H) (ready : IsReady whole) (are : AreConesOf whole s cones) (of : IsConeTask whole cones task) where
+  by_name : task.settings.now.matching ≡ Name
+  by_name = ap (λ (t : Settings). t.matching) of.settings ∙ ready.by_name
+
+  pub no_sizes : task.settings.now.sizes ≡ false
+  no_sizes = ap (λ (t : Settings). t.sizes) of.settings ∙ ready.no_sizes
+
+  first_is : circuit task.first.now ≡ circuit cones.first.net
+  first_is = ap circuit of.first
+
+  second_is : circuit task.second.now ≡ circuit cones.second.net
+  second_is = ap circuit of.second
+
+  module _ (one : IsNet whole.task.now.first.now) (two : IsNet whole.task.now.second.now) (places : List ℕ) (q : Paired) (in_order : ArePlaces (length whole.pairing.now.names) places)
+      (paired : (o : Order) × IsPairingIn task o q × (q.names ≡ map (variable_name whole.pairing.now.names) places)) where
+    pub cone_pair : IsConePairing (circuit whole.task.now.first.now) (circuit whole.task.now.second.now) (condition whole.task.now.given) whole.pairing.now s (circuit cones.first.net) (circuit cones.second.net) (circuit_of whole.given) places q
+    cone_pair = record {
+      first = record { net = whole.task.now.first.now; sound = one; is_circuit = refl };
+      second = record { net = whole.task.now.second.now; sound = two; is_circuit = refl };
+      condition = ready.conditional_net;
+      whole = (whole.task.now.settings.now.matching, Declared, ready.pairing);
+      cones = are;
+      in_order = in_order;
+      order = paired.0;
+      paired = pairing_of_cones task (circuit cones.first.net) (circuit cones.second.net) (circuit_of whole.given) by_name first_is second_is of.given paired.0 q paired.1;
+      names = paired.2;
+    }
+
+    -- it is one pair
+    pub one_pair : (found : Found) → AreVerdicts false (circuit task.first.now) (circuit task.second.now) (condition task.given) q found → length found.verdicts ≡ 1
+    one_pair found verdicts =
+        one_verdict (circuit whole.task.now.first.now) (circuit whole.task.now.second.now) (condition whole.task.now.given) whole.pairing.now s (circuit cones.first.net) (circuit cones.second.net) (circuit_of whole.given) places q
+        cone_pair found (verdicts_of_cones task (circuit cones.first.net) (circuit cones.second.net) (circuit_of whole.given) by_name first_is second_is of.given q found verdicts)
+
+    as_decided : (found : Option Verdict) → IfSome found (λ v. AreVerdicts false (circuit task.first.now) (circuit task.second.now) (condition task.given) q (record { variables = q.names; verdicts = v ∷ [] })) →
+        IfSome found (λ v. AreVerdicts false (circuit cones.first.net) (circuit cones.second.net) (circuit_of whole.given) q (record { variables = q.names; verdicts = v ∷ [] }))
+    as_decided None h = tt
+    as_decided (Some v) h =
+        verdicts_of_cones task (circuit cones.first.net) (circuit cones.second.net) (circuit_of whole.given) by_name first_is second_is of.given q (record { variables = q.names; verdicts = v ∷ [] }) h
+
+    -- and what it comes to is what the pair comes to
+    pub judged_pair : (budget : ℕ) (bound : Option ℕ) (found told : Option Verdict) →
+        IfSome found (λ v. AreVerdicts false (circuit task.first.now) (circuit task.second.now) (condition task.given) q (record { variables = q.names; verdicts = v ∷ [] })) →
+        (found ≡ None → (c : Candidate) → IsPassed task budget bound c) → IsWidened whole s places found told → IsJudgedIn whole budget bound s told
+    judged_pair budget bound found told decided left widened =
+        known_by_cones (circuit whole.task.now.first.now) (circuit whole.task.now.second.now) (condition whole.task.now.given) whole.pairing.now s (circuit cones.first.net) (circuit cones.second.net) (circuit_of whole.given) places q
+        cone_pair (IsLeftIn whole budget bound) found told widened (as_decided found decided)
+        (λ e. left_by_cones task (circuit cones.first.net) (circuit cones.second.net) (circuit_of whole.given) by_name first_is second_is of.given (circuit whole.task.now.first.now) (circuit whole.task.now.second.now)
+        (condition whole.task.now.given) whole.pairing.now s are budget bound (left e))

@@ -1,0 +1,174 @@
+-- The verdict of a pair by its cones, over the variables of its pairing.
+use Rattle.std.proofs.Common.{◌≡◌, ◌∙◌, ap, sym, refl, subst, arith, ℕ, ◌+◌, Bool, false, List, [], ◌∷◌, ◌++◌, length, get_or, Option, Some, None}
+use Rattle.std.specs.Prelude.{IfSome, slice_index}
+use Rattle.std.specs.List.{AllZip}
+use Rattle.std.proofs.lemmas.List.{length-append, length-map, nil_from_length}
+use Rattle.net_bench.specs.Circuit.{Circuit, find}
+use Rattle.net_bench.specs.Labels.{IsFunctionOf}
+use Rattle.net_cone.specs.Cones.{variable_name}
+use Rattle.net_cone.specs.Spreading.{pick}
+use Rattle.net_order.specs.declared.order.Match.TheVariants.{Name}
+use Rattle.net_order.specs.Order.{HasLevels, Paired, all_names, both, given_side, name_of, names_by, own}
+use Rattle.net_order.specs.Tables.{IsKnown}
+use Rattle.net_order.proofs.AllNames.{known_given, known_sides}
+use Rattle.net_order.proofs.InputLevels.{first_below, given_below, second_below}
+use Rattle.report_text.specs.declared.outcome.Role.{Role}
+use Rattle.report_text.specs.declared.verdict.Verdict.{Verdict}
+use Rattle.report_text.specs.declared.verdict.Verdict.TheVariants.{Differs}
+use Rattle.report_text.specs.Lines.{Found}
+use Rattle.check_report.specs.declared.subject.Subject.{Subject}
+use Rattle.check_report.specs.Conditions.{HoldsWhere, output_of}
+use Rattle.check_report.specs.Cones.{IsConditionCone, IsTold}
+use Rattle.check_report.specs.Cones.IsToldOf.{decided}
+use Rattle.check_report.specs.Report.{AreFunctions, AreVerdicts, Compared, IsVerdictOf, lone_verdicts, output_subject, subjects}
+use Rattle.check_report.specs.Report.IsVerdictOf.{where_equal, where_different}
+use Rattle.check_report.specs.Spreading.{ArePlaces, IsConePairing, IsOfNet, spread, widened_verdict}
+use Rattle.check_report.proofs.Calling.{exact}
+use Rattle.check_report.proofs.ConePairs.{found_there, function_widened, name_at, names_apart, no_lone, no_registers, one_output, one_subject, out, out_low, out_name, out_of, own_apart}
+use Rattle.check_report.proofs.Spread.{agree_where_picked, least_where_picked, pick-spread}
+
+-- ---- verdicts
+
+-- two functions of what is picked, of this role and name
+abbrev pub picked_of : (places : List ℕ) → Role → (name : List ℕ) → Compared → Compared
+picked_of places role name c = record { role = role; name = name; first = λ x. c.first (pick places x); second = λ x. c.second (pick places x) }
+
+-- a verdict over the places is one over all levels
+pub verdict_widened : (n : ℕ) (places : List ℕ) → ArePlaces n places → (holds : List Bool → Bool) (c : Compared) (role : Role) (name : List ℕ) (v : Verdict) →
+    IsVerdictOf (length places) false holds c v → IsVerdictOf n false (λ x. holds (pick places x)) (picked_of places role name c) (widened_verdict role name n places v)
+verdict_widened n places are holds c role name v (where_equal agree size) = where_equal ((agree_where_picked n places are holds c.first c.second).0 agree) refl
+verdict_widened n places are holds c role name v (where_different {x = x} least sizes) =
+    subst (λ y. IsVerdictOf n false (λ x. holds (pick places x)) (picked_of places role name c) (Differs role name (spread n places x) (c.first y) (c.second y) None))
+    (pick-spread n places are x least.bits) (where_different (least_where_picked n places are holds c.first c.second x least) refl)
+
+-- the one pair that is compared, and its verdict
+record IsOne (k m : Circuit) (q : Paired) (s : Subject) (holds : List Bool → Bool) (v : Verdict) : Type 0 where
+  compared : Compared
+  functions : AreFunctions k m q s compared
+  verdict : IsVerdictOf (length q.names) false holds compared v
+
+one_of : (k m : Circuit) (q : Paired) (s : Subject) (holds : List Bool → Bool) (v : Verdict) (compared : List Compared) (of_pairs more : List Verdict) →
+    AllZip (AreFunctions k m q) (s ∷ []) compared → AllZip (IsVerdictOf (length q.names) false holds) compared of_pairs → v ∷ [] ≡ of_pairs ++ more → IsOne k m q s holds v
+one_of k m q s holds v [] of_pairs more fs vs e = absurd fs
+one_of k m q s holds v (c ∷ d ∷ cs) of_pairs more fs vs e = absurd fs.1
+one_of k m q s holds v (c ∷ []) [] more fs vs e = absurd vs
+one_of k m q s holds v (c ∷ []) (u ∷ us) more fs vs e = record {
+  compared = c;
+  functions = fs.0;
+  verdict = subst (IsVerdictOf (length q.names) false holds c) (ap (λ vs. get_or vs 0 u) (sym e)) vs.0;
+}
+
+one_verdict_of : (k m : Circuit) (q : Paired) (s : Subject) (holds : List Bool → Bool) (compared : List Compared) (of_pairs : List Verdict) →
+    AllZip (AreFunctions k m q) (s ∷ []) compared → AllZip (IsVerdictOf (length q.names) false holds) compared of_pairs → length of_pairs ≡ 1
+one_verdict_of k m q s holds [] of_pairs fs vs = absurd fs
+one_verdict_of k m q s holds (c ∷ d ∷ cs) of_pairs fs vs = absurd fs.1
+one_verdict_of k m q s holds (c ∷ []) [] fs vs = absurd vs
+one_verdict_of k m q s holds (c ∷ []) (u ∷ []) fs vs = refl
+one_verdict_of k m q s holds (c ∷ []) (u ∷ t ∷ us) fs vs = absurd vs.1
+
+-- ---- a pair
+
+module _ (a b : Circuit) (given : Option Circuit) (p : Paired) (s : Subject) (k m : Circuit) (w : Option Circuit) (places : List ℕ) (q : Paired)
+    (is : IsConePairing a b given p s k m w places q) where
+  abbrev first_out : ℕ
+  first_out = out a p.first p s.first k is.cones.first
+
+  abbrev second_out : ℕ
+  second_out = out b p.second p s.second m is.cones.second
+
+  abbrev own_subject : Subject
+  own_subject = output_subject (first_out, second_out)
+
+  there : find m.names (name_of k first_out) ≡ Some second_out
+  there =
+      found_there m.names (own_apart b p.second p s.second m is.cones.second) (name_of k first_out) second_out (out_low b p.second p s.second m is.cones.second)
+      (out_name b p.second p s.second m is.cones.second ∙ sym (out_name a p.first p s.first k is.cones.first))
+
+  back : find k.names (name_of m second_out) ≡ Some first_out
+  back =
+      found_there k.names (own_apart a p.first p s.first k is.cones.first) (name_of m second_out) first_out (out_low a p.first p s.first k is.cones.first)
+      (out_name a p.first p s.first k is.cones.first ∙ sym (out_name b p.second p s.second m is.cones.second))
+
+  one_compared : subjects k m q ≡ own_subject ∷ []
+  one_compared =
+      one_subject k m w is.order q is.paired first_out second_out (one_output a p.first p s.first k is.cones.first) (one_output b p.second p s.second m is.cones.second)
+      (no_registers a p.first p s.first k is.cones.first) (no_registers b p.second p s.second m is.cones.second) there back
+
+  none_lone : lone_verdicts k m q ≡ []
+  none_lone =
+      no_lone k m w is.order q is.paired first_out second_out (one_output a p.first p s.first k is.cones.first) (one_output b p.second p s.second m is.cones.second)
+      (no_registers a p.first p s.first k is.cones.first) (no_registers b p.second p s.second m is.cones.second) there back
+
+  size : length q.names ≡ length places
+  size = ap length is.names ∙ length-map places (variable_name p.names)
+
+  -- two cones are one pair, and nothing of them has no partner
+  pub one_verdict : (found : Found) → AreVerdicts false k m w q found → length found.verdicts ≡ 1
+  one_verdict found are =
+      let fs : AllZip (AreFunctions k m q) (own_subject ∷ []) are.compared = subst (λ of. AllZip (AreFunctions k m q) of are.compared) one_compared are.functions in
+      ap length are.all ∙ length-append are.of_pairs (lone_verdicts k m q) ∙ ap (λ vs. length are.of_pairs + length vs) none_lone ∙
+      ap (λ n. n + 0) (one_verdict_of k m q own_subject are.holds are.compared are.of_pairs fs are.are_verdicts)
+
+  -- ---- functions
+
+  first_function : (f : List Bool → Bool) → IsFunctionOf k (slice_index q.first) (length q.names) first_out f → IsFunctionOf a (slice_index p.first) (length p.names) s.first (λ x. f (pick places x))
+  first_function f h =
+      let (how, order, whole) = is.whole in
+      function_widened a p.first p s.first k is.cones.first places is.in_order.below (names_apart how a b given order p whole) (first_below how a b given order p whole) q.names q.first is.names
+      (name_at Name k m w is.order q is.paired (own k) q.first (known_sides (both Name k m) (given_side w)).0 is.paired.first) is.first (length p.names) (length q.names) size f h
+
+  second_function : (f : List Bool → Bool) → IsFunctionOf m (slice_index q.second) (length q.names) second_out f → IsFunctionOf b (slice_index p.second) (length p.names) s.second (λ x. f (pick places x))
+  second_function f h =
+      let (how, order, whole) = is.whole in
+      function_widened b p.second p s.second m is.cones.second places is.in_order.below (names_apart how a b given order p whole) (second_below how a b given order p whole) q.names q.second is.names
+      (name_at Name k m w is.order q is.paired (record { how = Name; namer = k; net = m }) q.second (known_sides (both Name k m) (given_side w)).1.0 is.paired.second) is.second (length p.names)
+      (length q.names) size f h
+
+  -- where the condition holds
+  condition_widened : (g v : Option Circuit) → g ≡ given → v ≡ w → IsConditionCone g p v → (holds : List Bool → Bool) → HoldsWhere v q holds → HoldsWhere g p (λ x. holds (pick places x))
+  condition_widened None None same also cone holds h = ap (λ f x. f (pick places x)) h
+  condition_widened None (Some v) same also cone holds h = absurd cone
+  condition_widened (Some c) None same also cone holds h = absurd cone
+  condition_widened (Some c) (Some v) same also cone holds h =
+      let (how, order, whole) = is.whole in
+      let known : IsKnown (all_names (both Name k m) (given_side w)) (own v) =
+      subst (λ o. IsKnown (all_names (both Name k m) (given_side o)) (own v)) also (known_given (both Name k m) (given_side (Some v))).0 in
+      let has = subst (λ o. IfSome o (λ d. HasLevels (names_by Name k m w is.order) (own d) q.given)) (sym also) is.paired.conditional in
+      let net = subst (λ o. IfSome o IsOfNet) (sym same) is.condition in
+      function_widened c p.given p (output_of c) v cone places is.in_order.below (names_apart how a b given order p whole) (given_below how a b given order p whole c (sym same)) q.names q.given
+      is.names (name_at Name k m w is.order q is.paired (own v) q.given known has) net (length p.names) (length q.names) size holds
+      (subst (λ o. IsFunctionOf v (slice_index q.given) (length q.names) o holds) (out_of c p.given p (output_of c) v cone) h)
+
+  -- ---- the verdict, over all variables
+
+  pub told_widened : (left : Subject → Type 0) (v : Verdict) → AreVerdicts false k m w q (record { variables = q.names; verdicts = v ∷ [] }) →
+      IsTold left a b given p s (widened_verdict s.role (name_of a s.named) (length p.names) places v)
+  told_widened left v are =
+      let n = length p.names in
+      let fs : AllZip (AreFunctions k m q) (own_subject ∷ []) are.compared = subst (λ of. AllZip (AreFunctions k m q) of are.compared) one_compared are.functions in
+      let one : IsOne k m q own_subject are.holds v = one_of k m q own_subject are.holds v are.compared are.of_pairs (lone_verdicts k m q) fs are.are_verdicts are.all in
+      let holds = λ (x : List Bool). are.holds (pick places x) in
+      let compared = picked_of places s.role (name_of a s.named) one.compared in
+      let verdict : IsVerdictOf n false holds compared (widened_verdict s.role (name_of a s.named) n places v) =
+      verdict_widened n places is.in_order are.holds one.compared s.role (name_of a s.named) v (subst (λ l. IsVerdictOf l false are.holds one.compared v) size one.verdict) in
+      record {
+        holds = holds;
+        condition = condition_widened given w refl refl is.cones.condition are.holds are.condition;
+        compared = compared;
+        functions = record {
+          role = refl;
+          name = refl;
+          first = first_function one.compared.first one.functions.first;
+          second = second_function one.compared.second one.functions.second;
+        };
+        verdict = decided verdict (exact n false holds compared (widened_verdict s.role (name_of a s.named) n places v) verdict);
+      }
+
+  -- so the last verdict of what a comparison finds is the one that is meant
+  pub told_last : (left : Subject → Type 0) (front : List Verdict) (v : Verdict) → AreVerdicts false k m w q (record { variables = q.names; verdicts = front ++ v ∷ [] }) →
+      IsTold left a b given p s (widened_verdict s.role (name_of a s.named) (length p.names) places v)
+  told_last left front v are =
+      let size : length (front ++ v ∷ []) ≡ length front + 1 = length-append front (v ∷ []) in
+      let one : length (front ++ v ∷ []) ≡ 1 = one_verdict (record { variables = q.names; verdicts = front ++ v ∷ [] }) are in
+      let none : front ≡ [] = nil_from_length front (omega (arith, size, one)) in
+      told_widened left v (subst (λ vs. AreVerdicts false k m w q (record { variables = q.names; verdicts = vs ++ v ∷ [] })) none are)

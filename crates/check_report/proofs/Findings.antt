@@ -1,0 +1,96 @@
+-- What a comparison finds by its settings, and the faults that it does not end with.
+use Rattle.std.proofs.Common.{◌≡◌, ◌≢◌, ◌∙◌, sym, subst, inl, inr, ℕ, Option, None, Result, Ok, Err, IfErr}
+use Rattle.std.specs.Prelude.{IfOk}
+use Rattle.expand_work.specs.declared.fault.WaveFault.TheVariants.{Full, NoWorker, TooManyRequests}
+use Rattle.net_bench.specs.Circuit.{circuit}
+use Rattle.net_order.specs.declared.order.Order.{Order}
+use Rattle.net_order.specs.declared.order.Order.TheVariants as orders
+use Rattle.net_order.specs.Order.{Paired, condition}
+use Rattle.report_text.specs.Lines.{Found}
+use Rattle.check_report.specs.declared.choice.Attempt.{Attempt}
+use Rattle.check_report.specs.declared.choice.Choice.{Choice}
+use Rattle.check_report.specs.declared.choice.Choice.TheVariants.{Auto}
+use Rattle.check_report.specs.declared.fault.CheckFault.{CheckFault}
+use Rattle.check_report.specs.declared.fault.CheckFault.TheVariants.{GivenUp, Only, Wave, Write}
+use Rattle.check_report.specs.declared.settings.Settings.{Settings}
+use Rattle.check_report.specs.declared.task.Task.{Task}
+use Rattle.net_order.specs.declared.order.Match.{Match}
+use Rattle.check_report.specs.Best.{IsAllowed, IsChosen, whole_limit}
+use Rattle.check_report.specs.Check.{AreGiven, IsCheckFault, IsJudged}
+use Rattle.check_report.specs.Coning.{EndsAuto, EndsCones, IsToldByCones}
+use Rattle.check_report.specs.Deciding.{HasCause, IsFoundBy}
+use Rattle.check_report.specs.Deciding.IsFoundBy.{by_cones, in_order}
+use Rattle.check_report.specs.Devices.{Told}
+use Rattle.check_report.specs.Trials.{AreAllPassed, EndsAtOnce, EndsSearch, IsGivingUp, IsPairingIn}
+use Rattle.check_report.proofs.Reporting.{late_fault}
+use Rattle.check_report.proofs.Rounds.{accepted, told_passed}
+
+-- ---- what is found
+
+-- in an order
+pub found_in_order : {E : Type 0} (told : Told) (s : Settings) (bound : Option ℕ) (choice : Choice) → s.order ≡ choice → (r : Result (Found × Option Attempt) E) →
+    IfOk r (λ r. (o : Order) × IsJudged told s.matching o s.sizes r.0 × IsChosen told s.matching choice s.limit r.1 o) → IfOk r (λ r. IsFoundBy told s bound r.0 r.1)
+found_in_order told s bound choice same (Ok (found, tried)) w = in_order w.0 w.1 (subst (λ c. IsChosen told s.matching c s.limit tried w.0) (sym same) w.2)
+found_in_order told s bound choice same (Err e) w = tt
+
+module _ {H : Type 0} (task : Task H) (told : Told) (given : AreGiven told (circuit task.first.now) (circuit task.second.now) (condition task.given)) where
+  -- by cones
+  pub found_by_cones : (bound : Option ℕ) (p : Paired) (found : Found) → IsPairingIn task orders.Declared p → HasCause told task.settings.now bound task.settings.now.order →
+      IsToldByCones task bound p found → IsFoundBy told task.settings.now bound found None
+  found_by_cones bound p found is cause t = by_cones cause (record {
+    a = circuit task.first.now;
+    b = circuit task.second.now;
+    c = condition task.given;
+    p = p;
+    paired = record { netlists = given; pairing = is };
+    pairs = t.pairs;
+    lone = t.lone;
+    picked = t.picked;
+    verdicts = t.verdicts;
+  })
+
+  -- the cause for cones where the whole was tried
+  pub auto_cause : (bound : Option ℕ) → task.settings.now.order ≡ Auto → AreAllPassed task (whole_limit task.settings.now.limit) bound → HasCause told task.settings.now bound task.settings.now.order
+  auto_cause bound auto passed = subst (HasCause told task.settings.now bound) (sym auto) (λ budget is c. told_passed task told given budget bound c (passed budget is c))
+
+  -- a fault of cones has its cause
+  pub cones_fault : (p : Paired) (fault : CheckFault) → IsPairingIn task orders.Declared p → EndsCones fault → IsCheckFault told ⊥ ⊥ ⊥ task.settings.now.matching orders.Declared fault
+  cones_fault p fault is (inl only) = subst (IsCheckFault told ⊥ ⊥ ⊥ task.settings.now.matching orders.Declared) (sym only) (accepted task told given orders.Declared p is)
+  cones_fault p fault is (inr ends) = late_fault told ⊥ ⊥ ⊥ task.settings.now.matching orders.Declared fault (accepted task told given orders.Declared p is) ends.0
+
+-- ---- faults
+
+pub cones_end : (fault : CheckFault) → EndsCones fault → EndsAuto fault
+cones_end fault (inl only) = inl only
+cones_end fault (inr ends) = inr ends.1
+
+-- a comparison by cones does not end with what an attempt at once does not
+pub never : {A : Type 0} (X : CheckFault) → X ≢ Only → ((f : CheckFault) → EndsAtOnce f → f ≢ X) → (r : Result A CheckFault) → IfErr r EndsAuto → r ≢ Err X
+never X other ended (Ok v) ends e = cc
+never X other ended (Err f) (inl only) e = let same : f ≡ X = cc in other (sym same ∙ only)
+never X other ended (Err f) (inr ends) e = let same : f ≡ X = cc in ended f ends same
+
+pub never_full : {A : Type 0} (r : Result A CheckFault) → IfErr r EndsAuto → r ≢ Err (Wave Full)
+never_full r ends = never (Wave Full) (λ e. cc) (λ f h. h.nodes) r ends
+
+pub never_given_up : {A : Type 0} (r : Result A CheckFault) → IfErr r EndsAuto → r ≢ Err GivenUp
+never_given_up r ends = never GivenUp (λ e. cc) (λ f h. h.given_up) r ends
+
+pub never_written : {A : Type 0} (r : Result A CheckFault) → IfErr r EndsAuto → r ≢ Err Write
+never_written r ends = never Write (λ e. cc) (λ f h. h.search.written) r ends
+
+pub never_past : {A : Type 0} (r : Result A CheckFault) → IfErr r EndsAuto → r ≢ Err (Wave TooManyRequests)
+never_past r ends = never (Wave TooManyRequests) (λ e. cc) (λ f h. h.search.requests) r ends
+
+pub never_served : {A : Type 0} (r : Result A CheckFault) → IfErr r EndsAuto → r ≢ Err (Wave NoWorker)
+never_served r ends = never (Wave NoWorker) (λ e. cc) (λ f h. h.search.alone) r ends
+
+-- the end of a search that was not given up
+pub not_giving_up : (fault : CheckFault) → EndsSearch fault → (IsGivingUp fault → ⊥) → EndsAuto fault
+not_giving_up fault ends apart = inr (record { search = ends; nodes = λ e. apart (inl e); given_up = λ e. apart (inr e) })
+
+-- a fault in an order that is allowed
+pub allowed_fault : {A : Type 0} (told : Told) (how : Match) (choice : Choice) (order : Order) → IsAllowed choice order → (r : Result A CheckFault) → IfErr r (IsCheckFault told ⊥ ⊥ ⊥ how order) →
+    IfErr r (λ fault. (o : Order) × IsAllowed choice o × IsCheckFault told ⊥ ⊥ ⊥ how o fault)
+allowed_fault told how choice order allowed (Ok v) h = tt
+allowed_fault told how choice order allowed (Err fault) h = (order, allowed, h)

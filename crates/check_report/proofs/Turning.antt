@@ -1,0 +1,79 @@
+-- Turns of pairs, and rounds of budgets.
+use Rattle.std.proofs.Common.{◌≡◌, ◌∙◌, ap, sym, refl, subst, arith, ℕ, zero, suc, ◌+◌, ◌<◌, ◌≤◌, ◌*◌, ◌^◌, List, [], ◌∷◌, ◌++◌, length, get_or, drop, All, Option, None, append_assoc, length-append}
+use Rattle.std.specs.List.{AllZip}
+use Rattle.std.proofs.lemmas.List.{drop_more}
+use Rattle.report_text.specs.declared.verdict.Verdict.{Verdict}
+use Rattle.net_bench.specs.Circuit.{Circuit}
+use Rattle.check_report.specs.declared.coning.Whole.{Whole}
+use Rattle.check_report.specs.declared.subject.Subject.{Subject}
+use Rattle.check_report.specs.declared.turns.Turn.{Turn}
+use Rattle.check_report.specs.Best.{IsBudget}
+use Rattle.check_report.specs.Coning.{IsKnown, IsLeftIn, IsRoundOf, IsToldIn, all_told, told_of}
+use Rattle.check_report.proofs.Budgets.{each_budget, tried_next}
+use Rattle.check_report.proofs.Filling.{filled_known}
+
+-- ---- lists that are gone through
+
+none_left : {X : Type 0} (xs : List X) (i : ℕ) → length xs ≤ i → drop i xs ≡ []
+none_left [] zero h = refl
+none_left [] (suc i) h = refl
+none_left (x ∷ xs) zero h = absurd (omega (arith, h))
+none_left (x ∷ xs) (suc i) h = none_left xs i (omega (arith, h))
+
+nil_right : {X : Type 0} (xs : List X) → xs ++ [] ≡ xs
+nil_right [] = refl
+nil_right (x ∷ xs) = ap (λ ys. x ∷ ys) (nil_right xs)
+
+-- one more that is told
+pub tell_more : (a : Circuit) (ss : List Subject) (i : ℕ) (s : Subject) (rest next : List (Option Verdict)) (o : Option Verdict) (v : Verdict) (old new whole : List Verdict) → i < length ss → s ≡ get_or ss i s → rest ≡ o ∷ next →
+    v ≡ told_of a s o → new ≡ old ++ v ∷ [] → old ++ all_told a (drop i ss) rest ≡ whole → new ++ all_told a (drop (i + 1) ss) next ≡ whole
+tell_more a ss i s rest next o v old new whole lt at is told grown done =
+    let here : drop i ss ≡ s ∷ drop (i + 1) ss = drop_more ss i s lt ∙ ap (λ x. x ∷ drop (i + 1) ss) (sym at) in
+    ap (λ xs. xs ++ all_told a (drop (i + 1) ss) next) grown ∙ append_assoc old (v ∷ []) (all_told a (drop (i + 1) ss) next) ∙
+    ap (λ y. old ++ y ∷ all_told a (drop (i + 1) ss) next) told ∙ ap (λ ys. old ++ ys) (sym (ap (λ xs. all_told a xs rest) here ∙ ap (all_told a (s ∷ drop (i + 1) ss)) is)) ∙ done
+
+pub tell_end : (a : Circuit) (ss : List Subject) (i : ℕ) (rest : List (Option Verdict)) (all whole : List Verdict) → i + length rest ≡ length ss → rest ≡ [] → all ++ all_told a (drop i ss) rest ≡ whole → all ≡ whole
+tell_end a ss i rest all whole places none done =
+    let past : length ss ≤ i = omega (arith, places, ap length none) in
+    sym (nil_right all) ∙ ap (λ xs. all ++ all_told a xs rest) (sym (none_left ss i past)) ∙ done
+
+-- the turn at the end of those that are done
+pub turn_at : (done next all : List Turn) (t u : Turn) → (done ++ t ∷ []) ++ next ≡ all → get_or all (length done) u ≡ t
+turn_at [] next all t u e = ap (λ ts. get_or ts 0 u) (sym e)
+turn_at (x ∷ done) next [] t u e = cc
+turn_at (x ∷ done) next (y ∷ all) t u e = turn_at done next all t u (let same : (done ++ t ∷ []) ++ next ≡ all = cc in same)
+
+pub turn_low : (done next all : List Turn) (t : Turn) → (done ++ t ∷ []) ++ next ≡ all → length done < length all
+turn_low done next all t e = omega (arith, ap length e, length-append (done ++ t ∷ []) next, length-append done (t ∷ []))
+
+-- ---- rounds
+
+module _ {H : Type 0} (whole : Whole H) (bound : Option ℕ) (ss : List Subject) where
+  -- before the first round
+  pub none_yet : (known : List (Option Verdict)) → length known ≡ length ss → All (λ o. o ≡ None) known → AllZip (IsKnown (IsToldIn whole) (λ s. (j : ℕ) → j < 0 → IsLeftIn whole (16384 * 16 ^ j) bound s)) ss known
+  none_yet known long none = each ss known (sym long) none
+    where
+      each : (ts : List Subject) (os : List (Option Verdict)) → length ts ≡ length os → All (λ o. o ≡ None) os → AllZip (IsKnown (IsToldIn whole) (λ s. (j : ℕ) → j < 0 → IsLeftIn whole (16384 * 16 ^ j) bound s)) ts os
+      each [] [] e h = tt
+      each [] (o ∷ os) e h = absurd (omega arith)
+      each (t ∷ ts) [] e h = absurd (omega arith)
+      each (t ∷ ts) (o ∷ os) e h = (
+        subst (IsKnown (IsToldIn whole) (λ s. (j : ℕ) → j < 0 → IsLeftIn whole (16384 * 16 ^ j) bound s) t) (sym (h 0 o (omega arith))) (λ j lt. absurd (omega (arith, lt))),
+        each ts os (omega (arith, e)) (λ i d lt. h (suc i) d (omega (arith, lt))),
+      )
+
+  -- after one more
+  pub round_more : (k budget : ℕ) (known new : List (Option Verdict)) → budget ≡ 16384 * 16 ^ k → AllZip (IsKnown (IsToldIn whole) (λ s. (j : ℕ) → j < k → IsLeftIn whole (16384 * 16 ^ j) bound s)) ss known →
+      IsRoundOf whole budget bound ss known new → AllZip (IsKnown (IsToldIn whole) (λ s. (j : ℕ) → j < suc k → IsLeftIn whole (16384 * 16 ^ j) bound s)) ss new
+  round_more k budget known new is before r =
+      subst (AllZip (IsKnown (IsToldIn whole) (λ s. (j : ℕ) → j < suc k → IsLeftIn whole (16384 * 16 ^ j) bound s)) ss) (sym r.all)
+      (filled_known (IsToldIn whole) (λ s. (j : ℕ) → j < k → IsLeftIn whole (16384 * 16 ^ j) bound s) (IsLeftIn whole budget bound) (λ s. (j : ℕ) → j < suc k → IsLeftIn whole (16384 * 16 ^ j) bound s)
+      (λ s tried now. tried_next (λ n. IsLeftIn whole n bound s) k budget is tried now) ss known r.found before r.judged)
+
+  -- after the last
+  pub round_last : (limit k : ℕ) (known new : List (Option Verdict)) → limit ≤ 16384 * 16 ^ k → AllZip (IsKnown (IsToldIn whole) (λ s. (j : ℕ) → j < k → IsLeftIn whole (16384 * 16 ^ j) bound s)) ss known →
+      IsRoundOf whole limit bound ss known new → AllZip (IsKnown (IsToldIn whole) (λ s. (budget : ℕ) → IsBudget limit budget → IsLeftIn whole budget bound s)) ss new
+  round_last limit k known new most before r =
+      subst (AllZip (IsKnown (IsToldIn whole) (λ s. (budget : ℕ) → IsBudget limit budget → IsLeftIn whole budget bound s)) ss) (sym r.all)
+      (filled_known (IsToldIn whole) (λ s. (j : ℕ) → j < k → IsLeftIn whole (16384 * 16 ^ j) bound s) (IsLeftIn whole limit bound) (λ s. (budget : ℕ) → IsBudget limit budget → IsLeftIn whole budget bound s)
+      (λ s tried now budget is. each_budget (λ n. IsLeftIn whole n bound s) limit k tried most now budget is) ss known r.found before r.judged)

@@ -1,0 +1,19 @@
+use Rattle.std.proofs.Common.{◌≡◌, ap, Err}
+use Rattle.net_bench.specs.Circuit.{circuit}
+use Rattle.check_report.specs.declared.fault.CheckFault.TheVariants.{Only}
+use Rattle.check_report.proofs.Findings.{cones_end, cones_fault, found_by_cones}
+use Rattle.check_report.proofs.deciding.by_cones_in.Goals as goal
+
+pub returns-in-Ok-clause-found : goal.returns-in-Ok-clause-found
+returns-in-Ok-clause-found g c = λ told ga cause. found_by_cones c.args.task.now told ga (g.G.Gate.bound c.args.gate.now) c.args.declared c.in-Ok.verdicts c.requires.pairing cause c.in-Ok.ensures.told
+
+pub returns-in-Err-clause-fault : goal.returns-in-Err-clause-fault
+returns-in-Err-clause-fault g c = λ told ga. cones_fault c.args.task.now told ga c.args.declared c.in-Err.fault c.requires.pairing c.in-Err.ensures.ends
+
+pub returns-in-Err-clause-only : goal.returns-in-Err-clause-only
+returns-in-Err-clause-only g c = λ told ga e.
+    let same : c.in-Err.fault ≡ Only = cc in
+    (circuit c.args.task.now.first.now, ga.first, c.in-Err.ensures.unknown (ap Err same))
+
+pub returns-in-Err-clause-ends : goal.returns-in-Err-clause-ends
+returns-in-Err-clause-ends g c = cones_end c.in-Err.fault c.in-Err.ensures.ends

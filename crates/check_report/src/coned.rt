@@ -1,0 +1,200 @@
+//! A comparison by cones, pair by pair.
+ghost use Rattle.std.specs.Prelude.{◌≡◌, ◌<◌, ◌++◌, false, length, Err, All, IfOk, IfErr, IfSome};
+ghost use Rattle.std.specs.List.{AllZip};
+ghost use Rattle.net_bench.specs.Circuit.{circuit};
+ghost use Rattle.net_order.specs.declared.order.Match.TheVariants.{Name as ByName};
+ghost use Rattle.net_order.specs.declared.order.Order.TheVariants.{Declared};
+ghost use Rattle.net_order.specs.Order.{condition};
+ghost use Rattle.check_report.specs.Comparing.{IsInside};
+ghost use Rattle.check_report.specs.Cones.{IsConditionCone, IsLeft, IsTold};
+ghost use Rattle.check_report.specs.Coning.{EndsCones, EndsPairs, IsOf, IsReady, IsToldByCones, IsToldOut, all_told, circuit_in, told_of};
+ghost use Rattle.check_report.specs.Picking.{HasUnknown};
+ghost use Rattle.check_report.specs.Spreading.{IsOfNet};
+ghost use Rattle.check_report.specs.Trials.{IsPairingIn};
+
+use crate::choice::Choice;
+use crate::coning::Whole;
+use crate::fault::CheckFault;
+use crate::naming::{Part, names_in};
+use crate::picked::Picked;
+use crate::picking::{Picks, picks_of};
+use crate::settings::Settings;
+use crate::subject::Subject;
+use crate::task::Task;
+use crate::turns::judge_all;
+use expand_work::Gate;
+use net_bench::reader::Netlist;
+use net_cone::{Cone, cone_of};
+use net_order::order::Match;
+use net_order::pairing::Pairing;
+use report_text::{Name, Verdict, Verdicts};
+use std::alloc::{AllocError, Global};
+use std::sync::Wait;
+use std::thread::Threads;
+
+/// How the cones of a pair are compared: by name, by one worker and without sizes.
+fn alone(settings: &Settings) -> Settings
+    ensures matching { result.matching ≡ ByName }
+    ensures no_sizes { result.sizes ≡ false }
+{
+    Settings {
+        matching: Match::Name,
+        order: Choice::Cones,
+        picked: Picked::All,
+        workers: 1,
+        limit: settings.limit,
+        sizes: false,
+        json: false,
+    }
+}
+
+/// The cone of the condition's output, where there is one.
+fn given_cone<H>(task: &Task<'_, H>, pairing: &Pairing) -> Result<Option<Cone>, AllocError>
+    requires { IsPairingIn task.now Declared pairing.now }
+    ensures cone { IfOk result (λ cone. IsConditionCone (condition task.now.given) pairing.now (circuit_in cone)) }
+    ensures net { IfOk result (λ cone. IfSome (condition task.now.given) IsOfNet) }
+{
+    let _ = task.first.inputs();
+    let _ = task.second.inputs();
+    let Some(given) = task.given else {
+        return Ok(None);
+    };
+    let names = names_in(task.alloc, given, pairing, Part::Given)?;
+    let cone = cone_of(task.alloc, given, given.outputs()[0], names.as_slice())?;
+    Ok(Some(cone))
+}
+
+/// The verdict of a pair: Undecided, where there is none.
+fn told(
+    alloc: Global,
+    first: &Netlist,
+    subject: Subject,
+    known: Option<Verdict>,
+) -> Result<Verdict, AllocError>
+    requires { subject.named < length first.now.names }
+    ensures { IfOk result (λ v. v ≡ told_of (circuit first.now) subject known) }
+{
+    match known {
+        Some(verdict) => Ok(verdict),
+        None => Ok(Verdict::Undecided {
+            role: subject.role,
+            name: Name::copied(alloc, first.name(subject.named))?,
+        }),
+    }
+}
+
+/// The verdicts of all pairs.
+fn told_all(
+    alloc: Global,
+    first: &Netlist,
+    subjects: &[Subject],
+    known: Vec<Option<Verdict>>,
+) -> Result<Vec<Verdict>, AllocError>
+    requires each { length known.items ≡ length subjects.now }
+    requires named { All (λ s. s.named < length first.now.names) subjects.now }
+    ensures { IfOk result (λ v. v.items ≡ all_told (circuit first.now) subjects.now known.items) }
+{
+    let mut all = Vec::new(alloc);
+    let mut place = 0;
+    for one in known {
+        let verdict = told(alloc, first, subjects[place], one)?;
+        all.push(verdict)?;
+        place += 1;
+    }
+    Ok(all)
+}
+
+/// The verdicts of these pairs by their cones.
+fn judged<H: Threads + Wait + Sync, G: Gate>(
+    whole: &Whole<'_, H>,
+    subjects: &[Subject],
+    gate: &G,
+) -> Result<Vec<Verdict>, CheckFault>
+    requires ready { IsReady whole.now }
+    requires inside { All (IsOf whole.now) subjects.now }
+    ensures told { IfOk result (λ v. AllZip (IsToldOut whole.now (G.bound gate.now)) subjects.now v.items) }
+    ensures ends { IfErr result EndsPairs }
+{
+    let task = whole.task;
+    let _ = task.first.inputs();
+    let _ = task.second.inputs();
+    let known = match judge_all(whole, subjects, gate) {
+        Ok(known) => known,
+        Err(fault) => return Err(fault),
+    };
+    match told_all(task.alloc, task.first, subjects, known) {
+        Ok(verdicts) => Ok(verdicts),
+        Err(_) => Err(CheckFault::OutOfMemory),
+    }
+}
+
+/// Puts lines behind others.
+fn and_lone(mut verdicts: Vec<Verdict>, mut lone: Vec<Verdict>) -> Result<Vec<Verdict>, AllocError>
+    ensures { IfOk result (λ all. all.items ≡ verdicts.items ++ lone.items) }
+{
+    verdicts.append(&mut lone)?;
+    Ok(verdicts)
+}
+
+/// What is told of these pairs by their cones.
+fn judge_picks<H: Threads + Wait + Sync, G: Gate>(
+    task: &Task<'_, H>,
+    pairing: &Pairing,
+    subjects: &[Subject],
+    gate: &G,
+) -> Result<Vec<Verdict>, CheckFault>
+    requires pairing { IsPairingIn task.now Declared pairing.now }
+    requires inside { All (IsInside (circuit task.now.first.now) (circuit task.now.second.now)) subjects.now }
+    ensures told { IfOk result (λ v. AllZip (IsTold (IsLeft task.now.settings.now.limit (G.bound gate.now) (circuit task.now.first.now) (circuit task.now.second.now) (condition task.now.given) pairing.now)
+        (circuit task.now.first.now) (circuit task.now.second.now) (condition task.now.given) pairing.now) subjects.now v.items) }
+    ensures ends { IfErr result EndsPairs }
+{
+    let _ = task.first.inputs();
+    let _ = task.second.inputs();
+    let Ok(first) = names_in(task.alloc, task.first, pairing, Part::First) else {
+        return Err(CheckFault::OutOfMemory);
+    };
+    let Ok(second) = names_in(task.alloc, task.second, pairing, Part::Second) else {
+        return Err(CheckFault::OutOfMemory);
+    };
+    let Ok(given) = given_cone(task, pairing) else {
+        return Err(CheckFault::OutOfMemory);
+    };
+    let settings = alone(task.settings);
+    let whole = Whole {
+        task,
+        pairing,
+        first: first.as_slice(),
+        second: second.as_slice(),
+        given: given.as_ref(),
+        settings: &settings,
+    };
+    judged(&whole, subjects, gate)
+}
+
+/// Judges each pair that is picked by its cones, and tells what is found over the variables of the pairing in declared order.
+pub fn by_cones<H: Threads + Wait + Sync, G: Gate>(
+    task: &Task<'_, H>,
+    pairing: Pairing,
+    gate: &G,
+) -> Result<Verdicts, CheckFault>
+    requires { IsPairingIn task.now Declared pairing }
+    ensures told { IfOk result (IsToldByCones task.now (G.bound gate.now) pairing) }
+    ensures unknown { result ≡ Err CheckFault.Only → HasUnknown (circuit task.now.first.now) task.now.settings.now.picked }
+    ensures ends { IfErr result EndsCones }
+{
+    let _ = task.first.inputs();
+    let _ = task.second.inputs();
+    let Picks { subjects, lone } = match picks_of(task, &pairing) {
+        Ok(picks) => picks,
+        Err(fault) => return Err(fault),
+    };
+    let verdicts = match judge_picks(task, &pairing, subjects.as_slice(), gate) {
+        Ok(verdicts) => verdicts,
+        Err(fault) => return Err(fault),
+    };
+    match and_lone(verdicts, lone) {
+        Ok(verdicts) => Ok(Verdicts::of(pairing, verdicts)),
+        Err(_) => Err(CheckFault::OutOfMemory),
+    }
+}

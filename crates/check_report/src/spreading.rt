@@ -1,0 +1,64 @@
+//! What is found over some of the variables, told over all.
+ghost use Rattle.std.specs.Prelude.{◌≡◌, ◌<◌, All, IfOk};
+ghost use Rattle.check_report.specs.Spreading.{spread, widened_verdict};
+
+use report_text::{Bits, Name, Role, Verdict};
+use std::alloc::{AllocError, Global};
+
+/// The assignment of so many bits that has these bits at the places, and 0 elsewhere.
+fn spread_bits(
+    alloc: Global,
+    bits: &[bool],
+    levels: usize,
+    places: &[u16],
+) -> Result<Vec<bool>, AllocError>
+    requires { All (λ place. place < levels) places.now }
+    ensures { IfOk result (λ whole. whole.items ≡ spread levels places.now bits.now) }
+{
+    let mut whole = Vec::from_elem(alloc, false, levels)?;
+    for (place, bit) in places.iter().zip(bits) {
+        whole[*place as usize] = *bit;
+    }
+    Ok(whole)
+}
+
+/// A verdict over the variables at the places as the verdict of this role and name over all variables, one at each level. Sizes are not
+/// told. Time is linear in the levels.
+pub fn widened(
+    alloc: Global,
+    verdict: Verdict,
+    role: Role,
+    name: &[u8],
+    levels: usize,
+    places: &[u16],
+) -> Result<Verdict, AllocError>
+    requires { All (λ place. place < levels) places.now }
+    ensures { IfOk result (λ v. v ≡ widened_verdict role name.now levels places.now verdict) }
+{
+    let name = Name::copied(alloc, name)?;
+    match verdict {
+        Verdict::Equal { .. } => Ok(Verdict::Equal {
+            role,
+            name,
+            size: None,
+        }),
+        Verdict::Differs {
+            at,
+            first,
+            second,
+            ..
+        } => {
+            let whole = spread_bits(alloc, at.as_slice(), levels, places)?;
+            Ok(Verdict::Differs {
+                role,
+                name,
+                at: Bits::of(whole),
+                first,
+                second,
+                sizes: None,
+            })
+        }
+        Verdict::Lone { side, .. } => Ok(Verdict::Lone { side, role, name }),
+        Verdict::Undecided { .. } => Ok(Verdict::Undecided { role, name }),
+    }
+}

@@ -1,0 +1,6 @@
+-- Assignments of some of the variables, out of assignments of all.
+use Rattle.std.specs.Prelude.{ℕ, Bool, false, List, map, slice_index_or}
+
+-- the bits of an assignment at these places
+abbrev pub pick : List ℕ → List Bool → List Bool
+pick places x = map (λ l. slice_index_or x l false) places

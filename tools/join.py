@@ -1,0 +1,244 @@
+#!/usr/bin/env python3
+"""Joins the reports of all shares of one comparison, as bddcheck --share K/N writes them, to the report of the whole.
+
+usage: tools/join.py FIRST.bench SHARE ..
+
+FIRST.bench is the first netlist of the comparison, and each SHARE a file with the report of one share, in any order: all by lines, or all
+as JSON. The report goes to standard output: the pairs of outputs in the order of FIRST's OUTPUT lines, the next states in the order of its
+DFF lines, what has no partner, and the counts of all. The status is that of bddcheck: 1 where something differs or has no partner, else 3
+where something is undecided, else 0. It is 2 where the files are not exactly the shares of one comparison, with a line that says why.
+"""
+from __future__ import annotations
+
+import json
+import pathlib
+import re
+import sys
+from dataclasses import dataclass, field
+
+COUNTS = ("equal", "different", "unmatched", "undecided")
+KINDS = {"EQUAL": "equal", "DIFFER": "different", "ONLY": "unmatched", "UNDECIDED": "undecided"}
+# What all shares of one comparison tell alike as JSON.
+SETTINGS = ("match", "order", "given", "variables")
+
+# Comments and blanks are left out. A name has no mark and no blank.
+TOKEN = re.compile(rb"#[^\n]*|([(),=]|[^\s(),=#]+)")
+EQUAL = re.compile(r"(EQUAL|UNDECIDED) (NEXT )?(\S+)")
+DIFFER = re.compile(r"(DIFFER) (NEXT )?(\S+) at((?: [^\s=]+=[01])*) first=[01] second=[01]")
+ONLY = re.compile(r"(ONLY) (FIRST|SECOND) (NEXT )?(\S+)")
+LAST = re.compile(r"(\d+) equal, (\d+) different, (\d+) unmatched(?:, (\d+) undecided)?, share (\d+) of (\d+)")
+
+
+class Refusal(Exception):
+    """Why nothing is joined."""
+
+
+@dataclass(frozen=True)
+class Subject:
+    """An output, or the next state of a register."""
+
+    is_next: bool
+    name: str
+
+    def __str__(self):
+        return f"the next state of {self.name}" if self.is_next else f"output {self.name}"
+
+
+@dataclass
+class Verdict:
+    """What a report says of one subject, as it stands there. The side is there where it has no partner."""
+
+    kind: str
+    subject: Subject
+    side: str | None
+    text: object
+
+
+@dataclass
+class Share:
+    """A report of one share."""
+
+    path: str
+    number: int
+    of: int
+    verdicts: list
+    counts: dict
+    # What is the same in all shares: the settings of JSON, or the variables of each line that tells an assignment.
+    alike: object = None
+    settings: dict = field(default_factory=dict)
+
+
+def subjects_of(text):
+    """The outputs and the registers of a netlist, in their order."""
+    tokens = [found.decode("latin-1") for found in TOKEN.findall(text) if found]
+    outputs, registers = {}, {}
+    for place, token in enumerate(tokens):
+        behind = tokens[place + 1 : place + 4]
+        starts = place == 0 or tokens[place - 1] == ")"
+        if starts and token.upper() == "OUTPUT" and behind[:1] == ["("] and behind[2:] == [")"]:
+            outputs.setdefault(Subject(False, behind[1]))
+        elif starts and behind[:1] == ["="] and len(behind) == 3 and behind[1].upper() == "DFF" and behind[2] == "(":
+            registers.setdefault(Subject(True, token))
+    return list(outputs) + list(registers)
+
+
+# ---- shares by lines
+
+
+def verdict_of(path, line):
+    """The verdict of a line."""
+    if found := EQUAL.fullmatch(line) or DIFFER.fullmatch(line):
+        return Verdict(found[1], Subject(bool(found[2]), found[3]), None, line)
+    if found := ONLY.fullmatch(line):
+        return Verdict(found[1], Subject(bool(found[3]), found[4]), found[2].lower(), line)
+    raise Refusal(f"{path}: no line of a share: {line}")
+
+
+def variables_in(lines):
+    """The variables of each line that tells an assignment."""
+    assignments = [found[4] for found in map(DIFFER.fullmatch, lines) if found]
+    return {tuple(bit.split("=")[0] for bit in assignment.split()) for assignment in assignments}
+
+
+def share_by_lines(path, text):
+    lines = text.split("\n")
+    last = LAST.fullmatch(lines[-2]) if len(lines) > 1 and not lines[-1] else None
+    if not last:
+        raise Refusal(f"{path}: its last line is not that of a share")
+    counts = dict(zip(COUNTS, (int(count or 0) for count in last.groups()[:4])))
+    verdicts = [verdict_of(path, line) for line in lines[:-2]]
+    return Share(path, int(last[5]), int(last[6]), verdicts, counts, variables_in(lines[:-2]))
+
+
+# ---- shares as JSON
+
+
+def members(pairs):
+    """An object whose members have names of their own."""
+    told = dict(pairs)
+    if len(told) < len(pairs):
+        raise ValueError("a member stands twice")
+    return told
+
+
+def share_by_json(path, text):
+    try:
+        told = json.loads(text, object_pairs_hook=members)
+        number, of = told["share"]
+        verdicts = [
+            Verdict(one["verdict"], Subject({"output": False, "next state": True}[one["of"]], one["name"]), one.get("side"), one)
+            for one in told["verdicts"]
+        ]
+        counts = {name: int(told.get(name, 0) if name == "undecided" else told[name]) for name in COUNTS}
+        settings = {name: told[name] for name in SETTINGS if name in told}
+        unknown = {one.kind for one in verdicts} - set(KINDS)
+        if unknown or not {"match", "order", "variables"} <= set(settings):
+            raise ValueError("no report")
+        return Share(path, int(number), int(of), verdicts, counts, json.dumps(settings), settings)
+    except (ValueError, KeyError, TypeError, AttributeError) as fault:
+        raise Refusal(f"{path}: no JSON of a share") from fault
+
+
+# ---- all shares
+
+
+def read_share(path):
+    """A share, and whether it is JSON."""
+    text = pathlib.Path(path).read_bytes().decode("latin-1")
+    is_json = text.startswith("{")
+    share = share_by_json(path, text) if is_json else share_by_lines(path, text)
+    if not 1 <= share.number <= share.of:
+        raise Refusal(f"{path}: there is no share {share.number} of {share.of}")
+    found = dict.fromkeys(COUNTS, 0)
+    for verdict in share.verdicts:
+        found[KINDS[verdict.kind]] += 1
+    if found != share.counts:
+        raise Refusal(f"{path}: its counts are not those of its verdicts")
+    if share.number != 1 and share.counts["unmatched"]:
+        raise Refusal(f"{path}: what has no partner stands in share 1 alone")
+    return share, is_json
+
+
+def read_shares(paths):
+    """All shares by their numbers, and whether they are JSON."""
+    read = [read_share(path) for path in paths]
+    if len({is_json for _, is_json in read}) > 1:
+        raise Refusal("some shares are lines, and some JSON")
+    shares = sorted((share for share, _ in read), key=lambda share: share.number)
+    of = shares[0].of
+    for share in shares:
+        if share.of != of:
+            raise Refusal(f"{share.path}: it is of {share.of} shares, {shares[0].path} of {of}")
+    for one, other in zip(shares, shares[1:]):
+        if one.number == other.number:
+            raise Refusal(f"{one.path} and {other.path}: both are share {one.number}")
+    if len(shares) < of:
+        raise Refusal(f"{len(shares)} of {of} shares are there")
+    is_json = read[0][1]
+    if is_json:
+        for share in shares:
+            if share.alike != shares[0].alike:
+                raise Refusal(f"{share.path}: its settings or variables are not those of {shares[0].path}")
+    elif len(set().union(*(share.alike for share in shares))) > 1:
+        raise Refusal("the shares tell assignments of different variables")
+    return shares, is_json
+
+
+def ordered(subjects, shares):
+    """The verdicts of all shares, in the order of the whole report."""
+    places = {subject: place for place, subject in enumerate(subjects)}
+    pairs, lone, seen = [], [], {}
+    for share in shares:
+        last = -1
+        for verdict in share.verdicts:
+            subject, key = verdict.subject, (verdict.side == "second", verdict.subject)
+            if key[0] == (subject in places):
+                raise Refusal(f"{share.path}: {subject} is {'one' if key[0] else 'none'} of the first netlist")
+            if key in seen:
+                raise Refusal(f"{share.path}: {subject} stood in {seen[key]} before")
+            seen[key] = share.path
+            (lone if verdict.side else pairs).append(verdict)
+            # Pairs in the order of the first netlist, then what has no partner.
+            place = len(places) if verdict.side else places[subject]
+            if place < last:
+                raise Refusal(f"{share.path}: {subject} does not stand in its place")
+            last = place
+    for subject in subjects:
+        if (False, subject) not in seen:
+            raise Refusal(f"{subject} stands in no share")
+    return sorted(pairs, key=lambda verdict: places[verdict.subject]) + lone
+
+
+def whole_text(verdicts, counts, shares, is_json):
+    """The report of the whole."""
+    told = {name: count for name, count in counts.items() if count or name != "undecided"}
+    if is_json:
+        whole = {**shares[0].settings, "verdicts": [verdict.text for verdict in verdicts], **told}
+        return json.dumps(whole, separators=(",", ":")) + "\n"
+    return "".join(f"{verdict.text}\n" for verdict in verdicts) + ", ".join(f"{count} {name}" for name, count in told.items()) + "\n"
+
+
+def main(words):
+    if "--help" in words or "-h" in words:
+        print(__doc__.strip())
+        return 0
+    if len(words) < 2 or any(word.startswith("-") for word in words):
+        print("join: usage: tools/join.py FIRST.bench SHARE ..", file=sys.stderr)
+        return 2
+    try:
+        subjects = subjects_of(pathlib.Path(words[0]).read_bytes())
+        shares, is_json = read_shares(words[1:])
+        verdicts = ordered(subjects, shares)
+    except (Refusal, OSError) as fault:
+        print(f"join: {fault}", file=sys.stderr)
+        return 2
+    counts = {name: sum(share.counts[name] for share in shares) for name in COUNTS}
+    sys.stdout.buffer.write(whole_text(verdicts, counts, shares, is_json).encode("latin-1"))
+    sys.stdout.buffer.flush()
+    if counts["different"] or counts["unmatched"]:
+        return 1
+    return 3 if counts["undecided"] else 0
+
+
+if __name__ == "__main__":
+    sys.exit(main(sys.argv[1:]))
