@@ -2,7 +2,7 @@
 use crate::netlists::C17;
 use net_bench::netlist::Signal;
 use net_bench::reader::{Netlist, parse_bench};
-use net_cone::{Cone, cone_of, own_names};
+use net_cone::{Cone, cone_of, gates_below, own_names};
 use std::alloc::{AllocError, Global};
 use std::test::Fail;
 
@@ -21,6 +21,23 @@ fn cone_by_name(alloc: Global, net: &Netlist, name: &str) -> Result<Cone, AllocE
         }
         _ => Err(AllocError),
     }
+}
+
+/// How many gates are below the signals of these two names.
+fn counts_by_name(
+    alloc: Global,
+    net: &Netlist,
+    first: &str,
+    second: &str,
+) -> Result<Vec<u64>, AllocError> {
+    let mut roots = Vec::new(alloc);
+    for name in [first, second] {
+        match net.find(name.as_bytes()) {
+            Some(root) if (root.number() as usize) < net.count() => roots.push(root)?,
+            _ => return Err(AllocError),
+        }
+    }
+    gates_below(alloc, net, roots.as_slice())
 }
 
 /// The names of the netlist's signals in their order, a blank behind each.
@@ -72,5 +89,19 @@ fn cones_without_depth(rt: HostRuntime) -> Result<(), Fail> {
     let constant = cone_by_name(rt.alloc(), &net, "k")?;
     let names = names_of(rt.alloc(), &constant.net)?;
     assert!(rt; names.as_slice() == b"va gk gn o ".as_slice());
+    Ok(())
+}
+
+// Gates 11 and 16 are below both outputs, and no walk stops where one before it went.
+#[test]
+fn counts_of_gates(rt: HostRuntime) -> Result<(), Fail> {
+    let net = parse_bench(rt.alloc(), C17.as_bytes())?;
+    let outputs = counts_by_name(rt.alloc(), &net, "22", "23")?;
+    assert!(rt; outputs.as_slice() == [4, 4].as_slice());
+    let others = counts_by_name(rt.alloc(), &net, "3", "16")?;
+    assert!(rt; others.as_slice() == [0, 2].as_slice());
+    let around = parse_bench(rt.alloc(), REGISTER.as_bytes())?;
+    let ends = counts_by_name(rt.alloc(), &around, "y", "q")?;
+    assert!(rt; ends.as_slice() == [1, 0].as_slice());
     Ok(())
 }

@@ -1,8 +1,8 @@
 //! Reports by an order that is found, and what is told where none is.
 use crate::devices::{End, new_page};
 use crate::failing::AMPLE;
-use check_report::{CheckFault, Choice, Context, Settings, check};
-use expand_work::Free;
+use check_report::{CheckFault, Choice, Context, Picked, Settings, check};
+use expand_work::{Free, WaveFault};
 use net_bench::device::Through;
 use net_order::order::{Match, Order};
 use std::sync::Wait;
@@ -21,6 +21,8 @@ static AS_DECLARED: &str =
 static INTERLEAVED: &str =
     "DIFFER o at b=0 c=0 a=1 first=1 second=0\n0 equal, 1 different, 0 unmatched\n";
 
+static UNDECIDED: &str = "UNDECIDED o\n0 equal, 0 different, 0 unmatched, 1 undecided\n";
+
 /// The report of the two netlists within so many nodes, or why there is none.
 fn reported<R: AllocGlobal + Threads + Wait + Sync>(
     rt: &R,
@@ -30,6 +32,7 @@ fn reported<R: AllocGlobal + Threads + Wait + Sync>(
     let settings = Settings {
         matching: Match::Name,
         order,
+        picked: Picked::All,
         workers: 1,
         limit: u64::from(limit.max(1)),
         sizes: false,
@@ -57,6 +60,7 @@ fn found_order_and_declared_report(rt: HostRuntime) -> Result<(), Fail> {
         (Choice::Best, INTERLEAVED),
         (Choice::One(Order::Declared), AS_DECLARED),
         (Choice::Auto, AS_DECLARED),
+        (Choice::Cones, AS_DECLARED),
     ] {
         let report = reported(&rt, order, 1_000)?;
         assert!(rt; report.as_slice() == wanted.as_bytes());
@@ -67,6 +71,10 @@ fn found_order_and_declared_report(rt: HostRuntime) -> Result<(), Fail> {
 // Three variables alone are three nodes.
 #[test]
 fn no_order_is_found(rt: HostRuntime) -> Result<(), Fail> {
-    assert!(rt; reported(&rt, Choice::Auto, 1).err() == Some(CheckFault::GivenUp));
+    assert!(rt; reported(&rt, Choice::Best, 1).err() == Some(CheckFault::Wave(WaveFault::Full)));
+    for order in [Choice::Auto, Choice::Cones] {
+        let report = reported(&rt, order, 1)?;
+        assert!(rt; report.as_slice() == UNDECIDED.as_bytes());
+    }
     Ok(())
 }

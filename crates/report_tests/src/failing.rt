@@ -1,6 +1,6 @@
 //! Checks over devices that fail at each place.
 use crate::devices::{Dripping, End, Endless, Page, drip, new_page};
-use check_report::{CheckFault, Choice, Context, Settings, check};
+use check_report::{CheckFault, Choice, Context, Picked, Settings, check};
 use expand_work::{Free, Gate};
 use net_bench::device::Source;
 use net_bench::netlist::BenchFault;
@@ -37,6 +37,7 @@ pub(crate) fn checked<R: AllocGlobal + Threads + Wait + Sync, R1: Source, R2: So
     let settings = Settings {
         matching: Match::Name,
         order: Choice::One(Order::Declared),
+        picked: Picked::All,
         workers: 2,
         limit: 67_108_864,
         sizes: false,

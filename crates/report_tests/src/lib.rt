@@ -11,6 +11,8 @@ mod failing;
 #[cfg(test)]
 mod meetings;
 #[cfg(test)]
+mod picks;
+#[cfg(test)]
 mod progress;
 #[cfg(test)]
 mod quotes;

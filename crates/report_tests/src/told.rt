@@ -1,6 +1,6 @@
 //! What a gate is told of a comparison, in one order and in the best.
 use crate::failing::C17;
-use check_report::{CheckFault, Choice, Context, Settings, judge};
+use check_report::{CheckFault, Choice, Context, Picked, Settings, judge};
 use dd_store::Watch;
 use expand_work::Gate;
 use net_bench::device::Through;
@@ -69,6 +69,7 @@ fn told_of<R: Threads + Wait + Sync>(
     let settings = Settings {
         matching: Match::Name,
         order,
+        picked: Picked::All,
         workers: 1,
         limit: 70_000,
         sizes: false,
