@@ -1,5 +1,5 @@
 #!/usr/bin/env python3
-"""Random pairs of netlists, whole and damaged: the program must give the bytes and the status that judging.py gives.
+"""Random pairs of netlists, whole and damaged: the program must give the bytes and the status that answering.py gives.
 
 usage: tests/fuzz.py PROGRAM [--seconds S] [--seed N] [--case KIND:I] [--jobs J]
 
@@ -15,7 +15,8 @@ import time
 from dataclasses import replace
 
 import kit
-from judging import CANDIDATES, ORDERS, TRIED, Case, answers
+from answering import BY_CONES, CANDIDATES, TRIED, Case, answers, cones, judged, paired_of
+from judging import ORDERS, Refusal, judge
 from kit import FEATURES, Tally, run, say
 
 WORDS = ["AND", "NAND", "OR", "NOR", "XOR", "XNOR", "NOT", "BUFF", "BUF"]
@@ -246,14 +247,16 @@ def make_case(kind, rng):
     plain = rng.random() < 0.4
     texts = [laid_out(rng, first, plain), laid_out(rng, second, plain)]
     case = Case(*texts, match=match, workers=rng.choice([1, 2, 3, 4, 16]))
-    case.order = rng.choice(list(ORDERS)) if kind in ("position", "damaged", "input", "limit", "print") else kind
+    case.order = rng.choice(BY_CONES) if kind == "coned" else rng.choice(list(ORDERS)) if kind in ("position", "damaged", "input", "limit", "print") else kind
     if kind == "list" or (kind in ("position", "limit", "print") and rng.random() < 0.3):
         case.order = listed(rng, first, second, match)
     if kind in ("sizes", "given"):
         case.order = rng.choice(list(ORDERS))
-    if case.order == "auto" and kind in ("sizes", "print"):
+    if case.order in BY_CONES and kind in ("sizes", "print"):
         case.order = "declared"
-    case.sizes = kind == "sizes" or (rng.random() < 0.3 and case.order != "auto")
+    if kind in ("only", "share"):
+        pick(rng, case, kind, first, second)
+    case.sizes = kind == "sizes" or (rng.random() < 0.3 and case.order not in BY_CONES)
     case.print_order = kind == "print"
     if kind == "damaged":
         damage(rng, case)
@@ -263,12 +266,27 @@ def make_case(kind, rng):
             case.first += b"\n"
         if rng.random() < 0.1:
             case.first = damaged(rng, case.first)
-    if kind == "given":
+    if kind == "given" or (kind in (*BY_CONES, "only", "share") and rng.random() < 0.3):
         condition = random_netlist(rng, sources_of(first)[:4] or ["g"], rng.randrange(1, 6), 1)
         case.given = laid_out(rng, condition, plain)
         if rng.random() < 0.1:
             case.given = damaged(rng, case.given)
     return case
+
+
+def pick(rng, case, kind, first, second):
+    """Names of outputs and registers, mostly the first netlist's, or one of some shares; at times within a limit."""
+    case.order = "cones"
+    if kind == "only":
+        ends = lambda statements: [s[1] for s in statements if s[0] in ("OUTPUT", "DFF")]
+        known = ends(first) or ["nobody"]
+        others = [*known, *ends(second), *sources_of(first), "nobody"]
+        case.only = rng.choices(known if rng.random() < 0.8 else others, k=rng.choice([1, 1, 2, 3]))
+    else:
+        of = rng.choice([1, 2, 2, 3, 4, 9])
+        case.share = rng.randrange(1, of + 1), of
+    if rng.random() < 0.5:
+        case.limit = rng.choice([rng.randrange(1, 9), rng.randrange(1, 200), 4 * rng.randrange(1, 60)])
 
 
 def damage(rng, case):
@@ -284,7 +302,9 @@ def damage(rng, case):
             setattr(case, place, text)
 
 
-KINDS = [*ORDERS, "list", "position", "sizes", "limit", "print", "input", "damaged"]
+KINDS = [*ORDERS, "list", "position", "sizes", "limit", "coned", "only", "share", "print", "input", "damaged"]
+# Those that take the limits of each case.
+LIMITED = ("limit", "coned")
 if FEATURES["given"]:
     KINDS.append("given")
 
@@ -292,8 +312,14 @@ if FEATURES["given"]:
 # Running.
 
 
+def is_picking(case):
+    return case.only is not None or case.share is not None
+
+
 def default_of(case):
     """The order where no word and no file names one."""
+    if is_picking(case):
+        return "cones"
     return "declared" if case.sizes or case.print_order or case.limit is not None else "auto"
 
 
@@ -309,6 +335,12 @@ def words_of(program, case, place):
     elif case.workers == 1:
         # The default by its name.
         words += ["--order", case.order]
+    elif case.workers == 2 and is_picking(case):
+        # Another name of it.
+        words += ["--order", "auto"]
+    words += [f"--only={name}" for name in case.only or []]
+    if case.share is not None:
+        words += ["--share", "{}/{}".format(*case.share)]
     if case.sizes:
         words.append("--sizes")
     if case.print_order:
@@ -322,13 +354,24 @@ def words_of(program, case, place):
     return words
 
 
+def needs_of(case):
+    """The nodes that are needed in the orders of the case, and four times those of a few pairs by their cones."""
+    if case.order not in TRIED:
+        return {judged(case).nodes}
+    paired, _ = paired_of(case)
+    whole = [judge(paired, order, False) for order in CANDIDATES]
+    needs = set() if case.order == "cones" else {result.nodes for result in whole}
+    if case.order in BY_CONES:
+        for pair in whole[0].pairs[:3]:
+            alone = cones(paired, pair)
+            needs.add(4 * min(judge(alone, order, False).nodes for order in CANDIDATES))
+    return needs
+
+
 def limits_of(case):
     """A kind of its own: the nodes that are needed are enough, and one less is not."""
-    from judging import Refusal, judged
-
     try:
-        orders = CANDIDATES if case.order in TRIED else [case.order]
-        needs = sorted({judged(replace(case, order=order)).nodes for order in orders})
+        needs = sorted(needs_of(case))
     except Refusal:
         return [None]
     return [limit for need in needs for limit in (need, need - 1) if limit >= 1] or [1]
@@ -345,7 +388,7 @@ def taken_again(program, case, order, place):
 def try_case(program, seed, kind, index, place):
     """None where the answers agree, and else what is told."""
     case = make_case(kind, random.Random(f"{seed}:{kind}:{index}"))
-    for limit in limits_of(case) if kind == "limit" else [None]:
+    for limit in limits_of(case) if kind in LIMITED else [case.limit]:
         case.limit = limit
         wanted = answers(case)
         words = words_of(program, case, place)

@@ -1,4 +1,4 @@
-"""What the program must answer, by truth tables: the variables, their order, the report, the fault and the status.
+"""What a comparison in one order must find, by truth tables: the variables, their order, the verdicts and the needed nodes.
 
 No code is shared with the product, and nothing here is a decision diagram: a function of n variables is a number of 2^n bits.
 """
@@ -7,29 +7,10 @@ from __future__ import annotations
 import re
 from dataclasses import dataclass
 
-from kit import FEATURES, Run
-from reading import Fault, Netlist, read, read_names, split
+from kit import FEATURES
 
 MOST_VARIABLES = 4096
 COUNTS_DIFFER = "the netlists have different numbers of inputs, outputs or registers"
-
-
-@dataclass
-class Case:
-    """What a run is given. `order` is the word of --order, or the bytes of an order file."""
-
-    first: bytes
-    second: bytes
-    match: str = "name"
-    order: str | bytes = "declared"
-    sizes: bool = False
-    limit: int | None = None
-    workers: int = 4
-    given: bytes | None = None
-    # The order is printed, and nothing compared.
-    print_order: bool = False
-    # Both texts on standard input, with this line between them.
-    divider: bytes | None = None
 
 
 class Refusal(Exception):
@@ -197,14 +178,7 @@ def leaves(net, roots, rank=None):
 ORDERS = {"declared": Paired.declared, "depth": Paired.by_depth, "best": Paired.interleaved}
 if FEATURES["interleave"]:
     ORDERS["interleave"] = Paired.interleaved
-ORDERS |= {"index": Paired.by_index, "force": Paired.by_force, "auto": Paired.declared}
-
-
-# The best of these, in this order, is the first whose nodes are within the budget: the cases here are far below the first one, so only
-# the limit counts. Auto takes the same for the diagrams, and reports as by declared order.
-CANDIDATES = ["interleave", "force", "index", "depth", "declared"]
-TRIED = ("best", "auto")
-GIVEN_UP = "build: given up in each order; more memory, or a good order by --order-file, may help"
+ORDERS |= {"index": Paired.by_index, "force": Paired.by_force, "auto": Paired.declared, "cones": Paired.declared}
 
 
 def levels(paired, order):
@@ -250,10 +224,10 @@ COMPLEMENTED = {"NAND", "NOR", "XNOR", "NOT"}
 
 
 class Functions:
-    """The tables of all signals of a netlist, and of the folds that build them."""
+    """The tables of all signals of a netlist, of the folds that build them, and the pairs that these are asked of."""
 
     def __init__(self, net, paired, tables, whole):
-        self.whole, self.folds = whole, []
+        self.whole, self.folds, self.asked = whole, [], []
         self.known = {s: tables[paired.name(net, s)] for s in [*net.inputs, *net.registers]}
         waiting = dict(net.gates)
         while waiting:
@@ -265,6 +239,7 @@ class Functions:
     def gate(self, word, values):
         result = values[0]
         for i, value in enumerate(values[1:], 2):
+            self.asked.append((result, value))
             result = FOLDS[word](result, value)
             if i == len(values) and word in COMPLEMENTED:
                 result ^= self.whole
@@ -292,13 +267,52 @@ def node_count(functions, count):
     return nodes
 
 
+def reached(pair, count):
+    """No fewer requests than a fold of two functions of so many variables reaches: the pairs of their cofactors where one depends on
+    the level, and the first pair."""
+    at_level, requests = {pair}, 1
+    for level in range(count):
+        half = 1 << (count - 1 - level)
+        low_bits = (1 << half) - 1
+        parts = [((f & low_bits, g & low_bits), (f >> half, g >> half)) for f, g in at_level]
+        requests += sum(low != high for low, high in parts)
+        at_level = {part for low_and_high in parts for part in low_and_high}
+    return requests
+
+
+@dataclass
+class Pair:
+    """Two outputs, or the next states of two registers, which have a label: their name, signals, and line."""
+
+    label: str
+    name: str
+    first: str
+    second: str
+    line: str
+
+
+@dataclass
+class Lone:
+    """An output or a register of one of the netlists, FIRST or SECOND, without a partner."""
+
+    side: str
+    label: str
+    name: str
+
+
 @dataclass
 class Judged:
-    """The report, and how many nodes are needed for it."""
+    """What the report says, how many nodes are needed for it, and of which pairs of functions folds are asked."""
 
-    lines: list
-    is_equal: bool
+    pairs: list
+    lone: list
     nodes: int
+    asked: list
+    count: int
+
+    def requests(self):
+        """No wave reaches more."""
+        return sum(reached(pair, self.count) for pair in self.asked)
 
 
 def paired_outputs(first, second, by_position):
@@ -314,16 +328,16 @@ def judge(paired, order, sizes):
     count = len(names)
     whole = (1 << (1 << count)) - 1
     tables = dict(zip(names, variable_tables(count)))
-    first = Functions(paired.first, paired, tables, whole)
-    second = Functions(paired.second, paired, tables, whole)
-    built, condition = [*tables.values(), *first.folds, *second.folds], whole
-    if paired.given:
-        given = Functions(paired.given, paired, tables, whole)
-        condition = given.known[paired.given.outputs[0]]
-        built += given.folds
+    nets = [paired.first, paired.second, *filter(None, [paired.given])]
+    first, second, *given = known = [Functions(net, paired, tables, whole) for net in nets]
+    built = [*tables.values(), *(fold for functions in known for fold in functions.folds)]
+    asked = [pair for functions in known for pair in functions.asked]
+    condition = given[0].known[paired.given.outputs[0]] if given else whole
     compared = []
 
     def line(what, name, f, g):
+        if given:
+            asked.extend([(f, condition), (g, condition)])
         f, g = f & condition, g & condition
         compared.extend([f, g])
         if f == g:
@@ -333,21 +347,17 @@ def judge(paired, order, sizes):
         told = f"DIFFER {what}{name} at {' '.join([*bits, f'first={f >> place & 1}', f'second={g >> place & 1}'])}"
         return told + (f" sizes {node_count([f], count)} {node_count([g], count)}" if sizes else "")
 
-    said, alone = [], [[], []]
+    pairs, alone = [], [[], []]
     for what, parts in (("", outputs), ("NEXT ", next_states)):
-        pairs, only_first, only_second = paired_outputs(
-            parts(paired.first), parts(paired.second), paired.by_position
-        )
-        for a, b in pairs:
-            said.append(line(what, a, value(what, paired.first, first, a), value(what, paired.second, second, b)))
-        alone[0] += [f"ONLY FIRST {what}{name}" for name in only_first]
-        alone[1] += [f"ONLY SECOND {what}{name}" for name in only_second]
-    equal = sum(text.startswith("EQUAL") for text in said)
-    lone = len(alone[0]) + len(alone[1])
-    last = f"{equal} equal, {len(said) - equal} different, {lone} unmatched"
-    if paired.given:
+        both, *only = paired_outputs(parts(paired.first), parts(paired.second), paired.by_position)
+        for a, b in both:
+            f, g = signal(what, paired.first, a), signal(what, paired.second, b)
+            pairs.append(Pair(what, a, f, g, line(what, a, first.known[f], second.known[g])))
+        for side, lone, single in zip(("FIRST", "SECOND"), alone, only):
+            lone += [Lone(side, what, name) for name in single]
+    if given:
         built += compared
-    return Judged([*said, *alone[0], *alone[1], last], equal == len(said) and not lone, node_count(built, count))
+    return Judged(pairs, [*alone[0], *alone[1]], node_count(built, count), asked, count)
 
 
 def outputs(net):
@@ -358,100 +368,5 @@ def next_states(net):
     return list(net.registers)
 
 
-def value(what, net, functions, name):
-    return functions.known[net.registers[name] if what else name]
-
-
-# The whole run.
-
-
-def read_text(place, text):
-    try:
-        return read(text)
-    except Fault as fault:
-        raise Refusal(f"{place}: {fault}") from None
-
-
-def parts_of(case):
-    """The texts as the program gets them: on standard input the first line `%%` divides them, wherever it stands."""
-    if case.divider is None:
-        return case.first, case.second
-    parts = split(case.first + case.divider + case.second)
-    if parts is None:
-        raise Refusal("standard input: no line %%")
-    return parts
-
-
-def paired_of(case):
-    """The paired netlists of the case, and its order: a word or names; a refusal where it must be refused."""
-    first, second = parts_of(case)
-    order = case.order
-    if isinstance(order, bytes):
-        try:
-            order = read_names(order)
-        except Fault as fault:
-            raise Refusal(f"order: {fault}") from None
-    nets = [read_text("first", first), read_text("second", second)]
-    given: Netlist | None = None
-    if case.given is not None:
-        given = read_text("given", case.given)
-        if len(given.outputs) != 1:
-            raise Refusal("given: not exactly one output")
-    return Paired(*nets, case.match, given), order
-
-
-def is_within(case, result):
-    return case.limit is None or result.nodes <= case.limit
-
-
-def tried(paired, case):
-    """What may come of a case whose order is to be found: for each order within the limit, the first one first, the order and the report;
-    and last that there is none, which also comes where an attempt was given up for the requests of a wave."""
-    if case.limit is None:
-        told = "declared" if case.order == "auto" else CANDIDATES[0]
-        yield told, judge(paired, told, case.sizes)
-        return
-    for order in CANDIDATES:
-        result = judge(paired, order, case.sizes)
-        if is_within(case, result):
-            told = "declared" if case.order == "auto" else order
-            yield told, result if told == order else judge(paired, told, case.sizes)
-    if case.order == "best":
-        yield None, Refusal("build: more nodes than the limit", 3)
-    yield None, Refusal(GIVEN_UP, 3)
-
-
-def judged(case):
-    """What the case must give in one order; a refusal where it must be refused."""
-    paired, order = paired_of(case)
-    result = judge(paired, order, case.sizes)
-    if not is_within(case, result):
-        raise Refusal("build: more nodes than the limit", 3)
-    return result
-
-
-def run_of(refusal):
-    return Run(refusal.status, b"", f"bddcheck: {refusal}\n".encode())
-
-
-def report_of(result):
-    return Run(0 if result.is_equal else 1, "".join(text + "\n" for text in result.lines).encode(), b"")
-
-
-def order_of(paired, order):
-    return Run(0, "".join(name + "\n" for name in levels(paired, order)).encode(), b"")
-
-
-def answers(case):
-    """The runs that the program may make of the case: one, and more where the order is to be found within a limit."""
-    try:
-        paired, order = paired_of(case)
-        if order in TRIED:
-            found = list(tried(paired, case))
-            return [
-                run_of(result) if order is None else order_of(paired, order) if case.print_order else report_of(result)
-                for order, result in found
-            ]
-        return [order_of(paired, order) if case.print_order else report_of(judged(case))]
-    except Refusal as refusal:
-        return [run_of(refusal)]
+def signal(what, net, name):
+    return net.registers[name] if what else name

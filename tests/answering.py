@@ -1,0 +1,249 @@
+"""What the program must answer: the order that is found, the pairs that are picked, the report, the fault and the status.
+
+The verdicts are those of judging.py. No code is shared with the product.
+"""
+from __future__ import annotations
+
+import itertools
+from dataclasses import dataclass
+
+from judging import Lone, Paired, Refusal, judge, levels
+from kit import Run
+from reading import Fault, Netlist, read, read_names, split
+
+# Each of these is tried within a budget: the cases here are far below the first one, so only the limit counts. Best is the first that
+# fits. Auto takes the same for the diagrams, and reports as by declared order; where each was given up, and by cones at once, each pair
+# is judged alone.
+CANDIDATES = ["interleave", "force", "index", "depth", "declared"]
+BY_CONES = ("auto", "cones")
+TRIED = ("best", *BY_CONES)
+FULL = "build: more nodes than the limit"
+GIVEN_UP = "build: given up in each order; more memory, or a good order by --order-file, may help"
+UNKNOWN = "only: no such output or register"
+
+
+@dataclass
+class Case:
+    """What a run is given. `order` is the word of --order, or the bytes of an order file."""
+
+    first: bytes
+    second: bytes
+    match: str = "name"
+    order: str | bytes = "declared"
+    sizes: bool = False
+    limit: int | None = None
+    workers: int = 4
+    given: bytes | None = None
+    # The order is printed, and nothing compared.
+    print_order: bool = False
+    # Both texts on standard input, with this line between them.
+    divider: bytes | None = None
+    # What is picked: names, or the number of a share and how many there are.
+    only: list | None = None
+    share: tuple | None = None
+
+
+def read_text(place, text):
+    try:
+        return read(text)
+    except Fault as fault:
+        raise Refusal(f"{place}: {fault}") from None
+
+
+def parts_of(case):
+    """The texts as the program gets them: on standard input the first line `%%` divides them, wherever it stands."""
+    if case.divider is None:
+        return case.first, case.second
+    parts = split(case.first + case.divider + case.second)
+    if parts is None:
+        raise Refusal("standard input: no line %%")
+    return parts
+
+
+def paired_of(case):
+    """The paired netlists of the case, and its order: a word or names; a refusal where it must be refused."""
+    first, second = parts_of(case)
+    order = case.order
+    if isinstance(order, bytes):
+        try:
+            order = read_names(order)
+        except Fault as fault:
+            raise Refusal(f"order: {fault}") from None
+    nets = [read_text("first", first), read_text("second", second)]
+    given: Netlist | None = None
+    if case.given is not None:
+        given = read_text("given", case.given)
+        if len(given.outputs) != 1:
+            raise Refusal("given: not exactly one output")
+    return Paired(*nets, case.match, given), order
+
+
+# Attempts.
+
+
+def fits(judged, budget):
+    return judged.nodes <= budget
+
+
+def must_fit(judged, budget):
+    """No wave can be given up for its requests."""
+    return fits(judged, budget) and judged.requests() <= 8 * budget
+
+
+# Pairs by their cones.
+
+
+def below(net, root):
+    """The signals below the root, itself among them."""
+    met, waiting = set(), [root]
+    while waiting:
+        signal = waiting.pop()
+        if signal not in met:
+            met.add(signal)
+            if signal in net.gates:
+                waiting += net.gates[signal][1]
+    return met
+
+
+def cone(paired, net, root):
+    """The cone of a signal as a netlist, whose variables have their paired names."""
+    met = below(net, root)
+    inputs = {s: "v" + paired.name(net, s) for s in [*net.inputs, *net.registers] if s in met}
+    called = inputs | {s: "g" + s for s in net.gates if s in met}
+    gates = {called[s]: (word, [called[o] for o in operands]) for s, (word, operands) in net.gates.items() if s in met}
+    return Netlist(list(inputs.values()), ["o"], gates | {"o": ("BUFF", [called[root]])}, {})
+
+
+def cones(paired, pair):
+    given = paired.given and cone(paired, paired.given, paired.given.outputs[0])
+    parts = cone(paired, paired.first, pair.first), cone(paired, paired.second, pair.second)
+    return Paired(*parts, "name", given)
+
+
+def may_be_told(paired, pair, limit):
+    """Whether the pair may be decided within the limit, and whether it may not be."""
+    if limit is None:
+        return True, False
+    budget, alone, may_be_decided = max(1, limit // 4), cones(paired, pair), False
+    for order in CANDIDATES:
+        result = judge(alone, order, False)
+        if must_fit(result, budget):
+            return True, False
+        may_be_decided |= fits(result, budget)
+    return may_be_decided, True
+
+
+def gates_below(net, root):
+    return sum(signal in net.gates for signal in below(net, root))
+
+
+def shares(paired, pairs, of):
+    """By place, the share of each pair: they are dealt to and fro by falling number of gates, equal ones as they stand."""
+    weights = [gates_below(paired.first, pair.first) + gates_below(paired.second, pair.second) for pair in pairs]
+    order = sorted(range(len(pairs)), key=lambda place: -weights[place])
+    to_and_fro = itertools.cycle([*range(1, of + 1), *range(of, 0, -1)])
+    dealt = dict(zip(order, to_and_fro))
+    return [dealt[place] for place in range(len(pairs))]
+
+
+def picked(paired, case, result):
+    """The pairs that are judged, and what is told to have no partner."""
+    if case.only is not None:
+        known = {*paired.first.outputs, *paired.first.registers}
+        if not known.issuperset(case.only):
+            raise Refusal(UNKNOWN)
+        of_first = [lone for lone in result.lone if lone.side == "FIRST"]
+        return [[one for one in these if one.name in case.only] for these in (result.pairs, of_first)]
+    if case.share is not None:
+        number, of = case.share
+        dealt = shares(paired, result.pairs, of)
+        pairs = [pair for pair, share in zip(result.pairs, dealt) if share == number]
+        return pairs, result.lone if number == 1 else []
+    return result.pairs, result.lone
+
+
+def by_cones(paired, case):
+    """The reports that may come of a case by cones: those of all choices, where an attempt may be given up for its requests."""
+    result = judge(paired, "declared", False)
+    pairs, lone = picked(paired, case, result)
+    choices = []
+    for pair in pairs:
+        is_decided, is_left = may_be_told(paired, pair, case.limit)
+        choices.append([pair.line] * is_decided + [f"UNDECIDED {pair.label}{pair.name}"] * is_left)
+    return [report(list(lines), lone, case.share) for lines in itertools.product(*choices)]
+
+
+# Reports.
+
+
+def report(told: list, lone: list[Lone], share=None):
+    """The run that tells these lines of pairs, and what has no partner."""
+    equal, different, undecided = (sum(line.startswith(word) for line in told) for word in ("EQUAL ", "DIFFER ", "UNDECIDED "))
+    last = f"{equal} equal, {different} different, {len(lone)} unmatched"
+    last += f", {undecided} undecided" if undecided else ""
+    last += f", share {share[0]} of {share[1]}" if share else ""
+    status = 1 if different or lone else 3 if undecided else 0
+    lines = [*told, *(f"ONLY {one.side} {one.label}{one.name}" for one in lone), last]
+    return Run(status, "".join(line + "\n" for line in lines).encode(), b"")
+
+
+def report_of(result):
+    return report([pair.line for pair in result.pairs], result.lone)
+
+
+def run_of(refusal):
+    return Run(refusal.status, b"", f"bddcheck: {refusal}\n".encode())
+
+
+def order_of(paired, order):
+    return Run(0, "".join(name + "\n" for name in levels(paired, order)).encode(), b"")
+
+
+# The whole run.
+
+
+def attempts(paired, case):
+    """What may come of the whole where orders are tried: the orders whose attempt may decide it, whether none may, and whether each
+    needs more nodes than the limit."""
+    found, over = [], True
+    for order in CANDIDATES:
+        result = judge(paired, order, case.sizes)
+        if case.limit is None or fits(result, case.limit):
+            found.append((order, result))
+            over = False
+        if case.limit is None or must_fit(result, case.limit):
+            return found, False, False
+    return found, True, over
+
+
+def best(paired, case):
+    found, may_be_none, over = attempts(paired, case)
+    runs = [order_of(paired, order) if case.print_order else report_of(result) for order, result in found]
+    runs += [run_of(Refusal(FULL, 3))] if over else []
+    return runs + ([run_of(Refusal(GIVEN_UP, 3))] if may_be_none else [])
+
+
+def auto(paired, case):
+    found, may_be_none, _ = attempts(paired, case)
+    runs = [report_of(judge(paired, "declared", False))] if found else []
+    return runs + (by_cones(paired, case) if may_be_none else [])
+
+
+def judged(case):
+    """What the case must give in one order; a refusal where it must be refused."""
+    paired, order = paired_of(case)
+    result = judge(paired, order, case.sizes)
+    if case.limit is not None and not fits(result, case.limit):
+        raise Refusal(FULL, 3)
+    return result
+
+
+def answers(case):
+    """The runs that the program may make of the case: one, and more where orders are tried within a limit."""
+    try:
+        paired, order = paired_of(case)
+        if order in TRIED:
+            return {"best": best, "auto": auto, "cones": by_cones}[order](paired, case)
+        return [order_of(paired, order) if case.print_order else report_of(judged(case))]
+    except Refusal as refusal:
+        return [run_of(refusal)]
