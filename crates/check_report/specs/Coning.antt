@@ -6,7 +6,7 @@ use Rattle.std.specs.declared.alloc.Global.{Global}
 use Rattle.std.specs.declared.vec.Vec.{Vec}
 use Rattle.net_bench.specs.Circuit.{Circuit, circuit}
 use Rattle.net_cone.specs.declared.cone.Cone.{Cone}
-use Rattle.net_cone.specs.Cones.{AreNames}
+use Rattle.net_cone.specs.Cones.{AreNames, gate_signals}
 use Rattle.net_order.specs.declared.order.Match.TheVariants.{Name}
 use Rattle.net_order.specs.declared.order.Order.TheVariants.{Declared}
 use Rattle.net_order.specs.Order.{Paired, condition, name_of}
@@ -52,13 +52,15 @@ abbrev pub circuit_in : Option Cone → Option Circuit
 circuit_in None = None
 circuit_in (Some cone) = Some (circuit cone.net)
 
--- the netlists and their pairing in declared order, the names of their variables by it, and the condition's cone
+-- the netlists and their pairing in declared order, the names of their variables by it, the signals of their gates, and the condition's cone
 pub record IsReady {H : Type 0} (whole : Whole H) : Type 0 where
   pub pairing : IsPairingIn whole.task.now Declared whole.pairing.now
   pub first : AreNamed (circuit whole.task.now.first.now) whole.pairing.now.first whole.pairing.now (texts whole.first.now)
   pub first_apart : AreNames whole.task.now.first.now (texts whole.first.now)
   pub second : AreNamed (circuit whole.task.now.second.now) whole.pairing.now.second whole.pairing.now (texts whole.second.now)
   pub second_apart : AreNames whole.task.now.second.now (texts whole.second.now)
+  pub first_gates : whole.first_gates.now ≡ gate_signals whole.task.now.first.now
+  pub second_gates : whole.second_gates.now ≡ gate_signals whole.task.now.second.now
   pub conditional : IsConditionCone (condition whole.task.now.given) whole.pairing.now (circuit_of whole.given)
   pub conditional_net : IfSome (condition whole.task.now.given) IsOfNet
   pub by_name : whole.settings.now.matching ≡ Name

@@ -24,7 +24,7 @@ use crate::task::Task;
 use crate::turns::judge_all;
 use expand_work::Gate;
 use net_bench::reader::Netlist;
-use net_cone::{Cone, cone_of};
+use net_cone::{Cone, cone_of, gate_signals};
 use net_order::order::Match;
 use net_order::pairing::Pairing;
 use report_text::{Name, Verdict, Verdicts};
@@ -60,7 +60,9 @@ fn given_cone<H>(task: &Task<'_, H>, pairing: &Pairing) -> Result<Option<Cone>, 
         return Ok(None);
     };
     let names = names_in(task.alloc, given, pairing, Part::Given)?;
-    let cone = cone_of(task.alloc, given, given.outputs()[0], names.as_slice())?;
+    let gates = gate_signals(task.alloc, given)?;
+    let root = given.outputs()[0];
+    let cone = cone_of(task.alloc, given, root, names.as_slice(), gates.as_slice())?;
     Ok(Some(cone))
 }
 
@@ -157,6 +159,12 @@ fn judge_picks<H: Threads + Wait + Sync, G: Gate>(
     let Ok(second) = names_in(task.alloc, task.second, pairing, Part::Second) else {
         return Err(CheckFault::OutOfMemory);
     };
+    let Ok(first_gates) = gate_signals(task.alloc, task.first) else {
+        return Err(CheckFault::OutOfMemory);
+    };
+    let Ok(second_gates) = gate_signals(task.alloc, task.second) else {
+        return Err(CheckFault::OutOfMemory);
+    };
     let Ok(given) = given_cone(task, pairing) else {
         return Err(CheckFault::OutOfMemory);
     };
@@ -166,6 +174,8 @@ fn judge_picks<H: Threads + Wait + Sync, G: Gate>(
         pairing,
         first: first.as_slice(),
         second: second.as_slice(),
+        first_gates: first_gates.as_slice(),
+        second_gates: second_gates.as_slice(),
         given: given.as_ref(),
         settings: &settings,
     };

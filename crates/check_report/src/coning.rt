@@ -14,6 +14,7 @@ use crate::settings::Settings;
 use crate::subject::Subject;
 use crate::task::Task;
 use crate::trials::paired;
+use net_bench::netlist::Signal;
 use net_bench::reader::Netlist;
 use net_cone::{Cone, cone_of};
 use net_order::names::Names;
@@ -31,6 +32,10 @@ pub struct Whole<'a, H> {
     pub first: &'a [Vec<u8>],
     /// Those of the second's.
     pub second: &'a [Vec<u8>],
+    /// The signals of the first netlist's gates, in text order.
+    pub first_gates: &'a [Signal],
+    /// Those of the second's.
+    pub second_gates: &'a [Signal],
     /// The cone of the condition's output, where there is one.
     pub given: Option<&'a Cone>,
     /// How the cones of a pair are compared.
@@ -51,10 +56,12 @@ pub fn cones_of<H>(whole: &Whole<'_, H>, subject: &Subject) -> Result<Cones, All
     ensures { IfOk result (AreConesOf whole.now subject.now) }
 {
     let task = whole.task;
-    Ok(Cones {
-        first: cone_of(task.alloc, task.first, subject.first, whole.first)?,
-        second: cone_of(task.alloc, task.second, subject.second, whole.second)?,
-    })
+    let alloc = task.alloc;
+    let net = task.first;
+    let first = cone_of(alloc, net, subject.first, whole.first, whole.first_gates)?;
+    let net = task.second;
+    let second = cone_of(alloc, net, subject.second, whole.second, whole.second_gates)?;
+    Ok(Cones { first, second })
 }
 
 /// Marks the levels of the variables that a cone has.

@@ -12,10 +12,11 @@ use Rattle.net_bench.specs.Statement.{takes_one}
 use Rattle.net_bench.proofs.OneLabelling.{at_contained}
 use Rattle.net_cone.specs.declared.cone.Numbers.{Numbers}
 use Rattle.net_cone.specs.Cones.{AreNames, IsBelow, IsCone, IsCopy, gate_name, last_gate, variable_name}
-use Rattle.net_cone.specs.Walk.{AreBelow, IsDrawn, IsMarked, IsNumbering, cone_names, has_mark, marked_gates, renamed}
+use Rattle.net_cone.specs.Walk.{AreBelow, IsDrawn, IsMarked, IsNumbering, cone_names, gates_of, has_mark, marked_gates, renamed}
 use Rattle.net_cone.proofs.Lists.{all_map, filter_after_map, in_filter, in_first, in_map, in_second, map_alike, map_itself, map_twice, none_of, one_of}
 use Rattle.net_cone.proofs.Names.{AreApart, apart_append, apart_map, at_two, counted, new_map, none_map}
 use Rattle.net_cone.proofs.Numbered.{no_gate, one_name}
+use Rattle.net_cone.proofs.Walking.{all_found}
 
 -- what cones are made of
 pub record IsReady (n : Net) (root : ℕ) (given : List (List ℕ)) (marks : List Bool) (k : Numbers) (cone : Net) : Type 0 where
@@ -27,7 +28,7 @@ pub record IsReady (n : Net) (root : ℕ) (given : List (List ℕ)) (marks : Lis
   pub each : length k.to.items ≡ length n.names
   pub variables : k.variables ≡ length (filter (has_mark marks) (variables_of (circuit n)))
   pub from : k.from.items ≡ filter (has_mark marks) (variables_of (circuit n)) ++ filter (has_mark marks) (map (λ g. g.out) n.gates)
-  pub drawn : IsDrawn n root given marks k cone
+  pub drawn : IsDrawn n root given k cone
 
 greatest_one : (x : ℕ) → greatest (x ∷ []) ≡ x
 greatest_one x =
@@ -144,11 +145,19 @@ module _ (n : Net) (root : ℕ) (given : List (List ℕ)) (marks : List Bool) (k
   copied : All (IsCopy n k.from.items) copies
   copied = all_map (renamed to) (IsCopy n from) gates (λ i d low. copy_of (get_or gates i d) (met i d low))
 
+  behind_variables : drop k.variables k.from.items ≡ map (λ g. g.out) gates
+  behind_variables = ap (drop k.variables) parts ∙ ap (λ m. drop m (vars ++ map (λ g. g.out) gates)) r.variables ∙ drop-append_seam vars (map (λ g. g.out) gates)
+
+  gates_are : cone.gates ≡ copies ++ last ∷ []
+  gates_are =
+      r.drawn.gates ∙ ap (λ ss. map (renamed to) (gates_of n.gates ss) ++ last ∷ []) behind_variables ∙
+      ap (λ gs. map (renamed to) gs ++ last ∷ []) (all_found n r.sound gates (λ i d low. (met i d low).0))
+
   copies_count : length copies ≡ length gates
   copies_count = length-map gates (renamed to)
 
   gates_count : length cone.gates ≡ length gates + 1
-  gates_count = ap length r.drawn.gates ∙ length-append copies (last ∷ []) ∙ ap (λ m. m + 1) copies_count
+  gates_count = ap length gates_are ∙ length-append copies (last ∷ []) ∙ ap (λ m. m + 1) copies_count
 
   -- the gates' signals stand behind the variables, in their order
   copy_out : (i : ℕ) (d : GateLine) → i < length gates → (get_or copies i d).out ≡ k.variables + i
@@ -162,11 +171,11 @@ module _ (n : Net) (root : ℕ) (given : List (List ℕ)) (marks : List Bool) (k
       let long : length copies ≡ length gates = copies_count in
       elim (cases_lt i (length gates)) [
         | inl before ↦
-            ap (λ gs. (get_or gs i d).out) r.drawn.gates ∙ ap (λ (g : GateLine). g.out) (get_or_append_left copies (last ∷ []) d i (omega arith)) ∙ copy_out i d before
+            ap (λ gs. (get_or gs i d).out) gates_are ∙ ap (λ (g : GateLine). g.out) (get_or_append_left copies (last ∷ []) d i (omega arith)) ∙ copy_out i d before
         | inr behind ↦
             let is : i ≡ length copies = omega arith in
             let end : i ≡ length gates = omega arith in
-            ap (λ gs. (get_or gs i d).out) r.drawn.gates ∙ ap (λ j. (get_or (copies ++ last ∷ []) j d).out) is ∙
+            ap (λ gs. (get_or gs i d).out) gates_are ∙ ap (λ j. (get_or (copies ++ last ∷ []) j d).out) is ∙
             ap (λ (g : GateLine). g.out) (get_or-append_seam copies last [] d) ∙ count ∙ ap (λ j. k.variables + j) (sym end)
       ]
 
@@ -200,9 +209,8 @@ module _ (n : Net) (root : ℕ) (given : List (List ℕ)) (marks : List Bool) (k
   names_are : cone_names n given k.variables k.from.items ≡ all_names
   names_are =
       let first : take k.variables k.from.items ≡ vars = ap (take k.variables) parts ∙ ap (λ m. take m (vars ++ outs)) r.variables ∙ take-append_seam vars outs in
-      let second : drop k.variables k.from.items ≡ outs = ap (drop k.variables) parts ∙ ap (λ m. drop m (vars ++ outs)) r.variables ∙ drop-append_seam vars outs in
       ap (λ xs. (map (variable_name given) xs ++ map (gate_name n) (drop k.variables k.from.items)) ++ (111 ∷ []) ∷ []) first ∙
-      ap (λ ys. (front ++ map (gate_name n) ys) ++ (111 ∷ []) ∷ []) second
+      ap (λ ys. (front ++ map (gate_name n) ys) ++ (111 ∷ []) ∷ []) behind_variables
 
   var_once : AreOnce vars
   var_once i j less low same =
@@ -323,7 +331,7 @@ module _ (n : Net) (root : ℕ) (given : List (List ℕ)) (marks : List Bool) (k
   variables_are = ap (λ (rs : List GateLine). cone.inputs ++ map (λ g. g.out) rs) r.drawn.registers ∙ append-nil cone.inputs
 
   gates_all : (P : GateLine → Type 0) → ((g : GateLine) → Contains n.gates g × IsMarked marks g.out → P (renamed k.to.items g)) → P last → All P cone.gates
-  gates_all P copy end = subst (All P) (sym r.drawn.gates)
+  gates_all P copy end = subst (All P) (sym gates_are)
       (All-append P copies (last ∷ []) (all_map (renamed to) P gates (λ i d low. copy (get_or gates i d) (met i d low))) (one_of P last end))
 
   abbrev IsFed : GateLine → Type 0
@@ -410,7 +418,7 @@ module _ (n : Net) (root : ℕ) (given : List (List ℕ)) (marks : List Bool) (k
         gate_places = λ i d low. copy_out i d (subst (λ m. i < m) copies_count low) ∙ ap (λ m. m + i) (sym r.drawn.inputs);
         inputs = inputs_all (λ t. (t < length from) × Contains (variables_of (circuit n)) (slice_index from t)) (λ t low. (omega arith, is_variable t low));
         registers = r.drawn.registers;
-        gates = r.drawn.gates;
+        gates = gates_are;
         copied = copied;
         inside = (number_of root root_in).0;
         stands = (number_of root root_in).1;

@@ -1,17 +1,18 @@
 -- A walk below a root, one signal at a time.
-use Rattle.std.proofs.Common.{◌≡◌, ◌⊎◌, inl, inr, ℕ, zero, suc, ◌<◌, List, [], ◌∷◌, ◌++◌, Bool, false, refl, sym, ap, ◌∙◌, subst, length, get_or, arith}
-use Rattle.std.specs.Prelude.{Contains, All, Some, None, IsTrue, slice_get, replicate}
+use Rattle.std.proofs.Common.{◌≡◌, ◌⊎◌, inl, inr, ℕ, zero, suc, ◌+◌, ◌<◌, List, [], ◌∷◌, ◌++◌, Bool, false, refl, sym, ap, ◌∙◌, subst, map, take, length, get_or, arith}
+use Rattle.std.specs.Prelude.{Contains, All, Option, Some, None, IsTrue, filter_map, slice_get, replicate}
 use Rattle.net_bench.specs.Statement.{takes_one}
 use Rattle.net_bench.proofs.OneLabelling.{at_contained}
 use Rattle.std.proofs.lemmas.Option.{slice_get-get_or, slice_get_within, get_or_from_slice_get}
-use Rattle.std.proofs.lemmas.List.{get_or_default}
+use Rattle.std.proofs.lemmas.List.{append-nil, get_or_default, take_more}
+use Rattle.std.proofs.lemmas.List.Elements.{filter_map-append}
 use Rattle.net_bench.specs.declared.netlist.GateLine.{GateLine}
 use Rattle.net_bench.specs.declared.netlist.Role.{Role}
 use Rattle.net_bench.specs.declared.netlist.Role.TheVariants.{Gate as gate, Undefined, Input, Register}
 use Rattle.net_bench.specs.Circuit.{Net, IsNet, circuit, gate_by, gate_of}
 use Rattle.net_bench.proofs.Built.{role_gate}
 use Rattle.net_cone.specs.Cones.{IsBelow, here, deeper}
-use Rattle.net_cone.specs.Walk.{AreBelow, IsMarked, IsWalking, KeepsMarks}
+use Rattle.net_cone.specs.Walk.{AreBelow, IsMarked, IsWalking, KeepsMarks, gates_of}
 
 pub contained_at : (xs : List ℕ) (i d : ℕ) → i < length xs → Contains xs (get_or xs i d)
 contained_at xs i d low = (i, low, get_or_default xs i (get_or xs i d) d low)
@@ -21,6 +22,31 @@ pub gate_found : (n : Net) → IsNet n → (g : GateLine) → Contains n.gates g
 gate_found n sound g (i, low, at) =
     let is : slice_get n.gates i ≡ Some g = slice_get-get_or n.gates i g low ∙ ap (λ x. Some x) at in
     role_gate n sound g.out (gate i) (g, is, refl) ∙ is
+
+-- one signal's gates
+one_of : (gates : List GateLine) (s : ℕ) (o : Option GateLine) → gate_of gates s ≡ o → gates_of gates (s ∷ []) ≡ filter_map (λ x. x) (o ∷ [])
+one_of gates s o is = ap (λ x. filter_map (λ y. y) (x ∷ [])) is
+
+-- the gates of gates' signals are these gates
+pub all_found : (n : Net) → IsNet n → (gs : List GateLine) → All (Contains n.gates) gs → gates_of n.gates (map (λ g. g.out) gs) ≡ gs
+all_found n sound [] all = refl
+all_found n sound (g ∷ gs) all =
+    filter_map-append (gate_of n.gates) (g.out ∷ []) (map (λ h. h.out) gs) ∙
+    ap (λ xs. xs ++ gates_of n.gates (map (λ h. h.out) gs)) (one_of n.gates g.out (Some g) (gate_found n sound g (all 0 g (omega arith)))) ∙
+    ap (λ hs. g ∷ hs) (all_found n sound gs (λ i d low. all (suc i) d (omega arith)))
+
+-- one signal more, without a gate or with one
+module _ (gates : List GateLine) (signals : List ℕ) (p s : ℕ) (low : p < length signals) (is : s ≡ get_or signals p s) where
+  one_more : (o : Option GateLine) → gate_of gates s ≡ o → gates_of gates (take (p + 1) signals) ≡ gates_of gates (take p signals) ++ filter_map (λ x. x) (o ∷ [])
+  one_more o found =
+      ap (gates_of gates) (take_more signals p s low) ∙ filter_map-append (gate_of gates) (take p signals) (get_or signals p s ∷ []) ∙
+      ap (λ t. gates_of gates (take p signals) ++ gates_of gates (t ∷ [])) (sym is) ∙ ap (λ xs. gates_of gates (take p signals) ++ xs) (one_of gates s o found)
+
+  pub no_more : gate_of gates s ≡ None → gates_of gates (take (p + 1) signals) ≡ gates_of gates (take p signals)
+  no_more none = one_more None none ∙ append-nil (gates_of gates (take p signals))
+
+  pub gate_more : (g : GateLine) → gate_of gates s ≡ Some g → gates_of gates (take (p + 1) signals) ≡ gates_of gates (take p signals) ++ g ∷ []
+  gate_more g found = one_more (Some g) found
 
 -- the last one of those that wait, or one of the others
 pub last_or : (xs : List ℕ) (y s : ℕ) → Contains (xs ++ y ∷ []) s → (y ≡ s) ⊎ Contains xs s

@@ -29,6 +29,10 @@ variable_name names s = 118 ∷ slice_index_or names s []
 abbrev pub gate_name : Net → ℕ → List ℕ
 gate_name n s = 103 ∷ slice_index_or n.names s []
 
+-- the signals of the gates, in text order
+abbrev pub gate_signals : Net → List ℕ
+gate_signals n = map (λ g. g.out) n.gates
+
 -- the gate of a cone is one of the netlist's, by the cone's numbers
 pub record IsCopy (n : Net) (from : List ℕ) (g : GateLine) : Type 0 where
   pub source : GateLine

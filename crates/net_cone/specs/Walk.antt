@@ -1,7 +1,7 @@
 -- What holds while a cone is made: the marks of its signals, and their numbers in it.
-use Rattle.std.specs.Prelude.{◌≡◌, ◌⊎◌, ◌<◌, ◌≤◌, ◌+◌, ℕ, Bool, true, false, if◌then◌else◌, List, [], ◌∷◌, ◌++◌, count_by, filter, fold, map, length, take, drop, slice_index, slice_index_or, Contains, All}
+use Rattle.std.specs.Prelude.{◌≡◌, ◌⊎◌, ◌<◌, ◌≤◌, ◌+◌, ℕ, Bool, true, false, if◌then◌else◌, List, [], ◌∷◌, ◌++◌, count_by, filter, filter_map, fold, map, length, take, drop, slice_index, slice_index_or, Contains, All}
 use Rattle.net_bench.specs.declared.netlist.GateLine.{GateLine}
-use Rattle.net_bench.specs.Circuit.{Net, circuit, with_name}
+use Rattle.net_bench.specs.Circuit.{Net, circuit, gate_of, with_name}
 use Rattle.net_cone.specs.declared.cone.Numbers.{Numbers}
 use Rattle.net_cone.specs.Cones.{IsBelow, gate_name, last_gate, variable_name}
 
@@ -53,6 +53,10 @@ renamed to g = record { out = slice_index to g.out; kind = g.kind; operands = ma
 abbrev pub marked_gates : List Bool → List GateLine → List GateLine
 marked_gates marks gates = filter (λ g. has_mark marks g.out) gates
 
+-- the gates of these signals, in their order
+abbrev pub gates_of : List GateLine → List ℕ → List GateLine
+gates_of gates signals = filter_map (gate_of gates) signals
+
 -- ---- the cone
 
 -- the names of a cone's signals, the variables first
@@ -60,12 +64,12 @@ abbrev pub cone_names : Net → List (List ℕ) → ℕ → List ℕ → List (L
 cone_names n given variables from = (map (variable_name given) (take variables from) ++ map (gate_name n) (drop variables from)) ++ (111 ∷ []) ∷ []
 
 -- the parts of the cone are made as they are to be
-pub record IsDrawn (n : Net) (root : ℕ) (given : List (List ℕ)) (marks : List Bool) (numbers : Numbers) (cone : Net) : Type 0 where
+pub record IsDrawn (n : Net) (root : ℕ) (given : List (List ℕ)) (numbers : Numbers) (cone : Net) : Type 0 where
   pub names : cone.names ≡ fold with_name [] (cone_names n given numbers.variables numbers.from.items)
   pub few : length cone.names ≤ 1000000
   pub inputs : length cone.inputs ≡ numbers.variables
   pub input : (i d : ℕ) → i < numbers.variables → slice_index_or cone.inputs i d ≡ i
   pub outputs : cone.outputs ≡ length numbers.from.items ∷ []
-  pub gates : cone.gates ≡ map (renamed numbers.to.items) (marked_gates marks n.gates) ++ last_gate (length numbers.from.items) (slice_index numbers.to.items root) ∷ []
+  pub gates : cone.gates ≡ map (renamed numbers.to.items) (gates_of n.gates (drop numbers.variables numbers.from.items)) ++ last_gate (length numbers.from.items) (slice_index numbers.to.items root) ∷ []
   pub registers : cone.registers ≡ []
   pub ranks : cone.ranks ≡ map (slice_index n.ranks) numbers.from.items ++ (slice_index n.ranks root + 1) ∷ []

@@ -2,14 +2,12 @@
 ghost use Rattle.std.specs.Prelude.{◌≡◌, ◌<◌, ◌≤◌, ℕ, ◌++◌, ◌∷◌, [], filter, fold, map, length, slice_index, All, IfOk, OnOk};
 ghost use Rattle.net_bench.specs.Assembly.{whole};
 ghost use Rattle.net_bench.specs.Circuit.{IsNet, circuit, variables_of, with_name};
-ghost use Rattle.net_cone.specs.Cones.{AreNames, IsCone};
+ghost use Rattle.net_cone.specs.Cones.{AreNames, IsCone, gate_signals};
 ghost use Rattle.net_cone.specs.Walk.{AreBelow, IsDrawn, IsNumbering, cone_names, has_mark};
 
 use crate::below::marks_below;
 use crate::naming::{count_gates, count_variables};
-use crate::numbering::{
-    first_numbers, last_gate, narrow, number_marked, ranks_of, renamed_gates, signals_of,
-};
+use crate::numbering::{first_numbers, last_gate, narrow, number_marked, ranks_of, renamed_gates};
 use net_bench::assembly::Parts;
 use net_bench::name_table::NameTable;
 use net_bench::netlist::Signal;
@@ -54,7 +52,7 @@ fn number_all(
 ) -> Result<usize, AllocError>
     requires marks { length marks.now ≡ length to.old }
     requires each { length to.old ≡ length net.now.names }
-    requires outs { outs.now ≡ map (λ g. g.out) net.now.gates }
+    requires outs { outs.now ≡ gate_signals net.now }
     requires none { from.old.items ≡ [] }
     ensures numbered { OnOk result (IsNumbering from.new.items to.new) }
     ensures variables { IfOk result (λ n. n ≡ length (filter (has_mark marks.now) (variables_of (circuit net.now)))) }
@@ -67,17 +65,22 @@ fn number_all(
 }
 
 /// The numbers of the marked signals.
-fn numbers_of(alloc: Global, net: &Netlist, marks: &[bool]) -> Result<Numbers, AllocError>
-    requires { length marks.now ≡ length net.now.names }
+fn numbers_of(
+    alloc: Global,
+    net: &Netlist,
+    marks: &[bool],
+    outs: &[Signal],
+) -> Result<Numbers, AllocError>
+    requires marks { length marks.now ≡ length net.now.names }
+    requires outs { outs.now ≡ gate_signals net.now }
     ensures each { IfOk result (λ v. length v.to.items ≡ length net.now.names) }
     ensures numbered { IfOk result (λ v. IsNumbering v.from.items v.to.items) }
     ensures variables { IfOk result (λ v. v.variables ≡ length (filter (has_mark marks.now) (variables_of (circuit net.now)))) }
-    ensures from { IfOk result (λ v. v.from.items ≡ filter (has_mark marks.now) (variables_of (circuit net.now)) ++ filter (has_mark marks.now) (map (λ g. g.out) net.now.gates)) }
+    ensures from { IfOk result (λ v. v.from.items ≡ filter (has_mark marks.now) (variables_of (circuit net.now)) ++ filter (has_mark marks.now) (gate_signals net.now)) }
 {
-    let outs = signals_of(alloc, net.gates())?;
     let mut to = Vec::from_elem(alloc, 0u32, net.count())?;
     let mut from = Vec::new(alloc);
-    let variables = number_all(net, marks, outs.as_slice(), &mut from, to.as_mut_slice())?;
+    let variables = number_all(net, marks, outs, &mut from, to.as_mut_slice())?;
     Ok(Numbers {
         from,
         to,
@@ -116,21 +119,20 @@ fn parts_of(
     net: &Netlist,
     root: Signal,
     given: &[Vec<u8>],
-    marks: &[bool],
     numbers: &Numbers,
 ) -> Result<Parts, AllocError>
     requires root { root < length net.now.names }
     requires given { length given.now ≡ length net.now.names }
-    requires marks { length marks.now ≡ length net.now.names }
     requires to { length numbers.now.to.items ≡ length net.now.names }
     requires known { All (λ s. s < length net.now.names) numbers.now.from.items }
     requires variables { numbers.now.variables ≤ length numbers.now.from.items }
-    ensures { IfOk result (λ p. IsDrawn net.now root (map (λ w. w.items) given.now) marks.now numbers.now (whole p)) }
+    ensures { IfOk result (λ p. IsDrawn net.now root (map (λ w. w.items) given.now) numbers.now (whole p)) }
 {
     let from = numbers.from.as_slice();
     let to = numbers.to.as_slice();
     let names = names_of(alloc, net, from, numbers.variables, given)?;
-    let mut gates = renamed_gates(alloc, net, marks, to)?;
+    let (_, own) = from.split_at(numbers.variables);
+    let mut gates = renamed_gates(alloc, net, own, to)?;
     let out = Signal::of(narrow(from.len())?);
     gates.push(last_gate(alloc, out, to, root)?)?;
     let mut outputs = Vec::new(alloc);
@@ -146,23 +148,25 @@ fn parts_of(
 }
 
 /// The cone of a signal of the netlist. Its variables get the names that are given by signal behind a 'v', and its gates their own
-/// names behind a 'g'; its output is "o". Time and memory are linear in the netlist. A cone of more signals than a netlist may have is
-/// refused like memory.
-
+/// names behind a 'g'; its output is "o". The signals of the netlist's gates are handed in, so that one list of them serves many cones.
+/// Time and memory are linear in the netlist: a walk over what is met, and one look at each signal. A cone of more signals than a netlist
+/// may have is refused like memory.
 pub fn cone_of(
     alloc: Global,
     net: &Netlist,
     root: Signal,
     names: &[Vec<u8>],
+    outs: &[Signal],
 ) -> Result<Cone, AllocError>
     requires inside { root < length net.now.names }
     requires names { AreNames net.now (map (λ w. w.items) names.now) }
+    requires outs { outs.now ≡ gate_signals net.now }
     ensures { IfOk result (λ c. IsCone net.now root (map (λ w. w.items) names.now) c.net c.from.items) }
 {
     let below = marks_below(alloc, net, root)?;
     let marks = below.as_slice();
-    let numbers = numbers_of(alloc, net, marks)?;
-    let parts = parts_of(alloc, net, root, names, marks, &numbers)?;
+    let numbers = numbers_of(alloc, net, marks, outs)?;
+    let parts = parts_of(alloc, net, root, names, &numbers)?;
     let Numbers { from, .. } = numbers;
     Ok(Cone {
         net: netlist_of_parts(alloc, parts)?,

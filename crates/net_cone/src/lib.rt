@@ -11,3 +11,4 @@ mod numbering;
 pub use cone::{Cone, cone_of};
 pub use counting::gates_below;
 pub use naming::own_names;
+pub use numbering::gate_signals;

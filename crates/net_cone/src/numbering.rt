@@ -1,10 +1,10 @@
 // The numbers of signals in a cone, and its gates by these numbers.
 ghost use Rattle.std.specs.Prelude.{◌≡◌, ◌≢◌, ◌<◌, ℕ, ◌++◌, ◌∷◌, [], filter, map, length, slice_index, slice_index_or, ◌+◌, All, IfOk, OnOk};
 ghost use Rattle.net_bench.specs.Circuit.{AreOnce, IsNet};
-ghost use Rattle.net_cone.specs.Cones.{last_gate};
-ghost use Rattle.net_cone.specs.Walk.{IsNumbering, has_mark, marked_gates, renamed};
+ghost use Rattle.net_cone.specs.Cones.{gate_signals, last_gate};
+ghost use Rattle.net_cone.specs.Walk.{IsNumbering, gates_of, has_mark, renamed};
 
-use net_bench::netlist::{GateLine, Kind, Operands, Signal};
+use net_bench::netlist::{GateLine, Kind, Operands, Role, Signal};
 use net_bench::reader::Netlist;
 use std::alloc::{AllocError, Global};
 
@@ -57,11 +57,12 @@ pub fn number_marked(
     Ok(())
 }
 
-/// The signals of gates.
-pub fn signals_of(alloc: Global, gates: &[GateLine]) -> Result<Vec<Signal>, AllocError>
-    ensures { IfOk result (λ v. v.items ≡ map (λ g. g.out) gates.now) }
+/// The signals of a netlist's gates, in text order. Time and memory are linear in the netlist.
+pub fn gate_signals(alloc: Global, net: &Netlist) -> Result<Vec<Signal>, AllocError>
+    ensures { IfOk result (λ v. v.items ≡ gate_signals net.now) }
 {
     let mut signals = Vec::new(alloc);
+    let gates = net.gates();
     for gate in gates {
         signals.push(gate.out)?;
     }
@@ -95,22 +96,22 @@ fn renamed(alloc: Global, gate: &GateLine, to: &[u32]) -> Result<GateLine, Alloc
     })
 }
 
-/// The gates whose signals are marked, by numbers.
+/// The gates of these signals, by numbers.
 pub fn renamed_gates(
     alloc: Global,
     net: &Netlist,
-    marks: &[bool],
+    signals: &[Signal],
     to: &[u32],
 ) -> Result<Vec<GateLine>, AllocError>
-    requires marks { length marks.now ≡ length net.now.names }
+    requires signals { All (λ s. s < length net.now.names) signals.now }
     requires numbers { length to.now ≡ length net.now.names }
-    ensures { IfOk result (λ v. v.items ≡ map (renamed to.now) (marked_gates marks.now net.now.gates)) }
+    ensures { IfOk result (λ v. v.items ≡ map (renamed to.now) (gates_of net.now.gates signals.now)) }
 {
     let mut copies = Vec::new(alloc);
     let gates = net.gates();
-    for gate in gates {
-        if marks[gate.out.number() as usize] {
-            copies.push(renamed(alloc, gate, to)?)?;
+    for place in 0..signals.len() {
+        if let Role::Gate(gate) = net.role(signals[place]) {
+            copies.push(renamed(alloc, &gates[gate as usize], to)?)?;
         }
     }
     Ok(copies)

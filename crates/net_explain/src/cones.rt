@@ -6,7 +6,7 @@ ghost use Rattle.net_explain.specs.Explaining.{AreBelow};
 
 use net_bench::netlist::Signal;
 use net_bench::reader::Netlist;
-use net_cone::{cone_of, own_names};
+use net_cone::{cone_of, gate_signals, own_names};
 use std::alloc::{AllocError, Global};
 
 /// Marks the signals.
@@ -25,7 +25,8 @@ pub fn marks_below(alloc: Global, net: &Netlist, root: Signal) -> Result<Vec<boo
     ensures { IfOk result (λ v. AreBelow net.now root v.items) }
 {
     let names = own_names(alloc, net)?;
-    let cone = cone_of(alloc, net, root, names.as_slice())?;
+    let gates = gate_signals(alloc, net)?;
+    let cone = cone_of(alloc, net, root, names.as_slice(), gates.as_slice())?;
     let mut marks = Vec::from_elem(alloc, false, net.count())?;
     mark_all(marks.as_mut_slice(), cone.sources());
     Ok(marks)

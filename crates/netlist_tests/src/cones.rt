@@ -2,7 +2,7 @@
 use crate::netlists::C17;
 use net_bench::netlist::Signal;
 use net_bench::reader::{Netlist, parse_bench};
-use net_cone::{Cone, cone_of, gates_below, own_names};
+use net_cone::{Cone, cone_of, gate_signals, gates_below, own_names};
 use std::alloc::{AllocError, Global};
 use std::test::Fail;
 
@@ -15,9 +15,10 @@ static PLAIN: &str = "INPUT(a)\nINPUT(b)\nOUTPUT(a)\nOUTPUT(k)\nk = AND(a, n)\nn
 /// The cone of the signal of this name. Variables go by their own names.
 fn cone_by_name(alloc: Global, net: &Netlist, name: &str) -> Result<Cone, AllocError> {
     let names = own_names(alloc, net)?;
+    let gates = gate_signals(alloc, net)?;
     match net.find(name.as_bytes()) {
         Some(root) if (root.number() as usize) < net.count() => {
-            cone_of(alloc, net, root, names.as_slice())
+            cone_of(alloc, net, root, names.as_slice(), gates.as_slice())
         }
         _ => Err(AllocError),
     }

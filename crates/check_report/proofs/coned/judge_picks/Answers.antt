@@ -1,4 +1,4 @@
-use Rattle.std.proofs.Common.{sym, subst, length}
+use Rattle.std.proofs.Common.{◌∙◌, sym, subst, length}
 use Rattle.std.specs.Prelude.{slice_index}
 use Rattle.net_bench.specs.Circuit.{circuit, variables_of}
 use Rattle.net_order.specs.declared.order.Order.TheVariants.{Declared}
@@ -35,6 +35,8 @@ judged-requires-clause-ready g c κs within =
       first_apart = first_names how task.first.now task.second.now (condition task.given) Declared p c.requires.pairing c.inputs.ensures.sound (texts c.as_slice.result.now) first;
       second = second;
       second_apart = second_names how task.first.now task.second.now (condition task.given) Declared p c.requires.pairing c.inputs.ensures.sound c.inputs-2.ensures.sound (texts c.as_slice-2.result.now) second;
+      first_gates = c.as_slice-3.ensures.value ∙ c.in-Ok-gate_signals.ensures;
+      second_gates = c.as_slice-4.ensures.value ∙ c.in-Ok-gate_signals-2.ensures;
       conditional = subst (IsConditionCone (condition task.given) p) (as_cone c.in-Ok-given_cone.given c.as_ref.result c.as_ref.ensures.value) c.in-Ok-given_cone.ensures.cone;
       conditional_net = c.in-Ok-given_cone.ensures.net;
       by_name = c.alone-settings.ensures.matching;
