@@ -98,7 +98,7 @@ class Devices:
             net = circuits.Netlist()
             circuits.multiplier(net, 9, multiply)
             texts.append(self.file(name, net.text().encode()))
-        seen = self.run("--verbose", *texts, seconds=240)
+        seen = self.run("--verbose", "--order", "best", *texts, seconds=240)
         told = [line for line in seen.err.decode().splitlines() if "budget" in line]
         self.check("the attempt that came furthest goes first", told, ["bddcheck: order declared, budget 4194304"])
         first = self.run("--order", "interleave", "--limit", 4194304, *texts, seconds=240)
