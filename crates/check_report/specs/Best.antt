@@ -61,9 +61,9 @@ first_budget limit = min 16384 limit
 abbrev pub IsBudget : (limit budget : ℕ) → Type 0
 IsBudget limit budget = ((k : ℕ) × (budget ≡ 16384 * 16 ^ k) × (budget < limit)) ⊎ (budget ≡ limit)
 
--- Where each pair can be judged by its cones, the whole is tried within 2^18 nodes at most.
+-- Where each pair can be judged by its cones, the whole is tried within 2^22 nodes at most.
 abbrev pub whole_limit : (limit : ℕ) → ℕ
-whole_limit limit = min 262144 limit
+whole_limit limit = min 4194304 limit
 
 -- An attempt in this order within so many nodes was given up: a comparison in it needs more, or one wave of it reaches more requests than
 -- eight for each of them, or than the gate's bound where that is less.

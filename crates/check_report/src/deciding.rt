@@ -29,7 +29,7 @@ use std::sync::Wait;
 use std::thread::Threads;
 
 /// Where each pair can be judged by its cones, the whole is tried within so many nodes at most.
-const WHOLE_LIMIT: u64 = 262_144;
+const WHOLE_LIMIT: u64 = 4_194_304;
 
 /// Compares two netlists in this order.
 fn by_order<H: Threads + Wait + Sync, G: Gate>(
