@@ -1,5 +1,5 @@
 -- Turns that several threads took.
-use Rattle.std.proofs.Common.{◌≡◌, ◌∙◌, ap, sym, refl, subst, arith, inl, inr, ◌⊎◌, ℕ, suc, ◌<◌, List, [], ◌∷◌, map, length, get_or, Option, Ok, Err}
+use Rattle.std.proofs.Common.{◌≡◌, sym, subst, arith, inl, inr, ◌⊎◌, ℕ, ◌<◌, List, [], ◌∷◌, map, length, get_or, Option, Ok, Err}
 use Rattle.std.specs.List.{AllZip}
 use Rattle.report_text.specs.declared.verdict.Verdict.{Verdict}
 use Rattle.check_report.specs.declared.coning.Whole.{Whole}

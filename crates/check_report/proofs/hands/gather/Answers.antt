@@ -1,5 +1,5 @@
 use Rattle.std.proofs.Common.{◌≡◌, ◌∙◌, ◌++◌, ◌∷◌, [], ◌-◌, ℕ, ap, arith, length, refl, rules, subst, suc}
-use Rattle.std.specs.Prelude.{option_to_list, slice_index}
+use Rattle.std.specs.Prelude.{slice_index}
 use Rattle.std.proofs.lemmas.List.{reverse-append}
 use mathlib.Core.List.{reverse}
 use Rattle.check_report.specs.Hands.{gathered, last_at, turns_in, without_last}

@@ -1,4 +1,4 @@
-use Rattle.std.proofs.Common.{◌≡◌, ◌+◌, ◌%◌, ◌<◌, ◌++◌, ◌∷◌, [], ℕ, All, ap, ◌∙◌, arith, length, length-append, rules, subst, sym, vec_len}
+use Rattle.std.proofs.Common.{◌≡◌, ◌%◌, ◌<◌, ◌++◌, ◌∷◌, [], ℕ, All, ap, ◌∙◌, arith, length, length-append, rules, subst, sym, vec_len}
 use Rattle.net_bench.specs.Circuit.{circuit}
 use Rattle.std.proofs.lemmas.List.Elements.{All-append, All-cons, All-nil}
 use Rattle.std.proofs.lemmas.Nat.{mod_below}

@@ -1,4 +1,4 @@
-use Rattle.std.proofs.Common.{◌≡◌, ◌∙◌, ◌-◌, ap, arith, length, length-append, rules, sym, take, vec_len}
+use Rattle.std.proofs.Common.{◌≡◌, ◌∙◌, ◌-◌, ap, length, rules, take, vec_len}
 use Rattle.check_report.proofs.Gathering.{front_long, last_is, others_is}
 use Rattle.check_report.proofs.hands.take_last.Goals as goal
 

@@ -1,4 +1,4 @@
-use Rattle.std.proofs.Common.{◌≡◌, ◌≤◌, length, rules, arith, vec_len}
+use Rattle.std.proofs.Common.{◌≡◌, length, rules, arith, vec_len}
 use Rattle.check_report.specs.Hands.{IsTurned}
 use Rattle.check_report.proofs.Gathering.{zip_of}
 use Rattle.check_report.proofs.turns.take_hand.Goals as goal

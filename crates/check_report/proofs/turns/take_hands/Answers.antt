@@ -1,11 +1,7 @@
-use Rattle.std.proofs.Common.{◌≡◌, ◌∙◌, ◌<◌, All, List, ap, arith, get_or, length, map, rules, subst, sym}
-use Rattle.std.proofs.lemmas.List.{get_or-map, length-map}
-use Rattle.std.specs.List.{AllZip}
-use Rattle.std.specs.declared.alloc.Global.{Global}
-use Rattle.std.specs.declared.vec.Vec.{Vec}
+use Rattle.std.proofs.Common.{rules}
 use Rattle.check_report.specs.declared.turns.Turn.{Turn}
 use Rattle.check_report.specs.Coning.{IsOf}
-use Rattle.check_report.specs.Hands.{IsTurned, turns_in}
+use Rattle.check_report.specs.Hands.{IsTurned}
 use Rattle.check_report.proofs.Gathering.{hand_in, left_there, zip_in}
 use Rattle.check_report.proofs.turns.take_hands.Goals as goal
 

@@ -1,4 +1,4 @@
-use Rattle.std.proofs.Common.{◌≡◌, ◌∙◌, ◌<◌, ℕ, All, List, ap, length, map, rules, subst, sym}
+use Rattle.std.proofs.Common.{◌≡◌, ◌∙◌, ℕ, List, ap, length, map, rules, subst, sym}
 use Rattle.std.specs.List.{AllZip}
 use Rattle.std.specs.Vec.{with_items}
 use Rattle.std.specs.declared.alloc.Global.{Global}
@@ -27,4 +27,4 @@ returns g c =
     subst (λ (ms : List ℕ). map (λ (t : Turn). t.subject) (gathered ms (length ms) (turns_in old)) ≡ c.args.subjects.now) same c.in_ok-hands.ensures.back in
     IfOk-then c.gather.result _ _ c.gather.ensures
     (λ v e. subst (AreEnded w c.args.budget bound c.args.subjects.now) (sym (e ∙ ap (λ (hs : List (Vec Turn Global)). gathered ns n (turns_in hs)) stored))
-        (all_ended w c.args.budget bound c.args.subjects.now (gathered ns n (turns_in old)) (gathered ns n (turns_in new)) back (zip_gathered R ns n (turns_in old) (turns_in new) taken)))
+    (all_ended w c.args.budget bound c.args.subjects.now (gathered ns n (turns_in old)) (gathered ns n (turns_in new)) back (zip_gathered R ns n (turns_in old) (turns_in new) taken)))
