@@ -126,15 +126,6 @@ all_left P (s ∷ ss) [] h = All-nil P
 all_left P (s ∷ ss) (None ∷ known) h = All-cons P s (left_of ss known) (All-head P s ss h) (all_left P ss known (All-tail P s ss h))
 all_left P (s ∷ ss) (Some v ∷ known) h = all_left P ss known (All-tail P s ss h)
 
--- what holds of the pairs holds of their turns
-pub all_turns : (P : Subject → Type 0) (turns : List Turn) (ss : List Subject) → map (λ (t : Turn). t.subject) turns ≡ ss → All P ss → All (λ (t : Turn). P t.subject) turns
-all_turns P [] ss e h = All-nil (λ (t : Turn). P t.subject)
-all_turns P (t ∷ turns) [] e h = cc
-all_turns P (t ∷ turns) (s ∷ ss) e h =
-    let same : t.subject ≡ s = cc in
-    let rest : map (λ (u : Turn). u.subject) turns ≡ ss = cc in
-    All-cons (λ (u : Turn). P u.subject) t turns (subst P (sym same) (All-head P s ss h)) (all_turns P turns ss rest (All-tail P s ss h))
-
 -- what the turns came to, pair by pair
 pub ended_zip : (R : Subject → Result (Option Verdict) CheckFault → Type 0) (turns : List Turn) (found : List (Option Verdict)) →
     ((i : ℕ) (t : Turn) → i < length turns → R (get_or turns i t).subject (get_or turns i t).ended) → map (λ (t : Turn). t.ended) turns ≡ map Ok found →

@@ -25,6 +25,7 @@ pub mod ByCones
 pub mod Findings
 pub mod Dealing
 pub mod Turning
+pub mod Gathering
 pub mod Ended
 pub mod ConeTasks
 pub mod Picks

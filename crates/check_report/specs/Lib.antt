@@ -11,6 +11,7 @@ pub mod Best
 pub mod Trials
 pub mod Cones
 pub mod Coning
+pub mod Hands
 pub mod Picking
 pub mod Deciding
 pub mod Texts

@@ -12,6 +12,7 @@ mod coned;
 mod coning;
 mod deciding;
 mod fault;
+mod hands;
 mod judging;
 pub mod laws;
 mod listing;

@@ -4,18 +4,21 @@ ghost use Rattle.std.specs.List.{AllZip};
 ghost use Rattle.check_report.specs.declared.turns.Turn.{Turn as TurnValue};
 ghost use Rattle.check_report.specs.Cones.{cone_limit};
 ghost use Rattle.check_report.specs.Coning.{AreEnded, EndsPairs, IsEndedIn, IsKnown, IsLeftOut, IsOf, IsReady, IsRoundOf, IsToldIn, filled, first_filled, left_of, rest_found};
+ghost use Rattle.check_report.specs.Hands.{IsTurned, turns_in};
 
 use crate::attempts::{FIRST_BUDGET, GROWTH};
 use crate::coning::Whole;
 use crate::fault::CheckFault;
+use crate::hands::{deal, gather, numbers_of};
 use crate::pairs::judge_pair;
 use crate::subject::Subject;
 use expand_work::Gate;
+use rayon::prelude::*;
 use report_text::Verdict;
 use std::alloc::{AllocError, Global};
 use std::collections::VecDeque;
 use std::sync::Wait;
-use std::thread::{Threads, for_each_mut};
+use std::thread::Threads;
 
 /// A pair, and what its turn in a round has come to: its verdict, or none where each attempt was given up.
 #[derive(Drop)]
@@ -25,6 +28,16 @@ pub struct Turn {
 }
 
 impl Turn {
+    /// A turn that is not taken yet.
+    pub fn of(subject: Subject) -> Turn
+        ensures { result.subject ≡ subject }
+    {
+        Turn {
+            subject,
+            ended: Ok(None),
+        }
+    }
+
     /// Judges the pair.
     fn take<H: Threads + Wait + Sync, G: Gate>(
         &mut self,
@@ -42,72 +55,100 @@ impl Turn {
     }
 }
 
-/// Puts a turn of the pair at the end, if it has no verdict yet.
-fn add_turn(
-    turns: &mut Vec<Turn>,
+/// Puts a pair at the end, if it has no verdict yet.
+fn add_left(
+    left: &mut Vec<Subject>,
     subject: &Subject,
     known: &Option<Verdict>,
 ) -> Result<(), AllocError>
-    ensures { OnOk result (map (λ (t : TurnValue). t.subject) turns.new.items ≡ map (λ (t : TurnValue). t.subject) turns.old.items ++ left_of (subject.now ∷ []) (known.now ∷ [])) }
+    ensures { OnOk result (left.new.items ≡ left.old.items ++ left_of (subject.now ∷ []) (known.now ∷ [])) }
 {
     if known.is_some() {
         return Ok(());
     }
-    let subject = *subject;
-    let turn = Turn {
-        subject,
-        ended: Ok(None),
-    };
-    match turns.push(turn) {
-        Ok(()) => Ok(()),
-        Err(_) => Err(AllocError),
-    }
+    left.push(*subject)?;
+    Ok(())
 }
 
-/// A turn for each pair that has no verdict yet.
-fn turns_of(
+/// The pairs that have no verdict yet.
+fn left_in(
     alloc: Global,
     subjects: &[Subject],
     known: &[Option<Verdict>],
-) -> Result<Vec<Turn>, AllocError>
+) -> Result<Vec<Subject>, AllocError>
     requires { length known.now ≡ length subjects.now }
-    ensures { IfOk result (λ turns. map (λ (t : TurnValue). t.subject) turns.items ≡ left_of subjects.now known.now) }
+    ensures { IfOk result (λ left. left.items ≡ left_of subjects.now known.now) }
 {
-    let mut turns = Vec::new(alloc);
+    let mut left = Vec::new(alloc);
     for place in 0..subjects.len() {
-        add_turn(&mut turns, &subjects[place], &known[place])?;
+        add_left(&mut left, &subjects[place], &known[place])?;
     }
-    Ok(turns)
+    Ok(left)
 }
 
 /// How many pairs are judged at once, so that all together stay within the limit.
-fn at_once(limit: u64, budget: u64, workers: u32) -> usize
+fn at_once(limit: u64, budget: u64, workers: u32) -> u32
     requires { 1 ≤ budget }
     ensures { 1 ≤ result }
 {
-    (limit / budget).min(u64::from(workers)).max(1) as usize
+    (limit / budget).min(u64::from(workers)).max(1) as u32
 }
 
-/// Judges the pairs, some at once, each on one thread.
-fn take_turns<H: Threads + Wait + Sync, G: Gate>(
+/// Judges the pairs of a hand, one after the other.
+fn take_hand<H: Threads + Wait + Sync, G: Gate>(
     whole: &Whole<'_, H>,
-    turns: &mut [Turn],
+    hand: &mut Vec<Turn>,
     budget: u64,
     gate: &G,
 )
+    requires small { budget < 2 ^ 32 }
+    requires ready { IsReady whole.now }
+    requires inside { All (λ (t : TurnValue). IsOf whole.now t.subject) hand.old.items }
+    ensures { AllZip (IsTurned whole.now budget (G.bound gate.now)) hand.old.items hand.new.items }
+{
+    for place in 0..hand.len() {
+        hand[place].take(whole, budget, gate);
+    }
+}
+
+/// Judges the pairs of all hands, each hand's on one thread.
+fn take_hands<H: Threads + Wait + Sync, G: Gate>(
+    whole: &Whole<'_, H>,
+    hands: &mut [Vec<Turn>],
+    budget: u64,
+    gate: &G,
+)
+    requires small { budget < 2 ^ 32 }
+    requires ready { IsReady whole.now }
+    requires inside { All (All (λ (t : TurnValue). IsOf whole.now t.subject)) (turns_in hands.old) }
+    ensures { AllZip (AllZip (IsTurned whole.now budget (G.bound gate.now))) (turns_in hands.old) (turns_in hands.new) }
+{
+    let take = |_place: usize, hand: &mut Vec<Turn>|
+        requires { (budget < 2 ^ 32) × IsReady whole.now × All (λ (t : TurnValue). IsOf whole.now t.subject) hand.now.items }
+        ensures { AllZip (IsTurned whole.entry.now budget (G.bound gate.entry.now)) hand.entry.now.items hand.exit.now.items }
+    { take_hand(whole, hand, budget, gate) };
+    par_for_each_mut(whole.task.rt, hands, take);
+}
+
+/// Judges the pairs, some at once, each on one thread: as many hands have turns as pairs are judged at once.
+fn take_turns<H: Threads + Wait + Sync, G: Gate>(
+    whole: &Whole<'_, H>,
+    subjects: &[Subject],
+    budget: u64,
+    gate: &G,
+) -> Result<Vec<Turn>, AllocError>
     requires some { 1 ≤ budget }
     requires small { budget < 2 ^ 32 }
     requires ready { IsReady whole.now }
-    requires inside { All (λ (t : TurnValue). IsOf whole.now t.subject) turns.old }
-    ensures { AreEnded whole.now budget (G.bound gate.now) (map (λ (t : TurnValue). t.subject) turns.old) turns.new }
+    requires inside { All (IsOf whole.now) subjects.now }
+    ensures { IfOk result (λ turns. AreEnded whole.now budget (G.bound gate.now) subjects.now turns.items) }
 {
     let settings = whole.task.settings;
-    let threads = at_once(settings.limit, budget, settings.workers);
-    let take = |_place: usize, turn: &mut Turn|
-        requires { (budget < 2 ^ 32) × IsReady whole.now × IsOf whole.now turn.now.subject }
-        ensures { (turn.exit.now.subject ≡ turn.entry.now.subject) × IsEndedIn whole.entry.now budget (G.bound gate.entry.now) turn.entry.now.subject turn.exit.now.ended }
-    { turn.take(whole, budget, gate) };
-    for_each_mut(whole.task.rt, turns, threads, &take);
+    let count = at_once(settings.limit, budget, settings.workers);
+    let numbers = numbers_of(whole, subjects, count)?;
+    let mut hands = deal(whole, subjects, numbers.as_slice(), count)?;
+    take_hands(whole, hands.as_mut_slice(), budget, gate);
+    gather(whole.task.alloc, hands, numbers.as_slice())
 }
 
 /// What the turns came to. The first fault by place is told.
@@ -177,10 +218,12 @@ fn judge_round<H: Threads + Wait + Sync, G: Gate>(
     ensures ends { IfErr result EndsPairs }
 {
     let alloc = whole.task.alloc;
-    let Ok(mut turns) = turns_of(alloc, subjects, known.as_slice()) else {
+    let Ok(left) = left_in(alloc, subjects, known.as_slice()) else {
         return Err(CheckFault::OutOfMemory);
     };
-    take_turns(whole, turns.as_mut_slice(), budget, gate);
+    let Ok(turns) = take_turns(whole, left.as_slice(), budget, gate) else {
+        return Err(CheckFault::OutOfMemory);
+    };
     let found = match ended_of(alloc, turns) {
         Ok(found) => found,
         Err(fault) => return Err(fault),
