@@ -266,7 +266,7 @@ def make_case(kind, rng):
             case.first += b"\n"
         if rng.random() < 0.1:
             case.first = damaged(rng, case.first)
-    if kind == "given" or (kind in (*BY_CONES, "only", "share") and rng.random() < 0.3):
+    if kind == "given" or (kind in (*BY_CONES, "coned", "only", "share") and rng.random() < 0.3):
         condition = random_netlist(rng, sources_of(first)[:4] or ["g"], rng.randrange(1, 6), 1)
         case.given = laid_out(rng, condition, plain)
         if rng.random() < 0.1:
@@ -282,6 +282,11 @@ def pick(rng, case, kind, first, second):
         known = ends(first) or ["nobody"]
         others = [*known, *ends(second), *sources_of(first), "nobody"]
         case.only = rng.choices(known if rng.random() < 0.8 else others, k=rng.choice([1, 1, 2, 3]))
+        both = [s[1] for s in first if s[0] == "DFF" and s[1] in sources_of(second)]
+        if both and rng.random() < 0.3:
+            # The second netlist alone has an output of this name.
+            case.only = both[:1]
+            case.second += f"\nOUTPUT({both[0]})\n".encode()
     else:
         of = rng.choice([1, 2, 2, 3, 4, 9])
         case.share = rng.randrange(1, of + 1), of

@@ -31,14 +31,13 @@ fn counts_by_name(
     first: &str,
     second: &str,
 ) -> Result<Vec<u64>, AllocError> {
-    let mut roots = Vec::new(alloc);
-    for name in [first, second] {
-        match net.find(name.as_bytes()) {
-            Some(root) if (root.number() as usize) < net.count() => roots.push(root)?,
-            _ => return Err(AllocError),
+    match (net.find(first.as_bytes()), net.find(second.as_bytes())) {
+        (Some(one), Some(other))
+            if (one.number() as usize) < net.count() && (other.number() as usize) < net.count() => {
+            gates_below(alloc, net, [one, other].as_slice())
         }
+        _ => Err(AllocError),
     }
-    gates_below(alloc, net, roots.as_slice())
 }
 
 /// The names of the netlist's signals in their order, a blank behind each.
