@@ -15,8 +15,7 @@ static THREE: &str =
     "INPUT(a)\nINPUT(b)\nOUTPUT(x)\nOUTPUT(y)\nOUTPUT(z)\nx = AND(a, b)\ny = OR(a, x)\nz = NOT(a)\n";
 
 /// The two outputs, of which the second one is another function.
-static TWO: &str =
-    "INPUT(a)\nINPUT(b)\nOUTPUT(x)\nOUTPUT(y)\nx = AND(b, a)\ny = XOR(a, b)\n";
+static TWO: &str = "INPUT(a)\nINPUT(b)\nOUTPUT(x)\nOUTPUT(y)\nx = AND(b, a)\ny = XOR(a, b)\n";
 
 /// The second pair has three gates, and so comes before the first, which has two.
 static OF_FIRST_SHARE: &str =
