@@ -5,6 +5,7 @@ The verdicts are those of judging.py. No code is shared with the product.
 from __future__ import annotations
 
 import itertools
+import re
 from dataclasses import dataclass
 
 from judging import Lone, Paired, Refusal, judge, levels
@@ -30,6 +31,8 @@ class Case:
     second: bytes
     match: str = "name"
     order: str | bytes = "declared"
+    # The names of the file that are variables, then the others as declared.
+    extend: bool = False
     sizes: bool = False
     limit: int | None = None
     workers: int = 4
@@ -38,6 +41,8 @@ class Case:
     print_order: bool = False
     # Both texts on standard input, with this line between them.
     divider: bytes | None = None
+    # Which variables of an assignment are told: the word of --assignment, where there is one.
+    assignment: str | None = None
     # What is picked: names, or the number of a share and how many there are.
     only: list | None = None
     share: tuple | None = None
@@ -75,7 +80,8 @@ def paired_of(case):
         given = read_text("given", case.given)
         if len(given.outputs) != 1:
             raise Refusal("given: not exactly one output")
-    return Paired(*nets, case.match, given), order
+    paired = Paired(*nets, case.match, given)
+    return paired, paired.extended(order) if case.extend else order
 
 
 # Attempts.
@@ -238,12 +244,23 @@ def judged(case):
     return result
 
 
+DIFFER = re.compile(rb"(DIFFER (?:NEXT )?\S+ at)((?: [^\s=]+=[01])*)( first=[01] second=[01].*)")
+
+
+def told(case, seen):
+    """The run with the variables that the case tells of assignments."""
+    if case.assignment != "ones":
+        return seen
+    ones = lambda found: found[1] + b"".join(b" " + bit for bit in found[2].split() if bit.endswith(b"=1")) + found[3]
+    return Run(seen.status, DIFFER.sub(ones, seen.out), seen.err)
+
+
 def answers(case):
     """The runs that the program may make of the case: one, and more where orders are tried within a limit."""
     try:
         paired, order = paired_of(case)
         if order in TRIED:
-            return {"best": best, "auto": auto, "cones": by_cones}[order](paired, case)
-        return [order_of(paired, order) if case.print_order else report_of(judged(case))]
+            return [told(case, seen) for seen in {"best": best, "auto": auto, "cones": by_cones}[order](paired, case)]
+        return [order_of(paired, order) if case.print_order else told(case, report_of(judged(case)))]
     except Refusal as refusal:
         return [run_of(refusal)]

@@ -100,9 +100,19 @@ class Devices:
             texts.append(self.file(name, net.text().encode()))
         seen = self.run("--verbose", "--order", "best", *texts, seconds=240)
         told = [line for line in seen.err.decode().splitlines() if "budget" in line]
-        self.check("the attempt that came furthest goes first", told, ["bddcheck: order declared, budget 4194304"])
+        self.check("the attempt that came furthest goes first", told[10:], ["bddcheck: order declared, budget 4194304"])
+        lines_of_first = [f"bddcheck: order {order}, budget 16384: " for order in ("interleave", "force", "index", "depth", "declared")]
+        self.tally.check("each attempt of the first budget is told", all(map(str.startswith, told, lines_of_first)), told)
+        later = {tuple(re.fullmatch(r"bddcheck: order (\w+), budget (\d+): (?:more nodes|too many requests in one wave)", line).groups()) for line in told[5:10]}
+        self.tally.check("each attempt of the second", later == {(line.split()[2][:-1], "262144") for line in lines_of_first}, told)
         first = self.run("--order", "interleave", "--limit", 4194304, *texts, seconds=240)
         self.check("the first candidate would have ended there too", first, Run(seen.status, seen.out, b""))
+        rounds = [self.run("--verbose", "--order", "cones", "--workers", workers, *texts, seconds=240) for workers in (1, 3)]
+        told = [[line for line in one.err.decode().splitlines() if " rank " not in line] for one in rounds]
+        self.check("a line for each round, whatever the workers are", told[1], told[0])
+        self.tally.check("some pairs are left by each round but the last", re.fullmatch(
+            r"(bddcheck: cones, budget (16384|262144): [1-9]\d* of 18 pairs left\n){2}bddcheck: cones, budget 2097152: 0 of 18 pairs left\nbddcheck: each pair by its cones",
+            "\n".join(told[0])), told)
 
     def full_disk(self):
         for words in (["--sizes"], ["--workers", 1], ["--format", "json"]):

@@ -43,6 +43,10 @@ def one_differs(seen):
     return seen.status == 1 and seen.out.count(b"DIFFER") == 1 and b"1 equal, 1 different, 0 unmatched" in seen.out
 
 
+def explained(seen):
+    return one_differs(seen) and b"\n  19 first=0 second=1 line 11 line 11\n" in seen.out
+
+
 def differ_at_both(seen):
     return seen.status == 1 and b" a=1 b=1 " in seen.out and seen.out.count(b"\n") == 2
 
@@ -75,6 +79,7 @@ SEEN = {
     "--sizes --order depth examples/adder8_ripple.bench examples/adder8_lookahead.bench": twenty_three,
     "examples/adder8_ripple.bench examples/adder8_wrong.bench": eight_and_fifty_six,
     "examples/c17.bench examples/c17b.bench": one_differs,
+    "--explain 23 examples/c17.bench examples/c17b.bench": explained,
     "examples/c17.bench examples/c17c.bench": no_partner,
     "--sizes examples/pairs.bench examples/pairs.bench": equal("o", sizes=[6]),
     "--sizes examples/pairs13.bench examples/pairs13.bench": equal("o", sizes=[16382]),

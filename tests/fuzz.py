@@ -250,6 +250,7 @@ def make_case(kind, rng):
     case.order = rng.choice(BY_CONES) if kind == "coned" else rng.choice(list(ORDERS)) if kind in ("position", "damaged", "input", "limit", "print") else kind
     if kind == "list" or (kind in ("position", "limit", "print") and rng.random() < 0.3):
         case.order = listed(rng, first, second, match)
+        case.extend = rng.random() < 0.4
     if kind in ("sizes", "given"):
         case.order = rng.choice(list(ORDERS))
     if case.order in BY_CONES and kind in ("sizes", "print"):
@@ -271,6 +272,8 @@ def make_case(kind, rng):
         case.given = laid_out(rng, condition, plain)
         if rng.random() < 0.1:
             case.given = damaged(rng, case.given)
+    if rng.random() < 0.3:
+        case.assignment = rng.choice(["all", "ones"])
     return case
 
 
@@ -334,7 +337,7 @@ def words_of(program, case, place):
     if case.match != "name":
         words += ["--match", case.match]
     if isinstance(case.order, bytes):
-        words += ["--order-file", kit.written(place, "order", case.order)]
+        words += ["--order-file", kit.written(place, "order", case.order), *(["--extend"] if case.extend else [])]
     elif case.order != default_of(case):
         words += ["--order", case.order]
     elif case.workers == 1:
@@ -346,6 +349,8 @@ def words_of(program, case, place):
     words += [f"--only={name}" for name in case.only or []]
     if case.share is not None:
         words += ["--share", "{}/{}".format(*case.share)]
+    if case.assignment is not None:
+        words += ["--assignment", case.assignment]
     if case.sizes:
         words.append("--sizes")
     if case.print_order:

@@ -85,6 +85,10 @@ def joined(tally):
     tally.check("an empty share", seen.status == 0, seen)
     at_at = lines("DIFFER NEXT at at at=1 first=0 second=1", "0 equal, 1 different, 0 unmatched, share 1 of 1")
     seen = join(b"at = DFF(at)\n", at_at)
+    ones = [lines("DIFFER x at a=1 first=0 second=1", "0 equal, 1 different, 0 unmatched, share 1 of 2"),
+            lines("DIFFER w at first=0 second=1", "0 equal, 1 different, 0 unmatched, share 2 of 2")]
+    wanted = lines("DIFFER x at a=1 first=0 second=1", "DIFFER w at first=0 second=1", "0 equal, 2 different, 0 unmatched")
+    tally.check("variables that are 1 alone", (told_ones := join(TWO_OUTPUTS, *ones)) == Run(1, wanted, b""), told_ones)
     tally.check("a register at", seen == Run(1, at_at.replace(b", share 1 of 1", b""), b""), seen)
 
 
@@ -142,8 +146,8 @@ def refusals(tally):
     refused(tally, "a line of another kind", TWO_OUTPUTS, X.replace(b"EQUAL", b"SAME"), W, says=b"no line of a share: SAME x")
     turned = lines("EQUAL w", "EQUAL x", "2 equal, 0 different, 0 unmatched, share 1 of 1")
     refused(tally, "pairs out of order", TWO_OUTPUTS, turned, says=b"output x does not stand in its place")
-    differ = [X.replace(b"1 equal, 0", b"0 equal, 1").replace(b"EQUAL x", b"DIFFER x at a=1 first=0 second=1")]
-    differ += [W.replace(b"1 equal, 0", b"0 equal, 1").replace(b"EQUAL w", b"DIFFER w at b=1 first=0 second=1")]
+    differ = [X.replace(b"1 equal, 0", b"0 equal, 1").replace(b"EQUAL x", b"DIFFER x at a=0 first=0 second=1")]
+    differ += [W.replace(b"1 equal, 0", b"0 equal, 1").replace(b"EQUAL w", b"DIFFER w at b=0 first=0 second=1")]
     refused(tally, "other variables", TWO_OUTPUTS, *differ, says=b"different variables")
     refused(tally, "no share at all", TWO_OUTPUTS, says=b"usage")
     seen = run([sys.executable, TOP / "tools" / "join.py", "/nowhere/first.bench", "/nowhere/share"])

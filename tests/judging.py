@@ -77,6 +77,11 @@ class Paired:
     def of_condition(self):
         return [*self.given.inputs, *self.given.registers] if self.given else []
 
+    def extended(self, names):
+        """Those of the names that are variables, then the others as declared, a condition's last."""
+        variables = [*self.declared(), *self.of_condition()]
+        return distinct([*(name for name in names if name in variables), *variables])
+
     def by_index(self):
         """By the number at the end of a name; a condition's variables stand among the others."""
         return sorted(distinct([*self.declared(), *self.of_condition()]), key=index_key)

@@ -10,6 +10,16 @@ import kit
 from kit import C17, C17B, TOP, Tally, run, written
 
 
+# Buses of 9 bits, of 1 bit and of 5 in two dimensions; one that lacks a bit, one with a name of no number, one whose bit has another name.
+BUSES = b"".join(
+    b"INPUT(%s)\n" % name
+    for name in (
+        *(b"a[%d]" % i for i in (8, 3, 0, 1, 2, 7, 6, 5, 4)), b"c", b"one[0]", *(b"m[1][%d]" % i for i in range(5)), b"gap[0]", b"gap[2]",
+        b"x[0]", b"x[a]", b"y[0]", b"y[01]", b"[0]", b"z[1]", b"m[0]",
+    )
+) + b"OUTPUT(o)\nOUTPUT(p)\no = NOR(a[8], c, m[1][4], one[0], [0])\np = AND(a[3], a[7], m[1][1], m[1][4], y[01], z[1])\n"
+
+
 def pairs(place):
     """Words over two files. Among the names are those that JSON has to escape."""
     c17, c17b = written(place, "c17", C17), written(place, "c17b", C17B)
@@ -27,11 +37,15 @@ def pairs(place):
     for files in ((c17, c17b), (c17, lone), (odd, odder), (empty, empty), (s27, wrong), (s27, renamed)):
         for words in (["--order", "cones"], ["--order", "cones", "--limit", 8], ["--share", "1/2"], ["--share", "2/2", "--limit", 8]):
             yield [*words, *files]
+    buses, wider = written(place, "buses", BUSES), written(place, "wider", BUSES.replace(b"NOR", b"XOR"))
+    for files in ((c17, c17b), (odd, odder), (s27, wrong), (buses, wider), (buses, buses)):
+        for words in (["all"], ["ones"], ["ones", "--order", "depth"], ["all", "--sizes"], ["ones", "--order", "cones"]):
+            yield ["--assignment", *words, *files]
     yield ["--only", 23, "--only", 22, c17, c17b]
     yield ["--only", 23, c17, lone]
 
 
-def line_of(verdict, variables):
+def line_of(verdict):
     """The line of a verdict in the report by text."""
     name = {"output": "", "next state": "NEXT "}[verdict["of"]] + verdict["name"]
     if verdict["verdict"] == "ONLY":
@@ -40,14 +54,14 @@ def line_of(verdict, variables):
         return f"UNDECIDED {name}"
     if verdict["verdict"] == "EQUAL":
         return f"EQUAL {name}" + (f" size {verdict['size']}" if "size" in verdict else "")
-    bits = " ".join(f"{variable}={verdict['at'][variable]}" for variable in variables)
+    bits = "".join(f" {variable}={bit}" for variable, bit in verdict["at"].items())
     sizes = " sizes {} {}".format(*verdict["sizes"]) if "sizes" in verdict else ""
-    return f"DIFFER {name} at {bits} first={verdict['first']} second={verdict['second']}{sizes}"
+    return f"DIFFER {name} at{bits} first={verdict['first']} second={verdict['second']}{sizes}"
 
 
 def text_of(report):
     """The report by text that says the same."""
-    lines = [line_of(verdict, report["variables"]) for verdict in report["verdicts"]]
+    lines = [line_of(verdict) for verdict in report["verdicts"]]
     last = "{equal} equal, {different} different, {unmatched} unmatched".format(**report)
     last += f", {report['undecided']} undecided" if "undecided" in report else ""
     last += ", share {} of {}".format(*report["share"]) if "share" in report else ""
@@ -61,6 +75,28 @@ def settings_of(words):
     after = lambda word, other: words[words.index(word) + 1] if word in words else other
     usual = "declared" if "--sizes" in words else "cones" if "--only" in words or "--share" in words else "auto"
     return after("--match", "name"), "file" if "--order-file" in words else after("--order", usual)
+
+
+def widths(variables):
+    """The buses of the variables, with how many bits each has: all whose names begin with that of the bus and a bracket."""
+    found = {}
+    for name in variables:
+        if name.endswith("[0]"):
+            bits = [other for other in variables if other.startswith(name[:-2])]
+            if set(bits) == {f"{name[:-2]}{i}]" for i in range(len(bits))}:
+                found[name[:-3]] = len(bits)
+    return found
+
+
+def tells(verdict, variables, words):
+    """Whether an assignment has the variables that the words ask for, and the numbers of their buses."""
+    at = verdict["at"]
+    which = words[words.index("--assignment") + 1] if "--assignment" in words else None
+    if list(at) != [name for name in variables if which != "ones" or name in at] or (which == "ones" and 0 in at.values()):
+        return False
+    number = lambda name, bits: f"0x{sum(at.get(f'{name}[{i}]', 0) << i for i in range(bits)):0{(bits + 3) // 4}x}"
+    buses = {name: number(name, bits) for name, bits in widths(variables).items()}
+    return verdict.get("buses") == (None if which is None else buses) and list(verdict.get("buses", {})) == list(buses if which else {})
 
 
 def fits(value, schema, top):
@@ -108,7 +144,7 @@ def try_pair(program, words, schema, tally):
         return
     says = text_of(report) if fits(report, schema, schema) else "another form than the schema's"
     is_line = seen.out.endswith(b"}\n") and seen.out.count(b"\n") == 1
-    in_order = all(list(verdict["at"]) == report["variables"] for verdict in report["verdicts"] if "at" in verdict)
+    in_order = all(tells(verdict, report["variables"], words) for verdict in report["verdicts"] if "at" in verdict)
     right = (by_lines.status, by_lines.out, b"") == (seen.status, says, seen.err)
     tally.check(name, right and is_line and in_order and (report["match"], report["order"]) == settings_of(words), f"{seen}; {by_lines}")
 

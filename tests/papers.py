@@ -1,6 +1,7 @@
 #!/usr/bin/env python3
 """That the program's own help, its manual page, its completions and the README name the same options, that docs/DEFINITIONS.md has
-the definitions that public contracts cite, and that the README names the kit that is here.
+the definitions that public contracts cite, that docs/crates.svg and docs/wave.svg are what their scripts draw, and that the README
+names the kit that is here.
 
 usage: tests/papers.py PROGRAM
 """
@@ -37,6 +38,10 @@ def main():
     tally.check("the README has the options of --help", not missing, missing)
     compared = run([sys.executable, str(TOP / "tools" / "definitions.py")])
     tally.check("docs/DEFINITIONS.md has what public contracts cite", compared.status == 0, compared)
+    for script, picture in (("picture.py", "crates.svg"), ("wave.py", "wave.svg")):
+        drawn = run([sys.executable, str(TOP / "tools" / script)])
+        is_drawn = drawn.status == 0 and drawn.out == (TOP / "docs" / picture).read_bytes()
+        tally.check(f"docs/{picture} is what tools/{script} draws", is_drawn, drawn)
     if shutil.which("rt"):
         kit = run(["rt", "version"])
         lines = [f"Proved with `{line}`." for line in kit.out.decode().splitlines()]

@@ -22,6 +22,9 @@ from dataclasses import dataclass, field
 import kit
 from kit import C17, C17B, TOP, Tally, lines, netlist, run, say, written
 
+sys.path.append(str(TOP / "bench"))
+import circuits  # noqa: E402
+
 # Where want of memory may stand, and a worker that could not be started.
 REFUSED = {
     lines(f"bddcheck: {place}out of memory") for place in ("", "first: ", "second: ", "given: ", "order: ", "build: ")
@@ -50,6 +53,12 @@ def products(count, join="one"):
         gates += [f"b{i} = OR({f'b{i - 1}' if i > 1 else 'a0'}, a{i})" for i in range(1, count)]
         gates.append(f"o = BUFF(b{count - 1})")
     return netlist(";".join(ports + gates))
+
+
+def multiplier(multiply, size):
+    net = circuits.Netlist()
+    circuits.multiplier(net, size, multiply)
+    return net.text().encode()
 
 
 # The ways: what counts, and whether one is refused or all from one on.
@@ -93,6 +102,9 @@ def rows(place):
     yield Row("cones by 2", ["--order", "cones", "--workers", 2, c17, c17b], (EACH, EACH_START, STARTS_FROM))
     yield Row("cones undecided", ["--order", "cones", "--limit", 8, c17, c17b], (EACH,))
     yield Row("cones, products", ["--order", "cones", "--workers", 2, one, folded])
+    # Some pairs are left by the first round, and have another turn in the second: threads are started in both.
+    array, wallace = written(place, "array", multiplier(circuits.array, 7)), written(place, "wallace", multiplier(circuits.wallace, 7))
+    yield Row("cones in two rounds by 4", ["--order", "cones", "--workers", 4, array, wallace], (EACH_START, STARTS_FROM), draws=4, counts=1)
     yield Row("cones of registers by a condition", ["--order", "cones", "--given", TOP / "examples" / "s27.bench", *machines])
     yield Row("only", ["--only", 23, "--only", 22, "--workers", 1, c17, c17b], (EACH,))
     yield Row("share", ["--share", "2/2", c17, c17b], (EACH,))
@@ -102,6 +114,7 @@ def rows(place):
     yield Row("second on standard input", ["--workers", 2, "--sizes", c17, "-"], (), C17B)
     yield Row("JSON", ["--workers", 2, "--format", "json", "--sizes", c17, c17b])
     yield Row("order file", ["--workers", 2, "--match", "position", "--order-file", order, c17, c17b])
+    yield Row("extended order file", ["--workers", 2, "--order-file", order, "--extend", c17, c17b])
     yield Row("registers", ["--workers", 2, "--sizes", *machines])
     condition = written(place, "condition", netlist("INPUT(1); INPUT(x); OUTPUT(c); c = NAND(1, x)"))
     yield Row("condition", ["--workers", 2, "--sizes", "--given", condition, c17, c17b])

@@ -8,12 +8,13 @@ The file has sections, each begun by a line `== ..`. Lines before the first one,
     == file NAME               a file; its lines follow. An empty line at the end of a section is no part of it
     == copy NAME OLD PYTHON    a file made of another by a Python expression over its bytes, `text`
     == run WORDS [< NAME]      a run on these words, with the file NAME on standard input; then come its lines:
-                               those of standard output behind `  `, those of standard error behind `! `, and last
-                               `status N`. `! ..` alone stands for any text, one line or more, and `! .. WORD` for any that has WORD
+                               those of standard output behind `  `, or all of these as the bytes of a Python expression behind `= `,
+                               those of standard error behind `! `, and last `status N`. `! ..` alone stands for any text, one line or more, and `! .. WORD` for any that has WORD
     == ways WORDS NAME NAME    four such runs on two files, by 1 and 3 workers, and by 2 and 16 with both on standard input
     == order WORDS             a run with --print-order, whose names follow on one line
     == best N N N N N WORDS    with --order best at each limit from 1 to 49 the answer is that of the first of interleave, force, index, depth
-                               and declared that is within the limit, and --verbose says which. They need N nodes each. With --order auto it
+                               and declared that is within the limit, and --verbose says which, and of those before it, each once where some are the
+                               same, that they need more. They need N nodes each. With --order auto it
                                is the answer of declared order without a limit, by the same attempt, or where there is none some pairs
                                are undecided, and all others as in that answer
     == texts                   lines `TEXT => SAID`: the text, written as in Python, is refused beside itself by the line SAID, or where that
@@ -49,12 +50,13 @@ def joined(lines):
 def expected(head, body):
     """The status, the output and the errors that a run must give; a word where any errors will do that have it."""
     out = [line[2:] for line in body if line.startswith("  ")]
+    made = [eval(line[2:]) for line in body if line.startswith("= ")]
     errors = [line[2:] for line in body if line.startswith("! ")]
     status = [line for line in body if line.startswith("status ")]
-    if len(status) != 1 or len(out) + len(errors) + 1 != len(body):
+    if len(status) != 1 or len(out) + len(made) + len(errors) + 1 != len(body) or (made and out) or len(made) > 1:
         sys.exit(f"tests/stored.txt: a section that cannot be read: {head}")
     any_errors = len(errors) == 1 and errors[0].split(" ")[0] == ".."
-    return int(status[0].split()[1]), joined(out), errors[0][2:].strip() if any_errors else joined(errors)
+    return int(status[0].split()[1]), made[0] if made else joined(out), errors[0][2:].strip() if any_errors else joined(errors)
 
 
 def compared(tally, head, body, seen):
@@ -89,22 +91,30 @@ def try_order(program, tally, place, _files, head, body):
     tally.same(head, run([program, "--print-order", *words], cwd=place), 0, joined(names), b"")
 
 
-def best_of(program, place, tally, name, limit, needs, words):
-    """The run that the best order is to give, of those in a single order, each of which is within the limit from its need on."""
-    wanted = None
-    for order, need in needs:
-        single = run([program, "--order", order, "--limit", limit, *words], cwd=place)
-        tally.check(f"{name}: {order}", (single.status != 3) == (need <= limit), single)
-        if wanted is None and single.status != 3:
-            wanted = single.status, single.out, joined([f"bddcheck: order {order}, budget {limit}"])
-    tried = "interleave, force, index, depth and declared are tried; a list by --order-file may need fewer nodes"
-    return wanted or (3, b"", joined(["bddcheck: build: more nodes than the limit", f"bddcheck: {tried}"]))
-
-
 CANDIDATES = ("interleave", "force", "index", "depth", "declared")
 
 
-def is_left(seen, wanted):
+def is_tried(program, place, words):
+    """Whether each candidate is tried: not where its order is that of one before it."""
+    orders = [run([program, "--print-order", "--order", order, *words], cwd=place).out for order in CANDIDATES]
+    return [order not in orders[:number] for number, order in enumerate(orders)]
+
+
+def best_of(program, place, tally, name, limit, needs, words):
+    """The run that the best order is to give, of those in a single order, each of which is within the limit from its need on."""
+    wanted, told = None, []
+    for order, need, tried in needs:
+        single = run([program, "--order", order, "--limit", limit, *words], cwd=place)
+        tally.check(f"{name}: {order}", (single.status != 3) == (need <= limit), single)
+        if wanted is None and single.status != 3:
+            wanted = single.status, single.out, joined([*told, f"bddcheck: order {order}, budget {limit}"])
+        if tried:
+            told.append(f"bddcheck: order {order}, budget {limit}: more nodes")
+    more = "interleave, force, index, depth and declared are tried; a list by --order-file may need fewer nodes"
+    return wanted or (3, b"", joined([*told, "bddcheck: build: more nodes than the limit", f"bddcheck: {more}"]))
+
+
+def is_left(seen, wanted, limit):
     """Whether a report is a wanted one but for pairs that are undecided, and both its status and what it says tell of them."""
     said, lines = wanted.out.decode().splitlines()[:-1], seen.out.decode().splitlines()
     names = [line.split(" at ")[0].split(" ", 1)[1] for line in said]
@@ -112,8 +122,10 @@ def is_left(seen, wanted):
     counts = [sum(line.startswith(word) for line in lines[:-1]) for word in ("EQUAL", "DIFFER", "ONLY", "UNDECIDED")]
     last = "{} equal, {} different, {} unmatched".format(*counts) + (f", {counts[3]} undecided" if counts[3] else "")
     status = 1 if counts[1] or counts[2] else 3 if counts[3] else 0
-    told = seen.err.decode().splitlines()
-    tells = told[:1] == ["bddcheck: each pair by its cones"] and [line.split(",")[0] for line in told[1:]] == [f"bddcheck: {counts[3]} undecided"][: counts[3]]
+    told = [line for line in seen.err.decode().splitlines() if not line.endswith(": more nodes")]
+    pairs = counts[0] + counts[1] + counts[3]
+    ways = [f"bddcheck: cones, budget {max(1, limit // 4)}: {counts[3]} of {pairs} pairs left", "bddcheck: each pair by its cones"]
+    tells = told[:2] == ways and [line.split(",")[0] for line in told[2:]] == [f"bddcheck: {counts[3]} undecided"][: counts[3]]
     return len(lines) == len(said) + 1 and all(kept) and (lines[-1], seen.status) == (last, status) and tells
 
 
@@ -122,13 +134,14 @@ def try_best(program, tally, place, _files, head, _body):
     words = shlex.split(words)
     plain = [word for word in words if word != "--sizes"]
     as_declared = run([program, "--order", "declared", *plain], cwd=place)
+    needs = list(zip(CANDIDATES, map(int, needs), is_tried(program, place, plain)))
     for limit in range(1, 50):
         name = f"{head}, limit {limit}"
-        wanted = best_of(program, place, tally, name, limit, list(zip(CANDIDATES, map(int, needs))), words)
+        wanted = best_of(program, place, tally, name, limit, needs, words)
         tally.same(name, run([program, "--verbose", "--order", "best", "--limit", limit, *words], cwd=place), *wanted)
         seen = run([program, "--verbose", "--order", "auto", "--limit", limit, *plain], cwd=place)
         if wanted[0] == 3:
-            tally.check(f"{name}, auto", is_left(seen, as_declared), seen)
+            tally.check(f"{name}, auto", is_left(seen, as_declared, limit), seen)
         else:
             tally.same(f"{name}, auto", seen, as_declared.status, as_declared.out, wanted[2])
 

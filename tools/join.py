@@ -95,8 +95,10 @@ def verdict_of(path, line):
 
 
 def variables_in(lines):
-    """The variables of each line that tells an assignment."""
+    """The variables of each line that tells an assignment; none, where all that are told are 1, as by --assignment ones."""
     assignments = [found[4] for found in map(DIFFER.fullmatch, lines) if found]
+    if all(bit.endswith("=1") for assignment in assignments for bit in assignment.split()):
+        return set()
     return {tuple(bit.split("=")[0] for bit in assignment.split()) for assignment in assignments}
 
 

@@ -6,14 +6,15 @@ _bddcheck() {
     --match) mapfile -t COMPREPLY < <(compgen -W 'name position' -- "$word") ;;
     --order) mapfile -t COMPREPLY < <(compgen -W 'auto cones declared depth interleave index force best' -- "$word") ;;
     --format) mapfile -t COMPREPLY < <(compgen -W 'text json' -- "$word") ;;
+    --assignment) mapfile -t COMPREPLY < <(compgen -W 'all ones' -- "$word") ;;
     --workers) mapfile -t COMPREPLY < <(compgen -W '1 2 4 8 16' -- "$word") ;;
-    --limit | --only) COMPREPLY=() ;;
+    --limit | --only | --explain) COMPREPLY=() ;;
     --share) mapfile -t COMPREPLY < <(compgen -W '1/2 1/4 1/8 1/16' -- "$word") ;;
     --memory) mapfile -t COMPREPLY < <(compgen -W '1G 2G 4G 8G 16G' -- "$word") ;;
     --order-file | --given) mapfile -t COMPREPLY < <(compgen -f -- "$word") ;;
     *)
         case $word in
-        -*) mapfile -t COMPREPLY < <(compgen -W '--match --order --order-file --given --only --share --workers --limit --memory --sizes --print-order --format --verbose --help --version' -- "$word") ;;
+        -*) mapfile -t COMPREPLY < <(compgen -W '--match --order --order-file --extend --given --only --share --explain --workers --limit --memory --sizes --print-order --format --assignment --verbose --help --version' -- "$word") ;;
         *) mapfile -t COMPREPLY < <(compgen -f -- "$word") ;;
         esac
         ;;

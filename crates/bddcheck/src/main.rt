@@ -6,6 +6,7 @@ ghost use Rattle.std.specs.Process.{exit_status};
 
 use check_tool::folder::Disk;
 use check_tool::process::{arguments, status_of};
+use check_tool::screen::Outlet;
 use net_bench::device::Through;
 use std::process::ExitCode;
 
@@ -23,6 +24,6 @@ fn main(rt: HostRuntime) -> ExitCode {
         &mut Disk::new(&rt),
         &mut Through::new(rt.stdin()),
         &mut Through::new(rt.stdout()),
-        &mut Through::new(rt.stderr()),
+        &mut Outlet::new(rt.stderr()),
     ))
 }

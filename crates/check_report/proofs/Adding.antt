@@ -1,4 +1,4 @@
--- How verdicts are added one by one, and their lines.
+-- How verdicts are added one by one.
 use Rattle.std.proofs.Common.{◌≡◌, ◌∙◌, ap, sym, refl, subst, ℕ, ◌+◌, ◌<◌, ◌≤◌, Bool, List, [], ◌∷◌, ◌++◌, map, length, get_or, take, drop, append_assoc, Option, Some}
 use Rattle.std.specs.Prelude.{slice_get, slice_index, All, ◌↔◌}
 use Rattle.std.specs.List.{AllZip}
@@ -14,7 +14,6 @@ use Rattle.report_text.specs.declared.outcome.Side.TheVariants.{First, Second}
 use Rattle.check_report.specs.declared.subject.Subject.{Subject}
 use Rattle.report_text.specs.declared.verdict.Verdict.{Verdict}
 use Rattle.report_text.specs.declared.verdict.Verdict.TheVariants.{Lone}
-use Rattle.report_text.specs.Lines.{line_text, lines_text}
 use Rattle.check_report.specs.Report.{Compared, AreFunctions, IsVerdictOf, CallsEqual, AreVerdicts, lone_side, subjects}
 use Rattle.check_report.specs.Conditions.{everywhere, AgreeWhere}
 use Rattle.check_report.specs.Comparing.{AreSignals, IsInside, HaveVerdicts, HaveAllVerdicts, DenotesWhere, subject_at, compared_of}
@@ -36,18 +35,6 @@ zip_map R S f [] [] a = tt
 zip_map R S f [] (y ∷ ys) a = a
 zip_map R S f (x ∷ xs) [] a = a
 zip_map R S f (x ∷ xs) (y ∷ ys) a = (f x y a.0, zip_map R S f xs ys a.1)
-
--- ---- the bytes of lines
-
--- what is still to be added completes the text, and a line less is
-pub lines_next : (names : List (List ℕ)) (vs : List Verdict) (i : ℕ) (v : Verdict) (text more whole : List ℕ) → i < length vs → get_or vs i v ≡ v →
-    text ++ lines_text names (drop i vs) ≡ whole → more ≡ text ++ (line_text names v ++ 10 ∷ []) → more ++ lines_text names (drop (i + 1) vs) ≡ whole
-lines_next names vs i v text more whole lt here done added =
-    ap (λ z. z ++ lines_text names (drop (i + 1) vs)) added
-    ∙ append_assoc text (line_text names v ++ 10 ∷ []) (lines_text names (drop (i + 1) vs))
-    ∙ ap (λ z. text ++ z) (append_assoc (line_text names v) (10 ∷ []) (lines_text names (drop (i + 1) vs))
-    ∙ sym (ap (lines_text names) (drop_more vs i v lt ∙ ap (λ z. z ∷ drop (i + 1) vs) here)))
-    ∙ done
 
 -- ---- the verdicts of what is compared
 

@@ -30,3 +30,4 @@ pub mod Ended
 pub mod ConeTasks
 pub mod Picks
 pub mod Shares
+pub mod Explanations

@@ -15,6 +15,7 @@ late_fault told ff sf tf how order (faults.Given fault) accepted late = absurd l
 late_fault told ff sf tf how order faults.GivenOutputs accepted late = absurd late
 late_fault told ff sf tf how order (faults.Order fault) accepted late = absurd late
 late_fault told ff sf tf how order faults.Only accepted late = absurd late
+late_fault told ff sf tf how order faults.Explain accepted late = absurd late
 late_fault told ff sf tf how order (faults.Wave fault) accepted late = accepted
 late_fault told ff sf tf how order faults.GivenUp accepted late = absurd late
 late_fault told ff sf tf how order faults.Write accepted late = absurd late

@@ -10,7 +10,7 @@ use Rattle.check_report.specs.declared.choice.Candidate.TheVariants.{Interleave,
 use Rattle.check_report.specs.declared.choice.Choice.{Choice}
 use Rattle.check_report.specs.declared.choice.Choice.TheVariants.{One, Best, Auto, Cones}
 use Rattle.check_report.specs.declared.fault.CheckFault.{CheckFault}
-use Rattle.check_report.specs.declared.fault.CheckFault.TheVariants.{First, Second, Given, GivenOutputs, Order as OrderRefused, Only, Wave, GivenUp, Write, OutOfMemory}
+use Rattle.check_report.specs.declared.fault.CheckFault.TheVariants.{First, Second, Given, GivenOutputs, Order as OrderRefused, Only, Explain, Wave, GivenUp, Write, OutOfMemory}
 use Rattle.check_report.specs.declared.choice.Attempt.{Attempt}
 use Rattle.check_report.specs.Best.{IsAllowed, IsChosen}
 use Rattle.net_bench.specs.Circuit.{Circuit, Net, circuit}
@@ -18,6 +18,7 @@ use Rattle.net_order.specs.Order.{condition}
 use Rattle.check_report.specs.Devices.{Told, told_by}
 use Rattle.report_text.specs.declared.kind.OrderKind.{OrderKind}
 use Rattle.report_text.specs.declared.outcome.Share.{Share}
+use Rattle.report_text.specs.declared.assignment.Assignment.{Assignment}
 use Rattle.report_text.specs.Json.{form_text}
 use Rattle.report_text.specs.Lines.{Found}
 use Rattle.net_bench.specs.declared.netlist.BenchFault.{BenchFault}
@@ -49,6 +50,7 @@ none_failed told first second third how order (Given fault) c = (c.0, c.1, c.2, 
 none_failed told first second third how order GivenOutputs c = c
 none_failed told first second third how order (OrderRefused fault) c = c
 none_failed told first second third how order Only c = c
+none_failed told first second third how order Explain c = c
 none_failed told first second third how order (Wave fault) c = c
 none_failed told first second third how order GivenUp c = c
 none_failed told first second third how order Write c = c
@@ -69,6 +71,7 @@ condition_fault told a b first second third how order (Given fault) ga gb f = (a
 condition_fault told a b first second third how order GivenOutputs ga gb f = (a, b, ga, gb, f)
 condition_fault told a b first second third how order (OrderRefused fault) ga gb f = absurd f
 condition_fault told a b first second third how order Only ga gb f = absurd f
+condition_fault told a b first second third how order Explain ga gb f = absurd f
 condition_fault told a b first second third how order (Wave fault) ga gb f = absurd f
 condition_fault told a b first second third how order GivenUp ga gb f = absurd f
 condition_fault told a b first second third how order Write ga gb f = absurd f
@@ -95,9 +98,9 @@ is_told tells None = refl
 is_told tells (Some device) = refl
 
 -- the bytes of a report, by whether there is a condition
-pub form_as : (json : Bool) (how : Match) (kind : OrderKind) (share : Option Share) (found : Found) (items : List ℕ) (h given : Bool) → items ≡ form_text json how kind h share found → h ≡ given →
-    items ≡ form_text json how kind given share found
-form_as json how kind share found items h given e told = e ∙ ap (λ z. form_text json how kind z share found) told
+pub form_as : (json : Bool) (which : Option Assignment) (how : Match) (kind : OrderKind) (share : Option Share) (found : Found) (items : List ℕ) (h given : Bool) → items ≡ form_text json which how kind h share found → h ≡ given →
+    items ≡ form_text json which how kind given share found
+form_as json which how kind share found items h given e told = e ∙ ap (λ z. form_text json which how kind z share found) told
 
 -- the order of a report is allowed
 pub chosen_allowed : (told : Told) (how : Match) (choice : Choice) (limit : ℕ) (tried : Option Attempt) (order : Order) → IsChosen told how choice limit tried order → IsAllowed choice order

@@ -31,6 +31,13 @@ IsAllowed Best order = (c : Candidate) × (order ≡ order_of c)
 IsAllowed Auto order = (c : Candidate) × (order ≡ order_of c)
 IsAllowed Cones order = order ≡ orders.Declared
 
+-- the choice names one order: none is sought, and no cones are taken
+abbrev pub NamesOrder : Choice → Type 0
+NamesOrder (One o) = ⊤
+NamesOrder Best = ⊥
+NamesOrder Auto = ⊥
+NamesOrder Cones = ⊥
+
 -- orders are tried for a choice, and nothing else
 abbrev pub AreTried : Choice → Type 0
 AreTried (One o) = ⊥

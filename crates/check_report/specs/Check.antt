@@ -10,7 +10,7 @@ use Rattle.net_order.specs.declared.order.OrderFault.TheVariants.{OutOfMemory as
 use Rattle.net_order.specs.Order.{Paired, IsPairing, IsRefused}
 use Rattle.check_report.specs.Devices.{Told}
 use Rattle.check_report.specs.declared.fault.CheckFault.{CheckFault}
-use Rattle.check_report.specs.declared.fault.CheckFault.TheVariants.{First, Second, Given, GivenOutputs, Order as OrderRefused, Only, Wave, GivenUp, Write, OutOfMemory}
+use Rattle.check_report.specs.declared.fault.CheckFault.TheVariants.{First, Second, Given, GivenOutputs, Order as OrderRefused, Only, Explain, Wave, GivenUp, Write, OutOfMemory}
 use Rattle.check_report.specs.Conditions.{HasOneOutput}
 use Rattle.report_text.specs.Lines.{Found}
 use Rattle.check_report.specs.Report.{AreVerdicts}
@@ -59,6 +59,7 @@ IsConditionFault given has_failed (Given fault) = IsSomeAnd given (λ told. IsUn
 IsConditionFault given has_failed GivenOutputs = (c : Circuit) × IsSomeAnd given (λ told. Gives told c) × (HasOneOutput c → ⊥)
 IsConditionFault given has_failed (OrderRefused fault) = ⊥
 IsConditionFault given has_failed Only = ⊥
+IsConditionFault given has_failed Explain = ⊥
 IsConditionFault given has_failed (Wave fault) = ⊥
 IsConditionFault given has_failed GivenUp = ⊥
 IsConditionFault given has_failed Write = ⊥
@@ -76,6 +77,7 @@ IsEarly (Given fault) = Unit {0}
 IsEarly GivenOutputs = Unit {0}
 IsEarly (OrderRefused fault) = ⊥
 IsEarly Only = ⊥
+IsEarly Explain = ⊥
 IsEarly (Wave fault) = ⊥
 IsEarly GivenUp = ⊥
 IsEarly Write = ⊥
@@ -89,13 +91,15 @@ IsLate (Given fault) = ⊥
 IsLate GivenOutputs = ⊥
 IsLate (OrderRefused fault) = ⊥
 IsLate Only = ⊥
+IsLate Explain = ⊥
 IsLate (Wave fault) = Unit {0}
 IsLate GivenUp = ⊥
 IsLate Write = ⊥
 IsLate OutOfMemory = Unit {0}
 
 -- Why there is no report, where this says that the first device has failed, that the second has, and that the condition's has. What
--- comes before was accepted: the first text, the second, the condition's, its outputs, the pairing.
+-- comes before was accepted: the first text, the second, the condition's, its outputs, the pairing. What is to be explained is looked for
+-- apart, before anything is compared.
 abbrev pub IsCheckFault : Told → (first_failed second_failed given_failed : Type 0) → Match → Order → CheckFault → Type 0
 IsCheckFault told first_failed second_failed given_failed how order (First fault) = IsUnread told.first first_failed fault
 IsCheckFault told first_failed second_failed given_failed how order (Second fault) = (a : Circuit) × Gives told.first a × IsUnread told.second second_failed fault
@@ -106,6 +110,7 @@ IsCheckFault told first_failed second_failed given_failed how order GivenOutputs
 IsCheckFault told first_failed second_failed given_failed how order (OrderRefused fault) =
     (a b : Circuit) × (c : Option Circuit) × AreGiven told a b c × ((fault ≡ NoOrderMemory) ⊎ IsRefused how a b c order fault)
 IsCheckFault told first_failed second_failed given_failed how order Only = AreAccepted told how order
+IsCheckFault told first_failed second_failed given_failed how order Explain = ⊥
 IsCheckFault told first_failed second_failed given_failed how order (Wave fault) = AreAccepted told how order
 IsCheckFault told first_failed second_failed given_failed how order GivenUp = AreAccepted told how order
 IsCheckFault told first_failed second_failed given_failed how order Write = AreAccepted told how order

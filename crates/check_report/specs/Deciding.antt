@@ -1,5 +1,5 @@
 -- How a comparison is decided: the whole in one order, or each pair by its cones.
-use Rattle.std.specs.Prelude.{◌≡◌, ℕ, List, Option, None, is_some, ⊤}
+use Rattle.std.specs.Prelude.{◌≡◌, ◌++◌, ℕ, List, Option, None, is_some, ⊤}
 use Rattle.net_bench.specs.Circuit.{Circuit}
 use Rattle.net_order.specs.declared.order.Order.{Order}
 use Rattle.net_order.specs.declared.order.Order.TheVariants as orders
@@ -19,6 +19,7 @@ use Rattle.check_report.specs.Best.{IsBudget, IsChosen, IsGivenUpWithin, order_o
 use Rattle.check_report.specs.Check.{ArePaired, Gives, IsJudged}
 use Rattle.check_report.specs.Cones.{AreTold, IsLeft}
 use Rattle.check_report.specs.Devices.{Told}
+use Rattle.check_report.specs.Explaining.{IsBehind}
 use Rattle.check_report.specs.Picking.{ArePicked, HasUnknown, share_of}
 
 -- What a comparison by cones finds of what the devices gave, over the variables as they are declared.
@@ -45,12 +46,15 @@ pub data IsFoundBy (told : Told) (s : Settings) (bound : Option ℕ) (found : Fo
   in_order : {tried : Option Attempt} (order : Order) → IsJudged told s.matching order s.sizes found → IsChosen told s.matching s.order s.limit tried order → IsFoundBy told s bound found tried
   by_cones : HasCause told s bound s.order → IsJudgedByCones told s bound found → IsFoundBy told s bound found None
 
--- The bytes are the report of what the devices gave, by these settings, with these counts, and this attempt is told with it.
+-- The bytes are the report of what the devices gave, by these settings, with these counts, and behind it the explanations that they ask for;
+-- this attempt is told with it.
 pub record IsReportBy (told : Told) (s : Settings) (bound : Option ℕ) (tried : Option Attempt) (o : Outcome) (bytes : List ℕ) : Type 0 where
   pub found : Found
   pub by : IsFoundBy told s bound found tried
   pub counts : o ≡ counted found.verdicts
-  pub text : bytes ≡ form_text s.json s.matching (told_kind s.order tried) (is_some told.given) (share_of s.picked) found
+  pub explanations : List ℕ
+  pub explained : IsBehind s.explain.items told s tried found explanations
+  pub text : bytes ≡ form_text s.json s.assignment s.matching (told_kind s.order tried) (is_some told.given) (share_of s.picked) found ++ explanations
 
 -- One of the names that are picked is no output and no register of the first netlist that the devices gave.
 abbrev pub IsUnknown : Told → Picked → Type 0

@@ -13,6 +13,7 @@ pub mod Cones
 pub mod Coning
 pub mod Hands
 pub mod Picking
+pub mod Explaining
 pub mod Deciding
 pub mod Texts
 pub mod Listing

@@ -5,7 +5,7 @@ use Rattle.expand_work.specs.Bounds.{most_of}
 use Rattle.expand_work.specs.declared.fault.WaveFault.TheVariants.{Full, TooManyRequests, NoWorker}
 use Rattle.net_bench.specs.Circuit.{circuit}
 use Rattle.net_order.specs.declared.order.Order.{Order}
-use Rattle.net_order.specs.Order.{Paired, IsPairing, condition}
+use Rattle.net_order.specs.Order.{Paired, IsPairing, condition, names_by}
 use Rattle.report_text.specs.declared.verdict.Verdict.{Verdict}
 use Rattle.check_report.specs.declared.attempts.Decided.{Decided as DecidedValue}
 use Rattle.check_report.specs.declared.attempts.Ended.{Ended}
@@ -28,6 +28,10 @@ use Rattle.check_report.specs.Widths.{IsTooWide}
 -- the pairing in this order
 abbrev pub IsPairingIn : {H : Type 0} → Task H → Order → Paired → Type 0
 IsPairingIn task order p = IsPairing task.settings.now.matching (circuit task.first.now) (circuit task.second.now) (condition task.given) order p
+
+-- the names of the variables in this order
+abbrev pub ordered_names : {H : Type 0} → Task H → Order → List (List ℕ)
+ordered_names task order = names_by task.settings.now.matching (circuit task.first.now) (circuit task.second.now) (condition task.given) order
 
 -- a trial has the pairing in its candidate's order
 abbrev pub IsTrial : {H : Type 0} → Task H → Trial → Type 0

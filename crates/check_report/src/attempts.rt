@@ -15,11 +15,11 @@ ghost use Rattle.check_report.specs.Widths.{IsTooWide};
 
 use crate::bounded::Bounded;
 use crate::checking::{compare, compare_as_declared};
-use crate::choice::Candidate;
+use crate::choice::{Candidate, Choice};
 use crate::fault::CheckFault;
 use crate::task::Task;
 use crate::trials::{Trial, is_tried, keep, paired, put_furthest_first};
-use expand_work::{Gate, WaveFault};
+use expand_work::{AttemptEnd, Gate, WaveFault};
 use net_order::pairing::Pairing;
 use report_text::Verdict;
 use std::sync::Wait;
@@ -107,7 +107,24 @@ fn cause_of(fault: CheckFault) -> Result<bool, CheckFault>
     }
 }
 
-/// Compares in the order of a trial within so many nodes.
+/// How an attempt that was given up has ended, for its nodes or not.
+fn end_of(order: Candidate, full: bool) -> AttemptEnd {
+    let order = order.name();
+    if full {
+        AttemptEnd::MoreNodes { order }
+    } else {
+        AttemptEnd::TooManyRequests { order }
+    }
+}
+
+/// Tells the gate how an attempt of the whole has ended. Of the attempts of pairs by their cones each round is told.
+fn tell<H, G: Gate>(task: &Task<'_, H>, budget: u64, end: AttemptEnd, gate: &G) {
+    if !matches!(task.settings.order, Choice::Cones) {
+        gate.at_attempt(budget, end);
+    }
+}
+
+/// Compares in the order of a trial within so many nodes, and tells the gate how that has ended.
 fn attempt<H: Threads + Wait + Sync, G: Gate>(
     task: &Task<'_, H>,
     declared: Option<&Pairing>,
@@ -128,9 +145,16 @@ fn attempt<H: Threads + Wait + Sync, G: Gate>(
         reached: &trial.reached,
     };
     match verdicts_by(task, declared, &trial.pairing, budget, &bounded) {
-        Ok(verdicts) => Ok(Ended::Decided(verdicts)),
+        Ok(verdicts) => {
+            let order = trial.candidate.name();
+            tell(task, budget, AttemptEnd::Decided { order }, gate);
+            Ok(Ended::Decided(verdicts))
+        }
         Err(fault) => match cause_of(fault) {
-            Ok(full) => Ok(Ended::GivenUp { full }),
+            Ok(full) => {
+                tell(task, budget, end_of(trial.candidate, full), gate);
+                Ok(Ended::GivenUp { full })
+            }
             Err(fault) => Err(fault),
         },
     }

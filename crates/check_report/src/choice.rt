@@ -29,19 +29,26 @@ impl Candidate {
             Candidate::Declared => Order::Declared,
         }
     }
+
+    /// Its name, as the command line and the reports have it.
+    pub fn name(self) -> &'static str
+        ensures { result.now ≡ candidate_text self }
+    {
+        match self {
+            Candidate::Interleave => "interleave",
+            Candidate::Force => "force",
+            Candidate::Index => "index",
+            Candidate::Depth => "depth",
+            Candidate::Declared => "declared",
+        }
+    }
 }
 
 impl fmt::Display for Candidate {
     ghost output = { λ c. Some (candidate_text c) };
 
     fn fmt<W: fmt::Write>(&self, f: &mut fmt::Formatter<W>) -> fmt::Result {
-        match self {
-            Candidate::Interleave => write!(f, "interleave"),
-            Candidate::Force => write!(f, "force"),
-            Candidate::Index => write!(f, "index"),
-            Candidate::Depth => write!(f, "depth"),
-            Candidate::Declared => write!(f, "declared"),
-        }
+        f.write_str(self.name())
     }
 }
 

@@ -33,7 +33,7 @@ use std::sync::Wait;
 use std::thread::Threads;
 
 /// How the cones of a pair are compared: by name, by one worker and without sizes.
-fn alone(settings: &Settings) -> Settings
+fn alone(alloc: Global, settings: &Settings) -> Settings
     ensures matching { result.matching ≡ ByName }
     ensures no_sizes { result.sizes ≡ false }
 {
@@ -45,6 +45,8 @@ fn alone(settings: &Settings) -> Settings
         limit: settings.limit,
         sizes: false,
         json: false,
+        explain: Vec::new(alloc),
+        assignment: None,
     }
 }
 
@@ -168,7 +170,7 @@ fn judge_picks<H: Threads + Wait + Sync, G: Gate>(
     let Ok(given) = given_cone(task, pairing) else {
         return Err(CheckFault::OutOfMemory);
     };
-    let settings = alone(task.settings);
+    let settings = alone(task.alloc, task.settings);
     let whole = Whole {
         task,
         pairing,

@@ -5,13 +5,14 @@ ghost use Rattle.net_order.specs.declared.order.Order.{Order as OrderValue};
 ghost use Rattle.net_order.specs.declared.order.Order.TheVariants as orders;
 ghost use Rattle.check_report.specs.declared.choice.Candidate.{Candidate as CandidateValue};
 ghost use Rattle.check_report.specs.declared.choice.Choice.{Choice as ChoiceValue};
-ghost use Rattle.check_report.specs.Best.{AreGivenUp, AreTried, IsAllowed, IsChosen, IsGivenUpWithin, MayGoByCones, last_budget, order_of, whole_limit};
+ghost use Rattle.check_report.specs.Best.{AreGivenUp, AreTried, IsAllowed, IsChosen, IsGivenUpWithin, MayGoByCones, NamesOrder, last_budget, order_of, whole_limit};
 ghost use Rattle.check_report.specs.Check.{IsJudged, IsCheckFault};
 ghost use Rattle.check_report.specs.Coning.{EndsAuto};
 ghost use Rattle.check_report.specs.Deciding.{HasCause, IsFoundBy, IsUnknown};
+ghost use Rattle.check_report.specs.Explaining.{told_order};
 ghost use Rattle.check_report.specs.Limits.{AreBeyond};
 ghost use Rattle.check_report.specs.Tasks.{OfTask};
-ghost use Rattle.check_report.specs.Trials.{IsGivingUp, IsPairingIn};
+ghost use Rattle.check_report.specs.Trials.{IsGivingUp, IsPairingIn, ordered_names};
 ghost use Rattle.check_report.specs.Widths.{AreTooWide};
 
 use crate::attempts::{Decided, find_attempt};
@@ -51,6 +52,7 @@ fn by_order<H: Threads + Wait + Sync, G: Gate>(
         result ≡ Err (CheckFault.Wave WaveFault.TooManyRequests) → (o : OrderValue) × IsAllowed (Choice.One order.now) o × IsSomeAnd (G.bound gate.now) (AreTooWide told s.matching o)) }
     ensures untried { IfOk result (λ r. r.1 ≡ None) }
     ensures alone { most_of (G.bound gate.now) < 2 ^ 64 - 1 → result ≢ Err (CheckFault.Wave WaveFault.NoWorker) }
+    ensures names { IfOk result (λ r. r.0.variables ≡ ordered_names task.now order.now) }
 {
     let pairing = match paired(task, order) {
         Ok(pairing) => pairing,
@@ -81,6 +83,7 @@ pub fn find_best<H: Threads + Wait + Sync, G: Gate>(
     ensures unbounded { result ≢ Err (CheckFault.Wave WaveFault.TooManyRequests) }
     ensures passed { OfTask task.now (λ told s. IfOk result (λ r. AreGivenUp told s.matching s.limit (G.bound gate.now) r.1)) }
     ensures alone { result ≢ Err (CheckFault.Wave WaveFault.NoWorker) }
+    ensures names { IfOk result (λ r. r.0.variables ≡ ordered_names task.now (order_of r.1.order)) }
 {
     match find_attempt(task, None, task.settings.limit, gate) {
         Ok(decided) => {
@@ -113,6 +116,7 @@ fn by_cones_in<H: Threads + Wait + Sync, G: Gate>(
     ensures only { OfTask task.now (λ told s. result ≡ Err CheckFault.Only → IsUnknown told s.picked) }
     ensures ends { IfErr result EndsAuto }
     ensures untried { IfOk result (λ r. r.1 ≡ None) }
+    ensures names { IfOk result (λ r. r.0.variables ≡ ordered_names task.now orders.Declared) }
 {
     match by_cones(task, declared, gate) {
         Ok(verdicts) => Ok((verdicts, None)),
@@ -143,6 +147,7 @@ fn by_auto<H: Threads + Wait + Sync, G: Gate>(
     ensures only { OfTask task.now (λ told s. result ≡ Err CheckFault.Only → IsUnknown told s.picked) }
     ensures ends { IfErr result EndsAuto }
     ensures passed { OfTask task.now (λ told s. IfOk result (λ r. IfSome r.1 (AreGivenUp told s.matching (whole_limit s.limit) (G.bound gate.now)))) }
+    ensures names { IfOk result (λ r. r.0.variables ≡ ordered_names task.now orders.Declared) }
 {
     let declared = match paired(task, &Order::Declared) {
         Ok(declared) => declared,
@@ -177,6 +182,7 @@ fn by_each<H: Threads + Wait + Sync, G: Gate>(
     ensures only { OfTask task.now (λ told s. result ≡ Err CheckFault.Only → IsUnknown told s.picked) }
     ensures ends { IfErr result EndsAuto }
     ensures untried { IfOk result (λ r. r.1 ≡ None) }
+    ensures names { IfOk result (λ r. r.0.variables ≡ ordered_names task.now orders.Declared) }
 {
     match paired(task, &Order::Declared) {
         Ok(declared) => by_cones_in(task, declared, gate),
@@ -203,6 +209,7 @@ fn by_best<H: Threads + Wait + Sync, G: Gate>(
     ensures unbounded { result ≢ Err (CheckFault.Wave WaveFault.TooManyRequests) }
     ensures passed { OfTask task.now (λ told s. IfOk result (λ r. IfSome r.1 (AreGivenUp told s.matching s.limit (G.bound gate.now)))) }
     ensures alone { result ≢ Err (CheckFault.Wave WaveFault.NoWorker) }
+    ensures names { IfOk result (λ r. r.0.variables ≡ ordered_names task.now (told_order Choice.Best r.1)) }
 {
     match find_best(task, gate) {
         Ok((verdicts, found)) => Ok((verdicts, Some(found))),
@@ -230,6 +237,8 @@ pub fn decide<H: Threads + Wait + Sync, G: Gate>(
     ensures passed { OfTask task.now (λ told s.
         IfOk result (λ r. IfSome r.1 (AreGivenUp told s.matching (last_budget s.order s.limit) (G.bound gate.now)))) }
     ensures alone { most_of (G.bound gate.now) < 2 ^ 64 - 1 → result ≢ Err (CheckFault.Wave WaveFault.NoWorker) }
+    ensures hired { result ≡ Err (CheckFault.Wave WaveFault.NoWorker) → NamesOrder task.now.settings.now.order }
+    ensures names { IfOk result (λ r. r.0.variables ≡ ordered_names task.now (told_order task.now.settings.now.order r.1)) }
 {
     match &task.settings.order {
         Choice::One(order) => by_order(task, order, gate),

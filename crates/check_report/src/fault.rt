@@ -23,6 +23,8 @@ pub enum CheckFault {
     Order(OrderFault),
     /// Some pairs are asked for by names, and the first netlist has no output and no register of one of these names.
     Only,
+    /// Some pairs are to be explained, and the first netlist has not each of these outputs and registers.
+    Explain,
     /// The diagrams were not built.
     Wave(WaveFault),
     /// Orders were tried, and every attempt was given up, not all of them for their nodes.
@@ -44,6 +46,7 @@ impl fmt::Display for CheckFault {
             CheckFault::GivenOutputs => write!(f, "given: not exactly one output"),
             CheckFault::Order(fault) => write!(f, "order: {fault}"),
             CheckFault::Only => write!(f, "only: no such output or register"),
+            CheckFault::Explain => write!(f, "explain: no such output or register"),
             CheckFault::Wave(fault) => write!(f, "build: {fault}"),
             CheckFault::GivenUp => write!(
                 f,

@@ -6,18 +6,19 @@ ghost use Rattle.net_order.specs.declared.order.Order.{Order as OrderValue};
 ghost use Rattle.report_text.specs.declared.outcome.Outcome.{Outcome};
 ghost use Rattle.report_text.specs.Writing.{AppendsFront};
 ghost use Rattle.check_report.specs.declared.choice.Attempt.{Attempt as AttemptValue};
-ghost use Rattle.check_report.specs.Best.{AreGivenUp, AreTried, IsAllowed, IsGivenUpWithin, MayGoByCones, last_budget};
+ghost use Rattle.check_report.specs.Best.{AreGivenUp, AreTried, IsAllowed, IsGivenUpWithin, MayGoByCones, NamesOrder, last_budget};
 ghost use Rattle.check_report.specs.Check.{IsCheckFault};
 ghost use Rattle.check_report.specs.Deciding.{IsFoundBy, IsReportBy, IsUnknown};
 ghost use Rattle.check_report.specs.Devices.{HasFailedIn, told_by, told_of};
+ghost use Rattle.check_report.specs.Explaining.{IsReportFault};
 ghost use Rattle.check_report.specs.Limits.{AreBeyond};
 ghost use Rattle.check_report.specs.Widths.{AreTooWide};
 
 use crate::choice::Attempt;
+use crate::composing::task_report;
 use crate::deciding::decide;
 use crate::fault::CheckFault;
 use crate::reading::{Netlists, read_netlists};
-use crate::report::text_of;
 use crate::task::{Context, Task};
 use expand_work::{Gate, WaveFault};
 use net_bench::device::{Sink, Source};
@@ -61,8 +62,9 @@ pub fn judge<H: Threads + Wait + Sync, R1: Source, R2: Source, R3: Source, G: Ga
     ensures past { let told = told_of (R1.remaining first.old) (R2.remaining second.old) (told_by R3.remaining given.old) in
         let s = context.now.settings.now in
         result ≡ Err (CheckFault.Wave WaveFault.TooManyRequests) → (order : OrderValue) × IsAllowed s.order order × IsSomeAnd (G.bound context.now.gate.now) (AreTooWide told s.matching order) }
-    // Where the gate sets a bound, no worker is wanted.
+    // No worker is wanted where the gate sets a bound, nor where an order is sought or cones may be taken, whatever the gate.
     ensures alone { most_of (G.bound context.now.gate.now) < 2 ^ 64 - 1 → result ≢ Err (CheckFault.Wave WaveFault.NoWorker) }
+    ensures hired { result ≡ Err (CheckFault.Wave WaveFault.NoWorker) → NamesOrder context.now.settings.now.order }
     // A fault has its cause, and what comes before it was accepted.
     ensures fault { let told = told_of (R1.remaining first.old) (R2.remaining second.old) (told_by R3.remaining given.old) in
         let s = context.now.settings.now in
@@ -118,30 +120,36 @@ fn reported<H: Threads + Wait + Sync, R1: Source, R2: Source, R3: Source, G: Gat
         let s = context.now.settings.now in
         result ≡ Err (CheckFault.Wave WaveFault.TooManyRequests) → (order : OrderValue) × IsAllowed s.order order × IsSomeAnd (G.bound context.now.gate.now) (AreTooWide told s.matching order) }
     ensures alone { most_of (G.bound context.now.gate.now) < 2 ^ 64 - 1 → result ≢ Err (CheckFault.Wave WaveFault.NoWorker) }
+    ensures hired { result ≡ Err (CheckFault.Wave WaveFault.NoWorker) → NamesOrder context.now.settings.now.order }
     ensures fault { let told = told_of (R1.remaining first.old) (R2.remaining second.old) (told_by R3.remaining given.old) in
         let s = context.now.settings.now in
-        IfErr result (λ fault. (order : OrderValue) × IsAllowed s.order order × IsCheckFault told (IsTrue (R1.has_failed first.new)) (IsTrue (R2.has_failed second.new)) (HasFailedIn R3.has_failed given.new) s.matching order fault) }
+        IfErr result (IsReportFault told (IsTrue (R1.has_failed first.new)) (IsTrue (R2.has_failed second.new)) (HasFailedIn R3.has_failed given.new) s) }
     ensures unwritten { result ≢ Err CheckFault.Write }
     ensures origins { (R1.origin first.new ≡ R1.origin first.old) × (R2.origin second.new ≡ R2.origin second.old) × (told_by R3.origin given.new ≡ told_by R3.origin given.old) }
 {
-    let conditional = given.is_some();
-    let (verdicts, tried) = match judge(context, first, second, given) {
-        Ok((verdicts, tried)) => (verdicts, tried),
+    let nets = match read_netlists(context.alloc, first, second, given) {
+        Ok(nets) => nets,
         Err(fault) => return Err(fault),
     };
-    let Ok(text) = text_of(
-        context.alloc,
-        context.settings,
-        tried,
-        conditional,
-        &verdicts,
-    ) else {
-        return Err(CheckFault::OutOfMemory);
+    let Netlists {
+        first: one,
+        second: two,
+        given: three,
+    } = nets;
+    let conditional = three.as_ref();
+    let task = Task {
+        rt: context.rt,
+        alloc: context.alloc,
+        first: &one,
+        second: &two,
+        given: conditional,
+        settings: context.settings,
     };
-    Ok((text, verdicts.outcome(), tried))
+    task_report(&task, context.gate)
 }
 
-/// Compares two netlists as `judge` does, and writes the report. Nothing is written before the whole report stands.
+/// Compares two netlists as `judge` does, and writes the report, with what explains the pairs that are asked for behind it. Nothing is
+/// written before the whole report stands.
 pub fn check<H: Threads + Wait + Sync, R1: Source, R2: Source, R3: Source, G: Gate, W: Sink>(
     context: &Context<'_, H, G>,
     first: &mut R1,
@@ -176,12 +184,14 @@ pub fn check<H: Threads + Wait + Sync, R1: Source, R2: Source, R3: Source, G: Ga
     ensures past { let told = told_of (R1.remaining first.old) (R2.remaining second.old) (told_by R3.remaining given.old) in
         let s = context.now.settings.now in
         result ≡ Err (CheckFault.Wave WaveFault.TooManyRequests) → (order : OrderValue) × IsAllowed s.order order × IsSomeAnd (G.bound context.now.gate.now) (AreTooWide told s.matching order) }
-    // Where the gate sets a bound, no worker is wanted.
+    // No worker is wanted where the gate sets a bound, nor where an order is sought or cones may be taken, whatever the gate.
     ensures alone { most_of (G.bound context.now.gate.now) < 2 ^ 64 - 1 → result ≢ Err (CheckFault.Wave WaveFault.NoWorker) }
-    // A fault has its cause, and what comes before it was accepted.
+    ensures hired { result ≡ Err (CheckFault.Wave WaveFault.NoWorker) → NamesOrder context.now.settings.now.order }
+    // A fault has its cause, and what comes before it was accepted. What is to be explained is refused only where the first netlist has no
+    // such output or register.
     ensures fault { let told = told_of (R1.remaining first.old) (R2.remaining second.old) (told_by R3.remaining given.old) in
         let s = context.now.settings.now in
-        IfErr result (λ fault. (order : OrderValue) × IsAllowed s.order order × IsCheckFault told (IsTrue (R1.has_failed first.new)) (IsTrue (R2.has_failed second.new)) (HasFailedIn R3.has_failed given.new) s.matching order fault) }
+        IfErr result (IsReportFault told (IsTrue (R1.has_failed first.new)) (IsTrue (R2.has_failed second.new)) (HasFailedIn R3.has_failed given.new) s) }
     // Where the writing failed, a front part of the report was written, and the device has failed or taken nothing of the rest.
     ensures unwritten { let told = told_of (R1.remaining first.old) (R2.remaining second.old) (told_by R3.remaining given.old) in
         let s = context.now.settings.now in

@@ -8,9 +8,11 @@ mod checking;
 mod choice;
 mod compare;
 mod compared;
+mod composing;
 mod coned;
 mod coning;
 mod deciding;
+mod explaining;
 mod fault;
 mod hands;
 mod judging;
@@ -26,6 +28,7 @@ mod settings;
 mod sharing;
 mod spreading;
 mod subject;
+mod target;
 mod task;
 mod telling;
 mod trials;
@@ -37,7 +40,10 @@ pub use judging::{check, judge};
 pub use listing::print_order;
 pub use picked::Picked;
 pub use report_text::{
-    Bits, Name, Outcome, Role, Share, Side, Verdict, Verdicts, json_of, report_of, write_whole,
+    Assignment, Bits, Heading, Name, Outcome, Role, Share, Side, Verdict, Verdicts, json_of,
+    report_of, write_whole,
 };
 pub use settings::Settings;
+pub use target::Target;
 pub use task::Context;
+pub use turns::cone_limit;

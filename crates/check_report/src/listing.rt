@@ -1,21 +1,18 @@
 //! From two readers to the order of their variables.
-ghost use Rattle.std.specs.Prelude.{None, ◌≡◌, ◌≢◌, ◌<◌, ◌-◌, ◌^◌, ℕ, List, Option, IfOk, IfErr, IfSome, IsSomeAnd, OnOk, OnErr, IsTrue, Err};
+ghost use Rattle.std.specs.Prelude.{None, ◌≡◌, ◌≢◌, ℕ, List, Option, IfOk, IfErr, IfSome, OnOk, OnErr, IsTrue, Err};
 ghost use Rattle.std.specs.Io.KnownBytes.{Appends};
 ghost use Rattle.expand_work.specs.declared.fault.WaveFault.TheVariants.{Full, NoWorker, TooManyRequests};
-ghost use Rattle.expand_work.specs.Bounds.{most_of};
 ghost use Rattle.net_order.specs.declared.order.Order.{Order as OrderValue};
 ghost use Rattle.net_order.specs.declared.order.Order.TheVariants.{Declared};
 ghost use Rattle.net_order.specs.OrderText.{order_text};
 ghost use Rattle.report_text.specs.Writing.{AppendsFront};
 ghost use Rattle.check_report.specs.declared.choice.Attempt.{Attempt as AttemptValue};
-ghost use Rattle.check_report.specs.declared.choice.Choice.{Choice as ChoiceValue};
-ghost use Rattle.check_report.specs.Best.{AreGivenUp, AreTried, IsAllowed, IsFound, IsGivenUpWithin};
+ghost use Rattle.check_report.specs.Best.{AreGivenUp, AreTried, IsAllowed, IsFound, IsGivenUpWithin, MayGoByCones, last_budget};
 ghost use Rattle.check_report.specs.Check.{IsCheckFault};
 ghost use Rattle.check_report.specs.Devices.{HasFailedIn, told_by, told_of};
 ghost use Rattle.check_report.specs.Limits.{AreBeyond};
 ghost use Rattle.check_report.specs.Listing.{IsOrderPrinted};
 ghost use Rattle.check_report.specs.Tasks.{OfTask};
-ghost use Rattle.check_report.specs.Widths.{AreTooWide};
 
 use crate::choice::{Attempt, Choice};
 use crate::deciding::find_best;
@@ -52,6 +49,7 @@ fn text_by<H>(task: &Task<'_, H>, order: &Order) -> Result<Vec<u8>, CheckFault>
     ensures kept { result ≢ Err CheckFault.GivenUp }
     ensures unbounded { result ≢ Err (CheckFault.Wave TooManyRequests) }
     ensures alone { result ≢ Err (CheckFault.Wave NoWorker) }
+    ensures others { result ≢ Err CheckFault.Only }
     ensures unwritten { result ≢ Err CheckFault.Write }
 {
     match pair(
@@ -82,6 +80,7 @@ fn given_text<H>(
     ensures kept { result ≢ Err CheckFault.GivenUp }
     ensures unbounded { result ≢ Err (CheckFault.Wave TooManyRequests) }
     ensures alone { result ≢ Err (CheckFault.Wave NoWorker) }
+    ensures others { result ≢ Err CheckFault.Only }
     ensures unwritten { result ≢ Err CheckFault.Write }
 {
     match text_by(task, order) {
@@ -101,6 +100,7 @@ fn auto_text<H>(task: &Task<'_, H>) -> Result<(Vec<u8>, Option<Attempt>), CheckF
     ensures kept { result ≢ Err CheckFault.GivenUp }
     ensures unbounded { result ≢ Err (CheckFault.Wave TooManyRequests) }
     ensures alone { result ≢ Err (CheckFault.Wave NoWorker) }
+    ensures others { result ≢ Err CheckFault.Only }
     ensures unwritten { result ≢ Err CheckFault.Write }
 {
     match text_by(task, &Order::Declared) {
@@ -120,6 +120,7 @@ fn cones_text<H>(task: &Task<'_, H>) -> Result<(Vec<u8>, Option<Attempt>), Check
     ensures kept { result ≢ Err CheckFault.GivenUp }
     ensures unbounded { result ≢ Err (CheckFault.Wave TooManyRequests) }
     ensures alone { result ≢ Err (CheckFault.Wave NoWorker) }
+    ensures others { result ≢ Err CheckFault.Only }
     ensures unwritten { result ≢ Err CheckFault.Write }
 {
     auto_text(task)
@@ -143,6 +144,7 @@ fn best_text<H: Threads + Wait + Sync, G: Gate>(
     ensures unbounded { result ≢ Err (CheckFault.Wave TooManyRequests) }
     ensures passed { OfTask task.now (λ told s. IfOk result (λ r. IfSome r.1 (AreGivenUp told s.matching s.limit (G.bound gate.now)))) }
     ensures alone { result ≢ Err (CheckFault.Wave NoWorker) }
+    ensures others { result ≢ Err CheckFault.Only }
 {
     match find_best(task, gate) {
         Ok((verdicts, found)) => match text_of(task.alloc, verdicts.variables()) {
@@ -165,14 +167,15 @@ fn text_for<H: Threads + Wait + Sync, G: Gate>(
         result ≡ Err (CheckFault.Wave Full) → (order : OrderValue) → IsAllowed s.order order → AreBeyond told s.matching order s.limit) }
     ensures given_up { OfTask task.now (λ told s.
         result ≡ Err CheckFault.GivenUp → AreTried s.order × ((order : OrderValue) → IsAllowed s.order order → IsGivenUpWithin told s.matching s.limit (G.bound gate.now) order)) }
-    ensures in_no_order { task.now.settings.now.order ≡ ChoiceValue.Auto → result ≢ Err (CheckFault.Wave Full) }
+    ensures by_cones { MayGoByCones task.now.settings.now.order → (result ≢ Err (CheckFault.Wave Full)) × (result ≢ Err CheckFault.GivenUp) }
     ensures fault { OfTask task.now (λ told s.
         IfErr result (λ fault. (order : OrderValue) × IsAllowed s.order order × IsCheckFault told ⊥ ⊥ ⊥ s.matching order fault)) }
     ensures unwritten { result ≢ Err CheckFault.Write }
     ensures unbounded { result ≢ Err (CheckFault.Wave TooManyRequests) }
     ensures passed { OfTask task.now (λ told s.
-        IfOk result (λ r. IfSome r.1 (AreGivenUp told s.matching s.limit (G.bound gate.now)))) }
+        IfOk result (λ r. IfSome r.1 (AreGivenUp told s.matching (last_budget s.order s.limit) (G.bound gate.now)))) }
     ensures alone { result ≢ Err (CheckFault.Wave NoWorker) }
+    ensures others { result ≢ Err CheckFault.Only }
 {
     match &task.settings.order {
         Choice::One(order) => given_text(task, order),
@@ -194,18 +197,17 @@ fn listed<H: Threads + Wait + Sync, R1: Source, R2: Source, R3: Source, G: Gate>
         IfOk result (λ r. (order : OrderValue) × IsOrderPrinted told s.matching order r.0.items × IsFound told s.matching s.order s.limit r.1 order) }
     ensures passed { let told = told_of (R1.remaining first.old) (R2.remaining second.old) (told_by R3.remaining given.old) in
         let s = context.now.settings.now in
-        IfOk result (λ r. IfSome r.1 (AreGivenUp told s.matching s.limit (G.bound context.now.gate.now))) }
+        IfOk result (λ r. IfSome r.1 (AreGivenUp told s.matching (last_budget s.order s.limit) (G.bound context.now.gate.now))) }
     ensures full { let told = told_of (R1.remaining first.old) (R2.remaining second.old) (told_by R3.remaining given.old) in
         let s = context.now.settings.now in
         result ≡ Err (CheckFault.Wave Full) → (order : OrderValue) → IsAllowed s.order order → AreBeyond told s.matching order s.limit }
     ensures given_up { let told = told_of (R1.remaining first.old) (R2.remaining second.old) (told_by R3.remaining given.old) in
         let s = context.now.settings.now in
         result ≡ Err CheckFault.GivenUp → AreTried s.order × ((order : OrderValue) → IsAllowed s.order order → IsGivenUpWithin told s.matching s.limit (G.bound context.now.gate.now) order) }
-    ensures in_no_order { context.now.settings.now.order ≡ ChoiceValue.Auto → result ≢ Err (CheckFault.Wave Full) }
-    ensures past { let told = told_of (R1.remaining first.old) (R2.remaining second.old) (told_by R3.remaining given.old) in
-        let s = context.now.settings.now in
-        result ≡ Err (CheckFault.Wave TooManyRequests) → (order : OrderValue) × IsAllowed s.order order × IsSomeAnd (G.bound context.now.gate.now) (AreTooWide told s.matching order) }
-    ensures alone { most_of (G.bound context.now.gate.now) < 2 ^ 64 - 1 → result ≢ Err (CheckFault.Wave NoWorker) }
+    ensures by_cones { MayGoByCones context.now.settings.now.order → (result ≢ Err (CheckFault.Wave Full)) × (result ≢ Err CheckFault.GivenUp) }
+    ensures unbounded { result ≢ Err (CheckFault.Wave TooManyRequests) }
+    ensures alone { result ≢ Err (CheckFault.Wave NoWorker) }
+    ensures others { result ≢ Err CheckFault.Only }
     ensures fault { let told = told_of (R1.remaining first.old) (R2.remaining second.old) (told_by R3.remaining given.old) in
         let s = context.now.settings.now in
         IfErr result (λ fault. (order : OrderValue) × IsAllowed s.order order × IsCheckFault told (IsTrue (R1.has_failed first.new)) (IsTrue (R2.has_failed second.new)) (HasFailedIn R3.has_failed given.new) s.matching order fault) }
@@ -250,7 +252,7 @@ pub fn print_order<H: Threads + Wait + Sync, R1: Source, R2: Source, R3: Source,
     // Each attempt within a smaller budget than that of the one that is told was given up, and within the first budget each before it.
     ensures passed { let told = told_of (R1.remaining first.old) (R2.remaining second.old) (told_by R3.remaining given.old) in
         let s = context.now.settings.now in
-        IfOk result (λ tried. IfSome tried (AreGivenUp told s.matching s.limit (G.bound context.now.gate.now))) }
+        IfOk result (λ tried. IfSome tried (AreGivenUp told s.matching (last_budget s.order s.limit) (G.bound context.now.gate.now))) }
     // Full comes only where the nodes that the netlists need are not within the limit, in each order that the settings allow.
     ensures full { let told = told_of (R1.remaining first.old) (R2.remaining second.old) (told_by R3.remaining given.old) in
         let s = context.now.settings.now in
@@ -259,13 +261,11 @@ pub fn print_order<H: Threads + Wait + Sync, R1: Source, R2: Source, R3: Source,
     ensures given_up { let told = told_of (R1.remaining first.old) (R2.remaining second.old) (told_by R3.remaining given.old) in
         let s = context.now.settings.now in
         result ≡ Err CheckFault.GivenUp → AreTried s.order × ((order : OrderValue) → IsAllowed s.order order → IsGivenUpWithin told s.matching s.limit (G.bound context.now.gate.now) order) }
-    ensures in_no_order { context.now.settings.now.order ≡ ChoiceValue.Auto → result ≢ Err (CheckFault.Wave Full) }
-    // TooManyRequests comes only where one wave reaches more than the gate allows, in an order that the settings allow.
-    ensures past { let told = told_of (R1.remaining first.old) (R2.remaining second.old) (told_by R3.remaining given.old) in
-        let s = context.now.settings.now in
-        result ≡ Err (CheckFault.Wave TooManyRequests) → (order : OrderValue) × IsAllowed s.order order × IsSomeAnd (G.bound context.now.gate.now) (AreTooWide told s.matching order) }
-    // Where the gate sets a bound, no worker is wanted.
-    ensures alone { most_of (G.bound context.now.gate.now) < 2 ^ 64 - 1 → result ≢ Err (CheckFault.Wave NoWorker) }
+    ensures by_cones { MayGoByCones context.now.settings.now.order → (result ≢ Err (CheckFault.Wave Full)) × (result ≢ Err CheckFault.GivenUp) }
+    // Waves are those of attempts alone, and no pairs are picked.
+    ensures unbounded { result ≢ Err (CheckFault.Wave TooManyRequests) }
+    ensures alone { result ≢ Err (CheckFault.Wave NoWorker) }
+    ensures others { result ≢ Err CheckFault.Only }
     // A fault has its cause, and what comes before it was accepted.
     ensures fault { let told = told_of (R1.remaining first.old) (R2.remaining second.old) (told_by R3.remaining given.old) in
         let s = context.now.settings.now in

@@ -41,7 +41,7 @@ fn is_among(names: &[Name], name: &[u8]) -> bool
 }
 
 /// Whether one of these signals has the name.
-fn has_name(net: &Netlist, signals: &[Signal], name: &[u8]) -> bool
+pub(crate) fn has_name(net: &Netlist, signals: &[Signal], name: &[u8]) -> bool
     requires { All (λ s. s < length net.now.names) signals.now }
     ensures { result ≡ is_among (map (name_of (circuit net.now)) signals.now) name.now }
 {
@@ -54,7 +54,7 @@ fn has_name(net: &Netlist, signals: &[Signal], name: &[u8]) -> bool
 }
 
 /// The registers' signals.
-fn registers_of(net: &Netlist) -> &[Signal]
+pub(crate) fn registers_of(net: &Netlist) -> &[Signal]
     ensures value { result.now ≡ registers_of (circuit net.now) }
     ensures known { All (λ s. s < length net.now.names) result.now }
 {

@@ -6,7 +6,7 @@ ghost use Rattle.report_text.specs.Json.{form_text};
 
 use crate::choice::Attempt;
 use crate::settings::Settings;
-use report_text::{Verdicts, json_of, report_of};
+use report_text::{Heading, Verdicts, json_of, report_of};
 use std::alloc::{AllocError, Global};
 
 /// The report in the form that the settings ask for.
@@ -17,13 +17,18 @@ pub(crate) fn text_of(
     given: bool,
     verdicts: &Verdicts,
 ) -> Result<Vec<u8>, AllocError>
-    ensures { IfOk result (λ text. text.items ≡ form_text settings.now.json settings.now.matching (told_kind settings.now.order tried) given (share_of settings.now.picked) verdicts.now) }
+    ensures { IfOk result (λ text. text.items ≡ form_text settings.now.json settings.now.assignment settings.now.matching (told_kind settings.now.order tried) given (share_of settings.now.picked) verdicts.now) }
 {
     let share = settings.picked.share();
     if settings.json {
-        let kind = settings.order.kind(tried);
-        json_of(alloc, settings.matching, kind, given, share, verdicts)
+        let heading = Heading {
+            matching: settings.matching,
+            kind: settings.order.kind(tried),
+            given,
+            share,
+        };
+        json_of(alloc, &heading, settings.assignment, verdicts)
     } else {
-        report_of(alloc, share, verdicts)
+        report_of(alloc, settings.assignment, share, verdicts)
     }
 }

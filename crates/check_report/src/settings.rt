@@ -5,7 +5,9 @@ ghost use Rattle.check_report.specs.declared.picked.Picked.TheVariants.{All};
 
 use crate::choice::Choice;
 use crate::picked::Picked;
+use crate::target::Target;
 use net_order::order::Match;
+use report_text::Assignment;
 
 /// How two netlists are compared.
 #[derive(Drop)]
@@ -23,6 +25,10 @@ pub struct Settings {
     pub sizes: bool,
     /// Whether the report is one JSON object, and not lines.
     pub json: bool,
+    /// The pairs that are explained behind the report.
+    pub explain: Vec<Target>,
+    /// Which variables the assignments of the report tell, where that is asked for; as JSON it has buses then.
+    pub assignment: Option<Assignment>,
     ghost some_workers: { 1 ≤ workers },
     ghost few_workers: { workers ≤ 16 },
     ghost some_nodes: { 1 ≤ limit },

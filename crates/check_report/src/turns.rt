@@ -12,7 +12,7 @@ use crate::fault::CheckFault;
 use crate::hands::{deal, gather, numbers_of};
 use crate::pairs::judge_pair;
 use crate::subject::Subject;
-use expand_work::Gate;
+use expand_work::{AttemptEnd, Gate};
 use rayon::prelude::*;
 use report_text::Verdict;
 use std::alloc::{AllocError, Global};
@@ -201,7 +201,32 @@ fn fill(
     Ok(all)
 }
 
-/// Judges the pairs that have no verdict yet, each within so many nodes.
+/// How many pairs have no verdict yet.
+fn count_left(known: &[Option<Verdict>]) -> usize
+    ensures { result ≤ length known.now }
+{
+    let mut left = 0;
+    for place in 0..known.len() {
+        if known[place].is_none() {
+            left += 1;
+        }
+    }
+    left
+}
+
+/// Tells the gate how many pairs a round has left, where some had their turn in it.
+fn tell_round<G: Gate>(turns: &[Subject], known: &[Option<Verdict>], budget: u64, gate: &G) {
+    if turns.is_empty() {
+        return;
+    }
+    let end = AttemptEnd::Left {
+        left: count_left(known),
+        pairs: known.len(),
+    };
+    gate.at_attempt(budget, end);
+}
+
+/// Judges the pairs that have no verdict yet, each within so many nodes, and tells the gate how many are left.
 fn judge_round<H: Threads + Wait + Sync, G: Gate>(
     whole: &Whole<'_, H>,
     subjects: &[Subject],
@@ -229,7 +254,10 @@ fn judge_round<H: Threads + Wait + Sync, G: Gate>(
         Err(fault) => return Err(fault),
     };
     match fill(alloc, known, found) {
-        Ok(all) => Ok(all),
+        Ok(all) => {
+            tell_round(left.as_slice(), all.as_slice(), budget, gate);
+            Ok(all)
+        }
         Err(_) => Err(CheckFault::OutOfMemory),
     }
 }
@@ -246,8 +274,8 @@ fn none_known(alloc: Global, count: usize) -> Result<Vec<Option<Verdict>>, Alloc
     Ok(known)
 }
 
-/// The most nodes that a pair may need by its cones.
-fn cone_limit(limit: u64) -> u64
+/// The most nodes that a pair may need by its cones, where this is the limit of a run.
+pub fn cone_limit(limit: u64) -> u64
     ensures { result ≡ cone_limit limit }
 {
     (limit / 4).max(1)

@@ -1,23 +1,25 @@
 -- What a check says by its settings, by the options.
-use Rattle.std.proofs.Common.{◌≡◌, ◌∙◌, sym, subst, refl, ℕ, Bool, true, false, List, Option, None}
-use Rattle.check_report.specs.Best.{AreTried as TriesOrders, IsAllowed, IsGivenUpWithin, MayGoByCones as MayCheckByCones}
+use Rattle.std.proofs.Common.{◌≡◌, inl, inr, sym, subst, ℕ, List, Option, Some, None}
+use Rattle.std.specs.Prelude.{IfSome, IsSomeAnd}
+use Rattle.check_report.specs.Best.{AreGivenUp, AreTried as TriesOrders, IsAllowed, IsGivenUpWithin, MayGoByCones as MayCheckByCones, NamesOrder as NamesCheckOrder, last_budget}
 use Rattle.check_report.specs.Check.{IsCheckFault}
-use Rattle.check_report.specs.Devices.{Told}
-use Rattle.check_report.specs.Deciding.{IsUnknown}
+use Rattle.check_report.specs.Devices.{Told, told_of}
+use Rattle.check_report.specs.Deciding.{IsReportBy, IsUnknown}
+use Rattle.check_report.specs.Explaining.{IsReportFault}
 use Rattle.check_report.specs.Limits.{AreBeyond}
 use Rattle.check_report.specs.Best.{IsFound}
 use Rattle.check_report.specs.Listing.{IsOrderPrinted}
 use Rattle.check_report.specs.declared.choice.Attempt.{Attempt}
 use Rattle.check_report.specs.declared.choice.Choice.{Choice}
-use Rattle.check_report.specs.declared.choice.Choice.TheVariants.{One as Ordered, Best as TheBest, Auto as Found, Cones as ByCones}
 use Rattle.check_report.specs.declared.fault.CheckFault.{CheckFault}
 use Rattle.check_report.specs.declared.picked.Picked.{Picked}
 use Rattle.check_report.specs.declared.settings.Settings.{Settings}
+use Rattle.report_text.specs.declared.outcome.Outcome.{Outcome}
 use Rattle.net_order.specs.declared.order.Order.{Order}
 use Rattle.command_line.specs.declared.options.Options.{Options}
 use Rattle.command_line.specs.declared.options.OrderChoice.{OrderChoice}
-use Rattle.command_line.specs.declared.options.OrderChoice.TheVariants.{Declared, Depth, Interleave, Index, Force, Best, Auto, Cones, File}
-use Rattle.check_tool.specs.Running.{AreSettings, IsOrderOf, MayGoByCones, limit_of}
+use Rattle.command_line.specs.declared.options.OrderChoice.TheVariants.{Declared, Depth, Interleave, Index, Force, Best, Auto, Cones, File, Extended}
+use Rattle.check_tool.specs.Running.{AreSettings, IsFailedCheck, IsGivenOf, IsOrderOf, MayGoByCones, NamesOrder, limit_of}
 
 -- cones may be taken where the options allow them
 pub goes_by_cones : (told : List ℕ → Option (List ℕ)) (c : OrderChoice) (choice : Choice) → IsOrderOf told c choice → MayGoByCones c → MayCheckByCones choice
@@ -30,29 +32,45 @@ goes_by_cones told Index choice is may = absurd may
 goes_by_cones told Force choice is may = absurd may
 goes_by_cones told Best choice is may = absurd may
 goes_by_cones told (File path) choice is may = absurd may
+goes_by_cones told (Extended path) choice is may = absurd may
 
--- and where they are not asked for, an order is to be found
-pub finds : (told : List ℕ → Option (List ℕ)) (c : OrderChoice) (choice : Choice) → IsOrderOf told c choice → MayGoByCones c → (c ≡ Cones → ⊥) → choice ≡ Found
-finds told Auto choice is may other = is
-finds told Cones choice is may other = absurd (other refl)
-finds told Declared choice is may other = absurd may
-finds told Depth choice is may other = absurd may
-finds told Interleave choice is may other = absurd may
-finds told Index choice is may other = absurd may
-finds told Force choice is may other = absurd may
-finds told Best choice is may other = absurd may
-finds told (File path) choice is may other = absurd may
+-- an order that is checked by its name is named
+pub named_by : (told : List ℕ → Option (List ℕ)) (c : OrderChoice) (choice : Choice) → IsOrderOf told c choice → NamesCheckOrder choice → NamesOrder c
+named_by told Declared choice is named = tt
+named_by told Depth choice is named = tt
+named_by told Interleave choice is named = tt
+named_by told Index choice is named = tt
+named_by told Force choice is named = tt
+named_by told (File path) choice is named = tt
+named_by told (Extended path) choice is named = tt
+named_by told Best choice is named = absurd (subst NamesCheckOrder is named)
+named_by told Auto choice is named = absurd (subst NamesCheckOrder is named)
+named_by told Cones choice is named = absurd (subst NamesCheckOrder is named)
 
--- orders are not tried then
-pub not_tried : (choice : Choice) → MayCheckByCones choice → TriesOrders choice → ⊥
-not_tried (Ordered order) may tried = may
-not_tried TheBest may tried = may
-not_tried Found may tried = tried
-not_tried ByCones may tried = tried
+-- no bound is passed where there is none
+pub none_past : {A : Type 0} (bound : Option A) (P : A → Type 0) → bound ≡ None → IsSomeAnd bound P → ⊥
+none_past bound P none h = subst (λ b. IsSomeAnd b P) none h
 
--- nothing is printed and not
-pub printed_alone : {b : Bool} → b ≡ false → b ≡ true → ⊥
-printed_alone off on = let bad : false ≡ true = sym off ∙ on in cc
+-- a report that no bound of requests was set for
+pub report_unbound : (told : Told) (s : Settings) (bound : Option ℕ) → bound ≡ None → (tried : Option Attempt) (o : Outcome) (bytes : List ℕ) → IsReportBy told s bound tried o bytes → IsReportBy told s None tried o bytes
+report_unbound told s bound none tried o bytes r = subst (λ b. IsReportBy told s b tried o bytes) none r
+
+-- the attempts before one that is told were given up, as the options have it
+pub passed_as : (files : List ℕ → Option (List ℕ)) (one two : Option (List ℕ)) (given : Option (Option (List ℕ))) (o : Options) (choice : Choice) (picked : Picked) (s : Settings) → AreSettings o choice picked s
+    → IsGivenOf files o.given given → IsOrderOf files o.order choice → (bound : Option ℕ) → bound ≡ None → (tried : Option Attempt) → IfSome tried (AreGivenUp (told_of one two given) s.matching (last_budget s.order s.limit) bound)
+    → IfSome tried (λ t. (given : Option (Option (List ℕ))) × (choice : Choice) × IsGivenOf files o.given given × IsOrderOf files o.order choice
+    × AreGivenUp (told_of one two given) o.matching (last_budget choice (limit_of o)) None t)
+passed_as files one two given o choice picked s set conditioned ordered bound none None h = tt
+passed_as files one two given o choice picked s set conditioned ordered bound none (Some t) h = (
+  given,
+  choice,
+  conditioned,
+  ordered,
+  subst (λ b. AreGivenUp (told_of one two given) o.matching (last_budget choice (limit_of o)) b t) none
+      (subst (λ m. AreGivenUp (told_of one two given) m (last_budget choice (limit_of o)) bound t) set.matching
+      (subst (λ c. AreGivenUp (told_of one two given) s.matching (last_budget c (limit_of o)) bound t) set.order
+      (subst (λ n. AreGivenUp (told_of one two given) s.matching (last_budget s.order n) bound t) set.limit h))),
+)
 
 module _ (told : Told) (o : Options) (choice : Choice) (picked : Picked) (s : Settings) (set : AreSettings o choice picked s) where
   pub beyond : ((order : Order) → IsAllowed s.order order → AreBeyond told s.matching order s.limit) → (order : Order) → IsAllowed choice order → AreBeyond told o.matching order (limit_of o)
@@ -60,19 +78,25 @@ module _ (told : Told) (o : Options) (choice : Choice) (picked : Picked) (s : Se
       subst (λ m. AreBeyond told m order (limit_of o)) set.matching
       (subst (λ n. AreBeyond told s.matching order n) set.limit (f order (subst (λ c. IsAllowed c order) (sym set.order) allowed)))
 
-  pub given_up : TriesOrders s.order × ((order : Order) → IsAllowed s.order order → IsGivenUpWithin told s.matching s.limit None order)
+  pub given_up : (bound : Option ℕ) → bound ≡ None → TriesOrders s.order × ((order : Order) → IsAllowed s.order order → IsGivenUpWithin told s.matching s.limit bound order)
       → TriesOrders choice × ((order : Order) → IsAllowed choice order → IsGivenUpWithin told o.matching (limit_of o) None order)
-  given_up f = (
+  given_up bound none f = (
     subst TriesOrders set.order f.0,
     λ order allowed.
-        subst (λ m. IsGivenUpWithin told m (limit_of o) None order) set.matching
-        (subst (λ n. IsGivenUpWithin told s.matching n None order) set.limit (f.1 order (subst (λ c. IsAllowed c order) (sym set.order) allowed))),
+        subst (λ b. IsGivenUpWithin told o.matching (limit_of o) b order) none
+        (subst (λ m. IsGivenUpWithin told m (limit_of o) bound order) set.matching
+        (subst (λ n. IsGivenUpWithin told s.matching n bound order) set.limit (f.1 order (subst (λ c. IsAllowed c order) (sym set.order) allowed)))),
   )
 
   pub fault_of : (first second given : Type 0) (fault : CheckFault) → (order : Order) × IsAllowed s.order order × IsCheckFault told first second given s.matching order fault
-      → (order : Order) × IsAllowed choice order × IsCheckFault told first second given o.matching order fault
+      → IsFailedCheck told.first told.second told.given first second given o choice fault
   fault_of first second given fault f =
-      (f.0, subst (λ c. IsAllowed c f.0) set.order f.1, subst (λ m. IsCheckFault told first second given m f.0 fault) set.matching f.2)
+      inr (f.0, subst (λ c. IsAllowed c f.0) set.order f.1, subst (λ m. IsCheckFault told first second given m f.0 fault) set.matching f.2)
+
+  -- and of a report
+  pub report_fault_of : (first second given : Type 0) (fault : CheckFault) → IsReportFault told first second given s fault → IsFailedCheck told.first told.second told.given first second given o choice fault
+  report_fault_of first second given fault (inl unknown) = inl (s.explain.items, set.explain, unknown)
+  report_fault_of first second given fault (inr f) = fault_of first second given fault f
 
   pub unknown : IsUnknown told s.picked → IsUnknown told picked
   unknown u = subst (IsUnknown told) set.picked_pairs u

@@ -1,13 +1,14 @@
 -- What a run does, from what its parts do.
 use Rattle.std.proofs.Common.{◌≡◌, ◌∙◌, ◌++◌, ◌⊎◌, inl, inr, ℕ, Bool, true, false, List, [], ◌∷◌, Option, Some, None, Result, Ok, Err, IfOk, IfErr, OnOk, refl, sym, ap, subst, append-nil}
-use Rattle.std.specs.Prelude.{IfSome, option_map}
+use Rattle.std.specs.Prelude.{IfSome, option_map, ◌||◌}
 use Rattle.std.specs.Borrow.{Bor}
 use Rattle.std.specs.Io.KnownBytes.{Appends, Keeps}
 use Rattle.std.proofs.lemmas.List.{append_assoc}
 use Rattle.check_tool.specs.declared.done.Done.{Done}
 use Rattle.check_report.specs.Devices.{told_of}
 use Rattle.check_report.specs.Limits.{AreBeyond}
-use Rattle.check_report.specs.Best.{AreTried as TriesOrders, IsAllowed, IsGivenUpWithin}
+use Rattle.check_report.specs.Best.{AreGivenUp, AreTried as TriesOrders, IsAllowed, IsGivenUpWithin, last_budget}
+use Rattle.check_report.specs.declared.choice.Attempt.{Attempt}
 use Rattle.check_report.specs.declared.choice.Choice.{Choice}
 use Rattle.report_text.specs.Writing.{AppendsFront}
 use Rattle.net_order.specs.declared.order.Order.{Order}
@@ -19,8 +20,8 @@ use Rattle.check_tool.specs.declared.fault.ToolFault.{ToolFault}
 use Rattle.check_tool.specs.declared.fault.ToolFault.TheVariants.{OneFile, InputTwice as DashTwice, CannotOpen, InputUnread, InputTooLong, InputUndivided, BadOrder, Check, OutOfMemory}
 use Rattle.check_tool.specs.Splitting.{IsSplit}
 use Rattle.check_tool.specs.Opening.{Try, Extends, opened, AreTried}
-use Rattle.check_tool.specs.Running.{IsOpenFault, first_paths, second_paths, text_paths, order_paths, given_paths, later_paths, paths_of, IsShort, AreTexts, HasTexts, IsGivenOf, IsOrderOf, IsLaterFault, IsCompared, HasReported, HasReportedFront, HasFirstFailed, HasSecondFailed, HasGivenFailed, IsBeyond, IsGivenUp, AreUnknown, ArePicksUnknown, IsCompareFault, IsToolFault, limit_of}
-use Rattle.check_tool.proofs.Failing.{check_fault}
+use Rattle.check_tool.specs.Running.{IsOpenFault, first_paths, second_paths, text_paths, order_paths, given_paths, later_paths, paths_of, IsShort, AreNamed, AreTexts, HasTexts, IsGivenOf, IsOrderOf, IsLaterFault, IsCompared, HasReported, HasReportedFront, HasFirstFailed, HasSecondFailed, HasGivenFailed, IsBeyond, IsGivenUp, ArePassed, AreUnknown, ArePicksUnknown, IsCompareFault, IsToolFault, attempt_of, limit_of}
+use Rattle.check_tool.proofs.Failing.{failed_check}
 
 -- ---- tries
 
@@ -55,6 +56,10 @@ opened_twice ps qs ts = sym (append_assoc (opened ps) (opened qs) ts) ∙ ap (λ
 pub keeps_own : (a : Option (List ℕ)) → Keeps a a
 keeps_own None = tt
 keeps_own (Some xs) = refl
+
+-- nothing is told where more is not asked for, nor seen
+pub neither : (verbose seen : Bool) → verbose ≡ false → seen ≡ false → (verbose || seen) ≡ false
+neither verbose seen e f = ap (λ v. v || seen) e ∙ f
 
 -- either more is asked for, or it is not
 pub asked_or : {A B : Type 0} (verbose : Bool) → (verbose ≡ true → A) → (verbose ≡ false → B) → A ⊎ B
@@ -122,6 +127,18 @@ module _ (told : List ℕ → Option (List ℕ)) (input : Option (List ℕ)) (o 
   pub whole_beyond : (told' : List ℕ → Option (List ℕ)) → told' ≡ told → (given : Option (Option (List ℕ))) × (choice : Choice) × IsGivenOf told' o.given given × IsOrderOf told' o.order choice × ((order : Order) → IsAllowed choice order → AreBeyond (told_of one two given) o.matching order (limit_of o)) → IsBeyond told input o
   whole_beyond told' e h = (one, two, h.0, h.1, texts, subst (λ t. IsGivenOf t o.given h.0) e h.2, subst (λ t. IsOrderOf t o.order h.1) e h.3, h.4)
 
+  pub whole_passed : (told' : List ℕ → Option (List ℕ)) → told' ≡ told → (r : Result Done ToolFault)
+      → IfOk r (λ done. IfSome (attempt_of done) (λ t. (given : Option (Option (List ℕ))) × (choice : Choice) × IsGivenOf told' o.given given × IsOrderOf told' o.order choice
+      × AreGivenUp (told_of one two given) o.matching (last_budget choice (limit_of o)) None t)) → IfOk r (ArePassed told input o)
+  whole_passed told' e (Err fault) h = tt
+  whole_passed told' e (Ok done) h = by (attempt_of done) h
+    where
+      by : (tried : Option Attempt) → IfSome tried (λ t. (given : Option (Option (List ℕ))) × (choice : Choice) × IsGivenOf told' o.given given × IsOrderOf told' o.order choice
+          × AreGivenUp (told_of one two given) o.matching (last_budget choice (limit_of o)) None t)
+          → IfSome tried (λ t. AreNamed told input o (λ one two given choice. AreGivenUp (told_of one two given) o.matching (last_budget choice (limit_of o)) None t))
+      by None h = tt
+      by (Some t) h = (one, two, h.0, h.1, texts, subst (λ t. IsGivenOf t o.given h.0) e h.2, subst (λ t. IsOrderOf t o.order h.1) e h.3, h.4)
+
   pub whole_given_up : (told' : List ℕ → Option (List ℕ)) → told' ≡ told → (given : Option (Option (List ℕ))) × (choice : Choice) × IsGivenOf told' o.given given × IsOrderOf told' o.order choice
       × TriesOrders choice × ((order : Order) → IsAllowed choice order → IsGivenUpWithin (told_of one two given) o.matching (limit_of o) None order) → IsGivenUp told input o
   whole_given_up told' e h = (one, two, h.0, h.1, texts, subst (λ t. IsGivenOf t o.given h.0) e h.2, subst (λ t. IsOrderOf t o.order h.1) e h.3, (h.4, h.5))
@@ -133,33 +150,33 @@ module _ (told : List ℕ → Option (List ℕ)) (input : Option (List ℕ)) (o 
     -- the files behind those of the texts, with these before them
     later_fault : (tries : List Try) (fault : ToolFault) → IsLaterFault told broken o tries fault → IsToolFault told broken input_broken input o (opened (text_paths o.texts) ++ tries) fault
     later_fault tries OneFile (inl f) = absurd f
-    later_fault tries OneFile (inr f) = absurd f.2
+    later_fault tries OneFile (inr f) = absurd f.2.2
     later_fault tries DashTwice (inl f) = absurd f
-    later_fault tries DashTwice (inr f) = absurd f.2
+    later_fault tries DashTwice (inr f) = absurd f.2.2
     later_fault tries InputUnread (inl f) = absurd f
-    later_fault tries InputUnread (inr f) = absurd f.2
+    later_fault tries InputUnread (inr f) = absurd f.2.2
     later_fault tries InputTooLong (inl f) = absurd f
-    later_fault tries InputTooLong (inr f) = absurd f.2
+    later_fault tries InputTooLong (inr f) = absurd f.2.2
     later_fault tries InputUndivided (inl f) = absurd f
-    later_fault tries InputUndivided (inr f) = absurd f.2
+    later_fault tries InputUndivided (inr f) = absurd f.2.2
     later_fault tries (Check fault) (inl f) = absurd f
-    later_fault tries (Check fault) (inr f) = absurd f.2
+    later_fault tries (Check fault) (inr f) = absurd f.2.2
     later_fault tries (CannotOpen First obstacle) (inl f) = absurd f
-    later_fault tries (CannotOpen First obstacle) (inr f) = absurd f.2
+    later_fault tries (CannotOpen First obstacle) (inr f) = absurd f.2.2
     later_fault tries (CannotOpen Second obstacle) (inl f) = absurd f
-    later_fault tries (CannotOpen Second obstacle) (inr f) = absurd f.2
+    later_fault tries (CannotOpen Second obstacle) (inr f) = absurd f.2.2
     later_fault tries (CannotOpen GivenFile obstacle) (inl f) =
         (f.0, f.1, has_texts told input o.texts one two texts, ap (λ l. opened (text_paths o.texts) ++ l) f.2)
-    later_fault tries (CannotOpen GivenFile obstacle) (inr f) = absurd f.2
+    later_fault tries (CannotOpen GivenFile obstacle) (inr f) = absurd f.2.2
     later_fault tries (CannotOpen OrderFile obstacle) (inl f) = absurd f
     later_fault tries (CannotOpen OrderFile obstacle) (inr f) =
-        (f.2.0, f.2.1, has_texts told input o.texts one two texts, ap (λ l. opened (text_paths o.texts) ++ l) (f.1 ∙ ap (λ l. opened (given_paths o.given) ++ l) f.2.2) ∙ opened_twice (text_paths o.texts) (given_paths o.given) ((f.2.0.now, false) ∷ []))
+        (f.2.0, f.2.1, has_texts told input o.texts one two texts, ap (λ l. opened (text_paths o.texts) ++ l) (f.1 ∙ ap (λ l. opened (given_paths o.given) ++ l) f.2.2) ∙ opened_twice (text_paths o.texts) (given_paths o.given) ((f.2.0, false) ∷ []))
     later_fault tries (BadOrder fault) (inl f) = absurd f
     later_fault tries (BadOrder fault) (inr f) =
-        (f.2.0, f.2.1, has_texts told input o.texts one two texts, ap (λ l. opened (text_paths o.texts) ++ l) (f.1 ∙ ap (λ l. opened (given_paths o.given) ++ l) f.2.2 ∙ sym (opened_more (given_paths o.given) (order_paths o.order))) ∙ sym (opened_more (text_paths o.texts) (later_paths o)), f.2.3)
+        (f.2.0, f.2.1, has_texts told input o.texts one two texts, ap (λ l. opened (text_paths o.texts) ++ l) (f.1 ∙ ap (λ l. opened (given_paths o.given) ++ l) (f.2.2.0 ∙ ap opened (sym f.2.1)) ∙ sym (opened_more (given_paths o.given) (order_paths o.order))) ∙ sym (opened_more (text_paths o.texts) (later_paths o)), f.2.2.1)
     later_fault tries OutOfMemory (inl f) = tried_more (text_paths o.texts) (later_paths o) tries (tried_first (given_paths o.given) (order_paths o.order) tries f)
     later_fault tries OutOfMemory (inr f) =
-        tried_more (text_paths o.texts) (later_paths o) tries (subst (λ l. AreTried (later_paths o) l) (sym f.1) (tried_more (given_paths o.given) (order_paths o.order) f.0 f.2))
+        tried_more (text_paths o.texts) (later_paths o) tries (subst (λ l. AreTried (later_paths o) l) (sym f.1) (tried_more (given_paths o.given) (order_paths o.order) f.0 (subst (λ p. AreTried p f.0) (sym f.2.1) f.2.2)))
 
     whole_fault : (tries : List Try) (fault : ToolFault) → IsCompareFault told broken one two first_failed second_failed o tries fault → IsToolFault told broken input_broken input o (opened (text_paths o.texts) ++ tries) fault
     whole_fault tries OneFile f = absurd f
@@ -171,7 +188,7 @@ module _ (told : List ℕ → Option (List ℕ)) (input : Option (List ℕ)) (o 
     whole_fault tries (CannotOpen place obstacle) f = later_fault tries (CannotOpen place obstacle) f
     whole_fault tries (BadOrder fault) f = later_fault tries (BadOrder fault) f
     whole_fault tries (Check fault) f =
-        (one, two, f.0, f.1, texts, f.2, f.3, ap (λ l. opened (text_paths o.texts) ++ l) f.4 ∙ sym (opened_more (text_paths o.texts) (later_paths o)), (f.5.0, f.5.1, check_fault one two f.0 first_failed second_failed (HasGivenFailed broken o.given) (HasFirstFailed broken input_broken o.texts) (HasSecondFailed broken input_broken o.texts) (HasGivenFailed broken o.given) o.matching f.5.0 first second (λ x. x) fault f.5.2))
+        (one, two, f.0, f.1, texts, f.2, f.3, ap (λ l. opened (text_paths o.texts) ++ l) f.4 ∙ sym (opened_more (text_paths o.texts) (later_paths o)), failed_check one two f.0 first_failed second_failed (HasGivenFailed broken o.given) (HasFirstFailed broken input_broken o.texts) (HasSecondFailed broken input_broken o.texts) (HasGivenFailed broken o.given) o f.1 first second (λ x. x) fault f.5)
 
     pub whole_faults : (told' : List ℕ → Option (List ℕ)) → told' ≡ told → (a b c : Option (List Try)) → Extends a b (opened (text_paths o.texts)) → (r : Result Done ToolFault)
         → IfErr r (λ fault. (tries : List Try) × Extends b c tries × IsCompareFault told' broken one two first_failed second_failed o tries fault)

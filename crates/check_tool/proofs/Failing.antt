@@ -2,7 +2,7 @@
 use Rattle.std.proofs.Common.{◌≡◌, ◌⊎◌, inl, inr, ℕ, Bool, false, List, Option, Some, None, ◌∙◌, sym, subst, IsTrue}
 use Rattle.std.specs.Prelude.{IfSome}
 use Rattle.check_report.specs.declared.fault.CheckFault.{CheckFault}
-use Rattle.check_report.specs.declared.fault.CheckFault.TheVariants.{First, Second, Given, GivenOutputs, Order as OrderRefused, Only, Wave, GivenUp, Write, OutOfMemory}
+use Rattle.check_report.specs.declared.fault.CheckFault.TheVariants.{First, Second, Given, GivenOutputs, Order as OrderRefused, Only, Explain, Wave, GivenUp, Write, OutOfMemory}
 use Rattle.check_report.specs.Check.{IsCheckFault}
 use Rattle.net_order.specs.declared.order.Match.{Match}
 use Rattle.net_order.specs.declared.order.Order.{Order}
@@ -13,7 +13,9 @@ use Rattle.command_line.specs.declared.options.Texts.{Texts}
 use Rattle.check_tool.specs.Opening.{HasFailedAt}
 use Rattle.check_report.specs.Devices.{told_of, told_by, HasFailedIn}
 use Rattle.std.specs.Borrow.{Bor}
-use Rattle.check_tool.specs.Running.{HasFirstFailed, HasSecondFailed, HasGivenFailed, IsGivenFrom, IsOrderRefused}
+use Rattle.check_report.specs.declared.choice.Choice.{Choice}
+use Rattle.command_line.specs.declared.options.Options.{Options}
+use Rattle.check_tool.specs.Running.{HasFirstFailed, HasSecondFailed, HasGivenFailed, IsFailedCheck, IsGivenFrom, IsOrderRefused}
 
 -- what a failure of the devices implies stands in the cause of a fault in its place
 pub check_fault : (one two : Option (List ℕ)) (given : Option (Option (List ℕ))) (first_failed second_failed given_failed first second condition : Type 0) (how : Match) (order : Order) → (first_failed → first) → (second_failed → second) → (given_failed → condition) → (fault : CheckFault) →
@@ -25,10 +27,18 @@ check_fault one two (Some told) first_failed second_failed given_failed first se
 check_fault one two given first_failed second_failed given_failed first second condition how order f g h GivenOutputs c = c
 check_fault one two given first_failed second_failed given_failed first second condition how order f g h (OrderRefused fault) c = c
 check_fault one two given first_failed second_failed given_failed first second condition how order f g h Only c = c
+check_fault one two given first_failed second_failed given_failed first second condition how order f g h Explain c = c
 check_fault one two given first_failed second_failed given_failed first second condition how order f g h (Wave fault) c = c
 check_fault one two given first_failed second_failed given_failed first second condition how order f g h GivenUp c = c
 check_fault one two given first_failed second_failed given_failed first second condition how order f g h Write c = c
 check_fault one two given first_failed second_failed given_failed first second condition how order f g h OutOfMemory c = c
+
+-- the same of all that a check fails for
+pub failed_check : (one two : Option (List ℕ)) (given : Option (Option (List ℕ))) (first_failed second_failed given_failed first second condition : Type 0) (o : Options) (choice : Choice) → (first_failed → first) → (second_failed → second) → (given_failed → condition) → (fault : CheckFault) →
+    IsFailedCheck one two given first_failed second_failed given_failed o choice fault → IsFailedCheck one two given first second condition o choice fault
+failed_check one two given first_failed second_failed given_failed first second condition o choice f g h fault (inl unknown) = inl unknown
+failed_check one two given first_failed second_failed given_failed first second condition o choice f g h fault (inr c) =
+    inr (c.0, c.1, check_fault one two given first_failed second_failed given_failed first second condition o.matching c.0 f g h fault c.2)
 
 -- a file keeps where it was opened while it is read
 pub failed_at : {File : Type 0} (origin : File → Option (List ℕ)) (has_failed : File → Bool) (path : List ℕ) (before after : File) → IfSome (origin before) (λ from. from ≡ path) → origin after ≡ origin before

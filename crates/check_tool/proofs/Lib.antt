@@ -4,3 +4,4 @@ pub mod Failing
 pub mod Preparing
 pub mod Quoting
 pub mod Asking
+pub mod Saying

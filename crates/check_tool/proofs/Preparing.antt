@@ -12,9 +12,9 @@ use Rattle.check_tool.specs.declared.fault.Place.TheVariants.{Given}
 use Rattle.check_tool.specs.declared.fault.ToolFault.{ToolFault}
 use Rattle.check_tool.specs.declared.fault.ToolFault.TheVariants.{Check}
 use Rattle.check_tool.specs.Opening.{Try, Extends, opened, AreTried}
-use Rattle.check_tool.specs.Running.{IsOpenFault, given_paths, order_paths, later_paths, IsGivenOf, IsOrderOf, IsGivenFault, IsOrderFault, IsLaterFault, HasGivenFailed, IsCompareFault}
+use Rattle.check_tool.specs.Running.{IsOpenFault, given_paths, order_paths, later_paths, IsGivenOf, IsOrderOf, IsGivenFault, IsOrderFault, IsLaterFault, HasGivenFailed, IsCompareFault, IsFailedCheck}
 use Rattle.check_tool.proofs.Composing.{extends_more, opened_more}
-use Rattle.check_tool.proofs.Failing.{check_fault}
+use Rattle.check_tool.proofs.Failing.{failed_check}
 
 pub given_unopened : (given : Option (Bor (List ℕ))) (path : Bor (List ℕ)) → given ≡ Some path → (fault : ToolFault) (a b : Option (List Try)) → IsOpenFault Given fault → Extends a b ((path.now, false) ∷ [])
     → (tries : List Try) × Extends a b tries × IsGivenFault given tries fault
@@ -42,10 +42,10 @@ later_opened o a b c e f =
 -- why a check failed, once these files were opened
 pub checked_fault : (told : List ℕ → Option (List ℕ)) (broken : List ℕ → Type 0) (one two : Option (List ℕ)) (given : Option (Option (List ℕ))) (first_failed second_failed given_failed : Type 0) (o : Options) (choice : Choice) (fault : CheckFault) (a b : Option (List Try))
     → Extends a b (opened (later_paths o)) → IsGivenOf told o.given given → IsOrderOf told o.order choice → (given_failed → HasGivenFailed broken o.given)
-    → (order : Order) × IsAllowed choice order × IsCheckFault (told_of one two given) first_failed second_failed given_failed o.matching order fault
+    → IsFailedCheck one two given first_failed second_failed given_failed o choice fault
     → (tries : List Try) × Extends a b tries × IsCompareFault told broken one two first_failed second_failed o tries (Check fault)
 checked_fault told broken one two given first_failed second_failed given_failed o choice fault a b e conditioned ordered to h = (
   opened (later_paths o),
   e,
-  (given, choice, conditioned, ordered, refl, (h.0, h.1, check_fault one two given first_failed second_failed given_failed first_failed second_failed (HasGivenFailed broken o.given) o.matching h.0 (λ x. x) (λ x. x) to fault h.2)),
+  (given, choice, conditioned, ordered, refl, failed_check one two given first_failed second_failed given_failed first_failed second_failed (HasGivenFailed broken o.given) o choice (λ x. x) (λ x. x) to fault h),
 )

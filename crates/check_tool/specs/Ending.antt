@@ -1,5 +1,5 @@
 -- How a run ends: what it has written, what it says, and its status.
-use Rattle.std.specs.Prelude.{◌≡◌, ◌≢◌, ◌⊎◌, ◌↔◌, ◌/◌, ℕ, zero, suc, Bool, true, false, List, [], ◌++◌, Option, Some, None, IsTrue, string_bytes, codes, decimal, if◌then◌else◌, nat_lt}
+use Rattle.std.specs.Prelude.{◌≡◌, ◌≢◌, ◌⊎◌, ◌↔◌, ◌/◌, ◌||◌, ℕ, zero, suc, Bool, true, false, List, [], ◌++◌, Option, Some, None, IsTrue, string_bytes, codes, decimal, if◌then◌else◌, nat_lt, ⊤}
 use Rattle.std.specs.Io.KnownBytes.{Appends, Keeps}
 use Rattle.report_text.specs.declared.outcome.Outcome.{Outcome}
 use Rattle.check_report.specs.declared.choice.Attempt.{Attempt}
@@ -9,11 +9,11 @@ use Rattle.check_report.specs.declared.fault.CheckFault.TheVariants.{Only, Wave,
 use Rattle.report_text.specs.Writing.{AppendsFront}
 use Rattle.command_line.specs.declared.options.Options.{Options}
 use Rattle.command_line.specs.declared.options.OrderChoice.{OrderChoice}
-use Rattle.command_line.specs.declared.options.OrderChoice.TheVariants.{Declared, Depth, Interleave, Index, Force, Best, Auto, Cones, File}
+use Rattle.command_line.specs.declared.options.OrderChoice.TheVariants.{Declared, Depth, Interleave, Index, Force, Best, Auto, Cones, File, Extended}
 use Rattle.command_line.specs.declared.reading.Refused.{Refused}
 use Rattle.command_line.specs.declared.reading.Refused.TheVariants.{Help, Mistake, OutOfMemory as NoWordMemory}
 use Rattle.command_line.specs.Words.{AskFor, IsRefusal}
-use Rattle.expand_work.specs.declared.fault.WaveFault.TheVariants.{Full, TooManyRequests}
+use Rattle.expand_work.specs.declared.fault.WaveFault.TheVariants.{Full, NoWorker, TooManyRequests}
 use Rattle.check_tool.specs.declared.done.Done.{Done}
 use Rattle.check_tool.specs.declared.done.Done.TheVariants.{Compared, OrderPrinted}
 use Rattle.check_tool.specs.declared.fault.ToolFault.{ToolFault}
@@ -23,7 +23,7 @@ use Rattle.check_tool.specs.declared.process.NoWords.TheVariants.{OutOfMemory as
 use Rattle.check_tool.specs.Faults.{fault_line, fault_status}
 use Rattle.check_tool.specs.Helping.{IsHelp, refused_paths}
 use Rattle.check_tool.specs.Opening.{Try, Extends, AreTried, opened}
-use Rattle.check_tool.specs.Running.{paths_of, HasReported, HasReportedFront, IsBeyond, IsGivenUp, AreUnknown, MayGoByCones, IsToolFault, StandOnInput, limit_of, node_bytes}
+use Rattle.check_tool.specs.Running.{paths_of, HasReported, HasReportedFront, IsBeyond, IsGivenUp, ArePassed, AreUnknown, MayGoByCones, NamesOrder, IsToolFault, StandOnInput, limit_of, node_bytes}
 
 -- what a device held and holds now, and whether it has failed by now, and whether a write has taken nothing of some bytes
 pub record Written : Type 0 where
@@ -45,12 +45,10 @@ HasFront w bytes = AppendsFront w.held w.holds w.has_failed w.has_stopped bytes
 abbrev pub Says : Written → List ℕ → Type 0
 Says w text = Appends w.held w.holds text ⊎ HasFront w text
 
--- the line of this fault was said, and this is its status; where there was no memory for the line, those of want of memory
+-- the line of this fault was said, and this is its status
 pub record IsSaid (w : Written) (fault : ToolFault) (status : ℕ) : Type 0 where
-  pub said : ToolFault
-  pub which : (said ≡ fault) ⊎ (said ≡ OutOfMemory)
-  pub line : Says w (fault_line said)
-  pub code : status ≡ fault_status said
+  pub line : Says w (fault_line fault)
+  pub code : status ≡ fault_status fault
 
 -- a device has taken this text, or a front part of it for a cause; or nothing, where there was no memory for it
 abbrev pub MaySay : Written → List ℕ → Type 0
@@ -69,6 +67,19 @@ until w b = record { held = w.held; holds = b.holds; has_failed = b.has_failed; 
 -- what was written from then on
 abbrev pub from : Written → Between → Written
 from w b = record { held = b.holds; holds = w.holds; has_failed = w.has_failed; has_stopped = w.has_stopped }
+
+-- whether progress may be told while diagrams are built: more is asked for, or the device for it is seen on a terminal
+abbrev pub tells : Options → (seen : Bool) → Bool
+tells o seen = o.verbose || seen
+
+-- what a device holds behind progress: what it held, where none may be told, and else what is not spoken of
+abbrev pub HasProgress : (tells : Bool) → Written → Type 0
+HasProgress false w = Keeps w.held w.holds
+HasProgress true w = ⊤
+
+-- this holds of what was written behind progress
+abbrev pub IsBehindProgress : (tells : Bool) → Written → (Written → Type 0) → Type 0
+IsBehindProgress t w P = (b : Between) × HasProgress t (until w b) × P (from w b)
 
 -- what is said of a fault of a run: its line, and behind it, where more is asked for, what helps
 abbrev pub IsSaidOf : (verbose : Bool) → (told : List ℕ → Option (List ℕ)) → Options → Written → ToolFault → (status : ℕ) → Type 0
@@ -105,6 +116,7 @@ IsWaySaid Index None w = IsAttemptSaid None w
 IsWaySaid Force None w = IsAttemptSaid None w
 IsWaySaid Best None w = IsAttemptSaid None w
 IsWaySaid (File path) None w = IsAttemptSaid None w
+IsWaySaid (Extended path) None w = IsAttemptSaid None w
 
 -- the option that allows more nodes: the limit where that is less than what the memory holds, else the memory
 abbrev pub larger_word : Options → List ℕ
@@ -149,9 +161,10 @@ abbrev pub IsDoneStatus : Done → (status : ℕ) → Type 0
 IsDoneStatus (Compared outcome tried) status = IsReportStatus outcome status
 IsDoneStatus (OrderPrinted tried) status = status ≡ 0
 
--- what a run is given and leaves: the files that are told, the tries before and now, the bytes of the input and whether it has failed
--- now, and what was written to the output and to the error device
+-- what a run is given and leaves: whether the error device is seen on a terminal, the files that are told, the tries before and now, the
+-- bytes of the input and whether it has failed now, and what was written to the output and to the error device
 pub record Scene : Type 0 where
+  pub seen : Bool
   pub told : List ℕ → Option (List ℕ)
   pub tried : Option (List Try)
   pub tries : Option (List Try)
@@ -161,8 +174,9 @@ pub record Scene : Type 0 where
   pub errors : Written
 
 -- the same, of a folder and an input before and now
-abbrev pub scene_of : {F R : Type 0} → (told : F → List ℕ → Option (List ℕ)) → (tries : F → Option (List Try)) → (folder folder' : F) → (remaining : R → Option (List ℕ)) → (has_failed : R → Bool) → (input input' : R) → (output errors : Written) → Scene
-scene_of told tries folder folder' remaining has_failed input input' output errors = record {
+abbrev pub scene_of : {F R : Type 0} → (seen : Bool) → (told : F → List ℕ → Option (List ℕ)) → (tries : F → Option (List Try)) → (folder folder' : F) → (remaining : R → Option (List ℕ)) → (has_failed : R → Bool) → (input input' : R) → (output errors : Written) → Scene
+scene_of seen told tries folder folder' remaining has_failed input input' output errors = record {
+  seen = seen;
   told = told folder;
   tried = tries folder;
   tries = tries folder';
@@ -172,11 +186,13 @@ scene_of told tries folder folder' remaining has_failed input input' output erro
   errors = errors;
 }
 
--- What the options ask for of what they name was written, and all files were opened. Nothing was said without `--verbose`.
+-- What the options ask for of what they name was written, and all files were opened. Without `--verbose` nothing was said, but for
+-- progress on a terminal.
 pub record Reports (s : Scene) (o : Options) (done : Done) (status : ℕ) : Type 0 where
   pub report : HasReported s.told s.input o s.output.held s.output.holds done
   pub opened_all : Extends s.tried s.tries (opened (paths_of o))
-  pub said : IsDoneSaid o.verbose o done s.errors
+  pub passed : ArePassed s.told s.input o done
+  pub said : IsBehindProgress (tells o s.seen) s.errors (IsDoneSaid o.verbose o done)
   pub code : IsDoneStatus done status
 
 -- There is a fault: its line was said, and nothing was written but for a front part of the report where the writing failed. The file of a
@@ -190,11 +206,11 @@ pub record Refuses (broken : List ℕ → Type 0) (s : Scene) (o : Options) (fau
   pub unread : fault ≡ InputUnread → IsTrue s.input_failed
   pub full : fault ≡ Check (Wave Full) → IsBeyond s.told s.input o
   pub given_up : fault ≡ Check GivenUp → IsGivenUp s.told s.input o
-  pub in_no_order : o.order ≡ Auto → fault ≢ Check (Wave Full)
   pub by_cones : MayGoByCones o.order → (fault ≢ Check (Wave Full)) × (fault ≢ Check GivenUp)
-  pub only : o.print_order ≡ false → fault ≡ Check Only → AreUnknown s.told s.input o
+  pub hired : fault ≡ Check (Wave NoWorker) → (o.print_order ≡ false) × NamesOrder o.order
+  pub only : fault ≡ Check Only → AreUnknown s.told s.input o
   pub unbounded : fault ≢ Check (Wave TooManyRequests)
-  pub line : IsSaidOf o.verbose s.told o s.errors fault status
+  pub line : IsBehindProgress (tells o s.seen) s.errors (λ w. IsSaidOf o.verbose s.told o w fault status)
   pub front : fault ≡ Check Write → HasReportedFront s.told s.input o s.output.held s.output.holds s.output.has_failed s.output.has_stopped
   pub nothing : fault ≢ Check Write → Keeps s.output.held s.output.holds
 

@@ -1,15 +1,16 @@
 -- What the program's faults are called in print, and its statuses.
-use Rattle.std.specs.Prelude.{ℕ, List, ◌++◌, codes}
+use Rattle.std.specs.Prelude.{ℕ, List, [], ◌++◌, Option, Some, None, codes, decimal}
 use Rattle.net_bench.specs.declared.netlist.BenchFault.{BenchFault}
 use Rattle.net_bench.specs.declared.netlist.BenchFault.TheVariants.{TooLong as LongText, BadByte, BadStatement, UnknownGate, WrongOperands, Redefined, TooMany, Undefined, Cycle, Read as ReadFailed, OutOfMemory as NoTextMemory}
 use Rattle.net_order.specs.declared.order.OrderFault.{OrderFault}
 use Rattle.net_order.specs.declared.order.OrderFault.TheVariants.{CountsDiffer, NotAPermutation, TooManyInputs, OutOfMemory as NoOrderMemory, BadName, TooLong as LongOrder, Read as OrderReadFailed}
 use Rattle.net_order.specs.Fault.{order_fault_text}
 use Rattle.check_report.specs.declared.fault.CheckFault.{CheckFault}
-use Rattle.check_report.specs.declared.fault.CheckFault.TheVariants.{First, Second, Given, GivenOutputs, Order, Only, Wave, GivenUp, Write, OutOfMemory as NoCheckMemory}
+use Rattle.check_report.specs.declared.fault.CheckFault.TheVariants.{First, Second, Given, GivenOutputs, Order, Only, Explain, Wave, GivenUp, Write, OutOfMemory as NoCheckMemory}
 use Rattle.check_report.specs.Texts.{check_fault_text}
 use Rattle.check_tool.specs.declared.fault.Place.{Place}
 use Rattle.check_tool.specs.declared.fault.Place.TheVariants.{First as FirstFile, Second as SecondFile, Given as GivenFile, Order as OrderFile}
+use Rattle.check_tool.specs.declared.fault.Words.{Words}
 use Rattle.check_tool.specs.declared.fault.ToolFault.{ToolFault}
 use Rattle.check_tool.specs.declared.fault.ToolFault.TheVariants.{OneFile, InputTwice, CannotOpen, InputUnread, InputTooLong, InputUndivided, BadOrder, Check, OutOfMemory}
 
@@ -31,6 +32,15 @@ tool_fault_text InputUndivided = codes "standard input: no line %%"
 tool_fault_text (BadOrder fault) = codes "order: " ++ order_fault_text fault
 tool_fault_text (Check fault) = check_fault_text fault
 tool_fault_text OutOfMemory = codes "out of memory"
+
+-- the number in a text, where there is one
+abbrev pub number_text : Option ℕ → List ℕ
+number_text None = []
+number_text (Some n) = decimal n
+
+-- the text of these words
+abbrev pub words_text : Words → List ℕ
+words_text w = w.place.now ++ (w.before.now ++ (number_text w.number ++ w.behind.now))
 
 -- the line that is printed for a fault
 abbrev pub fault_line : ToolFault → List ℕ
@@ -68,6 +78,7 @@ check_status (Given fault) = text_status fault
 check_status GivenOutputs = 2
 check_status (Order fault) = order_status fault
 check_status Only = 2
+check_status Explain = 2
 check_status (Wave fault) = 3
 check_status GivenUp = 3
 check_status Write = 3

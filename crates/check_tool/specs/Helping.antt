@@ -8,10 +8,10 @@ use Rattle.net_order.specs.declared.order.OrderFault.TheVariants.{CountsDiffer, 
 use Rattle.expand_work.specs.declared.fault.WaveFault.{WaveFault}
 use Rattle.expand_work.specs.declared.fault.WaveFault.TheVariants.{OutOfMemory as NoWaveMemory, NoWorker, Full, TooManyRequests}
 use Rattle.check_report.specs.declared.fault.CheckFault.{CheckFault}
-use Rattle.check_report.specs.declared.fault.CheckFault.TheVariants.{First, Second, Given, GivenOutputs, Order, Only, Wave, GivenUp, Write, OutOfMemory as NoCheckMemory}
+use Rattle.check_report.specs.declared.fault.CheckFault.TheVariants.{First, Second, Given, GivenOutputs, Order, Only, Explain, Wave, GivenUp, Write, OutOfMemory as NoCheckMemory}
 use Rattle.command_line.specs.declared.options.Options.{Options}
 use Rattle.command_line.specs.declared.options.OrderChoice.{OrderChoice}
-use Rattle.command_line.specs.declared.options.OrderChoice.TheVariants.{Declared, Depth, Interleave, Index, Force, Best, Auto, Cones, File}
+use Rattle.command_line.specs.declared.options.OrderChoice.TheVariants.{Declared, Depth, Interleave, Index, Force, Best, Auto, Cones, File, Extended}
 use Rattle.command_line.specs.declared.options.Texts.{Texts}
 use Rattle.command_line.specs.declared.options.Texts.TheVariants.{Input, Files, InputAndFile, FileAndInput, InputTwice, One}
 use Rattle.check_tool.specs.declared.fault.Place.TheVariants.{First as FirstFile, Second as SecondFile, Given as GivenFile, Order as OrderFile}
@@ -74,15 +74,20 @@ text_spot name (Cycle line) = on_line name line
 text_spot name ReadFailed = in_text name
 text_spot name NoTextMemory = in_text name
 
--- where the file of an order is at fault: in the line of a name that is none, or as a whole
+-- where a list of names is at fault: in the line of a name that is none, or as a whole
+abbrev pub list_spot : List ℕ → OrderFault → Where
+list_spot path (BadName line) = on_line path line
+list_spot path (NotAPermutation place) = in_text path
+list_spot path LongOrder = in_text path
+list_spot path OrderReadFailed = in_text path
+list_spot path NoOrderMemory = in_text path
+list_spot path CountsDiffer = None
+list_spot path TooManyInputs = None
+
+-- where the file of an order is at fault
 abbrev pub order_spot : OrderChoice → OrderFault → Where
-order_spot (File path) (BadName line) = on_line path.now line
-order_spot (File path) (NotAPermutation place) = in_text path.now
-order_spot (File path) LongOrder = in_text path.now
-order_spot (File path) OrderReadFailed = in_text path.now
-order_spot (File path) NoOrderMemory = in_text path.now
-order_spot (File path) CountsDiffer = None
-order_spot (File path) TooManyInputs = None
+order_spot (File path) fault = list_spot path.now fault
+order_spot (Extended path) fault = list_spot path.now fault
 order_spot Declared fault = None
 order_spot Depth fault = None
 order_spot Interleave fault = None
@@ -110,6 +115,7 @@ fault_spot texts given choice (Check (Given fault)) = given_spot given fault
 fault_spot texts given choice (Check GivenOutputs) = given_spot given ReadFailed
 fault_spot texts given choice (Check (Order fault)) = order_spot choice fault
 fault_spot texts given choice (Check Only) = None
+fault_spot texts given choice (Check Explain) = None
 fault_spot texts given choice (Check (Wave fault)) = None
 fault_spot texts given choice (Check GivenUp) = None
 fault_spot texts given choice (Check Write) = None
@@ -156,6 +162,7 @@ fewer_nodes Interleave = codes "another order may need fewer nodes: try --order 
 fewer_nodes Index = codes "another order may need fewer nodes: try --order auto"
 fewer_nodes Force = codes "another order may need fewer nodes: try --order auto"
 fewer_nodes (File path) = codes "another order may need fewer nodes: try --order auto"
+fewer_nodes (Extended path) = codes "another order may need fewer nodes: try --order auto"
 
 -- what helps where they are not built
 abbrev pub wave_help : OrderChoice → WaveFault → List ℕ
@@ -180,6 +187,7 @@ check_help choice (Given fault) = text_help fault
 check_help choice GivenOutputs = codes "a condition is a netlist of one output"
 check_help choice (Order fault) = order_help fault
 check_help choice Only = codes "an output or register of the first netlist"
+check_help choice Explain = codes "an output of the first netlist, or NEXT and the name of its register"
 check_help choice (Wave fault) = wave_help choice fault
 check_help choice GivenUp = fewer_nodes choice
 check_help choice Write = codes "standard output is full, or closed"
@@ -225,6 +233,7 @@ refused_paths o (Check (Given fault)) = path_in o.given
 refused_paths o (Check GivenOutputs) = []
 refused_paths o (Check (Order fault)) = []
 refused_paths o (Check Only) = []
+refused_paths o (Check Explain) = []
 refused_paths o (Check (Wave fault)) = []
 refused_paths o (Check GivenUp) = []
 refused_paths o (Check Write) = []

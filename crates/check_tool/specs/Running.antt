@@ -1,10 +1,11 @@
 -- What a run compares, what it writes, and why it writes no report.
-use Rattle.std.specs.Prelude.{◌≡◌, ◌<◌, ◌≤◌, ◌⊎◌, ◌/◌, ℕ, map, min, Bool, true, false, List, [], ◌∷◌, ◌++◌, length, Option, Some, None, IfSome, ⊤}
+use Rattle.std.specs.Prelude.{◌≡◌, ◌≢◌, ◌<◌, ◌≤◌, ◌⊎◌, ◌/◌, ℕ, map, min, Bool, true, false, List, [], ◌∷◌, ◌++◌, length, Option, Some, None, IfSome, ⊤, codes}
 use Rattle.std.specs.Borrow.{Bor}
+use Rattle.std.specs.List.{AllZip}
 use Rattle.std.specs.Io.KnownBytes.{Appends}
 use Rattle.report_text.specs.Writing.{AppendsFront}
 use Rattle.net_order.specs.declared.order.Order.{Order}
-use Rattle.net_order.specs.declared.order.Order.TheVariants.{Declared as declared, Depth as depth, Interleave as interleave, Index as index, Force as force, Listed}
+use Rattle.net_order.specs.declared.order.Order.TheVariants.{Declared as declared, Depth as depth, Interleave as interleave, Index as index, Force as force, Listed, Extended as extended}
 use Rattle.net_order.specs.declared.order.OrderFault.{OrderFault}
 use Rattle.net_order.specs.declared.order.OrderFault.TheVariants.{Read as OrderReadFailed, OutOfMemory as NoOrderMemory}
 use Rattle.net_order.specs.OrderText.{IsOrderText, IsBadText}
@@ -13,18 +14,23 @@ use Rattle.check_report.specs.Check.{IsCheckFault}
 use Rattle.check_report.specs.Devices.{told_of}
 use Rattle.check_report.specs.declared.fault.CheckFault.{CheckFault}
 use Rattle.check_report.specs.Limits.{AreBeyond}
-use Rattle.check_report.specs.Best.{AreTried as TriesOrders, IsAllowed, IsFound, IsGivenUpWithin}
+use Rattle.check_report.specs.Best.{AreGivenUp, AreTried as TriesOrders, IsAllowed, IsFound, IsGivenUpWithin, last_budget}
+use Rattle.check_report.specs.declared.choice.Attempt.{Attempt}
 use Rattle.check_report.specs.declared.choice.Choice.{Choice}
 use Rattle.check_report.specs.declared.choice.Choice.TheVariants.{One as Ordered, Best as TheBest, Auto as Found, Cones as ByCones}
 use Rattle.check_report.specs.declared.picked.Picked.{Picked}
 use Rattle.check_report.specs.declared.picked.Picked.TheVariants.{All as AllPairs, Only as OnlyPairs, Share as SharedPairs}
 use Rattle.check_report.specs.declared.settings.Settings.{Settings}
 use Rattle.check_report.specs.Deciding.{IsReportBy, IsUnknown}
+use Rattle.check_report.specs.Explaining.{IsUnexplained}
+use Rattle.check_report.specs.declared.target.Target.{Target}
+use Rattle.report_text.specs.declared.outcome.Role.{Role}
+use Rattle.report_text.specs.declared.outcome.Role.TheVariants.{Output, NextState}
 use Rattle.command_line.specs.declared.options.Picks.{Picks}
 use Rattle.command_line.specs.declared.options.Picks.TheVariants.{All, Only, Share}
 use Rattle.command_line.specs.declared.options.Options.{Options}
 use Rattle.command_line.specs.declared.options.OrderChoice.{OrderChoice}
-use Rattle.command_line.specs.declared.options.OrderChoice.TheVariants.{Declared, Depth, Interleave, Index, Force, Best, Auto, Cones, File}
+use Rattle.command_line.specs.declared.options.OrderChoice.TheVariants.{Declared, Depth, Interleave, Index, Force, Best, Auto, Cones, File, Extended}
 use Rattle.command_line.specs.declared.options.Texts.{Texts}
 use Rattle.command_line.specs.declared.options.Texts.TheVariants.{Input, Files, InputAndFile, FileAndInput, InputTwice, One}
 use Rattle.check_tool.specs.declared.done.Done.{Done}
@@ -75,6 +81,7 @@ StandOnInput One = ⊥
 -- the file that is opened for the order
 abbrev pub order_paths : OrderChoice → List (List ℕ)
 order_paths (File path) = path.now ∷ []
+order_paths (Extended path) = path.now ∷ []
 order_paths Declared = []
 order_paths Depth = []
 order_paths Interleave = []
@@ -135,6 +142,7 @@ IsOrderOf told Best choice = choice ≡ TheBest
 IsOrderOf told Auto choice = choice ≡ Found
 IsOrderOf told Cones choice = choice ≡ ByCones
 IsOrderOf told (File path) choice = (names : List (List ℕ)) × (choice ≡ Ordered (Listed names)) × IfSome (told path.now) (λ text. IsOrderText text names)
+IsOrderOf told (Extended path) choice = (names : List (List ℕ)) × (choice ≡ Ordered (extended names)) × IfSome (told path.now) (λ text. IsOrderText text names)
 
 -- The bytes of memory that are reckoned for each node of an attempt: what the store takes for it, and what a wave takes for eight requests.
 abbrev pub node_bytes : ℕ
@@ -151,6 +159,7 @@ limit_in Index limit memory = limit
 limit_in Force limit memory = limit
 limit_in Best limit memory = limit
 limit_in (File path) limit memory = limit
+limit_in (Extended path) limit memory = limit
 
 -- the most nodes that the options allow
 abbrev pub limit_of : Options → ℕ
@@ -167,6 +176,20 @@ MayGoByCones Index = ⊥
 MayGoByCones Force = ⊥
 MayGoByCones Best = ⊥
 MayGoByCones (File path) = ⊥
+MayGoByCones (Extended path) = ⊥
+
+-- one order is named: none is to be found, and no cones are taken
+abbrev pub NamesOrder : OrderChoice → Type 0
+NamesOrder Declared = ⊤
+NamesOrder Depth = ⊤
+NamesOrder Interleave = ⊤
+NamesOrder Index = ⊤
+NamesOrder Force = ⊤
+NamesOrder (File path) = ⊤
+NamesOrder (Extended path) = ⊤
+NamesOrder Best = ⊥
+NamesOrder Auto = ⊥
+NamesOrder Cones = ⊥
 
 -- the pairs that are asked for
 abbrev pub IsPickedOf : Picks → Picked → Type 0
@@ -176,6 +199,15 @@ IsPickedOf (Only words) (OnlyPairs names) = names.items ≡ map (λ w. w.now) wo
 IsPickedOf (Only words) AllPairs = ⊥
 IsPickedOf (Only words) (SharedPairs share) = ⊥
 
+-- what a word calls: behind `NEXT ` the next state of a register, else an output
+abbrev pub IsCalled : (word : List ℕ) → Role → (name : List ℕ) → Type 0
+IsCalled word Output name = (word ≡ name) × ((register : List ℕ) → word ≢ codes "NEXT " ++ register)
+IsCalled word NextState name = word ≡ codes "NEXT " ++ name
+
+-- what these words ask to be explained
+abbrev pub AreTargetsOf : List (Bor (List ℕ)) → List Target → Type 0
+AreTargetsOf words targets = AllZip (λ (w : Bor (List ℕ)) (t : Target). IsCalled w.now t.role t.name) words targets
+
 -- The settings of a check that the options ask for, in an order of this choice, of these pairs.
 pub record AreSettings (o : Options) (choice : Choice) (picked : Picked) (s : Settings) : Type 0 where
   pub matching : s.matching ≡ o.matching
@@ -184,6 +216,8 @@ pub record AreSettings (o : Options) (choice : Choice) (picked : Picked) (s : Se
   pub limit : s.limit ≡ limit_of o
   pub sizes : s.sizes ≡ o.sizes
   pub json : s.json ≡ o.json
+  pub explain : AreTargetsOf o.explain.items s.explain.items
+  pub assignment : s.assignment ≡ o.assignment
 
 -- The bytes are what the options ask for of these two texts, and the condition's, by these settings: the report in the form that they ask for, with its counts, or the
 -- order itself. The nodes that are needed in the order of a report are within the limit of the options.
@@ -233,6 +267,16 @@ IsBeyond told input o = AreNamed told input o (λ one two given choice. (order :
 abbrev pub IsGivenUp : (List ℕ → Option (List ℕ)) → Option (List ℕ) → Options → Type 0
 IsGivenUp told input o = AreNamed told input o (λ one two given choice. TriesOrders choice × ((order : Order) → IsAllowed choice order → IsGivenUpWithin (told_of one two given) o.matching (limit_of o) None order))
 
+-- the attempt that a run tells, where orders were tried and one of them decided
+abbrev pub attempt_of : Done → Option Attempt
+attempt_of (Compared outcome tried) = tried
+attempt_of (OrderPrinted tried) = tried
+
+-- the attempts before the one that is told were given up: each within a smaller budget, and within the first budget each before it
+abbrev pub ArePassed : (List ℕ → Option (List ℕ)) → Option (List ℕ) → Options → Done → Type 0
+ArePassed told input o done =
+    IfSome (attempt_of done) (λ t. AreNamed told input o (λ one two given choice. AreGivenUp (told_of one two given) o.matching (last_budget choice (limit_of o)) None t))
+
 -- a name that is picked is that of no output and no register of the first of these texts
 abbrev pub ArePicksUnknown : (List ℕ → Option (List ℕ)) → (one two : Option (List ℕ)) → Options → Type 0
 ArePicksUnknown told one two o =
@@ -242,10 +286,15 @@ ArePicksUnknown told one two o =
 abbrev pub AreUnknown : (List ℕ → Option (List ℕ)) → Option (List ℕ) → Options → Type 0
 AreUnknown told input o = (one two : Option (List ℕ)) × AreTexts told input o.texts one two × ArePicksUnknown told one two o
 
+-- what is to be explained is refused: one name is that of no output and no register of the first of these texts
+abbrev pub AreTargetsUnknown : (one two : Option (List ℕ)) → (given : Option (Option (List ℕ))) → Options → CheckFault → Type 0
+AreTargetsUnknown one two given o fault = (targets : List Target) × AreTargetsOf o.explain.items targets × IsUnexplained (told_of one two given) targets fault
+
 -- why the check of two texts failed, in an order of this choice
 abbrev pub IsFailedCheck : (one two : Option (List ℕ)) → (given : Option (Option (List ℕ))) → (first_failed second_failed given_failed : Type 0) → Options → Choice → CheckFault → Type 0
 IsFailedCheck one two given first_failed second_failed given_failed o choice fault =
-    (order : Order) × IsAllowed choice order × IsCheckFault (told_of one two given) first_failed second_failed given_failed o.matching order fault
+    AreTargetsUnknown one two given o fault
+    ⊎ ((order : Order) × IsAllowed choice order × IsCheckFault (told_of one two given) first_failed second_failed given_failed o.matching order fault)
 
 -- both texts are at hand
 abbrev pub HasTexts : Option (List ℕ) → Texts → Type 0
@@ -261,22 +310,25 @@ pub record IsOrderRefused (told : Option (List ℕ)) (has_failed : Type 0) (faul
   pub cause : (fault ≡ NoOrderMemory) ⊎ (fault ≡ OrderReadFailed) ⊎ IfSome told (λ text. IsBadText text fault)
   pub read : fault ≡ OrderReadFailed → has_failed
 
--- Why the order that is asked for was not had, and which files were tried for it. `broken` says of a path that a file that was
--- opened there has failed.
+-- Why the names of the file of an order were not had, and whether it was tried. `broken` says of a path that a file that was opened there
+-- has failed.
+abbrev pub IsListFault : (List ℕ → Option (List ℕ)) → (broken : List ℕ → Type 0) → (path : List ℕ) → List Try → ToolFault → Type 0
+IsListFault told broken path tries (CannotOpen OrderFile obstacle) = tries ≡ (path, false) ∷ []
+IsListFault told broken path tries (BadOrder fault) = (tries ≡ opened (path ∷ [])) × IsOrderRefused (told path) (broken path) fault
+IsListFault told broken path tries OutOfMemory = AreTried (path ∷ []) tries
+IsListFault told broken path tries (CannotOpen First obstacle) = ⊥
+IsListFault told broken path tries (CannotOpen Second obstacle) = ⊥
+IsListFault told broken path tries (CannotOpen GivenFile obstacle) = ⊥
+IsListFault told broken path tries OneFile = ⊥
+IsListFault told broken path tries DashTwice = ⊥
+IsListFault told broken path tries InputUnread = ⊥
+IsListFault told broken path tries InputTooLong = ⊥
+IsListFault told broken path tries InputUndivided = ⊥
+IsListFault told broken path tries (Check fault) = ⊥
+
+-- Why the order that is asked for was not had: its file, where it is that of one.
 abbrev pub IsOrderFault : (List ℕ → Option (List ℕ)) → (broken : List ℕ → Type 0) → OrderChoice → List Try → ToolFault → Type 0
-IsOrderFault told broken choice tries (CannotOpen OrderFile obstacle) = (path : Bor (List ℕ)) × (choice ≡ File path) × (tries ≡ (path.now, false) ∷ [])
-IsOrderFault told broken choice tries (BadOrder fault) =
-    (path : Bor (List ℕ)) × (choice ≡ File path) × (tries ≡ opened (order_paths choice)) × IsOrderRefused (told path.now) (broken path.now) fault
-IsOrderFault told broken choice tries OutOfMemory = AreTried (order_paths choice) tries
-IsOrderFault told broken choice tries (CannotOpen First obstacle) = ⊥
-IsOrderFault told broken choice tries (CannotOpen Second obstacle) = ⊥
-IsOrderFault told broken choice tries (CannotOpen GivenFile obstacle) = ⊥
-IsOrderFault told broken choice tries OneFile = ⊥
-IsOrderFault told broken choice tries DashTwice = ⊥
-IsOrderFault told broken choice tries InputUnread = ⊥
-IsOrderFault told broken choice tries InputTooLong = ⊥
-IsOrderFault told broken choice tries InputUndivided = ⊥
-IsOrderFault told broken choice tries (Check fault) = ⊥
+IsOrderFault told broken choice tries fault = (path : List ℕ) × (order_paths choice ≡ path ∷ []) × IsListFault told broken path tries fault
 
 -- Why the condition's file was not opened, and whether it was tried.
 abbrev pub IsGivenFault : Option (Bor (List ℕ)) → List Try → ToolFault → Type 0
@@ -339,7 +391,7 @@ IsUnopened input o tries Second = (path : List ℕ) × (second_paths o.texts ≡
 IsUnopened input o tries GivenFile =
     (path : Bor (List ℕ)) × (o.given ≡ Some path) × HasTexts input o.texts × (tries ≡ opened (text_paths o.texts) ++ (path.now, false) ∷ [])
 IsUnopened input o tries OrderFile =
-    (path : Bor (List ℕ)) × (o.order ≡ File path) × HasTexts input o.texts × (tries ≡ opened (text_paths o.texts ++ given_paths o.given) ++ (path.now, false) ∷ [])
+    (path : List ℕ) × (order_paths o.order ≡ path ∷ []) × HasTexts input o.texts × (tries ≡ opened (text_paths o.texts ++ given_paths o.given) ++ (path, false) ∷ [])
 
 -- the device of the first text has failed: its file, or the input where it is the whole text; the parts of a divided input are read
 -- from memory, which cannot fail
@@ -370,7 +422,7 @@ IsToolFault told broken input_broken input o tries InputUnread = (o.texts ≡ In
 IsToolFault told broken input_broken input o tries InputTooLong = (o.texts ≡ Input) × (tries ≡ []) × IfSome input (λ text. 134221824 < length text)
 IsToolFault told broken input_broken input o tries InputUndivided = (o.texts ≡ Input) × (tries ≡ []) × IfSome input (λ text. IsShort text × IsSplit text None)
 IsToolFault told broken input_broken input o tries (BadOrder fault) =
-    (path : Bor (List ℕ)) × (o.order ≡ File path) × HasTexts input o.texts × (tries ≡ opened (paths_of o)) × IsOrderRefused (told path.now) (broken path.now) fault
+    (path : List ℕ) × (order_paths o.order ≡ path ∷ []) × HasTexts input o.texts × (tries ≡ opened (paths_of o)) × IsOrderRefused (told path) (broken path) fault
 IsToolFault told broken input_broken input o tries (Check fault) =
     (one two : Option (List ℕ)) × (given : Option (Option (List ℕ))) × (choice : Choice) × AreTexts told input o.texts one two × IsGivenOf told o.given given × IsOrderOf told o.order choice
     × (tries ≡ opened (paths_of o)) × IsFailedCheck one two given (HasFirstFailed broken input_broken o.texts) (HasSecondFailed broken input_broken o.texts) (HasGivenFailed broken o.given) o choice fault

@@ -2,10 +2,10 @@
 ghost use Rattle.std.specs.Prelude.{◌≡◌, ◌≤◌, ◌++◌, List, ℕ, IfOk, IfErr, map, take};
 ghost use Rattle.check_report.specs.declared.choice.Choice.{Choice as ChoiceValue};
 ghost use Rattle.command_line.specs.declared.options.OrderChoice.{OrderChoice as OrderValue};
-ghost use Rattle.check_tool.specs.Running.{AreSettings, IsPickedOf, limit_of, limit_in};
+ghost use Rattle.check_tool.specs.Running.{AreSettings, AreTargetsOf, IsCalled, IsPickedOf, limit_of, limit_in};
 
 use crate::fault::ToolFault;
-use check_report::{Choice, Name, Picked, Settings};
+use check_report::{Choice, Name, Picked, Role, Settings, Target};
 use command_line::{Options, OrderChoice, Picks};
 use std::alloc::{AllocError, Global};
 
@@ -50,12 +50,59 @@ pub(crate) fn picked_of(alloc: Global, picks: &Picks<'_>) -> Result<Picked, Tool
     }
 }
 
-/// The settings of a check in this order, of these pairs.
-pub(crate) fn settings_of(options: &Options<'_>, order: Choice, picked: Picked) -> Settings
+/// What a word calls: behind `NEXT ` the next state of a register, else an output.
+fn called(word: &str) -> (Role, &str)
+    ensures { IsCalled word.now result.0 result.1.now }
+{
+    match word.strip_prefix("NEXT ") {
+        Some(register) => (Role::NextState, register),
+        None => (Role::Output, word),
+    }
+}
+
+/// What a word asks to be explained.
+fn target_of(alloc: Global, word: &str) -> Result<Target, AllocError>
+    ensures { IfOk result (λ target. IsCalled word.now target.role target.name) }
+{
+    let (role, name) = called(word);
+    let name = Name::copied(alloc, name.as_bytes())?;
+    Ok(Target { role, name })
+}
+
+/// What words ask to be explained.
+fn all_targets(alloc: Global, words: &[&str]) -> Result<Vec<Target>, AllocError>
+    ensures { IfOk result (λ targets. AreTargetsOf words.now targets.items) }
+{
+    let mut targets = Vec::new(alloc);
+    for word in words {
+        targets.push(target_of(alloc, *word)?)?;
+    }
+    Ok(targets)
+}
+
+/// What is asked to be explained.
+pub(crate) fn targets_of(alloc: Global, words: &[&str]) -> Result<Vec<Target>, ToolFault>
+    ensures targets { IfOk result (λ targets. AreTargetsOf words.now targets.items) }
+    ensures fault { IfErr result (λ fault. fault ≡ ToolFault.OutOfMemory) }
+{
+    match all_targets(alloc, words) {
+        Ok(targets) => Ok(targets),
+        Err(_) => Err(ToolFault::OutOfMemory),
+    }
+}
+
+/// The settings of a check in this order, of these pairs, with what is to be explained.
+pub(crate) fn settings_of(
+    options: &Options<'_>,
+    order: Choice,
+    picked: Picked,
+    explain: Vec<Target>,
+) -> Settings
     requires auto { order ≡ ChoiceValue.Auto → options.now.order ≡ OrderValue.Auto }
     requires cones { order ≡ ChoiceValue.Cones → options.now.order ≡ OrderValue.Cones }
     requires by_cones { options.now.order ≡ OrderValue.Cones → order ≡ ChoiceValue.Cones }
     requires picked { IsPickedOf options.now.picks picked }
+    requires explain { AreTargetsOf options.now.explain.items explain.items }
     ensures { AreSettings options.now order picked result }
 {
     Settings {
@@ -66,5 +113,7 @@ pub(crate) fn settings_of(options: &Options<'_>, order: Choice, picked: Picked) 
         limit: limit_of(options),
         sizes: options.sizes,
         json: options.json,
+        explain,
+        assignment: options.assignment,
     }
 }

@@ -1,14 +1,16 @@
 //! Why the program prints no report.
-ghost use Rattle.std.specs.Prelude.{◌≡◌, ◌≤◌, Some, IfOk, string_bytes};
-ghost use Rattle.check_tool.specs.Faults.{place_text, tool_fault_text, fault_line, text_status, order_status, check_status, fault_status};
+ghost use Rattle.std.specs.Prelude.{◌≡◌, ◌≤◌, ◌++◌, [], codes, decimal};
+ghost use Rattle.net_bench.specs.FaultText.{fault_text};
+ghost use Rattle.net_order.specs.Fault.{order_fault_text};
+ghost use Rattle.expand_work.specs.Fault.{wave_fault_text};
+ghost use Rattle.check_report.specs.Texts.{check_fault_text};
+ghost use Rattle.check_tool.specs.Faults.{place_text, tool_fault_text, words_text, text_status, order_status, check_status, fault_status};
 
 use crate::folder::Obstacle;
 use check_report::CheckFault;
+use expand_work::WaveFault;
 use net_bench::netlist::BenchFault;
 use net_order::order::OrderFault;
-use std::alloc::{AllocError, Global};
-use std::fmt;
-use thiserror::Error;
 
 /// What a file is.
 #[derive(Clone, Copy, Drop, Debug, PartialEq, Eq)]
@@ -19,21 +21,8 @@ pub enum Place {
     Order,
 }
 
-impl fmt::Display for Place {
-    ghost output = { λ p. Some (place_text p) };
-
-    fn fmt<W: fmt::Write>(&self, f: &mut fmt::Formatter<W>) -> fmt::Result {
-        match self {
-            Place::First => write!(f, "first"),
-            Place::Second => write!(f, "second"),
-            Place::Given => write!(f, "given"),
-            Place::Order => write!(f, "order"),
-        }
-    }
-}
-
 /// Why there is no report, or not all of it.
-#[derive(Clone, Copy, Drop, Debug, PartialEq, Eq, Error)]
+#[derive(Clone, Copy, Drop, Debug, PartialEq, Eq)]
 pub enum ToolFault {
     /// One file was named.
     OneFile,
@@ -50,29 +39,157 @@ pub enum ToolFault {
     OutOfMemory,
 }
 
-impl fmt::Display for ToolFault {
-    ghost output = { λ f. Some (tool_fault_text f) };
+/// The text of a fault in parts, which need no memory: what is refused, what stands before the number of a line or of a name, this number
+/// where there is one, and what stands behind.
+#[derive(Clone, Copy, Drop)]
+pub(crate) struct Words {
+    pub(crate) place: &'static str,
+    pub(crate) before: &'static str,
+    pub(crate) number: Option<u32>,
+    pub(crate) behind: &'static str,
+}
 
-    fn fmt<W: fmt::Write>(&self, f: &mut fmt::Formatter<W>) -> fmt::Result {
-        match self {
-            ToolFault::OneFile => write!(f, "give two files or none"),
-            ToolFault::InputTwice => write!(f, "standard input: given twice"),
-            ToolFault::CannotOpen(place, _) => write!(f, "{place}: cannot be opened"),
-            ToolFault::InputUnread => write!(f, "standard input: cannot be read"),
-            ToolFault::InputTooLong => write!(f, "standard input: too long"),
-            ToolFault::InputUndivided => write!(f, "standard input: no line %%"),
-            ToolFault::BadOrder(fault) => write!(f, "order: {fault}"),
-            ToolFault::Check(fault) => write!(f, "{fault}"),
-            ToolFault::OutOfMemory => write!(f, "out of memory"),
-        }
+/// A text with no number.
+fn plain(text: &'static str) -> Words
+    ensures text { words_text result ≡ text.now }
+    ensures bare { result.place.now ≡ [] }
+{
+    Words {
+        place: "",
+        before: text,
+        number: None,
+        behind: "",
     }
 }
 
-/// The line that the program prints for a fault.
-pub fn line_of(alloc: Global, fault: ToolFault) -> Result<String, AllocError>
-    ensures { IfOk result (λ line. string_bytes line ≡ fault_line fault) }
+/// A text with a number.
+fn numbered(before: &'static str, number: u32, behind: &'static str) -> Words
+    ensures text { words_text result ≡ before.now ++ decimal number ++ behind.now }
+    ensures bare { result.place.now ≡ [] }
 {
-    format!(in alloc; "bddcheck: {fault}\n")
+    Words {
+        place: "",
+        before,
+        number: Some(number),
+        behind,
+    }
+}
+
+/// The text of what is refused, and why.
+fn refused(place: &'static str, words: Words) -> Words
+    requires { words.place.now ≡ [] }
+    ensures { words_text result ≡ place.now ++ words_text words }
+{
+    Words { place, ..words }
+}
+
+/// What a file is called.
+fn name_of(place: Place) -> &'static str
+    ensures { result.now ≡ place_text place }
+{
+    match place {
+        Place::First => "first",
+        Place::Second => "second",
+        Place::Given => "given",
+        Place::Order => "order",
+    }
+}
+
+/// The words for a text that is refused.
+fn words_of_text(fault: BenchFault) -> Words
+    ensures text { words_text result ≡ fault_text fault }
+    ensures bare { result.place.now ≡ [] }
+{
+    match fault {
+        BenchFault::TooLong => plain("longer than 67108864 bytes"),
+        BenchFault::BadByte { line } => numbered("line ", line, ": a byte that no statement has"),
+        BenchFault::BadStatement { line } => numbered("line ", line, ": broken statement"),
+        BenchFault::UnknownGate { line } => numbered("line ", line, ": unknown gate"),
+        BenchFault::WrongOperands { line } => {
+            numbered("line ", line, ": wrong number of operands")
+        }
+        BenchFault::Redefined { line } => numbered("line ", line, ": signal defined twice"),
+        BenchFault::TooMany { line } => numbered(
+            "line ",
+            line,
+            ": too many signals or operands, or a name too long",
+        ),
+        BenchFault::Undefined { line } => numbered("line ", line, ": signal without definition"),
+        BenchFault::Cycle { line } => numbered("line ", line, ": gate that depends on a cycle"),
+        BenchFault::Read => plain("cannot be read"),
+        BenchFault::OutOfMemory => plain("out of memory"),
+    }
+}
+
+/// The words for an order that is refused.
+fn words_of_order(fault: OrderFault) -> Words
+    ensures text { words_text result ≡ order_fault_text fault }
+    ensures bare { result.place.now ≡ [] }
+{
+    match fault {
+        OrderFault::CountsDiffer => {
+            plain("the netlists have different numbers of inputs, outputs or registers")
+        }
+        OrderFault::NotAPermutation { place } => {
+            numbered("name ", place, " of the list does not fit")
+        }
+        OrderFault::TooManyInputs => plain("more than 4096 variables"),
+        OrderFault::OutOfMemory => plain("out of memory"),
+        OrderFault::BadName { line } => numbered("line ", line, ": not a signal name"),
+        OrderFault::TooLong => plain("longer than 67108864 bytes"),
+        OrderFault::Read => plain("cannot be read"),
+    }
+}
+
+/// The words for a building that failed.
+fn words_of_wave(fault: WaveFault) -> Words
+    ensures text { words_text result ≡ wave_fault_text fault }
+    ensures bare { result.place.now ≡ [] }
+{
+    match fault {
+        WaveFault::OutOfMemory => plain("out of memory"),
+        WaveFault::NoWorker => plain("a worker could not be started"),
+        WaveFault::Full => plain("more nodes than the limit"),
+        WaveFault::TooManyRequests => plain("more requests than the gate allows"),
+    }
+}
+
+/// The words for a check that has no report.
+fn words_of_check(fault: CheckFault) -> Words
+    ensures { words_text result ≡ check_fault_text fault }
+{
+    match fault {
+        CheckFault::First(fault) => refused("first: ", words_of_text(fault)),
+        CheckFault::Second(fault) => refused("second: ", words_of_text(fault)),
+        CheckFault::Given(fault) => refused("given: ", words_of_text(fault)),
+        CheckFault::GivenOutputs => plain("given: not exactly one output"),
+        CheckFault::Order(fault) => refused("order: ", words_of_order(fault)),
+        CheckFault::Only => plain("only: no such output or register"),
+        CheckFault::Explain => plain("explain: no such output or register"),
+        CheckFault::Wave(fault) => refused("build: ", words_of_wave(fault)),
+        CheckFault::GivenUp => plain(
+            "build: given up in each order; more memory, or a good order by --order-file, may help",
+        ),
+        CheckFault::Write => plain("report: cannot be written"),
+        CheckFault::OutOfMemory => plain("out of memory"),
+    }
+}
+
+/// The words for a fault.
+pub(crate) fn words_of(fault: ToolFault) -> Words
+    ensures { words_text result ≡ tool_fault_text fault }
+{
+    match fault {
+        ToolFault::OneFile => plain("give two files or none"),
+        ToolFault::InputTwice => plain("standard input: given twice"),
+        ToolFault::CannotOpen(place, _) => refused(name_of(place), plain(": cannot be opened")),
+        ToolFault::InputUnread => plain("standard input: cannot be read"),
+        ToolFault::InputTooLong => plain("standard input: too long"),
+        ToolFault::InputUndivided => plain("standard input: no line %%"),
+        ToolFault::BadOrder(fault) => refused("order: ", words_of_order(fault)),
+        ToolFault::Check(fault) => words_of_check(fault),
+        ToolFault::OutOfMemory => plain("out of memory"),
+    }
 }
 
 /// The status for a text that is refused.
@@ -106,7 +223,7 @@ fn status_of_check(fault: CheckFault) -> u8
         CheckFault::First(fault) | CheckFault::Second(fault) | CheckFault::Given(fault) => {
             status_of_text(fault)
         }
-        CheckFault::GivenOutputs | CheckFault::Only => 2,
+        CheckFault::GivenOutputs | CheckFault::Only | CheckFault::Explain => 2,
         CheckFault::Order(fault) => status_of_order(fault),
         CheckFault::Wave(_) | CheckFault::GivenUp | CheckFault::Write | CheckFault::OutOfMemory =>
             3,

@@ -65,7 +65,7 @@ fn spot_in_text<'a>(name: &'a str, fault: BenchFault) -> Spot<'a>
 fn spot_in_order<'a>(choice: OrderChoice<'a>, fault: OrderFault) -> Spot<'a>
     ensures { where_of result ≡ order_spot choice.entry fault }
 {
-    let OrderChoice::File(path) = choice else {
+    let (OrderChoice::File(path) | OrderChoice::Extended(path)) = choice else {
         return Spot::Nowhere;
     };
     match fault {
@@ -135,7 +135,7 @@ fn file_of_order<'a>(choice: OrderChoice<'a>) -> Option<&'a str>
     ensures { path_in result ≡ order_paths choice.entry }
 {
     match choice {
-        OrderChoice::File(path) => Some(path),
+        OrderChoice::File(path) | OrderChoice::Extended(path) => Some(path),
         _ => None,
     }
 }
@@ -253,6 +253,9 @@ fn help_in_check(choice: OrderChoice<'_>, fault: CheckFault) -> &'static str
         CheckFault::GivenOutputs => "a condition is a netlist of one output",
         CheckFault::Order(fault) => help_in_order(fault),
         CheckFault::Only => "an output or register of the first netlist",
+        CheckFault::Explain => {
+            "an output of the first netlist, or NEXT and the name of its register"
+        }
         CheckFault::Wave(fault) => help_in_building(choice, fault),
         CheckFault::Write => "standard output is full, or closed",
         CheckFault::GivenUp | CheckFault::OutOfMemory => help_by_order(choice),

@@ -10,6 +10,8 @@ pub mod process;
 pub mod progress;
 pub mod quote;
 pub mod run;
+mod say;
+pub mod screen;
 pub mod split;
 mod tell;
 pub mod tool;

@@ -1,12 +1,14 @@
 //! A run over the arguments, the files and the devices of a process.
-ghost use Rattle.std.specs.Prelude.{◌≡◌, ◌≤◌, ◌⊎◌, IsOkAnd, MatchResult, drop, map, string_bytes};
+ghost use Rattle.std.specs.Prelude.{◌≡◌, ◌≤◌, ◌⊎◌, true, IsOkAnd, MatchResult, drop, map, string_bytes};
 ghost use Rattle.check_tool.specs.Ending.{written, scene_of, AskForMore, IsRun, IsWordless};
 ghost use Rattle.check_tool.specs.Opening.{HasFailedAt};
 
 use crate::fault::ToolFault;
 use crate::folder::Folder;
 use crate::progress::Meter;
-use crate::tool::{refuse, run_tool, say};
+use crate::say::say;
+use crate::screen::Screen;
+use crate::tool::{refuse, run_tool};
 use net_bench::device::{Sink, Source};
 use std::alloc::Global;
 use std::io;
@@ -62,11 +64,11 @@ fn wordless<E: Sink>(alloc: Global, why: NoWords, errors: &mut E) -> u8
 
 /// The status of a run over the arguments and the devices of a process.
 pub fn status_of<
-    H: AllocGlobal + Eprint + Clock + Meter + Threads + Wait + Sync,
+    H: AllocGlobal + Clock + Meter + Threads + Wait + Sync,
     F: Folder,
     R: Source,
     W: Sink,
-    E: Sink,
+    E: Screen + Send,
 >(
     rt: &H,
     arguments: Result<Vec<String>, NoWords>,
@@ -76,15 +78,15 @@ pub fn status_of<
     errors: &mut E,
 ) -> u8
     // The program runs on the words behind its name; where there are none to be had, that is told.
-    ensures ending { let scene = scene_of F.told F.tries folder.old folder.new R.remaining R.has_failed input.old input.new
+    ensures ending { let scene = scene_of (E.seen errors.old) F.told F.tries folder.old folder.new R.remaining R.has_failed input.old input.new
         (written W.contents W.has_failed W.has_stopped out.old out.new) (written E.contents E.has_failed E.has_stopped errors.old errors.new) in
         MatchResult arguments
         (λ all. IsRun (HasFailedAt F.File.origin F.File.has_failed) scene (folder.new ≡ folder.old) (input.new ≡ input.old) (map string_bytes (drop 1 all.items)) result)
         (λ why. IsWordless scene.errors why result × (out.new ≡ out.old) × (folder.new ≡ folder.old) × (input.new ≡ input.old)) }
     ensures bound { result ≤ 3 }
-    // Status 2 says that nothing was written, statuses 0 and 1 that nothing was said, unless more is asked for.
+    // Status 2 says that nothing was written, statuses 0 and 1 that nothing was said, unless more is asked for, or seen on a terminal.
     ensures untouched { result ≡ 2 → out.new ≡ out.old }
-    ensures silent { IsOkAnd arguments (λ all. AskForMore (map string_bytes (drop 1 all.items))) ⊎ (result ≤ 1 → errors.new ≡ errors.old) }
+    ensures silent { IsOkAnd arguments (λ all. AskForMore (map string_bytes (drop 1 all.items))) ⊎ (E.seen errors.old ≡ true) ⊎ (result ≤ 1 → errors.new ≡ errors.old) }
 {
     match arguments {
         Ok(words) => run_tool(

@@ -1,13 +1,17 @@
 //! How far a build is, told on standard error.
+ghost use Rattle.std.specs.Prelude.{◌≡◌, ◌||◌, is_some};
+
 use crate::folder::{Disk, Folder};
+use crate::say::say;
+use crate::screen::Screen;
 use dd_store::Watch;
-use expand_work::{Free, Gate};
-use net_bench::device::read_text;
-use std::alloc::Global;
+use expand_work::{AttemptEnd, Free, Gate};
+use net_bench::device::{Sink, read_text};
+use std::alloc::{AllocError, Global};
 use std::fmt;
-use std::io::IsTerminal;
 use std::rt::Clock;
-use std::sync::atomic::{AtomicBool, AtomicU32, AtomicU64, Ordering};
+use std::sync::atomic::{AtomicU64, Ordering};
+use std::sync::{Mutex, Wait};
 
 /// Where Linux says how much memory a process has, in pages of 4,096 bytes: its address space, what of it is resident, and more.
 const STATM: &str = "/proc/self/statm";
@@ -15,13 +19,10 @@ const STATM: &str = "/proc/self/statm";
 /// The most bytes that such a text has.
 const MAX_STATM: usize = 4_096;
 
-/// A runtime that knows how much memory its process has, and what its standard error is.
+/// A runtime that knows how much memory its process has.
 pub trait Meter {
     /// The resident megabytes, rounded down, where they can be told.
     fn megabytes(&self, alloc: Global) -> Option<u64>;
-
-    /// Whether standard error is a terminal.
-    fn is_seen(&self) -> bool;
 }
 
 /// The second number of a text, which is one of pages, in megabytes.
@@ -38,21 +39,28 @@ impl Meter for HostRuntime {
         let text = read_text(alloc, &mut file, MAX_STATM).ok()?;
         megabytes_of(text.as_slice())
     }
-
-    fn is_seen(&self) -> bool {
-        self.stderr().is_terminal()
-    }
 }
 
 /// How a build is told of.
 #[derive(Clone, Copy, Drop, Debug, PartialEq, Eq)]
-enum Form {
-    /// Not at all.
-    Silent,
+pub enum Form {
     /// By lines, one below the other.
     Lines,
     /// By one line of a terminal, which is written anew.
     InPlace,
+}
+
+/// How builds are told of on this device, where lines are asked for or not: not at all where it is no terminal and they are not.
+pub(crate) fn form_on<E: Screen>(asked: bool, errors: &E) -> Option<Form>
+    ensures { is_some result ≡ (asked || E.seen errors.now) }
+{
+    if asked {
+        Some(Form::Lines)
+    } else if errors.is_seen() {
+        Some(Form::InPlace)
+    } else {
+        None
+    }
 }
 
 /// How far a build is.
@@ -79,20 +87,102 @@ impl fmt::Display for Stand {
     }
 }
 
-/// A gate that holds nobody. It tells at which rank a build is, at most once a second: by lines where it is asked to, else by one line in
-/// place where that is seen on a terminal.
+/// What ended an attempt within so many nodes, or what a round of cones left.
+#[derive(Clone, Copy, Drop)]
+struct Ended {
+    budget: u64,
+    end: AttemptEnd,
+}
+
+impl fmt::Display for Ended {
+    fn fmt<W: fmt::Write>(&self, f: &mut fmt::Formatter<W>) -> fmt::Result {
+        let budget = self.budget;
+        match self.end {
+            AttemptEnd::Decided { order } => write!(f, "order {order}, budget {budget}: decided"),
+            AttemptEnd::MoreNodes { order } => {
+                write!(f, "order {order}, budget {budget}: more nodes")
+            }
+            AttemptEnd::TooManyRequests { order } => write!(
+                f,
+                "order {order}, budget {budget}: too many requests in one wave"
+            ),
+            AttemptEnd::Left { left, pairs } => {
+                write!(f, "cones, budget {budget}: {left} of {pairs} pairs left")
+            }
+        }
+    }
+}
+
+/// What takes the line of a terminal away.
+const CLEAN: &[u8] = b"\r\x1b[K";
+
+/// Where builds are told of, and what of them was told.
 #[derive(Drop)]
-pub struct Progress<'a, H> {
-    rt: &'a H,
-    alloc: Global,
+struct Board<'a, E> {
+    errors: &'a mut E,
     form: Form,
     // When it was told last, or the gate was made, in milliseconds of the clock.
-    told: AtomicU64,
+    told: u64,
+    // How many builds have begun, and whether the terminal has a line of them.
+    attempts: u32,
+    shown: bool,
+}
+
+impl<E: Sink> Board<'_, E> {
+    /// Writes a text.
+    fn write(&mut self, text: &[u8]) {
+        say(&mut *self.errors, text);
+    }
+
+    /// Takes the line from the terminal, where one is there.
+    fn clean(&mut self) {
+        if self.shown {
+            self.shown = false;
+            self.write(CLEAN);
+        }
+    }
+
+    /// Hears of a rank, and answers whether it is to be told: a second has gone by since one was. Behind the last rank a report may come,
+    /// and the terminal is to be clean then.
+    fn hears(&mut self, now: u64, rank: u32, ranks: u32) -> bool {
+        if rank == 1 {
+            self.attempts = self.attempts.saturating_add(1);
+        }
+        if rank == ranks {
+            self.clean();
+        }
+        let is_last_in_place = self.form == Form::InPlace && rank == ranks;
+        if is_last_in_place || now.saturating_sub(self.told) < 1_000 {
+            return false;
+        }
+        self.told = now;
+        true
+    }
+
+    /// Tells this by a line, or in the place of the line before.
+    fn tell<D: fmt::Display + Drop>(&mut self, alloc: Global, stand: D) -> Result<(), AllocError> {
+        let line = match self.form {
+            Form::Lines => format!(in alloc; "bddcheck: {stand}\n")?,
+            Form::InPlace => {
+                let attempt = self.attempts;
+                self.shown = true;
+                format!(in alloc; "\rbddcheck: attempt {attempt}, {stand}\u{1b}[K")?
+            }
+        };
+        self.write(line.as_bytes());
+        Ok(())
+    }
+}
+
+/// A gate that holds nobody. It tells at which rank a build is, at most once a second: by lines, or by one line in place. What it writes is
+/// written under a lock, since builds of several threads may tell it.
+#[derive(Drop)]
+pub struct Progress<'a, 'e, H, E> {
+    rt: &'a H,
+    alloc: Global,
+    board: Mutex<Board<'e, E>>,
     // The requests that were expanded so far.
     requests: AtomicU64,
-    // How many builds have begun, and whether the terminal has a line of them.
-    attempts: AtomicU32,
-    shown: AtomicBool,
 }
 
 /// The milliseconds of the clock, or 0 where it cannot be read.
@@ -106,67 +196,42 @@ fn millis<H: Clock>(rt: &H) -> u64 {
     }
 }
 
-/// How a build is told of, where lines are asked for or not.
-fn form_on<H: Meter>(rt: &H, asked: bool) -> Form {
-    if asked {
-        Form::Lines
-    } else if rt.is_seen() {
-        Form::InPlace
-    } else {
-        Form::Silent
-    }
-}
-
-impl<'a, H: Eprint + Clock + Meter> Progress<'a, H> {
-    /// A gate that tells where it is asked to, or seen, a second from now at the earliest.
-    pub fn new(rt: &'a H, alloc: Global, asked: bool) -> Progress<'a, H> {
-        let form = form_on(rt, asked);
-        let now = if form == Form::Silent { 0 } else { millis(rt) };
+impl<'a, 'e, H: Clock + Meter + Wait, E: Sink> Progress<'a, 'e, H, E> {
+    /// A gate that tells in this form on this device, a second from now at the earliest.
+    pub fn new(rt: &'a H, alloc: Global, form: Form, errors: &'e mut E) -> Progress<'a, 'e, H, E> {
+        let told = millis(rt);
         Progress {
             rt,
             alloc,
-            form,
-            told: AtomicU64::new(now),
+            board: Mutex::new(Board {
+                errors,
+                form,
+                told,
+                attempts: 0,
+                shown: false,
+            }),
             requests: AtomicU64::new(0),
-            attempts: AtomicU32::new(0),
-            shown: AtomicBool::new(false),
         }
     }
 
-    /// Takes the line from the terminal, where one is there.
-    pub fn end(&self) {
-        if self.shown.swap(false, Ordering::SeqCst) {
-            let _ = eprint!(self.rt; "\r\u{1b}[K");
-        }
+    /// Takes the line from the terminal, where one is there, and gives the device back.
+    pub fn end(self) {
+        let Progress { board, .. } = self;
+        let mut board = board.into_inner();
+        board.clean();
     }
 
-    /// Whether a second has gone by since it was told last; then it is told now.
-    fn is_due(&self) -> bool {
-        let now = millis(self.rt);
-        if now.saturating_sub(self.told.load(Ordering::SeqCst)) < 1_000 {
-            return false;
-        }
-        self.told.store(now, Ordering::SeqCst);
-        true
-    }
-
-    /// Tells by a line, or in the place of the line before.
-    fn tell(&self, stand: Stand) {
-        if self.form == Form::Lines {
-            let _ = eprintln!(self.rt; "bddcheck: {stand}");
-            return;
-        }
-        let attempt = self.attempts.load(Ordering::SeqCst);
-        self.shown.store(true, Ordering::SeqCst);
-        let _ = eprint!(self.rt; "\rbddcheck: attempt {attempt}, {stand}\u{1b}[K");
+    /// Tells this, where there is memory for its line.
+    fn tell<D: fmt::Display + Drop>(&self, stand: D) {
+        let _ = self.board.lock(self.rt).tell(self.alloc, stand);
     }
 }
 
-impl<H: Eprint + Clock + Meter + Sync> Watch for Progress<'_, H> {
+impl<H: Clock + Meter + Wait + Sync, E: Sink + Send> Watch for Progress<'_, '_, H, E> {
     fn at_shard(&self, _shard: u8, _level: u16) {}
 }
 
-impl<H: Eprint + Clock + Meter + Sync> Gate for Progress<'_, H> {
+impl<H: Clock + Meter + Wait + Sync, E: Sink + Send> Gate for Progress<'_, '_, H, E> {
     fn at_level(&self, _worker: u32, _level: u16) {}
 
     fn most_alone(&self, workers: u32, expected: usize) -> usize {
@@ -177,18 +242,10 @@ impl<H: Eprint + Clock + Meter + Sync> Gate for Progress<'_, H> {
         usize::MAX
     }
 
-    // Behind the last rank a report may come, and the terminal is to be clean then.
     fn at_rank(&self, rank: u32, ranks: u32, nodes: u64) {
-        if rank == 1 {
-            self.attempts.fetch_add(1, Ordering::SeqCst);
-        }
-        if rank == ranks {
-            self.end();
-        }
-        if self.form == Form::Silent || (self.form == Form::InPlace && rank == ranks) {
-            return;
-        }
-        if self.is_due() {
+        let now = millis(self.rt);
+        let is_told = self.board.lock(self.rt).hears(now, rank, ranks);
+        if is_told {
             self.tell(Stand {
                 rank,
                 ranks,
@@ -200,8 +257,14 @@ impl<H: Eprint + Clock + Meter + Sync> Gate for Progress<'_, H> {
     }
 
     fn at_requests(&self, requests: usize) {
-        if self.form != Form::Silent {
-            self.requests.fetch_add(requests as u64, Ordering::SeqCst);
+        self.requests.fetch_add(requests as u64, Ordering::SeqCst);
+    }
+
+    // The attempt that decides is told behind the report.
+    fn at_attempt(&self, budget: u64, end: AttemptEnd) {
+        let is_told = self.board.lock(self.rt).form == Form::Lines;
+        if is_told && !matches!(end, AttemptEnd::Decided { .. }) {
+            self.tell(Ended { budget, end });
         }
     }
 }

@@ -5,24 +5,29 @@ ghost use Rattle.check_report.specs.declared.fault.CheckFault.TheVariants.{Only,
 ghost use Rattle.check_tool.specs.declared.done.Done.{Done};
 ghost use Rattle.check_report.specs.declared.choice.Choice.{Choice as ChoiceValue};
 ghost use Rattle.command_line.specs.declared.options.OrderChoice.TheVariants.{Auto, Cones};
-ghost use Rattle.check_report.specs.Best.{AreTried as TriesOrders, IsAllowed, IsGivenUpWithin};
+ghost use Rattle.check_report.specs.Best.{AreGivenUp, AreTried as TriesOrders, IsAllowed, IsGivenUpWithin, last_budget};
 ghost use Rattle.check_report.specs.Devices.{told_by, told_of};
 ghost use Rattle.check_report.specs.Limits.{AreBeyond};
 ghost use Rattle.report_text.specs.Writing.{AppendsFront};
-ghost use Rattle.expand_work.specs.declared.fault.WaveFault.TheVariants.{Full, TooManyRequests};
+ghost use Rattle.expand_work.specs.declared.fault.WaveFault.TheVariants.{Full, NoWorker, TooManyRequests};
 ghost use Rattle.net_order.specs.declared.order.Order.{Order};
+ghost use Rattle.net_order.specs.OrderText.{IsOrderText};
 ghost use Rattle.check_tool.specs.Opening.{Extends, HasFailedAt, Try, opened};
-ghost use Rattle.check_tool.specs.Running.{IsOpenFault, order_paths, given_paths, later_paths, paths_of, IsShort, IsGivenOf, IsGivenFrom, IsOrderOf, IsOrderFault, IsGivenFault, IsLaterFault, IsCompared, IsCompareFault, IsInputFault, IsToolFault, HasReported, HasReportedFront, IsBeyond, IsGivenUp, AreUnknown, ArePicksUnknown, MayGoByCones, StandOnInput, limit_of};
+ghost use Rattle.check_tool.specs.Running.{IsOpenFault, order_paths, given_paths, later_paths, paths_of, IsShort, IsGivenOf, IsGivenFrom, IsOrderOf, IsListFault, IsOrderFault, IsGivenFault, IsLaterFault, IsCompared, IsCompareFault, IsInputFault, IsToolFault, HasReported, HasReportedFront, IsBeyond, IsGivenUp, ArePassed, AreUnknown, ArePicksUnknown, MayGoByCones, NamesOrder, StandOnInput, attempt_of, limit_of};
+ghost use Rattle.check_tool.specs.Ending.{HasProgress, tells, written as said_by};
 
-use crate::asked::{picked_of, settings_of};
+use crate::asked::{picked_of, settings_of, targets_of};
 use crate::done::Done;
 use crate::fault::{Place, ToolFault};
 use crate::folder::{Folder, OpenFault};
-use crate::progress::{Meter, Progress};
+use crate::progress::{Meter, Progress, form_on};
+use crate::screen::Screen;
 use crate::split::split_input;
 use check_report::{Choice, Context, check, print_order};
 use command_line::{Options, OrderChoice, Texts};
+use expand_work::{Free, Gate};
 use net_bench::device::{InMemory, Sink, Source, TextFault, read_text};
+use net_order::names::Names;
 use net_order::order::Order;
 use net_order::order_file::read_order;
 use std::alloc::Global;
@@ -32,6 +37,14 @@ use std::thread::Threads;
 
 /// The most bytes that standard input has: two texts and the line between them.
 const INPUT_LIMIT: usize = 134_221_824;
+
+/// What a run stands in: the runtime, what it is to do, and who watches its builds.
+#[derive(Drop)]
+struct Run<'a, 'o, H, G> {
+    rt: &'a H,
+    options: &'a Options<'o>,
+    gate: &'a G,
+}
 
 /// Opens a file.
 fn open<F: Folder>(folder: &mut F, path: &str, place: Place) -> Result<F::File, ToolFault>
@@ -45,6 +58,20 @@ fn open<F: Folder>(folder: &mut F, path: &str, place: Place) -> Result<F::File, 
         Ok(file) => Ok(file),
         Err(OpenFault::Refused(obstacle)) => Err(ToolFault::CannotOpen(place, obstacle)),
         Err(OpenFault::OutOfMemory) => Err(ToolFault::OutOfMemory),
+    }
+}
+
+/// The names of the file of an order, which is opened and read.
+fn names_in<F: Folder>(alloc: Global, folder: &mut F, path: &str) -> Result<Names, ToolFault>
+    ensures names { IfOk result (λ names. IfSome (F.told folder.old path.now) (λ text. IsOrderText text names)) }
+    ensures opened { OnOk result (Extends (F.tries folder.old) (F.tries folder.new) (opened (path.now ∷ []))) }
+    ensures kept { F.told folder.new ≡ F.told folder.old }
+    ensures fault { IfErr result (λ fault. (tries : List Try) × Extends (F.tries folder.old) (F.tries folder.new) tries × IsListFault (F.told folder.old) (HasFailedAt F.File.origin F.File.has_failed) path.now tries fault) }
+{
+    let mut file = open(folder, path, Place::Order)?;
+    match read_order(alloc, &mut file) {
+        Ok(names) => Ok(names),
+        Err(fault) => Err(ToolFault::BadOrder(fault)),
     }
 }
 
@@ -71,11 +98,12 @@ fn order_of<F: Folder>(
         OrderChoice::Auto => Ok(Choice::Auto),
         OrderChoice::Cones => Ok(Choice::Cones),
         OrderChoice::File(path) => {
-            let mut file = open(folder, path, Place::Order)?;
-            match read_order(alloc, &mut file) {
-                Ok(names) => Ok(Choice::One(Order::Listed(names))),
-                Err(fault) => Err(ToolFault::BadOrder(fault)),
-            }
+            let names = names_in(alloc, folder, path)?;
+            Ok(Choice::One(Order::Listed(names)))
+        }
+        OrderChoice::Extended(path) => {
+            let names = names_in(alloc, folder, path)?;
+            Ok(Choice::One(Order::Extended(names)))
         }
     }
 }
@@ -119,58 +147,61 @@ fn prepare<F: Folder>(
 
 /// Compares two texts, or prints the order of their variables. The condition's file is opened, and a file of the order read, before them.
 fn compare<
-    H: AllocGlobal + Eprint + Clock + Meter + Threads + Wait + Sync,
+    H: AllocGlobal + Threads + Wait + Sync,
     F: Folder,
     R1: Source,
     R2: Source,
     W: Sink,
+    G: Gate,
 >(
-    rt: &H,
-    options: &Options<'_>,
+    run: &Run<'_, '_, H, G>,
     folder: &mut F,
     first: &mut R1,
     second: &mut R2,
     out: &mut W,
 ) -> Result<Done, ToolFault>
-    ensures report { IfOk result (λ done. (bytes : List ℕ) × IsCompared (F.told folder.old) (R1.remaining first.old) (R2.remaining second.old) options.now done bytes × Appends (W.contents out.old) (W.contents out.new) bytes) }
-    ensures opened { OnOk result (Extends (F.tries folder.old) (F.tries folder.new) (opened (later_paths options.now))) }
+    requires unbounded { G.bound run.now.gate.now ≡ None }
+    ensures report { IfOk result (λ done. (bytes : List ℕ) × IsCompared (F.told folder.old) (R1.remaining first.old) (R2.remaining second.old) run.now.options.now done bytes × Appends (W.contents out.old) (W.contents out.new) bytes) }
+    ensures opened { OnOk result (Extends (F.tries folder.old) (F.tries folder.new) (opened (later_paths run.now.options.now))) }
     ensures kept { F.told folder.new ≡ F.told folder.old }
     ensures fault { IfErr result (λ fault. (tries : List Try) × Extends (F.tries folder.old) (F.tries folder.new) tries ×
-        IsCompareFault (F.told folder.old) (HasFailedAt F.File.origin F.File.has_failed) (R1.remaining first.old) (R2.remaining second.old) (IsTrue (R1.has_failed first.new)) (IsTrue (R2.has_failed second.new)) options.now tries fault) }
-    ensures full { result ≡ Err (ToolFault.Check (Wave Full)) → (given : Option (Option (List ℕ))) × (choice : ChoiceValue) × IsGivenOf (F.told folder.old) options.now.given given × IsOrderOf (F.told folder.old) options.now.order choice
-        × ((order : Order) → IsAllowed choice order → AreBeyond (told_of (R1.remaining first.old) (R2.remaining second.old) given) options.now.matching order (limit_of options.now)) }
-    ensures given_up { result ≡ Err (ToolFault.Check GivenUp) → (given : Option (Option (List ℕ))) × (choice : ChoiceValue) × IsGivenOf (F.told folder.old) options.now.given given × IsOrderOf (F.told folder.old) options.now.order choice
-        × TriesOrders choice × ((order : Order) → IsAllowed choice order → IsGivenUpWithin (told_of (R1.remaining first.old) (R2.remaining second.old) given) options.now.matching (limit_of options.now) None order) }
-    ensures in_no_order { options.now.order ≡ Auto → result ≢ Err (ToolFault.Check (Wave Full)) }
-    ensures by_cones { MayGoByCones options.now.order → (result ≢ Err (ToolFault.Check (Wave Full))) × (result ≢ Err (ToolFault.Check GivenUp)) }
-    ensures only { options.now.print_order ≡ false → result ≡ Err (ToolFault.Check Only) → ArePicksUnknown (F.told folder.old) (R1.remaining first.old) (R2.remaining second.old) options.now }
+        IsCompareFault (F.told folder.old) (HasFailedAt F.File.origin F.File.has_failed) (R1.remaining first.old) (R2.remaining second.old) (IsTrue (R1.has_failed first.new)) (IsTrue (R2.has_failed second.new)) run.now.options.now tries fault) }
+    ensures passed { IfOk result (λ done. IfSome (attempt_of done) (λ t. (given : Option (Option (List ℕ))) × (choice : ChoiceValue) × IsGivenOf (F.told folder.old) run.now.options.now.given given
+        × IsOrderOf (F.told folder.old) run.now.options.now.order choice
+        × AreGivenUp (told_of (R1.remaining first.old) (R2.remaining second.old) given) run.now.options.now.matching (last_budget choice (limit_of run.now.options.now)) None t)) }
+    ensures full { result ≡ Err (ToolFault.Check (Wave Full)) → (given : Option (Option (List ℕ))) × (choice : ChoiceValue) × IsGivenOf (F.told folder.old) run.now.options.now.given given × IsOrderOf (F.told folder.old) run.now.options.now.order choice
+        × ((order : Order) → IsAllowed choice order → AreBeyond (told_of (R1.remaining first.old) (R2.remaining second.old) given) run.now.options.now.matching order (limit_of run.now.options.now)) }
+    ensures given_up { result ≡ Err (ToolFault.Check GivenUp) → (given : Option (Option (List ℕ))) × (choice : ChoiceValue) × IsGivenOf (F.told folder.old) run.now.options.now.given given × IsOrderOf (F.told folder.old) run.now.options.now.order choice
+        × TriesOrders choice × ((order : Order) → IsAllowed choice order → IsGivenUpWithin (told_of (R1.remaining first.old) (R2.remaining second.old) given) run.now.options.now.matching (limit_of run.now.options.now) None order) }
+    ensures by_cones { MayGoByCones run.now.options.now.order → (result ≢ Err (ToolFault.Check (Wave Full))) × (result ≢ Err (ToolFault.Check GivenUp)) }
+    ensures hired { result ≡ Err (ToolFault.Check (Wave NoWorker)) → (run.now.options.now.print_order ≡ false) × NamesOrder run.now.options.now.order }
+    ensures only { result ≡ Err (ToolFault.Check Only) → ArePicksUnknown (F.told folder.old) (R1.remaining first.old) (R2.remaining second.old) run.now.options.now }
     ensures unbounded { result ≢ Err (ToolFault.Check (Wave TooManyRequests)) }
-    ensures unwritten { result ≡ Err (ToolFault.Check Write) → (done : Done) × (bytes : List ℕ) × IsCompared (F.told folder.old) (R1.remaining first.old) (R2.remaining second.old) options.now done bytes × AppendsFront (W.contents out.old) (W.contents out.new) (W.has_failed out.new) (W.has_stopped out.new) bytes }
+    ensures unwritten { result ≡ Err (ToolFault.Check Write) → (done : Done) × (bytes : List ℕ) × IsCompared (F.told folder.old) (R1.remaining first.old) (R2.remaining second.old) run.now.options.now done bytes × AppendsFront (W.contents out.old) (W.contents out.new) (W.has_failed out.new) (W.has_stopped out.new) bytes }
     ensures untouched { OnErr result (result ≢ Err (ToolFault.Check Write) → out.new ≡ out.old) }
     ensures written { OnOk result ((W.has_failed out.new ≡ W.has_failed out.old) × (W.has_stopped out.new ≡ W.has_stopped out.old)) }
     ensures origins { (R1.origin first.new ≡ R1.origin first.old) × (R2.origin second.new ≡ R2.origin second.old) }
 {
-    let alloc = rt.alloc();
+    let options = run.options;
+    let alloc = run.rt.alloc();
     let picked = picked_of(alloc, &options.picks)?;
+    let explain = targets_of(alloc, options.explain.as_slice())?;
     let (mut given, order) = prepare(alloc, folder, options)?;
-    let settings = settings_of(options, order, picked);
-    let progress = Progress::new(rt, alloc, options.verbose);
+    let settings = settings_of(options, order, picked, explain);
     let context = Context {
-        rt,
+        rt: run.rt,
         alloc,
         settings: &settings,
-        gate: &progress,
+        gate: run.gate,
     };
     if options.print_order {
         let printed = print_order(&context, first, second, &mut given, out);
-        progress.end();
         return match printed {
             Ok(tried) => Ok(Done::OrderPrinted(tried)),
             Err(fault) => Err(ToolFault::Check(fault)),
         };
     }
     let checked = check(&context, first, second, &mut given, out);
-    progress.end();
     match checked {
         Ok((outcome, tried)) => Ok(Done::Compared(outcome, tried)),
         Err(fault) => Err(ToolFault::Check(fault)),
@@ -192,36 +223,95 @@ fn read_input<R: Source>(alloc: Global, input: &mut R) -> Result<Vec<u8>, ToolFa
     }
 }
 
-/// Compares what the options name: two files, a file and the input, or the two texts of the input. FIRST, SECOND, the condition's file
-/// and the order's are opened in this order; where the input is divided, the latter two are opened behind that.
-pub fn run_options<
-    H: AllocGlobal + Eprint + Clock + Meter + Threads + Wait + Sync,
-    F: Folder,
-    R: Source,
-    W: Sink,
->(
-    rt: &H,
-    options: &Options<'_>,
+/// Compares what the options name as `run_options` does, where this gate watches.
+fn run_by<H: AllocGlobal + Threads + Wait + Sync, F: Folder, R: Source, W: Sink, G: Gate>(
+    run: &Run<'_, '_, H, G>,
     folder: &mut F,
     input: &mut R,
     out: &mut W,
 ) -> Result<Done, ToolFault>
+    requires unbounded { G.bound run.now.gate.now ≡ None }
+    ensures report { IfOk result (HasReported (F.told folder.old) (R.remaining input.old) run.now.options.now (W.contents out.old) (W.contents out.new)) }
+    ensures opened { OnOk result (Extends (F.tries folder.old) (F.tries folder.new) (opened (paths_of run.now.options.now))) }
+    ensures kept { F.told folder.new ≡ F.told folder.old }
+    ensures passed { IfOk result (ArePassed (F.told folder.old) (R.remaining input.old) run.now.options.now) }
+    ensures full { result ≡ Err (ToolFault.Check (Wave Full)) → IsBeyond (F.told folder.old) (R.remaining input.old) run.now.options.now }
+    ensures given_up { result ≡ Err (ToolFault.Check GivenUp) → IsGivenUp (F.told folder.old) (R.remaining input.old) run.now.options.now }
+    ensures by_cones { MayGoByCones run.now.options.now.order → (result ≢ Err (ToolFault.Check (Wave Full))) × (result ≢ Err (ToolFault.Check GivenUp)) }
+    ensures hired { result ≡ Err (ToolFault.Check (Wave NoWorker)) → (run.now.options.now.print_order ≡ false) × NamesOrder run.now.options.now.order }
+    ensures only { result ≡ Err (ToolFault.Check Only) → AreUnknown (F.told folder.old) (R.remaining input.old) run.now.options.now }
+    ensures unbounded { result ≢ Err (ToolFault.Check (Wave TooManyRequests)) }
+    ensures fault { IfErr result (λ fault. (tries : List Try) × Extends (F.tries folder.old) (F.tries folder.new) tries × IsToolFault (F.told folder.old) (HasFailedAt F.File.origin F.File.has_failed) (IsTrue (R.has_failed input.new)) (R.remaining input.old) run.now.options.now tries fault) }
+    ensures unwritten { result ≡ Err (ToolFault.Check Write) → HasReportedFront (F.told folder.old) (R.remaining input.old) run.now.options.now (W.contents out.old) (W.contents out.new) (W.has_failed out.new) (W.has_stopped out.new) }
+    ensures untouched { OnErr result (result ≢ Err (ToolFault.Check Write) → out.new ≡ out.old) }
+    ensures read { result ≡ Err ToolFault.InputUnread → IsTrue (R.has_failed input.new) }
+    ensures written { OnOk result ((W.has_failed out.new ≡ W.has_failed out.old) × (W.has_stopped out.new ≡ W.has_stopped out.old)) }
+    ensures unasked { (StandOnInput run.now.options.now.texts → ⊥) → input.new ≡ input.old }
+{
+    match run.options.texts {
+        Texts::One => Err(ToolFault::OneFile),
+        Texts::InputTwice => Err(ToolFault::InputTwice),
+        Texts::Files(first, second) => {
+            let mut first = open(folder, first, Place::First)?;
+            let mut second = open(folder, second, Place::Second)?;
+            compare(run, folder, &mut first, &mut second, out)
+        }
+        Texts::InputAndFile(path) => {
+            let mut file = open(folder, path, Place::Second)?;
+            compare(run, folder, input, &mut file, out)
+        }
+        Texts::FileAndInput(path) => {
+            let mut file = open(folder, path, Place::First)?;
+            compare(run, folder, &mut file, input, out)
+        }
+        Texts::Input => {
+            let text = read_input(run.rt.alloc(), input)?;
+            let Some((one, two)) = split_input(text.as_slice()) else {
+                return Err(ToolFault::InputUndivided);
+            };
+            let mut first = InMemory::new(one);
+            let mut second = InMemory::new(two);
+            compare(run, folder, &mut first, &mut second, out)
+        }
+    }
+}
+
+/// Compares what the options name: two files, a file and the input, or the two texts of the input. FIRST, SECOND, the condition's file
+/// and the order's are opened in this order; where the input is divided, the latter two are opened behind that.
+pub fn run_options<
+    'a,
+    H: AllocGlobal + Clock + Meter + Threads + Wait + Sync,
+    F: Folder,
+    R: Source,
+    W: Sink,
+    E: Screen + Send,
+>(
+    rt: &'a H,
+    options: &'a Options<'_>,
+    folder: &mut F,
+    input: &mut R,
+    out: &mut W,
+    errors: &mut E,
+) -> Result<Done, ToolFault>
     // What was written is the report of the two texts where the condition holds, in the order that is asked for, or of each pair that is
     // picked by its cones, or this order, and nothing else.
     ensures report { IfOk result (HasReported (F.told folder.old) (R.remaining input.old) options.now (W.contents out.old) (W.contents out.new)) }
-    // Then each file that the options name was opened, in the stated order, and no other.
+    // Then each file that the options name was opened in the folder, in the stated order, and no other.
     ensures opened { OnOk result (Extends (F.tries folder.old) (F.tries folder.new) (opened (paths_of options.now))) }
     ensures kept { F.told folder.new ≡ F.told folder.old }
+    // The attempts before the one that is told were given up: each within a smaller budget, and within the first budget each before it.
+    ensures passed { IfOk result (ArePassed (F.told folder.old) (R.remaining input.old) options.now) }
     // The nodes that the texts need are within the limit where there is a report, and Full comes only where they are not, in any order
     // that is asked for.
     ensures full { result ≡ Err (ToolFault.Check (Wave Full)) → IsBeyond (F.told folder.old) (R.remaining input.old) options.now }
     // GivenUp comes only where orders are tried, and each attempt within the limit was given up; where one is to be found, neither comes,
     // since pairs are judged by their cones then.
     ensures given_up { result ≡ Err (ToolFault.Check GivenUp) → IsGivenUp (F.told folder.old) (R.remaining input.old) options.now }
-    ensures in_no_order { options.now.order ≡ Auto → result ≢ Err (ToolFault.Check (Wave Full)) }
     ensures by_cones { MayGoByCones options.now.order → (result ≢ Err (ToolFault.Check (Wave Full))) × (result ≢ Err (ToolFault.Check GivenUp)) }
+    // NoWorker comes only of a comparison in an order that is named.
+    ensures hired { result ≡ Err (ToolFault.Check (Wave NoWorker)) → (options.now.print_order ≡ false) × NamesOrder options.now.order }
     // A name that is picked is refused only where the first text has no such output or register.
-    ensures only { options.now.print_order ≡ false → result ≡ Err (ToolFault.Check Only) → AreUnknown (F.told folder.old) (R.remaining input.old) options.now }
+    ensures only { result ≡ Err (ToolFault.Check Only) → AreUnknown (F.told folder.old) (R.remaining input.old) options.now }
     // No wave of a run of the program is given up for its requests but within an attempt.
     ensures unbounded { result ≢ Err (ToolFault.Check (Wave TooManyRequests)) }
     // A fault has its cause, what comes before it was accepted, and no file was tried beyond it.
@@ -235,31 +325,21 @@ pub fn run_options<
     ensures written { OnOk result ((W.has_failed out.new ≡ W.has_failed out.old) × (W.has_stopped out.new ≡ W.has_stopped out.old)) }
     // The input is read only where a text stands on it.
     ensures unasked { (StandOnInput options.now.texts → ⊥) → input.new ≡ input.old }
+    // Nothing is said before the run ends where more is not asked for and the device for it is no terminal; else progress may be.
+    ensures silent { tells options.now (E.seen errors.old) ≡ false → errors.new ≡ errors.old }
+    ensures progress { HasProgress (tells options.now (E.seen errors.old)) (said_by E.contents E.has_failed E.has_stopped errors.old errors.new) }
 {
-    match options.texts {
-        Texts::One => Err(ToolFault::OneFile),
-        Texts::InputTwice => Err(ToolFault::InputTwice),
-        Texts::Files(first, second) => {
-            let mut first = open(folder, first, Place::First)?;
-            let mut second = open(folder, second, Place::Second)?;
-            compare(rt, options, folder, &mut first, &mut second, out)
+    match form_on(options.verbose, errors) {
+        None => {
+            let gate = &Free;
+            run_by(&Run { rt, options, gate }, folder, input, out)
         }
-        Texts::InputAndFile(path) => {
-            let mut file = open(folder, path, Place::Second)?;
-            compare(rt, options, folder, input, &mut file, out)
-        }
-        Texts::FileAndInput(path) => {
-            let mut file = open(folder, path, Place::First)?;
-            compare(rt, options, folder, &mut file, input, out)
-        }
-        Texts::Input => {
-            let text = read_input(rt.alloc(), input)?;
-            let Some((one, two)) = split_input(text.as_slice()) else {
-                return Err(ToolFault::InputUndivided);
-            };
-            let mut first = InMemory::new(one);
-            let mut second = InMemory::new(two);
-            compare(rt, options, folder, &mut first, &mut second, out)
+        Some(form) => {
+            let progress = Progress::new(rt, rt.alloc(), form, errors);
+            let gate = &progress;
+            let ended = run_by(&Run { rt, options, gate }, folder, input, out);
+            progress.end();
+            ended
         }
     }
 }

@@ -1,13 +1,12 @@
 //! What is said of a run that has ended with a report, where more is asked for.
 ghost use Rattle.std.specs.Prelude.{◌≡◌, true, false, IfOk, string_bytes};
-ghost use Rattle.check_report.specs.Cones.{cone_limit};
 ghost use Rattle.check_tool.specs.Ending.{written, IsAttemptSaid, IsWaySaid, IsUndecidedSaid, IsDoneSaid, attempt_line, larger_word, undecided_line, undecided_words};
 ghost use Rattle.check_tool.specs.Running.{limit_of};
 
 use crate::asked::{NODE_BYTES, limit_of};
 use crate::done::Done;
-use crate::tool::say;
-use check_report::Attempt;
+use crate::say::say;
+use check_report::{Attempt, cone_limit};
 use command_line::{Options, OrderChoice};
 use net_bench::device::Sink;
 use std::alloc::{AllocError, Global};
@@ -43,13 +42,6 @@ fn tell_way<E: Sink>(alloc: Global, choice: OrderChoice<'_>, tried: Option<Attem
         }
         _ => tell_attempt(alloc, tried, errors),
     }
-}
-
-/// The most nodes that the last attempt of a pair's cones was given.
-fn cone_limit(limit: u64) -> u64
-    ensures { result ≡ cone_limit limit }
-{
-    (limit / 4).max(1)
 }
 
 /// The option that allows more nodes.

@@ -1,47 +1,57 @@
 //! A run of the program: its words, its folder and its devices to a status.
-ghost use Rattle.std.specs.Prelude.{◌≡◌, ◌≢◌, ◌≤◌, ◌⊎◌, ℕ, List, false, IfOk, map, string_bytes};
-ghost use Rattle.check_tool.specs.Ending.{written, scene_of, Says, IsSaid, MaySay, IsSaidOf, AskForMore, asked_again, IsReportStatus, IsDoneStatus, IsRun, IsWordEnd};
+ghost use Rattle.std.specs.Prelude.{◌≡◌, ◌≢◌, ◌≤◌, ◌⊎◌, ℕ, List, true, false, IfOk, map, string_bytes};
+ghost use Rattle.check_tool.specs.Faults.{number_text};
+ghost use Rattle.check_tool.specs.Ending.{written, scene_of, IsSaid, MaySay, IsSaidOf, AskForMore, asked_again, IsReportStatus, IsDoneStatus, IsRun, IsWordEnd};
 ghost use Rattle.check_tool.specs.Helping.{IsHelp, refused_paths};
 ghost use Rattle.check_tool.specs.Opening.{AreTried, Extends, HasFailedAt, Try};
 
 use crate::done::Done;
-use crate::fault::{ToolFault, line_of, status_of_fault};
+use crate::fault::{ToolFault, status_of_fault, words_of};
 use crate::folder::Folder;
 use crate::help::{help_of, help_with};
 use crate::progress::Meter;
 use crate::quote::quote;
 use crate::run::run_options;
+use crate::say::{say, say_parts};
+use crate::screen::Screen;
 use crate::tell::tell;
 use check_report::{Outcome, write_whole};
 use command_line::{Options, Refused, read_options};
+use itoa::Buffer;
 use net_bench::device::{Sink, Source};
 use std::alloc::{AllocError, Global};
 use std::rt::Clock;
 use std::sync::Wait;
 use std::thread::Threads;
 
-/// Writes a text as far as the device takes it. A failure is ignored.
-pub fn say<E: Sink>(errors: &mut E, text: &[u8])
-    ensures { Says (written E.contents E.has_failed E.has_stopped errors.old errors.new) text.now }
+/// A number as it is printed, where there is one.
+fn digits(buffer: &mut Buffer, number: Option<u32>) -> &str
+    ensures { result.now ≡ number_text number }
 {
-    let _ = write_whole(errors, text);
+    match number {
+        Some(number) => buffer.format(number),
+        None => "",
+    }
 }
 
-/// Prints the line of a fault, and answers its status. Where there is no memory for the line, it is that of want of memory.
+/// Prints the line of a fault, and answers its status.
 pub fn refuse<E: Sink>(alloc: Global, fault: ToolFault, errors: &mut E) -> u8
     ensures said { IsSaid (written E.contents E.has_failed E.has_stopped errors.old errors.new) fault result }
     ensures bound { result ≤ 3 }
 {
-    match line_of(alloc, fault) {
-        Ok(line) => {
-            say(errors, line.as_bytes());
-            status_of_fault(fault)
-        }
-        Err(_) => {
-            say(errors, b"bddcheck: out of memory\n");
-            status_of_fault(ToolFault::OutOfMemory)
-        }
-    }
+    let words = words_of(fault);
+    let mut buffer = Buffer::new();
+    let number = digits(&mut buffer, words.number);
+    let parts = [
+        "bddcheck: ",
+        words.place,
+        words.before,
+        number,
+        words.behind,
+        "\n",
+    ];
+    say_parts(alloc, errors, &parts);
+    status_of_fault(fault)
 }
 
 /// The line that says what helps against a fault, with the refused line of a file where it can be shown.
@@ -152,29 +162,29 @@ fn status_of_done(done: Done) -> u8
 /// Runs the program on its words, and answers its status.
 #[tactic(auto, using(crate::proofs::Composing::keeps_own, crate::proofs::Composing::extends_none))]
 pub fn run_tool<
-    H: AllocGlobal + Eprint + Clock + Meter + Threads + Wait + Sync,
+    H: AllocGlobal + Clock + Meter + Threads + Wait + Sync,
     F: Folder,
     R: Source,
     W: Sink,
-    E: Sink,
+    E: Screen + Send,
 >(rt: &H, words: &[String], folder: &mut F, input: &mut R, out: &mut W, errors: &mut E) -> u8
     // The words ask for options, and then the run ends with their report, or their order, and its status, or with the line and the status of a
     // fault that has its cause, behind which stands what helps where more is asked for, and the input is read only where a text stands on it; or they are refused for a cause, no file is
     // opened, nothing is read, and help, a mistake or want of memory is told.
-    ensures ending { let scene = scene_of F.told F.tries folder.old folder.new R.remaining R.has_failed input.old input.new
+    ensures ending { let scene = scene_of (E.seen errors.old) F.told F.tries folder.old folder.new R.remaining R.has_failed input.old input.new
         (written W.contents W.has_failed W.has_stopped out.old out.new) (written E.contents E.has_failed E.has_stopped errors.old errors.new) in
         IsRun (HasFailedAt F.File.origin F.File.has_failed) scene (folder.new ≡ folder.old) (input.new ≡ input.old) (map string_bytes words.now) result }
     ensures bound { result ≤ 3 }
-    // Status 2 says that nothing was written, statuses 0 and 1 that nothing was said, unless more is asked for.
+    // Status 2 says that nothing was written, statuses 0 and 1 that nothing was said, unless more is asked for, or seen on a terminal.
     ensures untouched { result ≡ 2 → out.new ≡ out.old }
-    ensures silent { AskForMore (map string_bytes words.now) ⊎ (result ≤ 1 → errors.new ≡ errors.old) }
+    ensures silent { AskForMore (map string_bytes words.now) ⊎ (E.seen errors.old ≡ true) ⊎ (result ≤ 1 → errors.new ≡ errors.old) }
 {
     let alloc = rt.alloc();
     let options = match read_options(alloc, words) {
         Ok(options) => options,
         Err(refused) => return refuse_words(alloc, &refused, out, errors),
     };
-    match run_options(rt, &options, folder, input, out) {
+    match run_options(rt, &options, folder, input, out, errors) {
         Ok(done) => {
             tell(alloc, &options, done, errors);
             status_of_done(done)

@@ -1,84 +1,96 @@
 -- What clap finds where there are no words.
-use Rattle.std.proofs.Common.{Bool, true, false, ◌≡◌, ◌∙◌, inr, refl, ap, sym, subst, ℕ, ◌^◌, List, [], Bor, Option, Some, None, rules}
-use Rattle.std.specs.Prelude.{codes, IfSome}
+use Rattle.std.proofs.Common.{Bool, true, false, ◌≡◌, ◌∙◌, inr, refl, ap, sym, subst, ℕ, ◌^◌, List, [], ◌∷◌, Bor, Option, Some, None, rules}
+use Rattle.std.specs.Prelude.{codes, map, IfSome}
 use Rattle.clap.specs.Words.{first_of, one_of, matches_of}
 use Rattle.clap.specs.declared.builder.value_parser.ValueParser.{ValueParser}
 use Rattle.clap.proofs.OnLiterals.{clap_on_literals}
 use Rattle.net_order.specs.declared.order.Match.{Match}
 use Rattle.net_order.specs.declared.order.Match.TheVariants.{Name, Position}
+use Rattle.report_text.specs.declared.assignment.Assignment.{Assignment}
 use Rattle.command_line.specs.declared.options.Options.{Options}
 use Rattle.command_line.specs.declared.options.OrderChoice.{OrderChoice}
 use Rattle.command_line.specs.declared.options.OrderChoice.TheVariants.{Auto}
 use Rattle.command_line.specs.declared.options.Picks.{Picks}
 use Rattle.command_line.specs.declared.options.Picks.TheVariants.{All}
-use Rattle.command_line.specs.Words.{tool_app, ArePicks, AreTexts, AskFor, IsChoice, IsOrderWhere, are_picked, names_in, share_in, unnamed_order, flag_of, IsFile, IsForm, IsMatching, IsMemory, IsNumberIn, IsLimit}
+use Rattle.command_line.specs.Words.{tool_app, ArePicks, AreTexts, AskFor, IsChoice, IsOrderWhere, are_picked, explained_in, names_in, share_in, unnamed_order, flag_of, IsFile, IsForm, IsAssignment, IsMatching, IsMemory, IsNumberIn, IsLimit}
 use Rattle.command_line.specs.Defaults.{AreDefaults}
 use Rattle.command_line.proofs.Sizing.{one_size}
 
-module _ (matching order format : Option ValueParser) where
-  matching_found : first_of (codes "match") (matches_of (tool_app matching order format) []) ≡ Some (codes "name")
+module _ (matching order format assignment : Option ValueParser) where
+  matching_found : first_of (codes "match") (matches_of (tool_app matching order format assignment) []) ≡ Some (codes "name")
   unfolding clap_on_literals
   matching_found = refl
 
-  order_found : first_of (codes "order") (matches_of (tool_app matching order format) []) ≡ None
+  order_found : first_of (codes "order") (matches_of (tool_app matching order format assignment) []) ≡ None
   unfolding clap_on_literals
   order_found = refl
 
-  file_found : first_of (codes "order-file") (matches_of (tool_app matching order format) []) ≡ None
+  file_found : first_of (codes "order-file") (matches_of (tool_app matching order format assignment) []) ≡ None
   unfolding clap_on_literals
   file_found = refl
 
-  given_found : first_of (codes "given") (matches_of (tool_app matching order format) []) ≡ None
+  given_found : first_of (codes "given") (matches_of (tool_app matching order format assignment) []) ≡ None
   unfolding clap_on_literals
   given_found = refl
 
-  only_found : names_in (matches_of (tool_app matching order format) []) ≡ []
+  only_found : names_in (matches_of (tool_app matching order format assignment) []) ≡ []
   unfolding clap_on_literals
   only_found = refl
 
-  share_found : share_in (matches_of (tool_app matching order format) []) ≡ None
+  explain_found : explained_in (matches_of (tool_app matching order format assignment) []) ≡ []
+  unfolding clap_on_literals
+  explain_found = refl
+
+  share_found : share_in (matches_of (tool_app matching order format assignment) []) ≡ None
   unfolding clap_on_literals
   share_found = refl
 
-  workers_found : one_of (codes "workers") (matches_of (tool_app matching order format) []) ≡ Some (codes "4")
+  workers_found : one_of (codes "workers") (matches_of (tool_app matching order format assignment) []) ≡ Some (codes "4")
   unfolding clap_on_literals
   workers_found = refl
 
-  limit_word : first_of (codes "limit") (matches_of (tool_app matching order format) []) ≡ None
+  limit_word : first_of (codes "limit") (matches_of (tool_app matching order format assignment) []) ≡ None
   unfolding clap_on_literals
   limit_word = refl
 
-  limit_found : one_of (codes "limit") (matches_of (tool_app matching order format) []) ≡ None
+  limit_found : one_of (codes "limit") (matches_of (tool_app matching order format assignment) []) ≡ None
   unfolding clap_on_literals
   limit_found = refl
 
-  memory_found : first_of (codes "memory") (matches_of (tool_app matching order format) []) ≡ Some (codes "4G")
+  memory_found : first_of (codes "memory") (matches_of (tool_app matching order format assignment) []) ≡ Some (codes "4G")
   unfolding clap_on_literals
   memory_found = refl
 
-  sizes_found : first_of (codes "sizes") (matches_of (tool_app matching order format) []) ≡ Some (codes "false")
+  sizes_found : first_of (codes "sizes") (matches_of (tool_app matching order format assignment) []) ≡ Some (codes "false")
   unfolding clap_on_literals
   sizes_found = refl
 
-  print_order_found : first_of (codes "print-order") (matches_of (tool_app matching order format) []) ≡ Some (codes "false")
+  print_order_found : first_of (codes "print-order") (matches_of (tool_app matching order format assignment) []) ≡ Some (codes "false")
   unfolding clap_on_literals
   print_order_found = refl
 
-  format_found : first_of (codes "format") (matches_of (tool_app matching order format) []) ≡ Some (codes "text")
+  format_found : first_of (codes "format") (matches_of (tool_app matching order format assignment) []) ≡ Some (codes "text")
   unfolding clap_on_literals
   format_found = refl
 
-  verbose_found : first_of (codes "verbose") (matches_of (tool_app matching order format) []) ≡ Some (codes "false")
+  assignment_found : first_of (codes "assignment") (matches_of (tool_app matching order format assignment) []) ≡ None
+  unfolding clap_on_literals
+  assignment_found = refl
+
+  verbose_found : first_of (codes "verbose") (matches_of (tool_app matching order format assignment) []) ≡ Some (codes "false")
   unfolding clap_on_literals
   verbose_found = refl
 
-  first_found : first_of (codes "FIRST") (matches_of (tool_app matching order format) []) ≡ None
+  first_found : first_of (codes "FIRST") (matches_of (tool_app matching order format assignment) []) ≡ None
   unfolding clap_on_literals
   first_found = refl
 
-  second_found : first_of (codes "SECOND") (matches_of (tool_app matching order format) []) ≡ None
+  second_found : first_of (codes "SECOND") (matches_of (tool_app matching order format assignment) []) ≡ None
   unfolding clap_on_literals
   second_found = refl
+
+unsaid : (which : Option Assignment) → IsAssignment None which → which ≡ None
+unsaid which is = is
 
 by_name : (how : Match) → IsMatching (Some (codes "name")) how → how ≡ Name
 by_name Name is = refl
@@ -104,43 +116,51 @@ pick : (picks : Picks) (names : List (List ℕ)) (share : Option (List ℕ)) →
 pick picks names share no_names no_share = subst (λ n. ArePicks n share picks → picks ≡ All) (sym no_names) (subst (λ s. ArePicks [] s picks → picks ≡ All) (sym no_share) (λ e. e))
 
 -- and the order is that of the words
-unpicked : (names : List (List ℕ)) (share file word : Option (List ℕ)) (unnamed choice : OrderChoice) → names ≡ [] → share ≡ None → IsOrderWhere (are_picked names share) file word unnamed choice → IsChoice file word unnamed choice
-unpicked names share file word unnamed choice no_names no_share =
+unpicked : (names : List (List ℕ)) (share file word : Option (List ℕ)) (extend : Bool) (unnamed choice : OrderChoice) → names ≡ [] → share ≡ None → IsOrderWhere (are_picked names share) file word extend unnamed choice → IsChoice file word extend unnamed choice
+unpicked names share file word extend unnamed choice no_names no_share =
     let none : are_picked names share ≡ false = rw (no_names, no_share) refl in
-    subst (λ p. IsOrderWhere p file word unnamed choice → IsChoice file word unnamed choice) (sym none) (λ is. is)
+    subst (λ p. IsOrderWhere p file word extend unnamed choice → IsChoice file word extend unnamed choice) (sym none) (λ is. is)
+
+-- where no words are to be explained, nothing is
+no_words : (words : List (Bor (List ℕ))) → map (λ s. s.now) words ≡ [] → words ≡ []
+no_words [] none = refl
+no_words (w ∷ ws) none = cc
 
 -- where nothing is given, the order is auto
-choose : (choice : OrderChoice) (file word limit sizes print_order : Option (List ℕ)) → file ≡ None → word ≡ None → limit ≡ None → sizes ≡ Some (codes "false") → print_order ≡ Some (codes "false")
-    → IsChoice file word (unnamed_order limit (flag_of sizes) (flag_of print_order)) choice → choice ≡ Auto
-choose choice file word limit sizes print_order no_path no_word no_limit no_sizes no_print is =
+choose : (choice : OrderChoice) (file word limit sizes print_order : Option (List ℕ)) (extend : Bool) → file ≡ None → word ≡ None → limit ≡ None → sizes ≡ Some (codes "false") → print_order ≡ Some (codes "false")
+    → IsChoice file word extend (unnamed_order limit (flag_of sizes) (flag_of print_order)) choice → choice ≡ Auto
+choose choice file word limit sizes print_order extend no_path no_word no_limit no_sizes no_print is =
     let plain : unnamed_order limit (flag_of sizes) (flag_of print_order) ≡ Auto = rw (no_limit, no_sizes, no_print) refl in
-    subst (λ f. IsChoice f word (unnamed_order limit (flag_of sizes) (flag_of print_order)) choice → choice ≡ Auto) (sym no_path)
-    (subst (λ w. IsChoice None w (unnamed_order limit (flag_of sizes) (flag_of print_order)) choice → choice ≡ Auto) (sym no_word) (λ e. e ∙ plain)) is
+    subst (λ f. IsChoice f word extend (unnamed_order limit (flag_of sizes) (flag_of print_order)) choice → choice ≡ Auto) (sym no_path)
+    (subst (λ w. IsChoice None w extend (unnamed_order limit (flag_of sizes) (flag_of print_order)) choice → choice ≡ Auto) (sym no_word) (λ e. e ∙ plain)) is
 
 pub defaults : (o : Options) → AskFor [] o → AreDefaults o
 defaults o (rows, found, agreed, are) =
     let m = found.0 in
     let d = found.1 in
     let f = found.2 in
-    let e = found.7 in
-    let no_names : names_in rows ≡ [] = ap names_in e ∙ only_found m d f in
-    let no_share : share_in rows ≡ None = ap share_in e ∙ share_found m d f in
+    let g = found.3 in
+    let e = found.9 in
+    let no_names : names_in rows ≡ [] = ap names_in e ∙ only_found m d f g in
+    let no_share : share_in rows ≡ None = ap share_in e ∙ share_found m d f g in
     let order : o.order ≡ Auto = choose o.order (first_of (codes "order-file") rows) (first_of (codes "order") rows) (first_of (codes "limit") rows) (first_of (codes "sizes") rows) (first_of (codes "print-order") rows)
-    (ap (first_of (codes "order-file")) e ∙ file_found m d f) (ap (first_of (codes "order")) e ∙ order_found m d f) (ap (first_of (codes "limit")) e ∙ limit_word m d f)
-    (ap (first_of (codes "sizes")) e ∙ sizes_found m d f) (ap (first_of (codes "print-order")) e ∙ print_order_found m d f)
-    (unpicked (names_in rows) (share_in rows) _ _ _ o.order no_names no_share are.order) in
+    (flag_of (first_of (codes "extend") rows)) (ap (first_of (codes "order-file")) e ∙ file_found m d f g) (ap (first_of (codes "order")) e ∙ order_found m d f g) (ap (first_of (codes "limit")) e ∙ limit_word m d f g)
+    (ap (first_of (codes "sizes")) e ∙ sizes_found m d f g) (ap (first_of (codes "print-order")) e ∙ print_order_found m d f g)
+    (unpicked (names_in rows) (share_in rows) _ _ _ _ o.order no_names no_share are.order) in
     record {
-      matching = by_name o.matching (subst (λ w. IsMatching w o.matching) (ap (first_of (codes "match")) e ∙ matching_found m d f) are.matching);
+      matching = by_name o.matching (subst (λ w. IsMatching w o.matching) (ap (first_of (codes "match")) e ∙ matching_found m d f g) are.matching);
       order = order;
       picks = pick o.picks (names_in rows) (share_in rows) no_names no_share are.picks;
-      given = no_file o.given (subst (λ w. IsFile w o.given) (ap (first_of (codes "given")) e ∙ given_found m d f) are.given);
-      workers = four o.workers (subst (λ w. IsNumberIn 1 16 w o.workers) (ap (one_of (codes "workers")) e ∙ workers_found m d f) are.workers);
-      limit = subst (λ c. IsLimit None c o.limit) order (subst (λ w. IsLimit w o.order o.limit) (ap (one_of (codes "limit")) e ∙ limit_found m d f) are.limit);
-      memory = much o.memory (subst (λ w. IfSome w (λ text. IsMemory text o.memory)) (ap (first_of (codes "memory")) e ∙ memory_found m d f) are.memory);
-      sizes = are.sizes ∙ ap flag_of (ap (first_of (codes "sizes")) e ∙ sizes_found m d f);
-      print_order = are.print_order ∙ ap flag_of (ap (first_of (codes "print-order")) e ∙ print_order_found m d f);
-      json = as_text o.json (subst (λ w. IsForm w o.json) (ap (first_of (codes "format")) e ∙ format_found m d f) are.json);
-      verbose = are.verbose ∙ ap flag_of (ap (first_of (codes "verbose")) e ∙ verbose_found m d f);
-      texts = subst (λ w. AreTexts w None o.texts) (ap (first_of (codes "FIRST")) e ∙ first_found m d f)
-          (subst (λ w. AreTexts (first_of (codes "FIRST") rows) w o.texts) (ap (first_of (codes "SECOND")) e ∙ second_found m d f) are.texts);
+      given = no_file o.given (subst (λ w. IsFile w o.given) (ap (first_of (codes "given")) e ∙ given_found m d f g) are.given);
+      workers = four o.workers (subst (λ w. IsNumberIn 1 16 w o.workers) (ap (one_of (codes "workers")) e ∙ workers_found m d f g) are.workers);
+      limit = subst (λ c. IsLimit None c o.limit) order (subst (λ w. IsLimit w o.order o.limit) (ap (one_of (codes "limit")) e ∙ limit_found m d f g) are.limit);
+      memory = much o.memory (subst (λ w. IfSome w (λ text. IsMemory text o.memory)) (ap (first_of (codes "memory")) e ∙ memory_found m d f g) are.memory);
+      sizes = are.sizes ∙ ap flag_of (ap (first_of (codes "sizes")) e ∙ sizes_found m d f g);
+      print_order = are.print_order ∙ ap flag_of (ap (first_of (codes "print-order")) e ∙ print_order_found m d f g);
+      json = as_text o.json (subst (λ w. IsForm w o.json) (ap (first_of (codes "format")) e ∙ format_found m d f g) are.json);
+      verbose = are.verbose ∙ ap flag_of (ap (first_of (codes "verbose")) e ∙ verbose_found m d f g);
+      assignment = unsaid o.assignment (subst (λ w. IsAssignment w o.assignment) (ap (first_of (codes "assignment")) e ∙ assignment_found m d f g) are.assignment);
+      texts = subst (λ w. AreTexts w None o.texts) (ap (first_of (codes "FIRST")) e ∙ first_found m d f g)
+          (subst (λ w. AreTexts (first_of (codes "FIRST") rows) w o.texts) (ap (first_of (codes "SECOND")) e ∙ second_found m d f g) are.texts);
+      explain = no_words o.explain.items (are.explain ∙ ap explained_in e ∙ explain_found m d f g);
     }

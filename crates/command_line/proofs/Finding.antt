@@ -6,7 +6,7 @@ use Rattle.command_line.specs.declared.options.OrderChoice.{OrderChoice}
 use Rattle.command_line.specs.declared.options.OrderChoice.TheVariants.{Auto, Cones}
 use Rattle.command_line.specs.declared.options.Picks.{Picks}
 use Rattle.command_line.specs.declared.options.Picks.TheVariants.{All}
-use Rattle.command_line.specs.Words.{IsChoice, IsOrderWhere, IsOrderIn, IsFoundName, GiveTwoOrders, GiveTwoPicks, GiveFound, GiveFoundWith, GivePicksInOrder, GiveIdleMemory, AreAtOdds, ArePicks, are_picked, flag_of, names_in, share_in, unnamed_order}
+use Rattle.command_line.specs.Words.{IsChoice, IsOrderWhere, IsOrderIn, IsFoundName, GiveTwoOrders, GiveTwoPicks, GiveFound, GiveFoundWith, GivePicksInOrder, GiveIdleMemory, GiveIdleExtend, GiveExplainBeside, AreAtOdds, ArePicks, are_picked, flag_of, names_in, share_in, unnamed_order}
 
 -- ---- tests
 
@@ -21,13 +21,15 @@ fails b is test a =
 
 -- nothing is at odds where no test says so
 pub none_at_odds : (rows : List Row) → (GiveTwoOrders rows → ⊥) → (GiveTwoPicks rows → ⊥) → (GiveFoundWith (codes "sizes") rows → ⊥) → (GiveFoundWith (codes "print-order") rows → ⊥)
-    → (GivePicksInOrder rows → ⊥) → (GiveIdleMemory rows → ⊥) → AreAtOdds rows → ⊥
-none_at_odds rows a b c d e f (inl x) = a x
-none_at_odds rows a b c d e f (inr (inl x)) = b x
-none_at_odds rows a b c d e f (inr (inr (inl x))) = c x
-none_at_odds rows a b c d e f (inr (inr (inr (inl x)))) = d x
-none_at_odds rows a b c d e f (inr (inr (inr (inr (inl x))))) = e x
-none_at_odds rows a b c d e f (inr (inr (inr (inr (inr x))))) = f x
+    → (GivePicksInOrder rows → ⊥) → (GiveIdleMemory rows → ⊥) → (GiveIdleExtend rows → ⊥) → (GiveExplainBeside rows → ⊥) → AreAtOdds rows → ⊥
+none_at_odds rows a b c d e f g h (inl x) = a x
+none_at_odds rows a b c d e f g h (inr (inl x)) = b x
+none_at_odds rows a b c d e f g h (inr (inr (inl x))) = c x
+none_at_odds rows a b c d e f g h (inr (inr (inr (inl x)))) = d x
+none_at_odds rows a b c d e f g h (inr (inr (inr (inr (inl x))))) = e x
+none_at_odds rows a b c d e f g h (inr (inr (inr (inr (inr (inl x)))))) = f x
+none_at_odds rows a b c d e f g h (inr (inr (inr (inr (inr (inr (inl x))))))) = g x
+none_at_odds rows a b c d e f g h (inr (inr (inr (inr (inr (inr (inr x))))))) = h x
 
 -- ---- orders
 
@@ -36,14 +38,14 @@ abbrev IsFound : OrderChoice → Type 0
 IsFound choice = (choice ≡ Auto) ⊎ (choice ≡ Cones)
 
 -- the words ask for such an order, or it is that of words that name none
-where_found : (picked : Bool) (file word : Option Text) (unnamed choice : OrderChoice) → IsOrderWhere picked file word unnamed choice → IsFound choice
+where_found : (picked : Bool) (file word : Option Text) (extend : Bool) (unnamed choice : OrderChoice) → IsOrderWhere picked file word extend unnamed choice → IsFound choice
     → (IsSomeAnd word IsFoundName ⊎ (picked ≡ true)) ⊎ (unnamed ≡ choice)
-where_found true file word unnamed choice is found = inl (inr refl)
-where_found false (Some file) word unnamed choice is (inl auto) = absurd (subst (IsChoice (Some file) word unnamed) auto is)
-where_found false (Some file) word unnamed choice is (inr cones) = absurd (subst (IsChoice (Some file) word unnamed) cones is)
-where_found false None (Some word) unnamed choice is (inl auto) = inl (inl (inl (subst (IsChoice None (Some word) unnamed) auto is)))
-where_found false None (Some word) unnamed choice is (inr cones) = inl (inl (inr (subst (IsChoice None (Some word) unnamed) cones is)))
-where_found false None None unnamed choice is found = inr (sym is)
+where_found true file word extend unnamed choice is found = inl (inr refl)
+where_found false (Some file) word extend unnamed choice is (inl auto) = absurd (subst (IsChoice (Some file) word extend unnamed) auto is)
+where_found false (Some file) word extend unnamed choice is (inr cones) = absurd (subst (IsChoice (Some file) word extend unnamed) cones is)
+where_found false None (Some word) extend unnamed choice is (inl auto) = inl (inl (inl (subst (IsChoice None (Some word) extend unnamed) auto is)))
+where_found false None (Some word) extend unnamed choice is (inr cones) = inl (inl (inr (subst (IsChoice None (Some word) extend unnamed) cones is)))
+where_found false None None extend unnamed choice is found = inr (sym is)
 
 -- words that name none ask for no sizes and no order in print then
 plain : (limit : Option Text) (sizes print_order : Bool) (choice : OrderChoice) → unnamed_order limit sizes print_order ≡ choice → IsFound choice → (sizes ≡ false) × (print_order ≡ false)
@@ -63,7 +65,7 @@ unset false never = refl
 pub no_flags : (rows : List Row) (choice : OrderChoice) → IsOrderIn rows choice → (AreAtOdds rows → ⊥) → (choice ≡ Auto) ⊎ (choice ≡ Cones)
     → (flag_of (first_of (codes "sizes") rows) ≡ false) × (flag_of (first_of (codes "print-order") rows) ≡ false)
 no_flags rows choice is agreed found =
-    by (where_found (are_picked (names_in rows) (share_in rows)) (first_of (codes "order-file") rows) (first_of (codes "order") rows) _ choice is found)
+    by (where_found (are_picked (names_in rows) (share_in rows)) (first_of (codes "order-file") rows) (first_of (codes "order") rows) (flag_of (first_of (codes "extend") rows)) _ choice is found)
   where
     by : (GiveFound rows ⊎ (unnamed_order (first_of (codes "limit") rows) (flag_of (first_of (codes "sizes") rows)) (flag_of (first_of (codes "print-order") rows)) ≡ choice))
         → (flag_of (first_of (codes "sizes") rows) ≡ false) × (flag_of (first_of (codes "print-order") rows) ≡ false)
@@ -82,6 +84,6 @@ pub picked_order : (rows : List Row) (picks : Picks) (choice : OrderChoice) → 
 picked_order rows picks choice are is some = by (are_picked (names_in rows) (share_in rows)) (some_picked (names_in rows) (share_in rows) picks are some) is
   where
     by : (picked : Bool) → picked ≡ true → IsOrderWhere picked (first_of (codes "order-file") rows) (first_of (codes "order") rows)
-        (unnamed_order (first_of (codes "limit") rows) (flag_of (first_of (codes "sizes") rows)) (flag_of (first_of (codes "print-order") rows))) choice → choice ≡ Cones
+        (flag_of (first_of (codes "extend") rows)) (unnamed_order (first_of (codes "limit") rows) (flag_of (first_of (codes "sizes") rows)) (flag_of (first_of (codes "print-order") rows))) choice → choice ≡ Cones
     by true e o = o
     by false e o = cc

@@ -20,21 +20,21 @@ use Rattle.command_line.specs.declared.reading.Refused.TheVariants.{Help, Mistak
 use Rattle.command_line.specs.declared.options.OrderChoice.{OrderChoice}
 use Rattle.command_line.specs.Words.{tool_app, IsTool, IsNumberIn, usual_limit, IsLimit, AreFound, IsToldAs, IsRefusal}
 
-tool_is_simple : (matching order format : Option ValueParser) → is_simple (tool_app matching order format) ≡ true
+tool_is_simple : (matching order format assignment : Option ValueParser) → is_simple (tool_app matching order format assignment) ≡ true
 unfolding clap_on_literals
-tool_is_simple matching order format = refl
+tool_is_simple matching order format assignment = refl
 
 -- no argument has a rule on another
-tool_is_free : (matching order format : Option ValueParser) → is_simple_and_free (tool_app matching order format) ≡ true
+tool_is_free : (matching order format assignment : Option ValueParser) → is_simple_and_free (tool_app matching order format assignment) ≡ true
 unfolding clap_on_literals
-tool_is_free matching order format = refl
+tool_is_free matching order format assignment = refl
 
 pub is_free : (a : App) → IsTool a → is_simple_and_free a ≡ true
-is_free a t = ap is_simple_and_free t.6 ∙ tool_is_free t.0 t.1 t.2
+is_free a t = ap is_simple_and_free t.8 ∙ tool_is_free t.0 t.1 t.2 t.3
 
 pub found : (a : App) (words : List (List ℕ)) (m : ArgMatches) → IsTool a → fault_of a words ≡ [] → HasMatchesOf a words m → AreFound words (rows_of (found_of m))
 found a words m t none h =
-    (t.0, t.1, t.2, t.3, t.4, t.5, ap (λ x. fault_of x words) (sym t.6) ∙ none, (h (ap is_simple t.6 ∙ tool_is_simple t.0 t.1 t.2)).0 ∙ ap (λ x. matches_of x words) t.6)
+    (t.0, t.1, t.2, t.3, t.4, t.5, t.6, t.7, ap (λ x. fault_of x words) (sym t.8) ∙ none, (h (ap is_simple t.8 ∙ tool_is_simple t.0 t.1 t.2 t.3)).0 ∙ ap (λ x. matches_of x words) t.8)
 
 -- want of memory is told as such
 starved : (kind : ErrorKind) (r : Refused) → kind ≡ NoMemory → IsToldAs kind r → r ≡ OutOfMemory
@@ -45,7 +45,7 @@ starved kind OutOfMemory e t = refl
 
 pub refused : (a : App) (words : List (List ℕ)) (e : Error) (r : Refused) → IsTool a → HasKind (fault_of a words) e → IsToldAs (kind_of e) r → IsRefusal words r
 refused a words e r t (inl none) told = inr (inr (inr (starved (kind_of e) r none told)))
-refused a words e r t (inr among) told = inl (fault_of a words, kind_of e, (t.0, t.1, t.2, t.3, t.4, t.5, ap (λ x. fault_of x words) t.6), among, told)
+refused a words e r t (inr among) told = inl (fault_of a words, kind_of e, (t.0, t.1, t.2, t.3, t.4, t.5, t.6, t.7, ap (λ x. fault_of x words) t.8), among, told)
 
 -- the number of a text is read, where it is in a range that fits
 pub number_read : {E : Type 0} (G : List ℕ → Result ℕ E → Type 0) (k low high : ℕ) (word : Option (List ℕ)) (r : Option ℕ) (d n : ℕ) → ((t : List ℕ) → word ≡ Some t → ReadsOne G t r) → ((u : List ℕ) (x : Result ℕ E) → G u x → ParsesUnsigned k 10 u x)

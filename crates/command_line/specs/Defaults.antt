@@ -1,5 +1,5 @@
 -- What a command line asks for whose words name nothing.
-use Rattle.std.specs.Prelude.{◌≡◌, false, None}
+use Rattle.std.specs.Prelude.{◌≡◌, false, None, []}
 use Rattle.net_order.specs.declared.order.Match.TheVariants.{Name}
 use Rattle.command_line.specs.declared.options.Options.{Options}
 use Rattle.command_line.specs.declared.options.OrderChoice.TheVariants.{Auto}
@@ -7,7 +7,7 @@ use Rattle.command_line.specs.declared.options.Picks.TheVariants.{All}
 use Rattle.command_line.specs.declared.options.Texts.TheVariants.{Input}
 
 -- by name, in an order that is found, all pairs, without a condition, by 4 workers, as many nodes as a store may have and 4 GiB of memory hold, without
--- sizes, compared, silent, both texts on the input
+-- sizes, compared, silent, both texts on the input, no word of assignments, with nothing to explain
 pub record AreDefaults (o : Options) : Type 0 where
   pub matching : o.matching ≡ Name
   pub order : o.order ≡ Auto
@@ -21,3 +21,5 @@ pub record AreDefaults (o : Options) : Type 0 where
   pub json : o.json ≡ false
   pub verbose : o.verbose ≡ false
   pub texts : o.texts ≡ Input
+  pub explain : o.explain.items ≡ []
+  pub assignment : o.assignment ≡ None

@@ -13,10 +13,12 @@ use Rattle.clap.specs.declared.error.kind.ErrorKind.TheVariants.{ArgumentConflic
 use Rattle.clap.specs.declared.parser.matches.ValueSource.TheVariants.{CommandLine}
 use Rattle.net_order.specs.declared.order.Match.{Match}
 use Rattle.net_order.specs.declared.order.Match.TheVariants.{Name, Position}
+use Rattle.report_text.specs.declared.assignment.Assignment.{Assignment}
+use Rattle.report_text.specs.declared.assignment.Assignment.TheVariants.{All as AllVariables, Ones}
 use Rattle.report_text.specs.declared.outcome.Share.{Share}
 use Rattle.command_line.specs.declared.options.Options.{Options}
 use Rattle.command_line.specs.declared.options.OrderChoice.{OrderChoice}
-use Rattle.command_line.specs.declared.options.OrderChoice.TheVariants.{Declared, Depth, Interleave, Index, Force, Best, Auto, Cones, File}
+use Rattle.command_line.specs.declared.options.OrderChoice.TheVariants.{Declared, Depth, Interleave, Index, Force, Best, Auto, Cones, File, Extended}
 use Rattle.command_line.specs.declared.options.Picks.{Picks}
 use Rattle.command_line.specs.declared.options.Picks.TheVariants.{All, Only, Share as InShare}
 use Rattle.command_line.specs.declared.options.Texts.{Texts}
@@ -42,6 +44,9 @@ order_rule parser = value_rule (codes "order") [] parser
 abbrev pub order_file_rule : Rule
 order_file_rule = value_rule (codes "order-file") [] None
 
+abbrev pub extend_rule : Rule
+extend_rule = record (new_rule (codes "extend")) { long = Some (codes "extend"); action = Some SetTrue }
+
 abbrev pub given_rule : Rule
 given_rule = value_rule (codes "given") [] None
 
@@ -51,6 +56,10 @@ only_rule = record (value_rule (codes "only") [] None) { action = Some Append }
 
 abbrev pub share_rule : Rule
 share_rule = value_rule (codes "share") [] None
+
+-- what is to be explained, one for each time that the option is given
+abbrev pub explain_rule : Rule
+explain_rule = record (value_rule (codes "explain") [] None) { action = Some Append }
 
 -- 1 to 16 threads
 abbrev pub workers_rule : Rule
@@ -73,6 +82,9 @@ print_order_rule = record (new_rule (codes "print-order")) { long = Some (codes 
 abbrev pub format_rule : Option ValueParser → Rule
 format_rule parser = value_rule (codes "format") (codes "text" ∷ []) parser
 
+abbrev pub assignment_rule : Option ValueParser → Rule
+assignment_rule parser = value_rule (codes "assignment") [] parser
+
 abbrev pub verbose_rule : Rule
 verbose_rule = record (new_rule (codes "verbose")) { long = Some (codes "verbose"); action = Some SetTrue }
 
@@ -93,14 +105,17 @@ TakesOrders = TakesOnly (codes "auto" ∷ codes "cones" ∷ codes "declared" ∷
 abbrev pub TakesFormats : Option ValueParser → Type 0
 TakesFormats = TakesOnly (codes "text" ∷ codes "json" ∷ [])
 
--- The command with its arguments. The parsers of three lists of words are named apart.
-abbrev pub tool_app : (matching order format : Option ValueParser) → App
-tool_app matching order format =
-    with_rule (with_rule (with_rule (with_rule (with_rule (with_rule (with_rule (with_rule (with_rule (with_rule (with_rule (with_rule (with_rule (with_rule (with_rule bare_app (match_rule matching)) (order_rule order)) order_file_rule) given_rule) only_rule) share_rule) workers_rule) limit_rule) memory_rule) sizes_rule) print_order_rule) (format_rule format)) verbose_rule) (new_rule (codes "FIRST"))) (new_rule (codes "SECOND"))
+abbrev pub TakesAssignments : Option ValueParser → Type 0
+TakesAssignments = TakesOnly (codes "all" ∷ codes "ones" ∷ [])
+
+-- The command with its arguments. The parsers of four lists of words are named apart.
+abbrev pub tool_app : (matching order format assignment : Option ValueParser) → App
+tool_app matching order format assignment =
+    with_rule (with_rule (with_rule (with_rule (with_rule (with_rule (with_rule (with_rule (with_rule (with_rule (with_rule (with_rule (with_rule (with_rule (with_rule (with_rule (with_rule (with_rule bare_app (match_rule matching)) (order_rule order)) order_file_rule) extend_rule) given_rule) only_rule) share_rule) explain_rule) workers_rule) limit_rule) memory_rule) sizes_rule) print_order_rule) (format_rule format)) (assignment_rule assignment)) verbose_rule) (new_rule (codes "FIRST"))) (new_rule (codes "SECOND"))
 
 -- the command has these arguments
 abbrev pub IsTool : App → Type 0
-IsTool a = (matching order format : Option ValueParser) × TakesMatches matching × TakesOrders order × TakesFormats format × (a ≡ tool_app matching order format)
+IsTool a = (matching order format assignment : Option ValueParser) × TakesMatches matching × TakesOrders order × TakesFormats format × TakesAssignments assignment × (a ≡ tool_app matching order format assignment)
 
 -- by position where that word is given
 abbrev pub IsMatching : Option (List ℕ) → Match → Type 0
@@ -122,29 +137,31 @@ unnamed_order None true print_order = Declared
 unnamed_order None false true = Declared
 unnamed_order None false false = Auto
 
--- the file of the order where one is given, else the order that the word names, and declared order for any other word; and where there is
--- no word, the order of words that name none
-abbrev pub IsChoice : (file order : Option (List ℕ)) → (unnamed : OrderChoice) → OrderChoice → Type 0
-IsChoice (Some path) word unnamed (File p) = p.now ≡ path
-IsChoice (Some path) word unnamed Declared = ⊥
-IsChoice (Some path) word unnamed Depth = ⊥
-IsChoice (Some path) word unnamed Interleave = ⊥
-IsChoice (Some path) word unnamed Index = ⊥
-IsChoice (Some path) word unnamed Force = ⊥
-IsChoice (Some path) word unnamed Best = ⊥
-IsChoice (Some path) word unnamed Auto = ⊥
-IsChoice (Some path) word unnamed Cones = ⊥
-IsChoice None (Some word) unnamed (File p) = ⊥
-IsChoice None (Some word) unnamed Depth = bytes_eq word (codes "depth") ≡ true
-IsChoice None (Some word) unnamed Interleave = bytes_eq word (codes "interleave") ≡ true
-IsChoice None (Some word) unnamed Index = bytes_eq word (codes "index") ≡ true
-IsChoice None (Some word) unnamed Force = bytes_eq word (codes "force") ≡ true
-IsChoice None (Some word) unnamed Best = bytes_eq word (codes "best") ≡ true
-IsChoice None (Some word) unnamed Auto = bytes_eq word (codes "auto") ≡ true
-IsChoice None (Some word) unnamed Cones = bytes_eq word (codes "cones") ≡ true
-IsChoice None (Some word) unnamed Declared =
+-- the file of the order where one is given, extended where that is asked for, else the order that the word names, and declared order for any
+-- other word; and where there is no word, the order of words that name none
+abbrev pub IsChoice : (file order : Option (List ℕ)) → (extend : Bool) → (unnamed : OrderChoice) → OrderChoice → Type 0
+IsChoice (Some path) word extend unnamed (File p) = (extend ≡ false) × (p.now ≡ path)
+IsChoice (Some path) word extend unnamed (Extended p) = (extend ≡ true) × (p.now ≡ path)
+IsChoice (Some path) word extend unnamed Declared = ⊥
+IsChoice (Some path) word extend unnamed Depth = ⊥
+IsChoice (Some path) word extend unnamed Interleave = ⊥
+IsChoice (Some path) word extend unnamed Index = ⊥
+IsChoice (Some path) word extend unnamed Force = ⊥
+IsChoice (Some path) word extend unnamed Best = ⊥
+IsChoice (Some path) word extend unnamed Auto = ⊥
+IsChoice (Some path) word extend unnamed Cones = ⊥
+IsChoice None (Some word) extend unnamed (File p) = ⊥
+IsChoice None (Some word) extend unnamed (Extended p) = ⊥
+IsChoice None (Some word) extend unnamed Depth = bytes_eq word (codes "depth") ≡ true
+IsChoice None (Some word) extend unnamed Interleave = bytes_eq word (codes "interleave") ≡ true
+IsChoice None (Some word) extend unnamed Index = bytes_eq word (codes "index") ≡ true
+IsChoice None (Some word) extend unnamed Force = bytes_eq word (codes "force") ≡ true
+IsChoice None (Some word) extend unnamed Best = bytes_eq word (codes "best") ≡ true
+IsChoice None (Some word) extend unnamed Auto = bytes_eq word (codes "auto") ≡ true
+IsChoice None (Some word) extend unnamed Cones = bytes_eq word (codes "cones") ≡ true
+IsChoice None (Some word) extend unnamed Declared =
     (bytes_eq word (codes "depth") ≡ false) × (bytes_eq word (codes "interleave") ≡ false) × (bytes_eq word (codes "index") ≡ false) × (bytes_eq word (codes "force") ≡ false) × (bytes_eq word (codes "best") ≡ false) × (bytes_eq word (codes "auto") ≡ false) × (bytes_eq word (codes "cones") ≡ false)
-IsChoice None None unnamed choice = choice ≡ unnamed
+IsChoice None None extend unnamed choice = choice ≡ unnamed
 
 -- ---- pairs that are picked
 
@@ -173,6 +190,10 @@ pub record IsShare (text : Text) (s : Share) : Type 0 where
 abbrev pub names_in : List Row → List Text
 names_in rows = unwrap_or (all_of (codes "only") rows) []
 
+-- what is to be explained
+abbrev pub explained_in : List Row → List Text
+explained_in rows = unwrap_or (all_of (codes "explain") rows) []
+
 -- the share that they pick
 abbrev pub share_in : List Row → Option Text
 share_in rows = first_of (codes "share") rows
@@ -194,14 +215,14 @@ ArePicks [] (Some text) All = ⊥
 ArePicks [] None picks = picks ≡ All
 
 -- the order that was found for the arguments, which is that of cones where pairs are picked
-abbrev pub IsOrderWhere : (picked : Bool) → (file order : Option (List ℕ)) → (unnamed : OrderChoice) → OrderChoice → Type 0
-IsOrderWhere true file word unnamed choice = choice ≡ Cones
-IsOrderWhere false file word unnamed choice = IsChoice file word unnamed choice
+abbrev pub IsOrderWhere : (picked : Bool) → (file order : Option (List ℕ)) → (extend : Bool) → (unnamed : OrderChoice) → OrderChoice → Type 0
+IsOrderWhere true file word extend unnamed choice = choice ≡ Cones
+IsOrderWhere false file word extend unnamed choice = IsChoice file word extend unnamed choice
 
 abbrev pub IsOrderIn : List Row → OrderChoice → Type 0
 IsOrderIn rows choice =
     IsOrderWhere (are_picked (names_in rows) (share_in rows)) (first_of (codes "order-file") rows) (first_of (codes "order") rows)
-    (unnamed_order (first_of (codes "limit") rows) (flag_of (first_of (codes "sizes") rows)) (flag_of (first_of (codes "print-order") rows))) choice
+    (flag_of (first_of (codes "extend") rows)) (unnamed_order (first_of (codes "limit") rows) (flag_of (first_of (codes "sizes") rows)) (flag_of (first_of (codes "print-order") rows))) choice
 
 -- the word for standard input in place of a file
 abbrev pub IsDash : List ℕ → Type 0
@@ -232,6 +253,13 @@ abbrev pub IsForm : Option (List ℕ) → Bool → Type 0
 IsForm (Some word) json = bytes_eq word (codes "json") ≡ json
 IsForm None json = json ≡ false
 
+-- which variables of an assignment are told: those of the word, where there is one
+abbrev pub IsAssignment : Option (List ℕ) → Option Assignment → Type 0
+IsAssignment (Some word) (Some Ones) = bytes_eq word (codes "ones") ≡ true
+IsAssignment (Some word) (Some AllVariables) = bytes_eq word (codes "ones") ≡ false
+IsAssignment (Some word) None = ⊥
+IsAssignment None which = which ≡ None
+
 -- the number is that of the text, where this is a number of the range
 abbrev pub IsNumberIn : ℕ → ℕ → Option Text → ℕ → Type 0
 IsNumberIn low high word n = IfSome word (λ text. IsUnsignedIn low high text → n ≡ digits_value 10 (without_leading_plus text))
@@ -247,6 +275,7 @@ usual_limit Index = 67108864
 usual_limit Force = 67108864
 usual_limit Best = 67108864
 usual_limit (File path) = 67108864
+usual_limit (Extended path) = 67108864
 
 -- the limit is that of the text, or the usual one where there is none
 abbrev pub IsLimit : Option Text → OrderChoice → ℕ → Type 0
@@ -309,10 +338,22 @@ GivePicksInOrder rows = (are_picked (names_in rows) (share_in rows) ≡ true) ×
 abbrev pub GiveIdleMemory : List Row → Type 0
 GiveIdleMemory rows = IsGiven (codes "memory") rows × (IsOrderIn rows Auto → ⊥) × (IsOrderIn rows Cones → ⊥)
 
+-- the words ask for the order of a file to be extended, and give no such file
+abbrev pub GiveIdleExtend : List Row → Type 0
+GiveIdleExtend rows = (flag_of (first_of (codes "extend") rows) ≡ true) × (first_of (codes "order-file") rows ≡ None)
+
+-- the words ask for a report as one JSON object
+abbrev pub AskForJson : List Row → Type 0
+AskForJson rows = IsSomeAnd (first_of (codes "format") rows) (λ word. bytes_eq word (codes "json") ≡ true)
+
+-- the words ask for explanations, which are lines behind a report of all pairs, and for an order in print, a share of the pairs, or JSON
+abbrev pub GiveExplainBeside : List Row → Type 0
+GiveExplainBeside rows = IsGiven (codes "explain") rows × ((flag_of (first_of (codes "print-order") rows) ≡ true) ⊎ IsGiven (codes "share") rows ⊎ AskForJson rows)
+
 -- the words give two arguments that exclude each other
 abbrev pub AreAtOdds : List Row → Type 0
 AreAtOdds rows =
-    GiveTwoOrders rows ⊎ GiveTwoPicks rows ⊎ GiveFoundWith (codes "sizes") rows ⊎ GiveFoundWith (codes "print-order") rows ⊎ GivePicksInOrder rows ⊎ GiveIdleMemory rows
+    GiveTwoOrders rows ⊎ GiveTwoPicks rows ⊎ GiveFoundWith (codes "sizes") rows ⊎ GiveFoundWith (codes "print-order") rows ⊎ GivePicksInOrder rows ⊎ GiveIdleMemory rows ⊎ GiveIdleExtend rows ⊎ GiveExplainBeside rows
 
 -- the words give a memory that is none, or out of its range
 abbrev pub GiveBadMemory : List Row → Type 0
@@ -340,17 +381,19 @@ pub record AreOptions (rows : List Row) (o : Options) : Type 0 where
   pub json : IsForm (first_of (codes "format") rows) o.json
   pub print_order : o.print_order ≡ flag_of (first_of (codes "print-order") rows)
   pub verbose : o.verbose ≡ flag_of (first_of (codes "verbose") rows)
+  pub explain : map (λ s. s.now) o.explain.items ≡ explained_in rows
+  pub assignment : IsAssignment (first_of (codes "assignment") rows) o.assignment
 
 -- the kinds of the first fault that clap finds in the words; none where it takes them
 abbrev pub AreFaults : List Text → Kinds → Type 0
 AreFaults words kinds =
-    (matching order format : Option ValueParser) × TakesMatches matching × TakesOrders order × TakesFormats format × (kinds ≡ fault_of (tool_app matching order format) words)
+    (matching order format assignment : Option ValueParser) × TakesMatches matching × TakesOrders order × TakesFormats format × TakesAssignments assignment × (kinds ≡ fault_of (tool_app matching order format assignment) words)
 
 -- clap takes the words, and the rows are its matches of the command
 abbrev pub AreFound : List Text → List Row → Type 0
 AreFound words rows =
-    (matching order format : Option ValueParser) × TakesMatches matching × TakesOrders order × TakesFormats format
-    × (fault_of (tool_app matching order format) words ≡ []) × (rows ≡ matches_of (tool_app matching order format) words)
+    (matching order format assignment : Option ValueParser) × TakesMatches matching × TakesOrders order × TakesFormats format × TakesAssignments assignment
+    × (fault_of (tool_app matching order format assignment) words ≡ []) × (rows ≡ matches_of (tool_app matching order format assignment) words)
 
 -- The words ask for these options, by clap's matches of the command. No two of them exclude each other.
 abbrev pub AskFor : List Text → Options → Type 0

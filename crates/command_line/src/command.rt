@@ -1,7 +1,7 @@
 //! The command of the program, as clap knows it.
 ghost use Rattle.std.specs.Prelude.{◌≡◌, false, codes, IfOk};
 ghost use Rattle.clap.specs.Words.{app_of, new_rule, rule_of};
-ghost use Rattle.command_line.specs.Words.{TakesMatches, TakesOrders, match_rule, order_rule, order_file_rule, given_rule, only_rule, share_rule, workers_rule, limit_rule, memory_rule, sizes_rule, print_order_rule, TakesFormats, format_rule, verbose_rule, bare_app, IsTool};
+ghost use Rattle.command_line.specs.Words.{TakesMatches, TakesOrders, match_rule, order_rule, order_file_rule, extend_rule, given_rule, only_rule, share_rule, explain_rule, workers_rule, limit_rule, memory_rule, sizes_rule, print_order_rule, TakesFormats, format_rule, TakesAssignments, assignment_rule, verbose_rule, bare_app, IsTool};
 
 use clap::{Arg, ArgAction, Command, value_parser};
 use std::alloc::{AllocError, Global};
@@ -20,6 +20,8 @@ static ORDERS: [&str; 8] = [
 ];
 
 static FORMATS: [&str; 2] = ["text", "json"];
+
+static ASSIGNMENTS: [&str; 2] = ["all", "ones"];
 
 static ABOUT: &str =
     "Decides for each pair of outputs and of registers of two bench netlists whether both compute the same Boolean function";
@@ -74,6 +76,18 @@ fn order_file<'a>(alloc: Global) -> Arg<'a>
         .help("Order the variables as a file lists their names; not with --order")
 }
 
+fn extend<'a>(alloc: Global) -> Arg<'a>
+    ensures rule { rule_of result ≡ extend_rule }
+    ensures local { result.global ≡ false }
+{
+    Arg::new(alloc, "extend")
+        .long("extend")
+        .action(ArgAction::SetTrue)
+        .help(
+            "Take the file of --order-file as it is: names that are no variables are passed over, variables that it lacks follow as declared",
+        )
+}
+
 fn given<'a>(alloc: Global) -> Arg<'a>
     ensures rule { rule_of result ≡ given_rule }
     ensures local { result.global ≡ false }
@@ -105,6 +119,19 @@ fn share<'a>(alloc: Global) -> Arg<'a>
         .long("share")
         .value_name("K/N")
         .help("Judge only the pairs of the K-th of N shares, by their cones")
+}
+
+fn explain<'a>(alloc: Global) -> Arg<'a>
+    ensures rule { rule_of result ≡ explain_rule }
+    ensures local { result.global ≡ false }
+{
+    Arg::new(alloc, "explain")
+        .long("explain")
+        .value_name("NAME")
+        .action(ArgAction::Append)
+        .help(
+            "Behind the report, list the inner signals that differ where the pair of this output of the first netlist, or `NEXT name` of a register, does; may be given more than once",
+        )
 }
 
 fn workers<'a>(alloc: Global) -> Arg<'a>
@@ -182,6 +209,20 @@ fn format<'a>(alloc: Global) -> Arg<'a>
         .help("Write the report as lines of text, or as one JSON object")
 }
 
+fn assignment<'a>(alloc: Global) -> Arg<'a>
+    ensures rule { rule_of result ≡ assignment_rule result.value_parser }
+    ensures parser { TakesAssignments result.value_parser }
+    ensures local { result.global ≡ false }
+{
+    Arg::new(alloc, "assignment")
+        .long("assignment")
+        .value_name("WHICH")
+        .value_parser(ASSIGNMENTS.as_slice())
+        .help(
+            "Tell all variables of an assignment, or only those that are 1; as JSON tell the numbers of buses too",
+        )
+}
+
 fn verbose<'a>(alloc: Global) -> Arg<'a>
     ensures rule { rule_of result ≡ verbose_rule }
     ensures local { result.global ≡ false }
@@ -229,9 +270,11 @@ pub fn command<'a>(alloc: Global) -> Result<Command<'a>, AllocError>
         .arg(matching(alloc))?
         .arg(order(alloc))?
         .arg(order_file(alloc))?
+        .arg(extend(alloc))?
         .arg(given(alloc))?
         .arg(only(alloc))?
-        .arg(share(alloc))?;
+        .arg(share(alloc))?
+        .arg(explain(alloc))?;
     let command = command
         .arg(workers(alloc))?
         .arg(limit(alloc))?
@@ -240,6 +283,7 @@ pub fn command<'a>(alloc: Global) -> Result<Command<'a>, AllocError>
         .arg(print_order(alloc))?;
     let command = command
         .arg(format(alloc))?
+        .arg(assignment(alloc))?
         .arg(verbose(alloc))?
         .arg(first(alloc))?
         .arg(second(alloc))?;

@@ -1,7 +1,8 @@
 //! What the matches of the parser ask for.
-ghost use Rattle.std.specs.Prelude.{◌≡◌, ◌≢◌, ◌≤◌, ◌↔◌, ℕ, [], Some, None, Err, IfOk, IfSome, IsSomeAnd, IsTrue, codes, map, option_map};
+ghost use Rattle.std.specs.Prelude.{◌≡◌, ◌≢◌, ◌≤◌, ◌↔◌, ℕ, List, [], Option, Some, None, Err, IfOk, IfSome, IsSomeAnd, IsTrue, codes, map, option_map};
 ghost use Rattle.clap.specs.Words.{all_of, first_of, found_of, one_of, rows_of};
-ghost use Rattle.command_line.specs.Words.{IsMatching, flag_of, unnamed_order, IsChoice, IsOrderIn, IsForm, IsNumberIn, usual_limit, IsLimit, IsMemory, IsGiven, GiveBadShare, IsShare, AreAtOdds, ArePicks, AreTexts, AreOptions, are_picked, names_in, share_in};
+ghost use Rattle.command_line.specs.Words.{IsMatching, flag_of, unnamed_order, IsChoice, IsOrderIn, IsForm, IsAssignment, IsNumberIn, usual_limit, IsLimit, IsMemory, IsGiven, GiveBadShare, IsShare, AreAtOdds, ArePicks, AreTexts, AreOptions, are_picked, explained_in, names_in, share_in};
+ghost use Rattle.command_line.specs.declared.options.OrderChoice.{OrderChoice as ChoiceValue};
 ghost use Rattle.report_text.specs.declared.outcome.Share.{Share as ShareValue};
 
 use crate::options::{Options, OrderChoice, Picks, Texts};
@@ -10,7 +11,8 @@ use crate::size::memory_of;
 use clap::ArgMatches;
 use clap::parser::ValueSource;
 use net_order::order::Match;
-use std::alloc::Global;
+use report_text::Assignment;
+use std::alloc::{AllocError, Global};
 
 /// The bytes of memory where the words give none. The parser has the same default.
 const USUAL_MEMORY: u64 = 4_294_967_296;
@@ -79,16 +81,28 @@ fn matching_of(word: Option<&str>) -> Match
     }
 }
 
-/// The file of the order where one is given, else the order that the word names, and where there is no word this one.
+/// The order of a file, extended where that is asked for.
+fn order_in_file<'a>(path: &'a str, extend: bool) -> OrderChoice<'a>
+    ensures { (word : Option (List ℕ)) → (unnamed : ChoiceValue) → IsChoice (Some path.entry.now) word extend unnamed result }
+{
+    if extend {
+        OrderChoice::Extended(path)
+    } else {
+        OrderChoice::File(path)
+    }
+}
+
+/// The order of a file where one is given, else the order that the word names, and where there is no word this one.
 fn order_of<'a>(
     path: Option<&'a str>,
     word: Option<&str>,
+    extend: bool,
     unnamed: OrderChoice<'a>,
 ) -> OrderChoice<'a>
-    ensures { IsChoice (option_map (λ s. s.now) path.entry) (option_map (λ s. s.now) word.entry) unnamed.entry result }
+    ensures { IsChoice (option_map (λ s. s.now) path.entry) (option_map (λ s. s.now) word.entry) extend unnamed.entry result }
 {
     if let Some(path) = path {
-        return OrderChoice::File(path);
+        return order_in_file(path, extend);
     }
     match word {
         Some("depth") => OrderChoice::Depth,
@@ -128,6 +142,7 @@ fn order_in<'a>(matches: &ArgMatches<'a>) -> OrderChoice<'a>
     order_of(
         word_of(matches, "order-file"),
         word_of(matches, "order"),
+        is_asked(matches, "extend"),
         unnamed_in(matches),
     )
 }
@@ -156,19 +171,30 @@ fn is_json(word: Option<&str>) -> bool
     }
 }
 
-/// The names that are given.
-#[tactic(auto, using(crate::proofs::Found::names_row))]
-fn names_of<'m, 'a>(matches: &'m ArgMatches<'a>) -> Option<&'m [&'a str]>
-    ensures { option_map (λ s. map (λ n. n.now) s.now) result ≡ all_of (codes "only") (rows_of (found_of matches.now)) }
+/// Which variables of an assignment are told, where a word says it.
+fn assignment_of(word: Option<&str>) -> Option<Assignment>
+    ensures { IsAssignment (option_map (λ s. s.now) word.entry) result }
 {
-    matches.get_strs("only")
+    match word {
+        Some("ones") => Some(Assignment::Ones),
+        Some(_) => Some(Assignment::All),
+        None => None,
+    }
+}
+
+/// The values of an argument, where it has some.
+#[tactic(auto, using(crate::proofs::Found::names_row))]
+fn names_of<'m, 'a>(matches: &'m ArgMatches<'a>, id: &str) -> Option<&'m [&'a str]>
+    ensures { option_map (λ s. map (λ n. n.now) s.now) result ≡ all_of id.now (rows_of (found_of matches.now)) }
+{
+    matches.get_strs(id)
 }
 
 /// Whether pairs are picked.
 pub(crate) fn has_picks(matches: &ArgMatches<'_>) -> bool
     ensures { let rows = rows_of (found_of matches.now) in result ≡ are_picked (names_in rows) (share_in rows) }
 {
-    match names_of(matches) {
+    match names_of(matches, "only") {
         Some([_, ..]) => true,
         _ => word_of(matches, "share").is_some(),
     }
@@ -205,9 +231,22 @@ pub(crate) fn picks_in<'a>(alloc: Global, matches: &ArgMatches<'a>) -> Result<Pi
     ensures picks { let rows = rows_of (found_of matches.now) in IfOk result (ArePicks (names_in rows) (share_in rows)) }
     ensures share { result ≡ Err BadPicks.Share → GiveBadShare (rows_of (found_of matches.now)) }
 {
-    match names_of(matches) {
+    match names_of(matches, "only") {
         Some(names) if !names.is_empty() => named(alloc, names),
         _ => shared(word_of(matches, "share")),
+    }
+}
+
+/// What is to be explained.
+pub(crate) fn explained_in<'a>(
+    alloc: Global,
+    matches: &ArgMatches<'a>,
+) -> Result<Vec<&'a str>, AllocError>
+    ensures { IfOk result (λ words. map (λ s. s.now) words.items ≡ explained_in (rows_of (found_of matches.now))) }
+{
+    match names_of(matches, "explain") {
+        Some(words) => words.to_vec(alloc),
+        None => Ok(Vec::new(alloc)),
     }
 }
 
@@ -244,12 +283,18 @@ fn limit_of(matches: &ArgMatches<'_>, order: OrderChoice<'_>) -> u64
         .clamp(1, 4_294_967_295)
 }
 
-/// What the matches say, with this memory and these pairs.
-pub(crate) fn options_of<'a>(matches: &ArgMatches<'a>, memory: u64, picks: Picks<'a>) -> Options<'a>
+/// What the matches say, with this memory, these pairs, and what is to be explained.
+pub(crate) fn options_of<'a>(
+    matches: &ArgMatches<'a>,
+    memory: u64,
+    picks: Picks<'a>,
+    explain: Vec<&'a str>,
+) -> Options<'a>
     requires agreed { AreAtOdds (rows_of (found_of matches.now)) → ⊥ }
     requires enough { 16777216 ≤ memory }
     requires memory { IfSome (first_of (codes "memory") (rows_of (found_of matches.now))) (λ text. IsMemory text memory) }
     requires picks { let rows = rows_of (found_of matches.now) in ArePicks (names_in rows) (share_in rows) picks }
+    requires explain { map (λ s. s.now) explain.items ≡ explained_in (rows_of (found_of matches.now)) }
     ensures { AreOptions (rows_of (found_of matches.now)) result }
 {
     let order = order_in(matches);
@@ -266,5 +311,7 @@ pub(crate) fn options_of<'a>(matches: &ArgMatches<'a>, memory: u64, picks: Picks
         json: is_json(word_of(matches, "format")),
         verbose: is_asked(matches, "verbose"),
         texts: texts_of(word_of(matches, "FIRST"), word_of(matches, "SECOND")),
+        explain,
+        assignment: assignment_of(word_of(matches, "assignment")),
     }
 }

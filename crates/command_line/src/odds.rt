@@ -1,8 +1,8 @@
 //! Arguments that exclude each other.
-ghost use Rattle.std.specs.Prelude.{◌≡◌, ◌↔◌, ◌⊎◌, true, IsSomeAnd, IsTrue, MatchOption, codes, option_map};
+ghost use Rattle.std.specs.Prelude.{◌≡◌, ◌↔◌, ◌⊎◌, Bool, true, IsSomeAnd, IsTrue, MatchOption, bytes_eq, codes, option_map};
 ghost use Rattle.clap.specs.Words.{found_of, rows_of};
 ghost use Rattle.command_line.specs.declared.options.OrderChoice.{OrderChoice as ChoiceValue};
-ghost use Rattle.command_line.specs.Words.{IsOrderIn, IsChoice, IsFoundName, GiveTwoOrders, GiveTwoPicks, GiveFound, GiveFoundWith, GiveOther, GivePicksInOrder, GiveIdleMemory, AreAtOdds};
+ghost use Rattle.command_line.specs.Words.{IsOrderIn, IsChoice, IsFoundName, GiveTwoOrders, GiveTwoPicks, GiveFound, GiveFoundWith, GiveOther, GivePicksInOrder, GiveIdleMemory, GiveIdleExtend, AskForJson, GiveExplainBeside, AreAtOdds};
 
 use crate::matched::{has_picks, is_asked, is_given, unnamed_in, word_of};
 use crate::options::OrderChoice;
@@ -82,7 +82,7 @@ fn picks_in_order(matches: &ArgMatches<'_>) -> bool
 
 /// Whether an order is to be found, of a file, a word, and the order where there is neither.
 fn comes_to_found(path: Option<&str>, word: Option<&str>, unnamed: OrderChoice<'_>) -> bool
-    ensures { let choice = IsChoice (option_map (λ s. s.now) path.entry) (option_map (λ s. s.now) word.entry) unnamed.entry in
+    ensures { (extend : Bool) → let choice = IsChoice (option_map (λ s. s.now) path.entry) (option_map (λ s. s.now) word.entry) extend unnamed.entry in
         IsTrue result ↔ (choice ChoiceValue.Auto ⊎ choice ChoiceValue.Cones) }
 {
     match (path, word) {
@@ -110,6 +110,51 @@ fn has_idle_memory(matches: &ArgMatches<'_>) -> bool
     ensures { IsTrue result ↔ GiveIdleMemory (rows_of (found_of matches.now)) }
 {
     is_given(matches, "memory") && !is_found_in(matches)
+}
+
+/// Whether the words ask for the order of a file to be extended, and give no such file.
+fn has_idle_extend(matches: &ArgMatches<'_>) -> bool
+    ensures { IsTrue result ↔ GiveIdleExtend (rows_of (found_of matches.now)) }
+{
+    is_asked(matches, "extend") && word_of(matches, "order-file").is_none()
+}
+
+/// Whether a word is that of JSON.
+fn is_json(word: Option<&str>) -> bool
+    ensures { IsTrue result ↔ IsSomeAnd (option_map (λ s. s.now) word.entry) (λ w. bytes_eq w (codes "json") ≡ true) }
+{
+    match word {
+        Some("json") => true,
+        _ => false,
+    }
+}
+
+/// Whether the words ask for a report as one JSON object.
+fn asks_for_json(matches: &ArgMatches<'_>) -> bool
+    ensures { IsTrue result ↔ AskForJson (rows_of (found_of matches.now)) }
+{
+    is_json(word_of(matches, "format"))
+}
+
+/// Whether the words ask for explanations, and for what has none.
+fn explains_beside(matches: &ArgMatches<'_>) -> bool
+    ensures { IsTrue result ↔ GiveExplainBeside (rows_of (found_of matches.now)) }
+{
+    is_given(matches, "explain")
+        && (is_asked(matches, "print-order")
+            || is_given(matches, "share")
+            || asks_for_json(matches))
+}
+
+/// The argument that has no explanations.
+fn unexplained(matches: &ArgMatches<'_>) -> &'static str {
+    if is_asked(matches, "print-order") {
+        "'--print-order'"
+    } else if is_given(matches, "share") {
+        "'--share <K/N>'"
+    } else {
+        "'--format json'"
+    }
 }
 
 /// The argument that picks pairs.
@@ -146,6 +191,10 @@ pub(crate) fn odds_in(matches: &ArgMatches<'_>) -> Option<Odds>
         (picking(matches), "an order other than auto and cones")
     } else if has_idle_memory(matches) {
         ("--memory <SIZE>", "an order other than auto and cones")
+    } else if has_idle_extend(matches) {
+        ("--extend", "an order other than that of '--order-file <F>'")
+    } else if explains_beside(matches) {
+        ("--explain <NAME>", unexplained(matches))
     } else {
         return None;
     };

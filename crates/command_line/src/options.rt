@@ -4,7 +4,7 @@ ghost use Rattle.command_line.specs.declared.options.OrderChoice.TheVariants.{Au
 ghost use Rattle.command_line.specs.declared.options.Picks.TheVariants.{All};
 
 use net_order::order::Match;
-use report_text::Share;
+use report_text::{Assignment, Share};
 
 /// Where the order of the variables comes from.
 #[derive(Clone, Copy, Drop, Debug, PartialEq, Eq)]
@@ -22,6 +22,8 @@ pub enum OrderChoice<'a> {
     Cones,
     /// The path of a file with the names.
     File(&'a str),
+    /// The path of a file with names, of which those are passed over that are no variables; the variables that it lacks follow.
+    Extended(&'a str),
 }
 
 /// Which pairs of outputs and of registers are compared.
@@ -73,6 +75,10 @@ pub struct Options<'a> {
     /// Whether standard error tells more than faults.
     pub verbose: bool,
     pub texts: Texts<'a>,
+    /// The pairs that are explained behind the report, as its lines call them.
+    pub explain: Vec<&'a str>,
+    /// Which variables the assignments of the report tell, where the words say it.
+    pub assignment: Option<Assignment>,
     ghost some_workers: { 1 ≤ workers },
     ghost few_workers: { workers ≤ 16 },
     ghost some_nodes: { 1 ≤ limit },

@@ -5,7 +5,7 @@ ghost use Rattle.clap.specs.Words.{app_of, found_of, rows_of};
 ghost use Rattle.command_line.specs.Words.{IsTool, AreFound, AskFor, TellsVersion, IsToldAs, IsRefusal};
 
 use crate::command::command;
-use crate::matched::{BadPicks, memory_in, options_of, picks_in, word_of};
+use crate::matched::{BadPicks, explained_in, memory_in, options_of, picks_in, word_of};
 use crate::odds::{Odds, odds_in};
 use crate::options::Options;
 use clap::error::ErrorKind;
@@ -71,8 +71,11 @@ pub fn read_options<'a>(alloc: Global, words: &'a [String]) -> Result<Options<'a
     let Some(memory) = memory_in(word) else {
         return Err(bad_memory(alloc, &mut command, word.unwrap_or("")));
     };
+    let Ok(explain) = explained_in(alloc, &matches) else {
+        return Err(Refused::OutOfMemory);
+    };
     match picks_in(alloc, &matches) {
-        Ok(picks) => Ok(options_of(&matches, memory, picks)),
+        Ok(picks) => Ok(options_of(&matches, memory, picks, explain)),
         Err(BadPicks::Share) => {
             let word = word_of(&matches, "share");
             Err(bad_share(alloc, &mut command, word.unwrap_or("")))

@@ -8,10 +8,12 @@ ghost use Rattle.dd_store.specs.View.{Has};
 ghost use Rattle.counter_walk.specs.Walk.{top, step};
 
 mod least;
+mod support;
 
 use dd_store::{Ref, Store};
 pub use least::{by_level, least_declared};
 use std::alloc::{AllocError, Global};
+pub use support::support_of;
 
 /// The reference below `r` for a bit of the level, or `r` itself where it stands below the level.
 fn stepped(store: &Store, r: Ref, level: u16, bit: bool) -> Ref

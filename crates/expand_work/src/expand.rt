@@ -1,16 +1,16 @@
 //! What a worker keeps of its requests' children, and what becomes due by that.
-ghost use Rattle.std.specs.Prelude.{◌≡◌, ℕ, ◌<◌, ◌+◌, ◌-◌, ◌^◌, [], ◌∷◌, ◌++◌, length, filter, replicate, All, IfOk, OnOk};
-ghost use Rattle.req_table.specs.Keys.{IsKey, IsChildIn, owner as owner_spec, record_of};
+ghost use Rattle.std.specs.Prelude.{◌≡◌, ℕ, ◌<◌, [], ◌∷◌, ◌++◌, length, filter, replicate, All, IfOk, OnOk};
+ghost use Rattle.req_table.specs.Keys.{IsKey, owner as owner_spec};
 ghost use Rattle.req_table.specs.Settled.{asked_by, dealt_from};
 ghost use Rattle.expand_work.specs.Due.{asked_of, due_by};
 ghost use Rattle.expand_work.specs.Lean.{lean, lean_row, records_of};
 ghost use Rattle.expand_work.specs.Work.{at, owned_by, with_levels};
 
-use crate::Spare;
 use crate::due::Due;
+use crate::{Spare, Splits};
 use dd_store::Store;
-use req_table::requests::{level_of, owner, split};
-use req_table::{Child, Key, Placed, Record};
+use req_table::requests::{level_of, owner};
+use req_table::{Child, Key, Placed};
 use std::alloc::AllocError;
 
 // The request becomes due from the key's owner, which is answered.
@@ -56,33 +56,6 @@ fn push_child(
     }
 }
 
-/// Splits requests, and counts how many.
-#[derive(Drop)]
-struct Splits {
-    count: usize,
-}
-
-impl Splits {
-    // None was split.
-    fn new() -> Splits
-        ensures { result.count ≡ 0 }
-    {
-        Splits { count: 0 }
-    }
-
-    // The record of a request, which is one more.
-    fn split(&mut self, store: &Store, key: Key) -> Record
-        requires key { IsKey store.now key }
-        requires room { self.old.count < 2 ^ 64 - 1 }
-        ensures record { result ≡ record_of store.now key }
-        ensures stands { IsChildIn store.now result.low × IsChildIn store.now result.high }
-        ensures count { self.new.count ≡ self.old.count + 1 }
-    {
-        self.count += 1;
-        split(store, key)
-    }
-}
-
 /// The children of the keys, what they ask for, by owner, and how many requests were split for it. The children are put in the memory
 /// that is handed in.
 pub fn expand_row(
@@ -113,7 +86,7 @@ pub fn expand_row(
         let high = push_child(&mut due, spare, record.high, workers)?;
         row.push((low, high))?;
     }
-    Ok((row, due, splits.count))
+    Ok((row, due, splits.count()))
 }
 
 /// The roots that the worker has to ask for, by owner: those at the places that are its number modulo the workers.

@@ -4,6 +4,19 @@ ghost use Rattle.expand_work.specs.Bounds.{most_of};
 
 use dd_store::Watch;
 
+/// How the attempts of a comparison within so many nodes have ended: one of the whole in an order, or a round of pairs by their cones.
+#[derive(Clone, Copy, Drop, Debug, PartialEq, Eq)]
+pub enum AttemptEnd {
+    /// The attempt in this order has decided.
+    Decided { order: &'static str },
+    /// It needs more nodes.
+    MoreNodes { order: &'static str },
+    /// One of its waves has too many requests.
+    TooManyRequests { order: &'static str },
+    /// So many of the pairs have no verdict yet.
+    Left { left: usize, pairs: usize },
+}
+
 /// Is told when a worker has closed a level and is about to expand it, and what a `Watch` is told.
 pub trait Gate: Watch + Sync {
     // The most requests that a wave of an engine may have, where they are bounded.
@@ -28,6 +41,9 @@ pub trait Gate: Watch + Sync {
 
     /// Is told how many requests of a level were expanded, by the caller's thread or by a worker.
     fn at_requests(&self, _requests: usize) {}
+
+    /// Is told by the caller's thread how an attempt within so many nodes has ended, or a round of pairs that were tried by their cones.
+    fn at_attempt(&self, _budget: u64, _end: AttemptEnd) {}
 }
 
 /// A wave of more requests is large. This and the numbers below are a choice between what was measured, which docs/PERFORMANCE.md has.

@@ -108,6 +108,13 @@ impl Spaces {
         self.used = used;
     }
 
+    /// How many requests were expanded in it, modulo 2^64.
+    pub fn expanded(&self) -> u64
+        ensures { result ≡ self.now }
+    {
+        self.expanded
+    }
+
     /// So many requests more were expanded.
     pub(crate) fn add(&mut self, requests: u64)
         ensures { self.new ≡ (self.old + requests) % 2 ^ 64 }

@@ -217,3 +217,8 @@ all_unasked a b given p sides placed S T n few w = less_unasked S T (AnyAsks a b
     by (l, c, asks) =
         let m = of_map levelled_of sides l (subst (λ z. Contains z l) (sym placed.netlists) c) in
         of_one m.0 m.1 (subst (λ (z : Levelled). Asks z.netlist z.level T) (sym m.2) asks)
+
+-- a store that is within its limit or as it was is within its limit, if it was so before
+pub within_kept : (S T : Nodes) → IsStillWithin S T → count_of S ≤ S.limit → count_of T ≤ T.limit
+within_kept S T (inl le) old = le
+within_kept S T (inr same) old = subst (λ x. count_of x ≤ x.limit) (sym same) old

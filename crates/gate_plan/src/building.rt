@@ -101,6 +101,7 @@ fn build_fold<R: Threads + Wait + Sync, G: Gate>(
     ensures fault { IfErr result (IsBuildFault store.old.levels (IsPlacedValue store.old.levels sides.now) store.new) }
     ensures past { result ≡ Err WaveFault.TooManyRequests → IsPast engine.old.bound store.old.levels (map levelled_of sides.now) }
     ensures alone { most_of engine.old.bound < 2 ^ 64 - 1 → result ≢ Err WaveFault.NoWorker }
+    ensures memory { count_of store.old ≤ store.old.limit → result ≡ Err WaveFault.OutOfMemory → count_of store.new ≤ store.new.limit }
 {
     let _ = store.levels();
     let entries = match entries_of(engine.alloc(), sides, built, rank, fold) {
@@ -141,6 +142,7 @@ fn build_rank<R: Threads + Wait + Sync, G: Gate>(
     ensures fault { IfErr result (IsBuildFault store.old.levels (IsPlacedValue store.old.levels sides.now) store.new) }
     ensures past { result ≡ Err WaveFault.TooManyRequests → IsPast engine.old.bound store.old.levels (map levelled_of sides.now) }
     ensures alone { most_of engine.old.bound < 2 ^ 64 - 1 → result ≢ Err WaveFault.NoWorker }
+    ensures memory { count_of store.old ≤ store.old.limit → result ≡ Err WaveFault.OutOfMemory → count_of store.new ≤ store.new.limit }
 {
     let _ = store.levels();
     copy_rank(sides, built, rank);
@@ -175,6 +177,7 @@ fn build_ranks<R: Threads + Wait + Sync, G: Gate>(
     ensures fault { IfErr result (IsBuildFault store.old.levels (IsPlacedValue store.old.levels sides.now) store.new) }
     ensures past { result ≡ Err WaveFault.TooManyRequests → IsPast engine.old.bound store.old.levels (map levelled_of sides.now) }
     ensures alone { most_of engine.old.bound < 2 ^ 64 - 1 → result ≢ Err WaveFault.NoWorker }
+    ensures memory { count_of store.old ≤ store.old.limit → result ≡ Err WaveFault.OutOfMemory → count_of store.new ≤ store.new.limit }
 {
     let _ = store.levels();
     let ranks = last_rank(sides);
@@ -201,6 +204,7 @@ fn build_all<R: Threads + Wait + Sync, G: Gate>(
     ensures fault { IfErr result (IsBuildFault store.old.levels (IsPlacedValue store.old.levels sides.now) store.new) }
     ensures past { result ≡ Err WaveFault.TooManyRequests → IsPast (G.bound crew.now.gate.now) store.old.levels (map levelled_of sides.now) }
     ensures alone { most_of (G.bound crew.now.gate.now) < 2 ^ 64 - 1 → result ≢ Err WaveFault.NoWorker }
+    ensures memory { count_of store.old ≤ store.old.limit → result ≡ Err WaveFault.OutOfMemory → count_of store.new ≤ store.new.limit }
 {
     let _ = store.levels();
     let mut engine = Engine::new(crew)?;
@@ -265,6 +269,8 @@ pub fn build<R: Threads + Wait + Sync, G: Gate>(
     ensures past { let c = circuits_of circuits.now in result ≡ Err WaveFault.TooManyRequests → IsPast (G.bound crew.now.gate.now) (length c.pairing.names) (levelled c.first c.second c.given c.pairing) }
     // Where the gate sets a bound, no worker is wanted.
     ensures alone { most_of (G.bound crew.now.gate.now) < 2 ^ 64 - 1 → result ≢ Err WaveFault.NoWorker }
+    // Where memory is wanted, a store that was within its limit is so still: Full comes first.
+    ensures memory { count_of store.old ≤ store.old.limit → result ≡ Err WaveFault.OutOfMemory → count_of store.new ≤ store.new.limit }
 {
     let begun = begin(crew.alloc, store, circuits)?;
     let Begun { sides, mut built } = begun;

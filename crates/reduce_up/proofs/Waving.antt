@@ -1,5 +1,5 @@
 -- What a reduction of a wave's closure gives its entries, and which nodes it adds.
-use Rattle.std.proofs.Common.{◌≡◌, ◌≢◌, ℕ, suc, ◌<◌, ◌⊎◌, inl, inr, Bool, List, [], ◌∷◌, length, Option, Some, None, refl, sym, ◌∙◌, ap, subst, arith, Contains, All}
+use Rattle.std.proofs.Common.{◌≡◌, ◌≢◌, ℕ, suc, ◌<◌, ◌≤◌, ◌⊎◌, inl, inr, Bool, List, [], ◌∷◌, length, Option, Some, None, refl, sym, ◌∙◌, ap, subst, arith, Contains, All}
 use Rattle.std.specs.Prelude.{not, Ok, Err}
 use Rattle.std.specs.List.{AllZip}
 use Rattle.std.specs.declared.vec.Vec.{Vec}
@@ -10,7 +10,7 @@ use Rattle.dd_store.specs.declared.reference.Ref.{Ref}
 use Rattle.dd_store.specs.Functions.{Agree, IsFixedSomehow, DependsOn, OfEither}
 use Rattle.dd_store.specs.Parts.{Met}
 use Rattle.dd_store.specs.Parts.Part.{node}
-use Rattle.dd_store.specs.Nodes.{Nodes, IsSound, IsDiagram, den}
+use Rattle.dd_store.specs.Nodes.{Nodes, IsSound, IsDiagram, den, count_of}
 use Rattle.dd_store.specs.View.{part, Has, IsOneNode}
 use Rattle.dd_store.proofs.View.{parts, keeps-refl, has-negate}
 use Rattle.expand_work.specs.declared.fault.WaveFault.{WaveFault}
@@ -248,3 +248,8 @@ wave_done S entries asked T found u adds z within = record {
   within = within;
   fault = tt;
 }
+
+-- a store that a wave may have left past its limit was past it before
+pub within_still : (S : Nodes) (entries : List Entry) (T : Nodes) → IsWithinLimit S entries T → count_of S ≤ S.limit → count_of T ≤ T.limit
+within_still S entries T (inl le) old = le
+within_still S entries T (inr n) old = subst (λ x. count_of x ≤ x.limit) (sym n.1) old

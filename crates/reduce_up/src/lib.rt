@@ -3,6 +3,7 @@
 
 mod answers;
 mod division;
+mod faults;
 mod lists;
 mod narrow;
 mod picking;
@@ -14,6 +15,7 @@ mod team;
 mod waves;
 mod wide;
 
+pub use faults::first_fault;
 pub use lists::empty_lists;
 pub use seeking::Sought;
 pub use waves::{Rooms, shared_wave};

@@ -1,7 +1,7 @@
 //! Reduction of what the workers in threads recorded, each for itself. A child is found by its number among what its worker asked
 //! of the owner: the rows are read from the last level up and backwards, so that this number is how many are still to be read.
-ghost use Rattle.std.specs.Prelude.{◌≡◌, ◌+◌, ◌<◌, ◌≤◌, ℕ, [], length, slice_index_or, IfOk, IfErr, OnOk, All};
-ghost use Rattle.dd_store.specs.Nodes.{IsSound};
+ghost use Rattle.std.specs.Prelude.{◌≡◌, ◌+◌, ◌<◌, ◌≤◌, ℕ, [], length, slice_index_or, Err, IfOk, IfErr, OnOk, All};
+ghost use Rattle.dd_store.specs.Nodes.{IsSound, count_of};
 ghost use Rattle.req_table.specs.declared.Child.{Child as ChildValue};
 ghost use Rattle.req_table.specs.Keys.{IsKey};
 ghost use Rattle.reduce_up.specs.Reducing.{IsResolved, AddsDescribed, MayReduceRow, ReducesRow, IsRowWithin};
@@ -10,6 +10,7 @@ ghost use Rattle.expand_work.specs.Gathered.{AreParts};
 ghost use Rattle.reduce_up.specs.Team.{IsReducedTo, MayReduceLevel, AnswersLevel, IsNext, AreFewer, AreLeft, AreAllLeft, asked_above, gathered, team_row, told};
 
 use crate::answers::Answers;
+use crate::faults::first_fault;
 use crate::narrow::make_level;
 use crate::spare::Spare;
 use crate::wide::share_level;
@@ -188,6 +189,7 @@ fn reduce_team_level<R: Threads + Sync, G: Gate>(
         (team_row field.entry.workers field.entry.parts.now level) result store.new (told field.entry.workers field.entry.parts.now progress.new.answers) }
     ensures reached { OnOk result (IsReducedTo field.entry.workers field.entry.roots.now field.entry.parts.now store.old.levels level progress.new.answers progress.new.rest.lefts.items) }
     ensures within { OnOk result (IsRowWithin store.old (team_row field.entry.workers field.entry.parts.now level) store.new) }
+    ensures memory { result ≡ Err WaveFault.OutOfMemory → count_of store.new ≤ store.new.limit }
 {
     if level_size(field.parts, field.workers, level) == 0 {
         return Ok(());
@@ -198,7 +200,7 @@ fn reduce_team_level<R: Threads + Sync, G: Gate>(
     } = progress;
     let answers = match level_answers(crew, store, field, known, level, rest) {
         Ok(answers) => answers,
-        Err(fault) => return Err(WaveFault::from(fault)),
+        Err(fault) => return Err(first_fault(store, WaveFault::from(fault))),
     };
     known.put(level, answers);
     if store.count() > store.limit() {
@@ -239,6 +241,7 @@ pub(crate) fn reduce_team<R: Threads + Sync, G: Gate>(
     ensures reached { OnOk result (IsReducedTo field.entry.workers field.entry.roots.now field.entry.parts.now store.old.levels 0 progress.new.answers progress.new.rest.lefts.items) }
     ensures within { OnOk result (IsWithinFrom store.old (gathered store.old.levels (team_row field.entry.workers field.entry.parts.now)) 0 store.new) }
     ensures fault { IfErr result (λ e. IsReduceFault store.new (gathered store.old.levels (team_row field.entry.workers field.entry.parts.now)) e) }
+    ensures memory { result ≡ Err WaveFault.OutOfMemory → count_of store.new ≤ store.new.limit }
 {
     let mut level = store.levels();
     while level > 0 {

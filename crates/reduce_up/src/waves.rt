@@ -1,5 +1,6 @@
 //! Waves by threads: the diagrams of a list of requests (Ochi, Yasuoka and Yajima 1993).
-ghost use Rattle.std.specs.Prelude.{◌≡◌, ◌≢◌, ◌<◌, All, IfErr, OnOk};
+ghost use Rattle.std.specs.Prelude.{◌≡◌, ◌≢◌, ◌<◌, ◌≤◌, All, Err, IfErr, OnOk};
+ghost use Rattle.dd_store.specs.Nodes.{count_of};
 ghost use Rattle.req_table.specs.Keys.{IsKey};
 ghost use Rattle.expand_work.specs.Gathered.{AreParts, HaveExpanded};
 ghost use Rattle.reduce_up.specs.Waves.{AnswersWave, entries_for};
@@ -28,6 +29,7 @@ fn answer_team<R: Threads + Sync, G: Gate>(
     requires parts { AreParts store.old field.workers field.roots.now field.parts.now }
     ensures wave { AnswersWave store.old (entries_for field.entry.roots.now) (entries_for field.entry.roots.now) result store.new }
     ensures unbounded { IfErr result (λ e. e ≢ WaveFault.TooManyRequests) }
+    ensures memory { count_of store.old ≤ store.old.limit → result ≡ Err WaveFault.OutOfMemory → count_of store.new ≤ store.new.limit }
 {
     let _ = store.levels();
     let used = mem::replace(spare, Spare::new(field.alloc));
@@ -48,13 +50,11 @@ fn answer_team<R: Threads + Sync, G: Gate>(
     Ok(found)
 }
 
-/// The memory of waves by threads, between two of them, and how large the last one was. Contracts see how many requests the workers
-/// have expanded, modulo 2^64.
+/// The memory of waves by threads, between two of them. Contracts see how many requests the workers have expanded in it, modulo 2^64.
 #[derive(Drop)]
 pub struct Rooms {
     spaces: Spaces,
     spare: Spare,
-    requests: u64,
 }
 
 impl Model for Rooms {
@@ -73,13 +73,14 @@ impl Rooms {
         Rooms {
             spaces: Spaces::new(alloc),
             spare: Spare::new(alloc),
-            requests: 0,
         }
     }
 
-    /// How many requests the last wave had, or as many as can be counted: 0 where there was none.
-    pub fn requests(&self) -> usize {
-        self.requests as usize
+    /// How many requests the workers have expanded in all these waves.
+    pub fn expanded(&self) -> u64
+        ensures { result ≡ self.now }
+    {
+        self.spaces.expanded()
     }
 }
 
@@ -99,13 +100,13 @@ pub fn shared_wave<R: Threads + Wait + Sync, G: Gate>(
     ensures wave { AnswersWave store.old (entries_for roots.now) (entries_for roots.now) result store.new }
     ensures expanded { OnOk result (HaveExpanded store.old crew.now.workers.count roots.now rooms.old rooms.new) }
     ensures unbounded { IfErr result (λ e. e ≢ WaveFault.TooManyRequests) }
+    ensures memory { count_of store.old ≤ store.old.limit → result ≡ Err WaveFault.OutOfMemory → count_of store.new ≤ store.new.limit }
 {
     let _ = store.levels();
     let parts = match expand_parts(crew, store, roots, &mut rooms.spaces) {
         Ok((parts, _)) => parts,
         Err(fault) => return Err(fault),
     };
-    rooms.requests = parts.count();
     let field = Field {
         alloc: crew.alloc,
         parts: &parts,

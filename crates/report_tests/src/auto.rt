@@ -37,6 +37,8 @@ fn reported<R: AllocGlobal + Threads + Wait + Sync>(
         limit: u64::from(limit.max(1)),
         sizes: false,
         json: false,
+        explain: Vec::new(rt.alloc()),
+        assignment: None,
     };
     let context = Context {
         rt,

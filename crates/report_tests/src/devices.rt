@@ -1,6 +1,7 @@
 //! Readers and writers in memory, which fail where they are told to.
 ghost use Rattle.std.specs.Prelude.{◌≡◌, None, Some, false};
 
+use check_tool::screen::Screen;
 use net_bench::device::{Failed, Sink, Source};
 use std::alloc::Global;
 
@@ -81,9 +82,10 @@ pub struct Page {
     flushes: bool,
     failed: bool,
     stopped: bool,
+    pub(crate) seen: bool,
 }
 
-/// An empty page.
+/// An empty page, which nobody sees.
 pub fn new_page(alloc: Global, room: usize, end: End, flushes: bool) -> Page {
     Page {
         held: Vec::new(alloc),
@@ -92,6 +94,7 @@ pub fn new_page(alloc: Global, room: usize, end: End, flushes: bool) -> Page {
         flushes,
         failed: false,
         stopped: false,
+        seen: false,
     }
 }
 
@@ -124,5 +127,13 @@ impl Sink for Page {
             return Err(Failed);
         }
         Ok(())
+    }
+}
+
+impl Screen for Page {
+    ghost seen = { λ s. s.seen };
+
+    fn is_seen(&self) -> bool {
+        self.seen
     }
 }

@@ -42,6 +42,8 @@ pub(crate) fn checked<R: AllocGlobal + Threads + Wait + Sync, R1: Source, R2: So
         limit: 67_108_864,
         sizes: false,
         json: false,
+        explain: Vec::new(rt.alloc()),
+        assignment: None,
     };
     let context = Context {
         rt,

@@ -38,6 +38,8 @@ fn reported<R: AllocGlobal + Threads + Wait + Sync>(
         limit: 1_000,
         sizes: false,
         json: false,
+        explain: Vec::new(rt.alloc()),
+        assignment: None,
     };
     let context = Context {
         rt,

@@ -1,45 +1,54 @@
 //! What is told of a build.
-use check_tool::progress::{Meter, Progress};
+use crate::devices::{End, drip, new_page};
+use crate::failing::AMPLE;
+use crate::runs::{Shelf, ran};
+use check_tool::progress::{Form, Meter, Progress};
 use expand_work::{Free, Gate};
-use std::alloc::Global;
-use std::fmt::Display;
+use std::alloc::{Alloc, Global};
 use std::io;
 use std::rt::Clock;
+use std::sync::Wait;
 use std::sync::atomic::{AtomicU64, Ordering};
 use std::test::Fail;
+use std::thread::Threads;
 use std::time::Duration;
 
-/// A runtime whose clock goes on by 400 milliseconds at each look, whose memory and terminal are what it was made with, and which counts the
-/// lines that it is told, and of these the ones that it waits for.
+/// A runtime whose clock goes on by so many milliseconds at each look, and whose memory is what it was made with.
 #[derive(Drop)]
-struct Ticks<'a> {
-    alloc: Global,
+struct Ticks<'a, R> {
+    rt: &'a R,
+    step: u64,
     megabytes: Option<u64>,
-    seen: bool,
-    wanted: &'a str,
     looks: AtomicU64,
-    lines: AtomicU64,
-    as_wanted: AtomicU64,
 }
 
-impl<'a> Ticks<'a> {
-    fn new(alloc: Global, megabytes: Option<u64>, wanted: &'a str) -> Ticks<'a> {
+impl<'a, R> Ticks<'a, R> {
+    fn new(rt: &'a R, step: u64, megabytes: Option<u64>) -> Ticks<'a, R> {
         Ticks {
-            alloc,
+            rt,
+            step,
             megabytes,
-            seen: false,
-            wanted,
             looks: AtomicU64::new(0),
-            lines: AtomicU64::new(0),
-            as_wanted: AtomicU64::new(0),
         }
     }
 }
 
-impl Clock for Ticks<'_> {
+impl<R: AllocGlobal> Alloc for Ticks<'_, R> {
+    type A = Global;
+
+    fn alloc(&self) -> Global {
+        self.rt.alloc()
+    }
+}
+
+impl<R: Threads> Threads for Ticks<'_, R> {}
+
+impl<R: Wait> Wait for Ticks<'_, R> {}
+
+impl<R> Clock for Ticks<'_, R> {
     fn monotonic(&self) -> io::Result<Duration> {
         let looks = self.looks.fetch_add(1, Ordering::SeqCst) % 1_000;
-        Ok(Duration::from_millis(looks * 400))
+        Ok(Duration::from_millis(looks.wrapping_mul(self.step)))
     }
 
     fn since_1970(&self) -> io::Result<Duration> {
@@ -47,103 +56,138 @@ impl Clock for Ticks<'_> {
     }
 }
 
-impl Meter for Ticks<'_> {
+impl<R> Meter for Ticks<'_, R> {
     fn megabytes(&self, _alloc: Global) -> Option<u64> {
         self.megabytes
     }
-
-    fn is_seen(&self) -> bool {
-        self.seen
-    }
 }
 
-impl Eprint for Ticks<'_> {
-    fn eprint<D: Display + Drop>(&self, value: D) -> io::Result<()> {
-        self.lines.fetch_add(1, Ordering::SeqCst);
-        if format!(in self.alloc; "{value}").is_ok_and(|line| line.as_str() == self.wanted) {
-            self.as_wanted.fetch_add(1, Ordering::SeqCst);
-        }
-        Ok(())
-    }
-
-    fn eprintln<D: Display + Drop>(&self, value: D) -> io::Result<()> {
-        self.eprint(value)
-    }
-}
-
-/// How many lines are told at so many ranks.
-fn lines_at(alloc: Global, asked: bool, ranks: u32) -> u64 {
-    let rt = Ticks::new(alloc, None, "");
-    let progress = Progress::new(&rt, alloc, asked);
+/// What is told by lines at so many ranks.
+fn told_at<R: AllocGlobal + Wait + Sync>(rt: &R, ranks: u32) -> Vec<u8> {
+    let mut errors = new_page(rt.alloc(), AMPLE, End::Fails, true);
+    let ticks = Ticks::new(rt, 400, None);
+    let progress = Progress::new(&ticks, rt.alloc(), Form::Lines, &mut errors);
     for rank in 1..=ranks {
         progress.at_rank(rank, ranks, 5);
     }
-    rt.lines.load(Ordering::SeqCst)
+    progress.end();
+    errors.held
 }
 
 #[test]
 fn lines_a_second(rt: HostRuntime) -> Result<(), Fail> {
-    for (asked, ranks, lines) in [
-        (true, 2, 0),
-        (true, 3, 1),
-        (true, 5, 1),
-        (true, 6, 2),
-        (false, 9, 0),
-    ] {
-        assert!(rt; lines_at(rt.alloc(), asked, ranks) == lines);
+    for (ranks, lines) in [(2, 0), (3, 1), (5, 1), (6, 2)] {
+        let told = told_at(&rt, ranks);
+        let ends = told.as_slice().iter().filter(|byte| **byte == b'\n');
+        assert!(rt; ends.count() == lines, "{ranks}");
     }
-    let progress = Progress::new(&rt, rt.alloc(), true);
+    let mut errors = new_page(rt.alloc(), AMPLE, End::Fails, true);
+    let progress = Progress::new(&rt, rt.alloc(), Form::Lines, &mut errors);
     for workers in [1, 2, 16] {
         for expected in [0, 1_000, 1_000_000_000] {
             let most = progress.most_alone(workers, expected);
             assert!(rt; most == Free.most_alone(workers, expected));
         }
     }
+    progress.end();
     Ok(())
+}
+
+/// What is told by a line of the third rank of seven.
+fn told_of_third<R: AllocGlobal + Wait + Sync>(rt: &R, megabytes: Option<u64>) -> Vec<u8> {
+    let mut errors = new_page(rt.alloc(), AMPLE, End::Fails, true);
+    let ticks = Ticks::new(rt, 400, megabytes);
+    let progress = Progress::new(&ticks, rt.alloc(), Form::Lines, &mut errors);
+    progress.at_rank(1, 7, 2);
+    progress.at_requests(5);
+    progress.at_rank(2, 7, 40);
+    progress.at_requests(0);
+    progress.at_requests(7);
+    progress.at_rank(3, 7, 90);
+    progress.end();
+    errors.held
 }
 
 #[test]
 fn line_of_progress(rt: HostRuntime) -> Result<(), Fail> {
     for (megabytes, wanted) in [
-        (None, "bddcheck: rank 3 of 7, 90 nodes, 12 requests"),
+        (None, "bddcheck: rank 3 of 7, 90 nodes, 12 requests\n"),
         (
             Some(41),
-            "bddcheck: rank 3 of 7, 90 nodes, 12 requests, 41 MB",
+            "bddcheck: rank 3 of 7, 90 nodes, 12 requests, 41 MB\n",
         ),
     ] {
-        let ticks = Ticks::new(rt.alloc(), megabytes, wanted);
-        let progress = Progress::new(&ticks, rt.alloc(), true);
-        progress.at_rank(1, 7, 2);
-        progress.at_requests(5);
-        progress.at_rank(2, 7, 40);
-        progress.at_requests(0);
-        progress.at_requests(7);
-        progress.at_rank(3, 7, 90);
-        assert!(rt; ticks.lines.load(Ordering::SeqCst) == 1);
-        assert!(rt; ticks.as_wanted.load(Ordering::SeqCst) == 1);
+        let told = told_of_third(&rt, megabytes);
+        assert!(rt; told.as_slice() == wanted.as_bytes());
     }
     Ok(())
 }
 
-// On a terminal the line is written in place, and taken away before the last rank, behind which a report may come, or at the end.
-#[test]
-fn line_in_place(rt: HostRuntime) -> Result<(), Fail> {
-    let wanted = "\rbddcheck: attempt 2, rank 2 of 7, 90 nodes, 12 requests, 41 MB\u{1b}[K";
-    let mut ticks = Ticks::new(rt.alloc(), Some(41), wanted);
-    ticks.seen = true;
-    let progress = Progress::new(&ticks, rt.alloc(), false);
+/// What is told in place of two builds, the second of which comes to its end or not.
+fn told_in_place<R: AllocGlobal + Wait + Sync>(rt: &R, ends: bool) -> Vec<u8> {
+    let mut errors = new_page(rt.alloc(), AMPLE, End::Fails, true);
+    let ticks = Ticks::new(rt, 400, Some(41));
+    let progress = Progress::new(&ticks, rt.alloc(), Form::InPlace, &mut errors);
     progress.at_requests(12);
     progress.at_rank(1, 7, 2);
     progress.at_rank(1, 7, 40);
     progress.at_rank(2, 7, 90);
-    assert!(rt; ticks.lines.load(Ordering::SeqCst) == 1);
-    assert!(rt; ticks.as_wanted.load(Ordering::SeqCst) == 1);
-    for (rank, lines) in [(7, 2), (7, 2)] {
-        progress.at_rank(rank, 7, 100);
-        assert!(rt; ticks.lines.load(Ordering::SeqCst) == lines);
+    if ends {
+        progress.at_rank(7, 7, 100);
+        progress.at_rank(7, 7, 100);
     }
     progress.end();
-    assert!(rt; ticks.lines.load(Ordering::SeqCst) == 2);
+    errors.held
+}
+
+// On a terminal the line is written in place, and taken away once: before the last rank, behind which a report may come, or at the end.
+#[test]
+fn line_in_place(rt: HostRuntime) -> Result<(), Fail> {
+    let wanted =
+        "\rbddcheck: attempt 2, rank 2 of 7, 90 nodes, 12 requests, 41 MB\u{1b}[K\r\u{1b}[K";
+    for ends in [true, false] {
+        let told = told_in_place(&rt, ends);
+        assert!(rt; told.as_slice() == wanted.as_bytes());
+    }
+    Ok(())
+}
+
+/// What a run says on these words, seen or not, where each rank could be told.
+fn said_on<R: AllocGlobal + Threads + Wait + Sync>(
+    rt: &R,
+    line: &str,
+    seen: bool,
+) -> Result<(u8, Vec<u8>), Fail> {
+    let ticks = Ticks::new(rt, 2_000, None);
+    let mut out = new_page(rt.alloc(), AMPLE, End::Fails, true);
+    let mut errors = new_page(rt.alloc(), AMPLE, End::Fails, true);
+    errors.seen = seen;
+    let status = ran(
+        &ticks,
+        line,
+        &mut Shelf::new(rt.alloc()),
+        &mut drip("", 1),
+        &mut out,
+        &mut errors,
+    )?;
+    Ok((status, errors.held))
+}
+
+// Nothing is written while diagrams are built, unless more is asked for, or it is seen on a terminal.
+#[test]
+fn silence(rt: HostRuntime) -> Result<(), Fail> {
+    for (line, seen, first) in [
+        ("first second", false, ""),
+        ("--order declared first second", false, ""),
+        ("--order cones first second", false, ""),
+        ("first second", true, "\rbddcheck: attempt 1, rank 1 of "),
+        ("--verbose first second", false, "bddcheck: rank 1 of "),
+    ] {
+        let (status, said) = said_on(&rt, line, seen)?;
+        assert!(rt; status == 1, "{line}");
+        assert!(rt; said.as_slice().starts_with(first.as_bytes()), "{line}");
+        assert!(rt; said.is_empty() == first.is_empty(), "{line}");
+    }
     Ok(())
 }
 

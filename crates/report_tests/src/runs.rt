@@ -4,12 +4,14 @@ ghost use Rattle.std.specs.Prelude.{◌≡◌, None, false};
 use crate::devices::{Dripping, End, Page, drip, new_page};
 use crate::failing::{AMPLE, C17, C17B, REPORT};
 use check_report::CheckFault;
-use check_tool::fault::{ToolFault, line_of, status_of_fault};
+use check_tool::fault::{Place, ToolFault};
 use check_tool::folder::{Folder, Obstacle, OpenFault};
 use check_tool::process::{NoWords, status_of};
 use check_tool::progress::Meter;
-use check_tool::tool::run_tool;
+use check_tool::tool::{refuse, run_tool};
 use expand_work::WaveFault;
+use net_bench::netlist::BenchFault;
+use net_order::order::OrderFault;
 use std::alloc::{AllocError, Global};
 use std::rt::Clock;
 use std::sync::Wait;
@@ -110,7 +112,7 @@ fn words_of(alloc: Global, line: &str) -> Result<Vec<String>, AllocError> {
 }
 
 /// The status of a run on the words of a line.
-pub(crate) fn ran<R: AllocGlobal + Eprint + Clock + Meter + Threads + Wait + Sync>(
+pub(crate) fn ran<R: AllocGlobal + Clock + Meter + Threads + Wait + Sync>(
     rt: &R,
     line: &str,
     folder: &mut Shelf,
@@ -167,7 +169,7 @@ fn files_that_fail(rt: HostRuntime) -> Result<(), Fail> {
 }
 
 /// The status of a run on words, over an output of so much room; and what is said on errors of so much room.
-fn ended_on<R: AllocGlobal + Eprint + Clock + Meter + Threads + Wait + Sync>(
+fn ended_on<R: AllocGlobal + Clock + Meter + Threads + Wait + Sync>(
     rt: &R,
     line: &str,
     mut out: Page,
@@ -238,13 +240,61 @@ fn no_words(rt: HostRuntime) -> Result<(), Fail> {
     Ok(())
 }
 
-// No run of the program has a gate that bounds its requests.
+/// Faults with their lines, behind the program's name, and their statuses. No run of the program ends with the last, whose gate has a bound.
+fn faults() -> [(ToolFault, &'static str, u8); 7] {
+    let second = BenchFault::BadByte {
+        line: 4_294_967_295,
+    };
+    let order = OrderFault::NotAPermutation { place: 0 };
+    let bound = CheckFault::Wave(WaveFault::TooManyRequests);
+    [
+        (
+            ToolFault::CannotOpen(Place::Given, Obstacle::Links),
+            "given: cannot be opened",
+            2,
+        ),
+        (
+            ToolFault::BadOrder(order),
+            "order: name 0 of the list does not fit",
+            2,
+        ),
+        (
+            ToolFault::Check(CheckFault::Order(order)),
+            "order: name 0 of the list does not fit",
+            2,
+        ),
+        (
+            ToolFault::Check(CheckFault::Second(second)),
+            "second: line 4294967295: a byte that no statement has",
+            2,
+        ),
+        (
+            ToolFault::Check(CheckFault::First(BenchFault::OutOfMemory)),
+            "first: out of memory",
+            3,
+        ),
+        (
+            ToolFault::Check(CheckFault::GivenUp),
+            "build: given up in each order; more memory, or a good order by --order-file, may help",
+            3,
+        ),
+        (
+            ToolFault::Check(bound),
+            "build: more requests than the gate allows",
+            3,
+        ),
+    ]
+}
+
 #[test]
-fn line_of_a_bound(rt: HostRuntime) -> Result<(), Fail> {
-    let fault = ToolFault::Check(CheckFault::Wave(WaveFault::TooManyRequests));
-    let line = line_of(rt.alloc(), fault)?;
-    assert!(rt; line.as_str() == "bddcheck: build: more requests than the gate allows\n");
-    assert!(rt; status_of_fault(fault) == 3);
+fn lines_of_faults(rt: HostRuntime) -> Result<(), Fail> {
+    for (fault, line, want) in faults() {
+        let mut errors = new_page(rt.alloc(), AMPLE, End::Fails, true);
+        let status = refuse(rt.alloc(), fault, &mut errors);
+        let said = format!(in rt.alloc(); "bddcheck: {line}\n")?;
+        assert!(rt; errors.held.as_slice() == said.as_bytes(), "{line}");
+        assert!(rt; status == want, "{line}");
+    }
     Ok(())
 }
 

@@ -2,7 +2,7 @@
 use crate::failing::C17;
 use check_report::{CheckFault, Choice, Context, Picked, Settings, judge};
 use dd_store::Watch;
-use expand_work::Gate;
+use expand_work::{AttemptEnd, Gate};
 use net_bench::device::Through;
 use net_order::order::{Match, Order};
 use std::alloc::Global;
@@ -11,7 +11,8 @@ use std::sync::atomic::{AtomicU64, AtomicUsize, Ordering};
 use std::test::Fail;
 use std::thread::Threads;
 
-/// Adds up what it is told: how often of a rank, their numbers, those of the last ranks, the nodes, and the requests.
+/// Adds up what it is told: how often of a rank, their numbers, those of the last ranks, the nodes, the requests, and the attempts that have
+/// decided.
 #[derive(Drop)]
 struct Listener {
     times: AtomicUsize,
@@ -19,6 +20,7 @@ struct Listener {
     last_ranks: AtomicU64,
     nodes: AtomicU64,
     requests: AtomicUsize,
+    decided: AtomicUsize,
 }
 
 impl Watch for Listener {
@@ -47,6 +49,12 @@ impl Gate for Listener {
     fn at_requests(&self, requests: usize) {
         self.requests.fetch_add(requests, Ordering::SeqCst);
     }
+
+    fn at_attempt(&self, _budget: u64, end: AttemptEnd) {
+        if matches!(end, AttemptEnd::Decided { .. }) {
+            self.decided.fetch_add(1, Ordering::SeqCst);
+        }
+    }
 }
 
 /// What a gate was told, added up as by a listener.
@@ -57,6 +65,7 @@ struct Told {
     last_ranks: u64,
     nodes: u64,
     requests: usize,
+    decided: usize,
 }
 
 /// What a gate is told of the comparison of a netlist with itself.
@@ -74,6 +83,8 @@ fn told_of<R: Threads + Wait + Sync>(
         limit: 70_000,
         sizes: false,
         json: false,
+        explain: Vec::new(alloc),
+        assignment: None,
     };
     let gate = Listener {
         times: AtomicUsize::new(0),
@@ -81,6 +92,7 @@ fn told_of<R: Threads + Wait + Sync>(
         last_ranks: AtomicU64::new(0),
         nodes: AtomicU64::new(0),
         requests: AtomicUsize::new(0),
+        decided: AtomicUsize::new(0),
     };
     let mut first = Through::new(text.as_bytes());
     let mut second = Through::new(text.as_bytes());
@@ -98,6 +110,7 @@ fn told_of<R: Threads + Wait + Sync>(
         last_ranks: gate.last_ranks.load(Ordering::SeqCst),
         nodes: gate.nodes.load(Ordering::SeqCst),
         requests: gate.requests.load(Ordering::SeqCst),
+        decided: gate.decided.load(Ordering::SeqCst),
     })
 }
 
@@ -108,6 +121,12 @@ fn told_of_a_bounded_attempt(rt: HostRuntime) -> Result<(), Fail> {
     assert!(rt; single.times == 3 && single.ranks == 6 && single.last_ranks == 9);
     assert!(rt; single.nodes > 15 && single.requests > 0);
     let best = told_of(&rt, rt.alloc(), C17, Choice::Best)?;
-    assert!(rt; best == single);
+    assert!(rt; single.decided == 0);
+    assert!(rt;
+        best == Told {
+            decided: 1,
+            ..single
+        }
+    );
     Ok(())
 }

@@ -1,3 +1,4 @@
 pub mod Written
 pub mod Wording
 pub mod Tokens
+pub mod Bundling

@@ -1,30 +1,31 @@
 -- The tokens of a report as JSON, part by part.
-use Rattle.std.proofs.Common.{◌≡◌, ◌∙◌, ap, sym, append_assoc, Result, Ok, Err, true, refl, ℕ, zero, suc, ◌+◌, ◌<◌, ◌≤◌, min, arith, Bool, false, List, [], ◌∷◌, ◌++◌, length, get_or, drop, add-one, drop-cons, Some}
+use Rattle.std.proofs.Common.{◌≡◌, ◌∙◌, ap, sym, append_assoc, Result, Ok, Err, true, refl, ℕ, zero, suc, ◌+◌, ◌<◌, ◌≤◌, min, arith, Bool, false, List, [], ◌∷◌, ◌++◌, length, get_or, drop, add-one, drop-cons, Option, Some}
 use Rattle.std.specs.Prelude.{◌≢◌, codes, decimal, slice_get, if◌then◌else◌}
 use Rattle.std.specs.Str.{IsUtf8, is_utf8}
 use Rattle.std.proofs.lemmas.Str.{IsUtf8-from_is_utf8, is_utf8-from_IsUtf8}
 use Rattle.json.specs.Token.{Token, key, number, string}
 use Rattle.json.specs.Written.{Writes, Written}
-use Rattle.report_text.specs.Json.{Adds, assignment_tokens, bit_token, names_tokens, shown, undecided_tokens}
+use Rattle.report_text.specs.declared.assignment.Assignment.{Assignment}
+use Rattle.report_text.specs.Json.{Adds, assignment_tokens, variable_tokens, names_tokens, shown, undecided_tokens}
 use Rattle.report_text.proofs.Wording.{there}
 
 -- a variable with its bit, and then the rest
-pub assignment_next : (vs : List (List ℕ)) (bs : List Bool) (i : ℕ) (v n : List ℕ) → i < length vs → i < length bs → slice_get vs i ≡ Some v → n ≡ shown v →
-    assignment_tokens (drop i vs) (drop i bs) ≡ (key n ∷ bit_token (get_or bs i false) ∷ []) ++ assignment_tokens (drop (i + 1) vs) (drop (i + 1) bs)
-assignment_next vs bs i v n lv lb ev is = rw (is, add-one, drop-cons vs i v, drop-cons bs i false, there vs i v v ev) refl
+pub assignment_next : (which : Option Assignment) (vs : List (List ℕ)) (bs : List Bool) (i : ℕ) (v : List ℕ) → i < length vs → i < length bs → slice_get vs i ≡ Some v →
+    assignment_tokens which (drop i vs) (drop i bs) ≡ variable_tokens which v (get_or bs i false) ++ assignment_tokens which (drop (i + 1) vs) (drop (i + 1) bs)
+assignment_next which vs bs i v lv lb ev = rw (add-one, drop-cons vs i v, drop-cons bs i false, there vs i v v ev) refl
 
-no_bits : (vs : List (List ℕ)) → assignment_tokens vs [] ≡ []
-no_bits [] = refl
-no_bits (v ∷ vs) = refl
+no_bits : (which : Option Assignment) (vs : List (List ℕ)) → assignment_tokens which vs [] ≡ []
+no_bits which [] = refl
+no_bits which (v ∷ vs) = refl
 
 -- where the variables or the bits are over, nothing follows
-pub assignment_over : (vs : List (List ℕ)) (bs : List Bool) (i : ℕ) → min (length bs) (length vs) ≤ i → assignment_tokens (drop i vs) (drop i bs) ≡ []
-assignment_over [] bs zero le = refl
-assignment_over [] bs (suc i) le = refl
-assignment_over (v ∷ vs) [] zero le = refl
-assignment_over (v ∷ vs) [] (suc i) le = no_bits (drop i vs)
-assignment_over (v ∷ vs) (b ∷ bs) zero le = absurd (omega (arith, le))
-assignment_over (v ∷ vs) (b ∷ bs) (suc i) le = assignment_over vs bs i (omega (arith, le))
+pub assignment_over : (which : Option Assignment) (vs : List (List ℕ)) (bs : List Bool) (i : ℕ) → min (length bs) (length vs) ≤ i → assignment_tokens which (drop i vs) (drop i bs) ≡ []
+assignment_over which [] bs zero le = refl
+assignment_over which [] bs (suc i) le = refl
+assignment_over which (v ∷ vs) [] zero le = refl
+assignment_over which (v ∷ vs) [] (suc i) le = no_bits which (drop i vs)
+assignment_over which (v ∷ vs) (b ∷ bs) zero le = absurd (omega (arith, le))
+assignment_over which (v ∷ vs) (b ∷ bs) (suc i) le = assignment_over which vs bs i (omega (arith, le))
 
 -- a variable, and then the rest
 pub names_next : (vs : List (List ℕ)) (i : ℕ) (v n : List ℕ) → i < length vs → slice_get vs i ≡ Some v → n ≡ shown v → names_tokens (drop i vs) ≡ (string n ∷ []) ++ names_tokens (drop (i + 1) vs)

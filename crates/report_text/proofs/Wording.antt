@@ -1,7 +1,8 @@
 -- The bytes of a report, part by part.
-use Rattle.std.proofs.Common.{◌≡◌, ◌∙◌, ap, sym, refl, ℕ, zero, suc, ◌+◌, ◌<◌, ◌≤◌, min, arith, Bool, false, List, [], ◌∷◌, ◌++◌, length, get_or, drop, append_assoc, add-one, drop-cons, Some}
-use Rattle.std.specs.Prelude.{codes, slice_get}
-use Rattle.report_text.specs.Lines.{bit_text, assignment_text}
+use Rattle.std.proofs.Common.{◌≡◌, ◌∙◌, ap, sym, refl, ℕ, zero, suc, ◌+◌, ◌<◌, ◌≤◌, min, arith, Bool, false, List, [], ◌∷◌, ◌++◌, length, get_or, drop, append_assoc, add-one, drop-cons, Option, Some}
+use Rattle.std.specs.Prelude.{slice_get}
+use Rattle.report_text.specs.declared.assignment.Assignment.{Assignment}
+use Rattle.report_text.specs.Lines.{variable_text, assignment_text}
 
 -- what stands at a place, where it is there
 pub there : {A : Type 0} (xs : List A) (i : ℕ) (v d : A) → slice_get xs i ≡ Some v → get_or xs i d ≡ v
@@ -10,24 +11,22 @@ there (x ∷ xs) zero v d e = cc
 there (x ∷ xs) (suc i) v d e = there xs i v d e
 
 -- a variable with its bit, and then the rest
-pub assignment_next : (vs : List (List ℕ)) (bs : List Bool) (i : ℕ) (v : List ℕ) → i < length vs → i < length bs → slice_get vs i ≡ Some v →
-    assignment_text (drop i vs) (drop i bs) ≡ (codes " " ++ (v ++ (codes "=" ++ bit_text (get_or bs i false)))) ++ assignment_text (drop (i + 1) vs) (drop (i + 1) bs)
-assignment_next vs bs i v lv lb ev =
-    rw (add-one, drop-cons vs i v, drop-cons bs i false, there vs i v v ev)
-    (ap (λ z. 32 ∷ z) (sym (append_assoc v (61 ∷ bit_text (get_or bs i false)) (assignment_text (drop (suc i) vs) (drop (suc i) bs)))))
+pub assignment_next : (which : Option Assignment) (vs : List (List ℕ)) (bs : List Bool) (i : ℕ) (v : List ℕ) → i < length vs → i < length bs → slice_get vs i ≡ Some v →
+    assignment_text which (drop i vs) (drop i bs) ≡ variable_text which v (get_or bs i false) ++ assignment_text which (drop (i + 1) vs) (drop (i + 1) bs)
+assignment_next which vs bs i v lv lb ev = rw (add-one, drop-cons vs i v, drop-cons bs i false, there vs i v v ev) refl
 
-no_bits : (vs : List (List ℕ)) → assignment_text vs [] ≡ []
-no_bits [] = refl
-no_bits (v ∷ vs) = refl
+no_bits : (which : Option Assignment) (vs : List (List ℕ)) → assignment_text which vs [] ≡ []
+no_bits which [] = refl
+no_bits which (v ∷ vs) = refl
 
 -- where the variables or the bits are over, nothing follows
-pub assignment_over : (vs : List (List ℕ)) (bs : List Bool) (i : ℕ) → min (length bs) (length vs) ≤ i → assignment_text (drop i vs) (drop i bs) ≡ []
-assignment_over [] bs zero le = refl
-assignment_over [] bs (suc i) le = refl
-assignment_over (v ∷ vs) [] zero le = refl
-assignment_over (v ∷ vs) [] (suc i) le = no_bits (drop i vs)
-assignment_over (v ∷ vs) (b ∷ bs) zero le = absurd (omega (arith, le))
-assignment_over (v ∷ vs) (b ∷ bs) (suc i) le = assignment_over vs bs i (omega (arith, le))
+pub assignment_over : (which : Option Assignment) (vs : List (List ℕ)) (bs : List Bool) (i : ℕ) → min (length bs) (length vs) ≤ i → assignment_text which (drop i vs) (drop i bs) ≡ []
+assignment_over which [] bs zero le = refl
+assignment_over which [] bs (suc i) le = refl
+assignment_over which (v ∷ vs) [] zero le = refl
+assignment_over which (v ∷ vs) [] (suc i) le = no_bits which (drop i vs)
+assignment_over which (v ∷ vs) (b ∷ bs) zero le = absurd (omega (arith, le))
+assignment_over which (v ∷ vs) (b ∷ bs) (suc i) le = assignment_over which vs bs i (omega (arith, le))
 
 -- what was added goes from the rest to the text
 pub moved : {A : Type 0} (whole text more part rest all : List A) → text ++ all ≡ whole → all ≡ part ++ rest → more ≡ text ++ part → more ++ rest ≡ whole

@@ -18,7 +18,9 @@ use Rattle.report_text.specs.declared.outcome.Side.TheVariants.{First, Second}
 use Rattle.report_text.specs.declared.verdict.Verdict.{Verdict}
 use Rattle.report_text.specs.declared.outcome.Share.{Share}
 use Rattle.report_text.specs.declared.verdict.Verdict.TheVariants.{Equal, Differs, Lone, Undecided}
-use Rattle.report_text.specs.Lines.{Found, counted, report_text}
+use Rattle.report_text.specs.declared.assignment.Assignment.{Assignment}
+use Rattle.report_text.specs.Buses.{Bus, buses_of, hex_text}
+use Rattle.report_text.specs.Lines.{Found, counted, is_told, report_text}
 
 -- how inputs, outputs and registers are paired
 abbrev pub match_kind : Match → List ℕ
@@ -76,28 +78,47 @@ abbrev pub sizes_tokens : Option (ℕ × ℕ) → List Token
 sizes_tokens None = []
 sizes_tokens (Some p) = key (codes "sizes") ∷ begin_array ∷ number (decimal p.0) ∷ number (decimal p.1) ∷ end_array ∷ []
 
--- each variable with its bit
-abbrev pub assignment_tokens : List (List ℕ) → List Bool → List Token
-assignment_tokens (v ∷ vs) (b ∷ bs) = key (shown v) ∷ bit_token b ∷ assignment_tokens vs bs
-assignment_tokens vs bs = []
+-- a variable with its bit, where it is told
+abbrev pub variable_tokens : Option Assignment → List ℕ → Bool → List Token
+variable_tokens which v b = if is_told which b then key (shown v) ∷ bit_token b ∷ [] else []
+
+-- each variable that is told with its bit
+abbrev pub assignment_tokens : Option Assignment → List (List ℕ) → List Bool → List Token
+assignment_tokens which (v ∷ vs) (b ∷ bs) = variable_tokens which v b ++ assignment_tokens which vs bs
+assignment_tokens which vs bs = []
+
+-- each bus with its number
+abbrev pub numbers_tokens : List Bool → List Bus → List Token
+numbers_tokens at [] = []
+numbers_tokens at (b ∷ bs) = key (shown b.name) ∷ string (hex_text b at) ∷ numbers_tokens at bs
+
+-- the buses of the variables, where words say which variables are told
+abbrev pub buses_in : Option Assignment → List (List ℕ) → List Bus
+buses_in None variables = []
+buses_in (Some which) variables = buses_of variables
+
+-- the numbers of these buses, where words say which variables are told
+abbrev pub buses_tokens : Option Assignment → List Bus → List Bool → List Token
+buses_tokens None buses at = []
+buses_tokens (Some which) buses at = key (codes "buses") ∷ begin_object ∷ (numbers_tokens at buses ++ end_object ∷ [])
 
 -- the values of two functions
 abbrev pub values_tokens : (first second : Bool) → List Token
 values_tokens first second = key (codes "first") ∷ bit_token first ∷ key (codes "second") ∷ bit_token second ∷ []
 
 -- the members of a verdict; the variables stand by level
-abbrev pub verdict_members : List (List ℕ) → Verdict → List Token
-verdict_members variables (Equal role name size) = key (codes "verdict") ∷ string (codes "EQUAL") ∷ (subject_tokens role name ++ size_tokens size)
-verdict_members variables (Differs role name at first second sizes) =
+abbrev pub verdict_members : Option Assignment → List (List ℕ) → Verdict → List Token
+verdict_members which variables (Equal role name size) = key (codes "verdict") ∷ string (codes "EQUAL") ∷ (subject_tokens role name ++ size_tokens size)
+verdict_members which variables (Differs role name at first second sizes) =
     key (codes "verdict") ∷ string (codes "DIFFER") ∷ (subject_tokens role name
-    ++ (key (codes "at") ∷ begin_object ∷ (assignment_tokens variables at ++ (end_object ∷ (values_tokens first second ++ sizes_tokens sizes)))))
-verdict_members variables (Lone side role name) = key (codes "verdict") ∷ string (codes "ONLY") ∷ key (codes "side") ∷ string (side_word side) ∷ subject_tokens role name
-verdict_members variables (Undecided role name) = key (codes "verdict") ∷ string (codes "UNDECIDED") ∷ subject_tokens role name
+    ++ (key (codes "at") ∷ begin_object ∷ (assignment_tokens which variables at ++ (end_object ∷ (buses_tokens which (buses_in which variables) at ++ (values_tokens first second ++ sizes_tokens sizes))))))
+verdict_members which variables (Lone side role name) = key (codes "verdict") ∷ string (codes "ONLY") ∷ key (codes "side") ∷ string (side_word side) ∷ subject_tokens role name
+verdict_members which variables (Undecided role name) = key (codes "verdict") ∷ string (codes "UNDECIDED") ∷ subject_tokens role name
 
 -- an object for each verdict
-abbrev pub verdicts_tokens : List (List ℕ) → List Verdict → List Token
-verdicts_tokens variables [] = []
-verdicts_tokens variables (v ∷ vs) = (begin_object ∷ (verdict_members variables v ++ end_object ∷ [])) ++ verdicts_tokens variables vs
+abbrev pub verdicts_tokens : Option Assignment → List (List ℕ) → List Verdict → List Token
+verdicts_tokens which variables [] = []
+verdicts_tokens which variables (v ∷ vs) = (begin_object ∷ (verdict_members which variables v ++ end_object ∷ [])) ++ verdicts_tokens which variables vs
 
 -- the variables by level
 abbrev pub names_tokens : List (List ℕ) → List Token
@@ -132,19 +153,19 @@ given_tokens true = key (codes "given") ∷ boolean true ∷ []
 given_tokens false = []
 
 -- the whole object: the settings, the variables, the verdicts, the counts, the share
-abbrev pub report_tokens : Match → OrderKind → (given : Bool) → Option Share → Found → List Token
-report_tokens how kind given share found =
+abbrev pub report_tokens : Option Assignment → Match → OrderKind → (given : Bool) → Option Share → Found → List Token
+report_tokens which how kind given share found =
     begin_object ∷ (settings_tokens how kind ++ (given_tokens given ++ (array_tokens (codes "variables") (names_tokens found.variables)
-    ++ (array_tokens (codes "verdicts") (verdicts_tokens found.variables found.verdicts) ++ (counts_tokens (counted found.verdicts) ++ (share_tokens share ++ end_object ∷ []))))))
+    ++ (array_tokens (codes "verdicts") (verdicts_tokens which found.variables found.verdicts) ++ (counts_tokens (counted found.verdicts) ++ (share_tokens share ++ end_object ∷ []))))))
 
 -- its text, on one line
-abbrev pub json_text : Match → OrderKind → (given : Bool) → Option Share → Found → List ℕ
-json_text how kind given share found = print (report_tokens how kind given share found) ++ 10 ∷ []
+abbrev pub json_text : Option Assignment → Match → OrderKind → (given : Bool) → Option Share → Found → List ℕ
+json_text which how kind given share found = print (report_tokens which how kind given share found) ++ 10 ∷ []
 
 -- the bytes of a report in the form that is asked for: as JSON, which tells of a condition, or as lines
-abbrev pub form_text : (json : Bool) → Match → OrderKind → (given : Bool) → Option Share → Found → List ℕ
-form_text true how kind given share = json_text how kind given share
-form_text false how kind given share = report_text share
+abbrev pub form_text : (json : Bool) → Option Assignment → Match → OrderKind → (given : Bool) → Option Share → Found → List ℕ
+form_text true which how kind given share = json_text which how kind given share
+form_text false which how kind given share = report_text which share
 
 -- a writer has taken these tokens, where it has taken all
 abbrev pub Adds : {E : Type 0} → Result (Unit {0}) E → (old new : Written) → List Token → Type 0

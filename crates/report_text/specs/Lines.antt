@@ -1,5 +1,7 @@
 -- The verdicts of a comparison, and the bytes of their lines in a report. A name is a list of bytes.
-use Rattle.std.specs.Prelude.{ℕ, zero, suc, Bool, true, false, List, [], ◌∷◌, ◌++◌, Option, Some, None, codes, decimal, count_by}
+use Rattle.std.specs.Prelude.{ℕ, zero, suc, Bool, true, false, List, [], ◌∷◌, ◌++◌, Option, Some, None, codes, decimal, count_by, if◌then◌else◌}
+use Rattle.report_text.specs.declared.assignment.Assignment.{Assignment}
+use Rattle.report_text.specs.declared.assignment.Assignment.TheVariants.{All, Ones}
 use Rattle.report_text.specs.declared.outcome.Outcome.{Outcome}
 use Rattle.report_text.specs.declared.outcome.Role.{Role}
 use Rattle.report_text.specs.declared.outcome.Role.TheVariants.{Output, NextState}
@@ -29,10 +31,20 @@ abbrev pub sizes_text : Option (ℕ × ℕ) → List ℕ
 sizes_text None = []
 sizes_text (Some p) = codes " sizes " ++ (decimal p.0 ++ (codes " " ++ decimal p.1))
 
--- each variable with its bit, a space before each
-abbrev pub assignment_text : List (List ℕ) → List Bool → List ℕ
-assignment_text (v ∷ vs) (b ∷ bs) = codes " " ++ (v ++ (codes "=" ++ (bit_text b ++ assignment_text vs bs)))
-assignment_text vs bs = []
+-- whether a variable with this bit is told: each one, where nothing else is asked for
+abbrev pub is_told : Option Assignment → Bool → Bool
+is_told None b = true
+is_told (Some All) b = true
+is_told (Some Ones) b = b
+
+-- a variable with its bit behind a space, where it is told
+abbrev pub variable_text : Option Assignment → List ℕ → Bool → List ℕ
+variable_text which v b = if is_told which b then codes " " ++ (v ++ (codes "=" ++ bit_text b)) else []
+
+-- each variable that is told with its bit, a space before each
+abbrev pub assignment_text : Option Assignment → List (List ℕ) → List Bool → List ℕ
+assignment_text which (v ∷ vs) (b ∷ bs) = variable_text which v b ++ assignment_text which vs bs
+assignment_text which vs bs = []
 
 -- the word of a netlist
 abbrev pub side_text : Side → List ℕ
@@ -45,17 +57,17 @@ subject_text Output name = name
 subject_text NextState name = codes "NEXT " ++ name
 
 -- the line of a verdict, without its end; the variables stand by level
-abbrev pub line_text : List (List ℕ) → Verdict → List ℕ
-line_text variables (Equal role name size) = codes "EQUAL " ++ (subject_text role name ++ size_text size)
-line_text variables (Differs role name at first second sizes) =
-    codes "DIFFER " ++ (subject_text role name ++ (codes " at" ++ (assignment_text variables at ++ (codes " first=" ++ (bit_text first ++ (codes " second=" ++ (bit_text second ++ sizes_text sizes)))))))
-line_text variables (Lone side role name) = codes "ONLY " ++ (side_text side ++ (codes " " ++ subject_text role name))
-line_text variables (Undecided role name) = codes "UNDECIDED " ++ subject_text role name
+abbrev pub line_text : Option Assignment → List (List ℕ) → Verdict → List ℕ
+line_text which variables (Equal role name size) = codes "EQUAL " ++ (subject_text role name ++ size_text size)
+line_text which variables (Differs role name at first second sizes) =
+    codes "DIFFER " ++ (subject_text role name ++ (codes " at" ++ (assignment_text which variables at ++ (codes " first=" ++ (bit_text first ++ (codes " second=" ++ (bit_text second ++ sizes_text sizes)))))))
+line_text which variables (Lone side role name) = codes "ONLY " ++ (side_text side ++ (codes " " ++ subject_text role name))
+line_text which variables (Undecided role name) = codes "UNDECIDED " ++ subject_text role name
 
 -- lines, each with its end
-abbrev pub lines_text : List (List ℕ) → List Verdict → List ℕ
-lines_text variables [] = []
-lines_text variables (v ∷ vs) = line_text variables v ++ (10 ∷ lines_text variables vs)
+abbrev pub lines_text : Option Assignment → List (List ℕ) → List Verdict → List ℕ
+lines_text which variables [] = []
+lines_text which variables (v ∷ vs) = line_text which variables v ++ (10 ∷ lines_text which variables vs)
 
 -- the kinds of verdicts
 abbrev pub is_equal : Verdict → Bool
@@ -102,5 +114,5 @@ counts_text share o =
     decimal o.equal ++ (codes " equal, " ++ (decimal o.different ++ (codes " different, " ++ (decimal o.unmatched ++ (codes " unmatched" ++ (undecided_text o.undecided ++ share_text share))))))
 
 -- the bytes of the report of what a comparison found: its lines, and last their counts
-abbrev pub report_text : Option Share → Found → List ℕ
-report_text share found = lines_text found.variables found.verdicts ++ (counts_text share (counted found.verdicts) ++ 10 ∷ [])
+abbrev pub report_text : Option Assignment → Option Share → Found → List ℕ
+report_text which share found = lines_text which found.variables found.verdicts ++ (counts_text share (counted found.verdicts) ++ 10 ∷ [])

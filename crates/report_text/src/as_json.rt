@@ -1,8 +1,10 @@
 //! What a comparison found as one JSON object.
 ghost use Rattle.std.specs.Prelude.{◌≡◌, ◌∷◌, [], ◌++◌, IfOk, codes, decimal};
 ghost use Rattle.json.specs.Token.{begin_object, end_object, key, string, number, boolean};
-ghost use Rattle.report_text.specs.Json.{Adds, bit_token, subject_tokens, size_tokens, sizes_tokens, assignment_tokens, values_tokens, verdict_members, verdicts_tokens, names_tokens, settings_tokens, given_tokens, undecided_tokens, share_tokens, counts_tokens, array_tokens, json_text};
+ghost use Rattle.report_text.specs.Json.{Adds, bit_token, subject_tokens, size_tokens, sizes_tokens, variable_tokens, assignment_tokens, numbers_tokens, buses_in, buses_tokens, values_tokens, verdict_members, verdicts_tokens, names_tokens, settings_tokens, given_tokens, undecided_tokens, share_tokens, counts_tokens, array_tokens, json_text};
 
+use crate::assignment::{Assignment, is_told};
+use crate::buses::{Bus, buses_of, hex_of};
 use crate::kind::OrderKind;
 use crate::outcome::{Outcome, Role, Share};
 use crate::verdict::Verdict;
@@ -69,15 +71,101 @@ fn add_sizes(out: &mut Writer, sizes: Option<(u64, u64)>) -> Result<(), AllocErr
     out.end_array()
 }
 
-/// Adds each variable with its bit.
-fn add_assignment(out: &mut Writer, names: &Names, bits: &[bool]) -> Result<(), AllocError>
-    ensures { Adds result out.old out.new (assignment_tokens names.now bits.now) }
+/// The variables of a report, which of them an assignment tells, and their buses, where words say which.
+#[derive(Clone, Copy, Drop)]
+struct Telling<'a> {
+    names: &'a Names,
+    which: Option<Assignment>,
+    buses: &'a [Bus],
+}
+
+/// Adds a variable with its bit, where it is told.
+fn add_variable(
+    out: &mut Writer,
+    which: Option<Assignment>,
+    name: &[u8],
+    bit: bool,
+) -> Result<(), AllocError>
+    ensures { Adds result out.old out.new (variable_tokens which name.now bit) }
+{
+    if is_told(which, bit) {
+        return add_bit(out, text_of(name), bit);
+    }
+    Ok(())
+}
+
+/// Adds each variable that is told with its bit.
+fn add_assignment(
+    out: &mut Writer,
+    which: Option<Assignment>,
+    names: &Names,
+    bits: &[bool],
+) -> Result<(), AllocError>
+    ensures { Adds result out.old out.new (assignment_tokens which names.now bits.now) }
 {
     let count = bits.len().min(names.len());
     for i in 0..count {
-        add_bit(out, text_of(names.at(i)), bits[i])?;
+        add_variable(out, which, names.at(i), bits[i])?;
     }
     Ok(())
+}
+
+/// Adds a bus with its number.
+fn add_number_of(
+    alloc: Global,
+    out: &mut Writer,
+    bus: &Bus,
+    bits: &[bool],
+) -> Result<(), AllocError>
+    ensures { Adds result out.old out.new (numbers_tokens bits.now (bus.now ∷ [])) }
+{
+    let number = hex_of(alloc, bus, bits)?;
+    add_text(out, text_of(bus.name()), number.as_str())
+}
+
+/// Adds each bus with its number.
+fn add_numbers(
+    alloc: Global,
+    out: &mut Writer,
+    buses: &[Bus],
+    bits: &[bool],
+) -> Result<(), AllocError>
+    ensures { Adds result out.old out.new (numbers_tokens bits.now buses.now) }
+{
+    for bus in buses {
+        add_number_of(alloc, out, bus, bits)?;
+    }
+    Ok(())
+}
+
+/// Adds an object of buses with their numbers.
+fn add_numbered(
+    alloc: Global,
+    out: &mut Writer,
+    buses: &[Bus],
+    bits: &[bool],
+) -> Result<(), AllocError>
+    ensures { Adds result out.old out.new (key (codes "buses") ∷ begin_object ∷ (numbers_tokens bits.now buses.now ++ end_object ∷ [])) }
+{
+    out.key("buses")?;
+    out.begin_object()?;
+    add_numbers(alloc, out, buses, bits)?;
+    out.end_object()
+}
+
+/// Adds the numbers of the buses, where words say which variables are told.
+fn add_buses(
+    alloc: Global,
+    out: &mut Writer,
+    telling: &Telling<'_>,
+    bits: &[bool],
+) -> Result<(), AllocError>
+    ensures { Adds result out.old out.new (buses_tokens telling.now.which telling.now.buses.now bits.now) }
+{
+    match telling.which {
+        Some(_) => add_numbered(alloc, out, telling.buses, bits),
+        None => Ok(()),
+    }
 }
 
 /// Adds the values of two functions.
@@ -89,18 +177,24 @@ fn add_values(out: &mut Writer, first: bool, second: bool) -> Result<(), AllocEr
 }
 
 /// Adds the assignment at which two functions differ.
-fn add_difference(out: &mut Writer, names: &Names, bits: &[bool]) -> Result<(), AllocError>
-    ensures { Adds result out.old out.new (key (codes "at") ∷ begin_object ∷ (assignment_tokens names.now bits.now ++ end_object ∷ [])) }
+fn add_difference(out: &mut Writer, telling: &Telling<'_>, bits: &[bool]) -> Result<(), AllocError>
+    ensures { Adds result out.old out.new (key (codes "at") ∷ begin_object ∷ (assignment_tokens telling.now.which telling.now.names.now bits.now ++ end_object ∷ [])) }
 {
     out.key("at")?;
     out.begin_object()?;
-    add_assignment(out, names, bits)?;
+    add_assignment(out, telling.which, telling.names, bits)?;
     out.end_object()
 }
 
 /// Adds the members of a verdict.
-fn add_members(out: &mut Writer, names: &Names, verdict: &Verdict) -> Result<(), AllocError>
-    ensures { Adds result out.old out.new (verdict_members names.now verdict.now) }
+fn add_members(
+    alloc: Global,
+    out: &mut Writer,
+    telling: &Telling<'_>,
+    verdict: &Verdict,
+) -> Result<(), AllocError>
+    requires { telling.now.buses.now ≡ buses_in telling.now.which telling.now.names.now }
+    ensures { Adds result out.old out.new (verdict_members telling.now.which telling.now.names.now verdict.now) }
 {
     match verdict {
         Verdict::Equal { role, name, size } => {
@@ -118,7 +212,8 @@ fn add_members(out: &mut Writer, names: &Names, verdict: &Verdict) -> Result<(),
         } => {
             add_text(out, "verdict", "DIFFER")?;
             add_subject(out, *role, name.as_slice())?;
-            add_difference(out, names, at.as_slice())?;
+            add_difference(out, telling, at.as_slice())?;
+            add_buses(alloc, out, telling, at.as_slice())?;
             add_values(out, *first, *second)?;
             add_sizes(out, *sizes)
         }
@@ -135,20 +230,32 @@ fn add_members(out: &mut Writer, names: &Names, verdict: &Verdict) -> Result<(),
 }
 
 /// Adds the object of a verdict.
-fn add_verdict(out: &mut Writer, names: &Names, verdict: &Verdict) -> Result<(), AllocError>
-    ensures { Adds result out.old out.new (verdicts_tokens names.now (verdict.now ∷ [])) }
+fn add_verdict(
+    alloc: Global,
+    out: &mut Writer,
+    telling: &Telling<'_>,
+    verdict: &Verdict,
+) -> Result<(), AllocError>
+    requires { telling.now.buses.now ≡ buses_in telling.now.which telling.now.names.now }
+    ensures { Adds result out.old out.new (verdicts_tokens telling.now.which telling.now.names.now (verdict.now ∷ [])) }
 {
     out.begin_object()?;
-    add_members(out, names, verdict)?;
+    add_members(alloc, out, telling, verdict)?;
     out.end_object()
 }
 
 /// Adds the verdicts.
-fn add_verdicts(out: &mut Writer, names: &Names, verdicts: &[Verdict]) -> Result<(), AllocError>
-    ensures { Adds result out.old out.new (verdicts_tokens names.now verdicts.now) }
+fn add_verdicts(
+    alloc: Global,
+    out: &mut Writer,
+    telling: &Telling<'_>,
+    verdicts: &[Verdict],
+) -> Result<(), AllocError>
+    requires { telling.now.buses.now ≡ buses_in telling.now.which telling.now.names.now }
+    ensures { Adds result out.old out.new (verdicts_tokens telling.now.which telling.now.names.now verdicts.now) }
 {
     for verdict in verdicts {
-        add_verdict(out, names, verdict)?;
+        add_verdict(alloc, out, telling, verdict)?;
     }
     Ok(())
 }
@@ -173,13 +280,35 @@ fn add_variables(out: &mut Writer, names: &Names) -> Result<(), AllocError>
     out.end_array()
 }
 
-/// Adds the verdicts as an array.
-fn add_judged(out: &mut Writer, found: &Verdicts) -> Result<(), AllocError>
-    ensures { Adds result out.old out.new (array_tokens (codes "verdicts") (verdicts_tokens found.now.variables found.now.verdicts)) }
+/// The buses of the variables, where words say which of these are told.
+fn buses_in(alloc: Global, which: Option<Assignment>, names: &Names) -> Result<Vec<Bus>, AllocError>
+    ensures { IfOk result (λ buses. buses.items ≡ buses_in which names.now) }
 {
+    match which {
+        Some(_) => buses_of(alloc, names),
+        None => Ok(Vec::new(alloc)),
+    }
+}
+
+/// Adds the verdicts as an array.
+fn add_judged(
+    alloc: Global,
+    out: &mut Writer,
+    which: Option<Assignment>,
+    found: &Verdicts,
+) -> Result<(), AllocError>
+    ensures { Adds result out.old out.new (array_tokens (codes "verdicts") (verdicts_tokens which found.now.variables found.now.verdicts)) }
+{
+    let names = found.variables();
+    let buses = buses_in(alloc, which, names)?;
+    let telling = Telling {
+        names,
+        which,
+        buses: buses.as_slice(),
+    };
     out.key("verdicts")?;
     out.begin_array()?;
-    add_verdicts(out, found.variables(), found.as_slice())?;
+    add_verdicts(alloc, out, &telling, found.as_slice())?;
     out.end_array()
 }
 
@@ -237,24 +366,39 @@ fn add_share(out: &mut Writer, share: Option<Share>) -> Result<(), AllocError>
     out.end_array()
 }
 
+/// What a report tells of a comparison besides what was found: how it pairs and orders the variables, whether there was a condition, and the
+/// share of the pairs that it is of.
+#[derive(Clone, Copy, Drop)]
+pub struct Heading {
+    pub matching: Match,
+    pub kind: OrderKind,
+    pub given: bool,
+    pub share: Option<Share>,
+}
+
 /// What a comparison found as the text of one JSON object, on a line: the settings, that there was a condition, the variables by level,
-/// the verdicts as in the report by lines, their counts, and the share that it is of. docs/report.schema.json describes it.
+/// the verdicts as in the report by lines, with the numbers of buses where words say which variables an assignment tells, their counts, and
+/// the share that it is of. docs/report.schema.json describes it.
 pub fn json_of(
     alloc: Global,
-    matching: Match,
-    kind: OrderKind,
-    given: bool,
-    share: Option<Share>,
+    heading: &Heading,
+    which: Option<Assignment>,
     found: &Verdicts,
 ) -> Result<Vec<u8>, AllocError>
-    ensures { IfOk result (λ text. text.items ≡ json_text matching kind given share found.now) }
+    ensures { IfOk result (λ text. text.items ≡ json_text which heading.now.matching heading.now.kind heading.now.given heading.now.share found.now) }
 {
+    let Heading {
+        matching,
+        kind,
+        given,
+        share,
+    } = *heading;
     let mut out = Writer::new(Vec::new(alloc));
     out.begin_object()?;
     add_settings(&mut out, matching, kind)?;
     add_given(&mut out, given)?;
     add_variables(&mut out, found.variables())?;
-    add_judged(&mut out, found)?;
+    add_judged(alloc, &mut out, which, found)?;
     add_counts(&mut out, found.outcome())?;
     add_share(&mut out, share)?;
     out.end_object()?;

@@ -2,6 +2,8 @@
 #![tactic(auto)]
 
 mod as_json;
+mod assignment;
+mod buses;
 mod kind;
 mod lines;
 mod outcome;
@@ -11,7 +13,8 @@ mod verdicts;
 mod words;
 mod write;
 
-pub use as_json::json_of;
+pub use as_json::{Heading, json_of};
+pub use assignment::Assignment;
 pub use kind::OrderKind;
 pub use outcome::{Outcome, Role, Share, Side};
 pub use report::report_of;

@@ -1,7 +1,8 @@
 //! The lines of a report as bytes.
-ghost use Rattle.std.specs.Prelude.{◌≡◌, ◌++◌, ℕ, List, [], ◌∷◌, OnOk, codes};
-ghost use Rattle.report_text.specs.Lines.{line_text, assignment_text, bit_text, side_text, sizes_text, subject_text, undecided_text, share_text, counts_text};
+ghost use Rattle.std.specs.Prelude.{◌≡◌, ◌++◌, ℕ, List, [], ◌∷◌, None, OnOk, codes};
+ghost use Rattle.report_text.specs.Lines.{line_text, variable_text, assignment_text, bit_text, side_text, sizes_text, subject_text, undecided_text, share_text, counts_text};
 
+use crate::assignment::{Assignment, is_told};
 use crate::outcome::{Outcome, Role, Share, Side};
 use crate::verdict::Verdict;
 use net_order::names::Names;
@@ -32,13 +33,33 @@ fn add_variable(text: &mut Vec<u8>, name: &[u8], bit: bool) -> Result<(), AllocE
     Ok(())
 }
 
-/// Adds each variable with its bit.
-fn add_assignment(text: &mut Vec<u8>, names: &Names, bits: &[bool]) -> Result<(), AllocError>
-    ensures { OnOk result (text.new.items ≡ text.old.items ++ assignment_text names.now bits.now) }
+/// Adds a variable with its bit, where it is told.
+fn add_told(
+    text: &mut Vec<u8>,
+    which: Option<Assignment>,
+    name: &[u8],
+    bit: bool,
+) -> Result<(), AllocError>
+    ensures { OnOk result (text.new.items ≡ text.old.items ++ variable_text which name.now bit) }
+{
+    if is_told(which, bit) {
+        add_variable(text, name, bit)?;
+    }
+    Ok(())
+}
+
+/// Adds each variable that is told with its bit.
+fn add_assignment(
+    text: &mut Vec<u8>,
+    which: Option<Assignment>,
+    names: &Names,
+    bits: &[bool],
+) -> Result<(), AllocError>
+    ensures { OnOk result (text.new.items ≡ text.old.items ++ assignment_text which names.now bits.now) }
 {
     let count = bits.len().min(names.len());
     for i in 0..count {
-        add_variable(text, names.at(i), bits[i])?;
+        add_told(text, which, names.at(i), bits[i])?;
     }
     Ok(())
 }
@@ -62,7 +83,7 @@ fn add_equal(
     label: Label<'_>,
     size: Option<u64>,
 ) -> Result<(), AllocError>
-    ensures { OnOk result (text.new.items ≡ text.old.items ++ (line_text [] (Verdict.Equal label.entry.role label.entry.name.now size) ++ 10 ∷ [])) }
+    ensures { OnOk result (text.new.items ≡ text.old.items ++ (line_text None [] (Verdict.Equal label.entry.role label.entry.name.now size) ++ 10 ∷ [])) }
 {
     text.extend_from_slice(b"EQUAL ")?;
     add_label(text, label)?;
@@ -96,10 +117,11 @@ fn add_sizes(alloc: Global, text: &mut Vec<u8>, sizes: Option<(u64, u64)>) -> Re
     Ok(())
 }
 
-/// Where two functions differ: an assignment by level, and the value of each there.
+/// Where two functions differ: an assignment by level, which of its variables are told, and the value of each there.
 #[derive(Clone, Copy, Drop)]
 struct Difference<'a> {
     bits: &'a [bool],
+    which: Option<Assignment>,
     first: bool,
     second: bool,
 }
@@ -113,12 +135,12 @@ fn add_different(
     at: Difference<'_>,
     sizes: Option<(u64, u64)>,
 ) -> Result<(), AllocError>
-    ensures { OnOk result (text.new.items ≡ text.old.items ++ (line_text names.now (Verdict.Differs label.entry.role label.entry.name.now at.entry.bits.now at.entry.first at.entry.second sizes) ++ 10 ∷ [])) }
+    ensures { OnOk result (text.new.items ≡ text.old.items ++ (line_text at.entry.which names.now (Verdict.Differs label.entry.role label.entry.name.now at.entry.bits.now at.entry.first at.entry.second sizes) ++ 10 ∷ [])) }
 {
     text.extend_from_slice(b"DIFFER ")?;
     add_label(text, label)?;
     text.extend_from_slice(b" at")?;
-    add_assignment(text, names, at.bits)?;
+    add_assignment(text, at.which, names, at.bits)?;
     add_values(text, at.first, at.second)?;
     add_sizes(alloc, text, sizes)?;
     text.extend_from_slice(b"\n")?;
@@ -137,7 +159,7 @@ fn side_word(side: Side) -> &'static [u8]
 
 /// Adds the line of an output or a register that has no partner.
 fn add_lone(text: &mut Vec<u8>, side: Side, label: Label<'_>) -> Result<(), AllocError>
-    ensures { OnOk result (text.new.items ≡ text.old.items ++ (line_text [] (Verdict.Lone side label.entry.role label.entry.name.now) ++ 10 ∷ [])) }
+    ensures { OnOk result (text.new.items ≡ text.old.items ++ (line_text None [] (Verdict.Lone side label.entry.role label.entry.name.now) ++ 10 ∷ [])) }
 {
     text.extend_from_slice(b"ONLY ")?;
     text.extend_from_slice(side_word(side))?;
@@ -149,7 +171,7 @@ fn add_lone(text: &mut Vec<u8>, side: Side, label: Label<'_>) -> Result<(), Allo
 
 /// Adds the line of a pair that no attempt has decided.
 fn add_undecided(text: &mut Vec<u8>, label: Label<'_>) -> Result<(), AllocError>
-    ensures { OnOk result (text.new.items ≡ text.old.items ++ (line_text [] (Verdict.Undecided label.entry.role label.entry.name.now) ++ 10 ∷ [])) }
+    ensures { OnOk result (text.new.items ≡ text.old.items ++ (line_text None [] (Verdict.Undecided label.entry.role label.entry.name.now) ++ 10 ∷ [])) }
 {
     text.extend_from_slice(b"UNDECIDED ")?;
     add_label(text, label)?;
@@ -161,10 +183,11 @@ fn add_undecided(text: &mut Vec<u8>, label: Label<'_>) -> Result<(), AllocError>
 pub fn add_line(
     alloc: Global,
     text: &mut Vec<u8>,
+    which: Option<Assignment>,
     names: &Names,
     verdict: &Verdict,
 ) -> Result<(), AllocError>
-    ensures { OnOk result (text.new.items ≡ text.old.items ++ (line_text names.now verdict.now ++ 10 ∷ [])) }
+    ensures { OnOk result (text.new.items ≡ text.old.items ++ (line_text which names.now verdict.now ++ 10 ∷ [])) }
 {
     match verdict {
         Verdict::Equal { role, name, size } => {
@@ -188,6 +211,7 @@ pub fn add_line(
             };
             let at = Difference {
                 bits: at.as_slice(),
+                which,
                 first: *first,
                 second: *second,
             };

@@ -156,6 +156,7 @@ pub fn level_of(store: &Store, key: Key) -> u16
 }
 
 /// What an operation comes to: its short answer, or else its request.
+#[inline(always)]
 pub fn child(store: &Store, op: Op, f: Ref, g: Ref) -> Child
     requires first { Has store.now f }
     requires second { Has store.now g }
@@ -178,6 +179,7 @@ pub fn child(store: &Store, op: Op, f: Ref, g: Ref) -> Child
 }
 
 /// The record of a request: its children are its operation on the cofactors of its operands at its level (Bryant, 1986).
+#[inline(always)]
 pub fn split(store: &Store, key: Key) -> Record
     requires { IsKey store.now key }
     ensures value { result ≡ record_of store.now key }

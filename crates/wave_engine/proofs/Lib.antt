@@ -6,3 +6,4 @@ pub mod Raising
 pub mod Fronting
 pub mod Whole
 pub mod Counting
+pub mod Both

@@ -1,6 +1,7 @@
 -- The expansion of requests by place, from the first level down.
-use Rattle.std.specs.Prelude.{◌≡◌, ℕ, ◌<◌, ◌≤◌, true, false, List, length, slice_get, Some}
+use Rattle.std.specs.Prelude.{◌≡◌, ℕ, ◌+◌, ◌%◌, ◌^◌, ◌<◌, ◌≤◌, true, false, List, length, slice_get, Some}
 use Rattle.std.specs.List.{AllZip}
+use Rattle.slot_table.specs.Lists.{IsIn, IsOnce}
 use Rattle.dd_store.specs.declared.reference.Ref.{Ref}
 use Rattle.req_table.specs.declared.Key.{Key}
 use Rattle.dd_store.specs.Nodes.{Nodes}
@@ -48,6 +49,15 @@ pub record AreExpanded (s : Nodes) (entries : List Entry) (roots : List Placed) 
   pub levels : length rows ≡ s.levels
   pub counts : (w q : ℕ) (k : Key) → w < v → StandsAt tables w q k → length (row rows w) ≡ length (row tables w)
   pub split : (w q : ℕ) (k : Key) (d : Placed × Placed) → w < v → StandsAt tables w q k → StandsAt rows w q d → IsSplitAt s tables k d
+
+-- between two counts modulo 2^64 exactly the requests that stand before level v were split, each once
+pub record HaveSplit (s : Nodes) (entries : List Entry) (tables : List (List Key)) (v : ℕ) (before after : ℕ) : Type 0 where
+  pub requests : List Key
+  pub once : IsOnce requests
+  pub reached : (k : Key) → IsIn requests k → IsReached (wave_of s 1) (requests_of entries) k
+  pub above : (k : Key) → IsIn requests k → level_of s k < v
+  pub whole : (w q : ℕ) (k : Key) → w < v → StandsAt tables w q k → IsIn requests k
+  pub count : after % 2 ^ 64 ≡ (before + length requests) % 2 ^ 64
 
 -- all levels before v are expanded, from the roots down, and there is a list of answers for each level
 pub record IsDown (s : Nodes) (entries : List Entry) (v : ℕ) (tables : List (List Key)) (rows : List (List (Placed × Placed))) (roots : List Placed) (answers : List (List Ref)) : Type 0 where

@@ -2,7 +2,9 @@
 use Rattle.std.specs.Prelude.{ℕ, Option}
 use Rattle.req_table.specs.Memos.{Held}
 
--- what it holds of earlier waves, and the bound that its gate sets on the requests of a wave
+-- what it holds of earlier waves, the bound that its gate sets on the requests of a wave, and how many requests the waves that were
+-- done have expanded, modulo 2^64
 pub record AtRest : Type 0 where
   pub held : Held
   pub bound : Option ℕ
+  pub expanded : ℕ

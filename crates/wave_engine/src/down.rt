@@ -1,17 +1,18 @@
 //! Expansion, from the first level down: each request's children are placed in the tables of their levels at once.
-ghost use Rattle.std.specs.Prelude.{◌≡◌, ◌≢◌, ◌<◌, ◌≤◌, ◌-◌, ◌^◌, ℕ, [], length, Err, IfOk, IfErr, OnOk, All};
+ghost use Rattle.std.specs.Prelude.{◌≡◌, ◌≢◌, ◌<◌, ◌≤◌, ◌+◌, ◌-◌, ◌%◌, ◌^◌, ℕ, [], length, Err, IfOk, IfErr, OnOk, All};
 ghost use Rattle.std.specs.List.{AllZip};
 ghost use Rattle.req_table.specs.Keys.{IsChildIn, child as child_spec};
 ghost use Rattle.reduce_up.specs.Waves.{IsEntry};
 ghost use Rattle.wave_engine.specs.Places.{row, IsPlaced, Admits};
 ghost use Rattle.wave_engine.specs.Bounds.{AreMoreThan, AreAtMost};
-ghost use Rattle.wave_engine.specs.Down.{AreAdmitted, IsRowExpanded, AreExpanded};
+ghost use Rattle.wave_engine.specs.Down.{AreAdmitted, IsRowExpanded, AreExpanded, HaveSplit};
 
 use crate::lists::Row;
 use crate::requests::Requests;
+use crate::workspace::Down;
 use dd_store::{Ref, Store};
-use expand_work::WaveFault;
-use req_table::requests::{child, split};
+use expand_work::{Splits, WaveFault};
+use req_table::requests::child;
 use req_table::{Child, Op, Placed};
 use std::alloc::AllocError;
 
@@ -56,18 +57,20 @@ pub(crate) fn place_roots(
     Ok(())
 }
 
-/// Places the children of a level's requests.
+/// Splits a level's requests, and places their children.
 fn expand_level(
     store: &Store,
     entries: &[(Op, Ref, Ref)],
     requests: &mut Requests,
     pairs: &mut Row,
+    splits: &mut Splits,
     level: u16,
 ) -> Result<(), AllocError>
     requires admitted { AreAdmitted store.now entries.now requests.old }
     requires level { level < store.now.levels }
     ensures levels { length requests.new ≡ length requests.old }
     ensures expanded { OnOk result (IsRowExpanded store.now entries.now requests.old level (length (row requests.old level)) requests.new pairs.new) }
+    ensures split { OnOk result (splits.new % 2 ^ 64 ≡ (splits.old + length (row requests.old level)) % 2 ^ 64) }
 {
     let _ = store.levels();
     let _ = entries.len();
@@ -75,7 +78,7 @@ fn expand_level(
     pairs.restart(count)?;
     for place in 0..count {
         let key = requests.key_at(level, place);
-        let record = split(store, key);
+        let record = splits.split(store, key);
         let low = place_child(store, requests, record.low)?;
         let high = place_child(store, requests, record.high)?;
         pairs.push((low, high))?;
@@ -97,15 +100,14 @@ pub(crate) struct Limits {
 pub(crate) fn expand(
     store: &Store,
     entries: &[(Op, Ref, Ref)],
-    requests: &mut Requests,
-    rows: &mut Vec<Row>,
-    roots: &[Placed],
+    down: &mut Down,
     limits: Limits,
 ) -> Result<u16, WaveFault>
-    requires start { AreExpanded store.now entries.now roots.now 0 requests.old rows.old.items }
+    requires start { AreExpanded store.now entries.now down.old.roots.items 0 down.old.requests down.old.rows.items }
     ensures bound { IfOk result (λ v. v ≤ store.now.levels) }
-    ensures expanded { IfOk result (λ v. AreExpanded store.now entries.now roots.now v requests.new rows.new.items) }
-    ensures wide { IfOk result (λ v. v < store.now.levels → limits.level < length (row requests.new v)) }
+    ensures expanded { IfOk result (λ v. AreExpanded store.now entries.now down.new.roots.items v down.new.requests down.new.rows.items) }
+    ensures split { IfOk result (λ v. HaveSplit store.now entries.now down.new.requests v down.old.splits down.new.splits) }
+    ensures wide { IfOk result (λ v. v < store.now.levels → limits.level < length (row down.new.requests v)) }
     ensures alone { limits.level ≡ 2 ^ 64 - 1 → IfOk result (λ v. v ≡ store.now.levels) }
     ensures refused { IfErr result (λ e. e ≢ WaveFault.Full) }
     ensures served { IfErr result (λ e. e ≢ WaveFault.NoWorker) }
@@ -114,12 +116,11 @@ pub(crate) fn expand(
     ensures within_bound { limits.wave < 2 ^ 64 - 1 → IfOk result (λ v. v ≡ store.now.levels → AreAtMost limits.wave store.now entries.now) }
 {
     let _ = entries.len();
-    let _ = roots.len();
     let levels = store.levels();
     let mut level = 0;
     let mut left = limits.wave;
-    while let Some(next) = requests.next_level(level) {
-        let count = requests.count(next);
+    while let Some(next) = down.requests.next_level(level) {
+        let count = down.requests.count(next);
         if limits.wave < usize::MAX && count > left {
             return Err(WaveFault::TooManyRequests);
         }
@@ -127,7 +128,14 @@ pub(crate) fn expand(
             return Ok(next);
         }
         left = left.saturating_sub(count);
-        expand_level(store, entries, requests, &mut rows[next as usize], next)?;
+        expand_level(
+            store,
+            entries,
+            &mut down.requests,
+            &mut down.rows[next as usize],
+            &mut down.splits,
+            next,
+        )?;
         level = next + 1;
     }
     Ok(levels)

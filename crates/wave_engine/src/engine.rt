@@ -1,10 +1,11 @@
 //! The engine of waves: what lasts from wave to wave.
-ghost use Rattle.std.specs.Prelude.{◌≡◌, ◌≢◌, ◌<◌, ◌-◌, ◌^◌, [], Err, All, IfOk, IfErr, OnOk, OnErr};
-ghost use Rattle.dd_store.specs.Nodes.{Nodes, IsSound};
+ghost use Rattle.std.specs.Prelude.{◌≡◌, ◌≢◌, ◌<◌, ◌≤◌, ◌+◌, ◌-◌, ◌%◌, ◌^◌, [], Err, All, IfOk, IfErr, OnOk, OnErr};
+ghost use Rattle.dd_store.specs.Nodes.{Nodes, IsSound, count_of};
 ghost use Rattle.req_table.specs.Memos.{IsRight};
 ghost use Rattle.reduce_up.specs.Known.{unknown, IsKeptWave};
-ghost use Rattle.reduce_up.specs.Waves.{IsEntry, AnswersWave};
+ghost use Rattle.reduce_up.specs.Waves.{IsEntry, AnswersWave, requests_of};
 ghost use Rattle.expand_work.specs.Bounds.{most_of};
+ghost use Rattle.expand_work.specs.Gathered.{HaveExpanded};
 ghost use Rattle.wave_engine.specs.Bounds.{AreAtMost, ArePast};
 
 use crate::workspace::Workspace;
@@ -51,6 +52,8 @@ impl<'a, R: Threads + Wait + Sync, G: Gate> Runner<'a, R, G> {
         ensures past { result ≡ Err WaveFault.TooManyRequests → ArePast (G.bound self.old.workspace.crew.now.gate.now) store.old (unknown memo.old entries.now) }
         ensures within_bound { most_of (G.bound self.old.workspace.crew.now.gate.now) < 2 ^ 64 - 1 → OnOk result (AreAtMost (most_of (G.bound self.old.workspace.crew.now.gate.now)) store.old (unknown memo.old entries.now)) }
         ensures alone { most_of (G.bound self.old.workspace.crew.now.gate.now) < 2 ^ 64 - 1 → result ≢ Err WaveFault.NoWorker }
+        ensures expanded { OnOk result (HaveExpanded store.old 1 (requests_of (unknown memo.old entries.now)) (self.old.workspace.down.splits + self.old.workspace.rooms) (self.new.workspace.down.splits + self.new.workspace.rooms)) }
+        ensures memory { count_of store.old ≤ store.old.limit → result ≡ Err WaveFault.OutOfMemory → count_of store.new ≤ store.new.limit }
         ensures gate { self.new.workspace.crew.now.gate ≡ self.old.workspace.crew.now.gate }
         ensures kept { IfOk result (λ answers. IsKeptWave memo.old entries.now answers.items memo.new) }
         ensures refused { OnErr result (memo.new ≡ memo.old) }
@@ -69,11 +72,13 @@ impl<'a, R: Threads + Wait + Sync, G: Gate> Runner<'a, R, G> {
     }
 }
 
-/// Does waves one after the other over one store. It keeps the memory that they take, and holds answers of earlier waves.
+/// Does waves one after the other over one store. It keeps the memory that they take, holds answers of earlier waves, and counts the
+/// requests that those which were done have expanded.
 #[derive(Drop)]
 pub struct Engine<'a, R, G: Gate> {
     runner: Runner<'a, R, G>,
     memo: Memo,
+    expanded: u64,
 }
 
 impl<'a, R, G: Gate> Model for Engine<'a, R, G> {
@@ -81,7 +86,7 @@ impl<'a, R, G: Gate> Model for Engine<'a, R, G> {
 
     ghost Value = { AtRest };
 
-    ghost view = { λ e. record { held = e.memo; bound = G.bound e.runner.workspace.crew.now.gate.now } };
+    ghost view = { λ e. record { held = e.memo; bound = G.bound e.runner.workspace.crew.now.gate.now; expanded = e.expanded } };
 }
 
 impl<'a, R: Threads + Wait + Sync, G: Gate> Engine<'a, R, G> {
@@ -90,11 +95,13 @@ impl<'a, R: Threads + Wait + Sync, G: Gate> Engine<'a, R, G> {
         ensures empty { IfOk result (λ e. e.held.pairs ≡ []) }
         ensures right { IfOk result (λ e. (S : Nodes) → IsRight S e.held) }
         ensures bound { IfOk result (λ e. e.bound ≡ G.bound crew.entry.now.gate.now) }
+        ensures none { IfOk result (λ e. e.expanded ≡ 0) }
     {
         let memo = Memo::new(crew.alloc, CAPACITY)?;
         Ok(Engine {
             runner: Runner::new(crew),
             memo,
+            expanded: 0,
         })
     }
 
@@ -103,6 +110,7 @@ impl<'a, R: Threads + Wait + Sync, G: Gate> Engine<'a, R, G> {
         ensures empty { OnOk result (self.new.held.pairs ≡ []) }
         ensures right { OnOk result ((S : Nodes) → IsRight S self.new.held) }
         ensures bound { self.new.bound ≡ self.old.bound }
+        ensures expanded { self.new.expanded ≡ self.old.expanded }
         ensures refused { OnErr result (self.new ≡ self.old) }
     {
         self.memo = Memo::new(self.alloc(), CAPACITY)?;
@@ -112,6 +120,13 @@ impl<'a, R: Threads + Wait + Sync, G: Gate> Engine<'a, R, G> {
     /// Where the engine's memory is from.
     pub fn alloc(&self) -> Global {
         self.runner.workspace.alloc()
+    }
+
+    /// How many requests the waves that were done have expanded, modulo 2^64.
+    pub fn expanded(&self) -> u64
+        ensures { result ≡ self.now.expanded }
+    {
+        self.expanded
     }
 
     /// The diagram of each operation on its two operands.
@@ -132,11 +147,21 @@ impl<'a, R: Threads + Wait + Sync, G: Gate> Engine<'a, R, G> {
         ensures past { result ≡ Err WaveFault.TooManyRequests → ArePast self.old.bound store.old (unknown self.old.held entries.now) }
         ensures within_bound { most_of self.old.bound < 2 ^ 64 - 1 → OnOk result (AreAtMost (most_of self.old.bound) store.old (unknown self.old.held entries.now)) }
         ensures alone { most_of self.old.bound < 2 ^ 64 - 1 → result ≢ Err WaveFault.NoWorker }
+        ensures expanded { OnOk result (HaveExpanded store.old 1 (requests_of (unknown self.old.held entries.now)) self.old.expanded self.new.expanded) }
+        ensures memory { count_of store.old ≤ store.old.limit → result ≡ Err WaveFault.OutOfMemory → count_of store.new ≤ store.new.limit }
         ensures kept { IfOk result (λ answers. IsKeptWave self.old.held entries.now answers.items self.new.held) }
         ensures refused { OnErr result (self.new ≡ self.old) }
         ensures right { IsRight store.new self.new.held }
         ensures bound { self.new.bound ≡ self.old.bound }
     {
-        self.runner.wave(store, &mut self.memo, entries)
+        let before = self.runner.workspace.expanded();
+        match self.runner.wave(store, &mut self.memo, entries) {
+            Ok(answers) => {
+                let more = self.runner.workspace.expanded().wrapping_sub(before);
+                self.expanded = self.expanded.wrapping_add(more);
+                Ok(answers)
+            }
+            Err(fault) => Err(fault),
+        }
     }
 }

@@ -1,6 +1,6 @@
 //! What is handed to the workers at a wide level, and their answers.
 ghost use Rattle.std.specs.Prelude.{◌≡◌, ◌≢◌, ◌<◌, ◌≤◌, [], length, Err, All, IfOk, IfErr, OnOk, map, ◌+◌, ◌++◌};
-ghost use Rattle.dd_store.specs.Nodes.{IsSound};
+ghost use Rattle.dd_store.specs.Nodes.{IsSound, count_of};
 ghost use Rattle.expand_work.specs.Gathered.{HaveExpanded};
 ghost use Rattle.reduce_up.specs.Reducing.{AddsDescribed};
 ghost use Rattle.reduce_up.specs.Waves.{IsEntry, IsWanted, IsWaveFault};
@@ -76,7 +76,7 @@ fn put_answers(
 }
 
 /// Has the requests from a level on answered by the workers, in one wave, and puts the answers in their places. The workers work in
-/// the memory of an earlier wave as far as there is some. It answers how many requests they expanded, as far as they can be counted.
+/// the memory of an earlier wave as far as there is some. It answers how many requests they expanded.
 pub(crate) fn hand_over<R: Threads + Wait + Sync, G: Gate>(
     crew: &Crew<'_, R, G>,
     rooms: &mut Rooms,
@@ -96,6 +96,7 @@ pub(crate) fn hand_over<R: Threads + Wait + Sync, G: Gate>(
     ensures expanded { OnOk result (HaveExpanded store.old crew.now.workers.count (keys_from frontier.now.from frontier.now.requests.now) rooms.old rooms.new) }
     ensures fault { IfErr result (λ e. IsWaveFault store.old entries.now store.new e) }
     ensures unbounded { IfErr result (λ e. e ≢ WaveFault.TooManyRequests) }
+    ensures memory { count_of store.old ≤ store.old.limit → result ≡ Err WaveFault.OutOfMemory → count_of store.new ≤ store.new.limit }
     ensures idle { frontier.now.from ≡ store.old.levels → result ≢ Err WaveFault.NoWorker }
 {
     let _ = store.levels();
@@ -107,12 +108,13 @@ pub(crate) fn hand_over<R: Threads + Wait + Sync, G: Gate>(
     if asked.is_empty() {
         return Ok(0);
     }
+    let before = rooms.expanded();
     let found = match shared_wave(crew, store, asked, rooms) {
         Ok(found) => found,
         Err(fault) => return Err(fault),
     };
     match put_answers(answers, frontier.requests, frontier.from, found.as_slice()) {
-        Ok(()) => Ok(rooms.requests()),
+        Ok(()) => Ok(rooms.expanded().wrapping_sub(before) as usize),
         Err(_) => Err(WaveFault::OutOfMemory),
     }
 }

@@ -1,7 +1,7 @@
 //! Reduction, from the last level up: each request's answer is made of its children's, which are read by place.
-ghost use Rattle.std.specs.Prelude.{◌≡◌, ◌≢◌, ◌<◌, ◌≤◌, ℕ, length, All, IfErr, OnOk};
+ghost use Rattle.std.specs.Prelude.{◌≡◌, ◌≢◌, ◌<◌, ◌≤◌, ℕ, length, All, Err, IfErr, OnOk};
 ghost use Rattle.dd_store.specs.declared.reference.Ref.{Ref as RefValue};
-ghost use Rattle.dd_store.specs.Nodes.{IsSound};
+ghost use Rattle.dd_store.specs.Nodes.{IsSound, count_of};
 ghost use Rattle.expand_work.specs.Fault.{wave_fault as wave_fault_of};
 ghost use Rattle.reduce_up.specs.Reducing.{AddsDescribed};
 ghost use Rattle.reduce_up.specs.Waves.{IsWanted, IsWaveFault, IsEntry};
@@ -13,6 +13,7 @@ use crate::requests::Requests;
 use crate::workspace::Down;
 use dd_store::{Ref, Store, StoreFault};
 use expand_work::WaveFault;
+use reduce_up::first_fault;
 use req_table::{Op, Placed, PlacedChild};
 use std::mem;
 
@@ -92,6 +93,7 @@ pub(crate) fn reduce(
     ensures fault { IfErr result (λ e. IsWaveFault store.old entries.now store.new e) }
     ensures served { IfErr result (λ e. e ≢ WaveFault.NoWorker) }
     ensures unbounded { IfErr result (λ e. e ≢ WaveFault.TooManyRequests) }
+    ensures memory { result ≡ Err WaveFault.OutOfMemory → count_of store.new ≤ store.new.limit }
 {
     let _ = entries.len();
     let alloc = *answers.allocator();
@@ -100,14 +102,17 @@ pub(crate) fn reduce(
         // the level's own list is taken out, since the lists below it are read meanwhile
         let mut own = mem::replace(&mut answers[level as usize], Answers::new(alloc));
         let pairs = down.rows[level as usize].pairs();
-        reduce_level(
+        match reduce_level(
             store,
             &down.requests,
             pairs,
             answers.as_slice(),
             &mut own,
             level,
-        )?;
+        ) {
+            Ok(()) => {}
+            Err(fault) => return Err(first_fault(store, fault)),
+        }
         answers[level as usize] = own;
         if store.count() > store.limit() {
             return Err(WaveFault::Full);

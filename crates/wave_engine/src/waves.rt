@@ -1,6 +1,6 @@
 //! Waves: the diagrams of a list of operations (Ochi, Yasuoka and Yajima 1993).
 ghost use Rattle.std.specs.Prelude.{◌≡◌, ◌≢◌, ◌<◌, ◌≤◌, ◌-◌, ◌^◌, Err, All, IfOk, IfErr, OnOk, OnErr};
-ghost use Rattle.dd_store.specs.Nodes.{IsSound};
+ghost use Rattle.dd_store.specs.Nodes.{IsSound, count_of};
 ghost use Rattle.req_table.specs.Memos.{IsRight};
 ghost use Rattle.reduce_up.specs.Known.{unknown, IsKeptWave};
 ghost use Rattle.reduce_up.specs.Waves.{IsEntry, AnswersWave};
@@ -28,6 +28,7 @@ pub fn wave<R: Threads + Wait + Sync, G: Gate>(
     ensures past { result ≡ Err WaveFault.TooManyRequests → ArePast (G.bound crew.now.gate.now) store.old (unknown memo.old entries.now) }
     ensures within_bound { most_of (G.bound crew.now.gate.now) < 2 ^ 64 - 1 → OnOk result (AreAtMost (most_of (G.bound crew.now.gate.now)) store.old (unknown memo.old entries.now)) }
     ensures alone { most_of (G.bound crew.now.gate.now) < 2 ^ 64 - 1 → result ≢ Err WaveFault.NoWorker }
+    ensures memory { count_of store.old ≤ store.old.limit → result ≡ Err WaveFault.OutOfMemory → count_of store.new ≤ store.new.limit }
     ensures kept { IfOk result (λ answers. IsKeptWave memo.old entries.now answers.items memo.new) }
     ensures refused { OnErr result (memo.new ≡ memo.old) }
     ensures right { IsRight store.new memo.new }

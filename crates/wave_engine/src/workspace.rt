@@ -1,12 +1,13 @@
 //! Waves without a memo, and the memory that lasts from wave to wave.
-ghost use Rattle.std.specs.Prelude.{◌≡◌, ◌≢◌, ◌<◌, ◌≤◌, ◌-◌, ◌^◌, ℕ, length, Err, All, IfOk, IfErr, OnOk};
+ghost use Rattle.std.specs.Prelude.{◌≡◌, ◌≢◌, ◌<◌, ◌≤◌, ◌+◌, ◌-◌, ◌%◌, ◌^◌, ℕ, length, Err, All, IfOk, IfErr, OnOk};
 ghost use Rattle.std.specs.List.{AllZip};
 ghost use Rattle.dd_store.specs.declared.reference.Ref.{Ref as RefValue};
-ghost use Rattle.dd_store.specs.Nodes.{IsSound};
-ghost use Rattle.reduce_up.specs.Waves.{IsEntry, AnswersWave};
+ghost use Rattle.dd_store.specs.Nodes.{IsSound, count_of};
+ghost use Rattle.reduce_up.specs.Waves.{IsEntry, AnswersWave, requests_of};
 ghost use Rattle.expand_work.specs.Bounds.{most_of};
+ghost use Rattle.expand_work.specs.Gathered.{HaveExpanded};
 ghost use Rattle.wave_engine.specs.Bounds.{AreMoreThan, AreAtMost, ArePast};
-ghost use Rattle.wave_engine.specs.Down.{IsDown};
+ghost use Rattle.wave_engine.specs.Down.{IsDown, HaveSplit};
 ghost use Rattle.wave_engine.specs.Up.{ComesTo};
 
 use crate::down::{Limits, expand, place_roots};
@@ -16,7 +17,7 @@ use crate::requests::Requests;
 use crate::sizes::Sizes;
 use crate::up::{reduce, resolve};
 use dd_store::{Ref, Store};
-use expand_work::{Crew, Gate, WaveFault};
+use expand_work::{Crew, Gate, Splits, WaveFault};
 use reduce_up::Rooms;
 use req_table::{Op, Placed};
 use std::alloc::{AllocError, Global};
@@ -24,12 +25,13 @@ use std::sync::Wait;
 use std::thread::Threads;
 
 /// What a wave's expansion leaves: the requests by level, the children of each by place, and what the entries come to. A level
-/// without requests may have old children.
+/// without requests may have old children. All that are ever split for it are counted.
 #[derive(Drop)]
 pub(crate) struct Down {
     pub(crate) requests: Requests,
     pub(crate) rows: Vec<Row>,
     pub(crate) roots: Vec<Placed>,
+    pub(crate) splits: Splits,
 }
 
 /// Makes a row for each level.
@@ -74,6 +76,7 @@ fn go_down(
 ) -> Result<u16, WaveFault>
     requires operands { All (IsEntry store.now) entries.now }
     ensures down { IfOk result (λ v. IsDown store.now entries.now v down.new.requests down.new.rows.items down.new.roots.items answers.new.items) }
+    ensures split { IfOk result (λ v. HaveSplit store.now entries.now down.new.requests v down.old.splits down.new.splits) }
     ensures alone { limits.level ≡ 2 ^ 64 - 1 → IfOk result (λ v. v ≡ store.now.levels) }
     ensures refused { IfErr result (λ e. e ≢ WaveFault.Full) }
     ensures served { IfErr result (λ e. e ≢ WaveFault.NoWorker) }
@@ -87,30 +90,7 @@ fn go_down(
     fit_answers(alloc, answers, levels)?;
     down.roots.clear();
     place_roots(store, entries, &mut down.requests, &mut down.roots)?;
-    expand(
-        store,
-        entries,
-        &mut down.requests,
-        &mut down.rows,
-        down.roots.as_slice(),
-        limits,
-    )
-}
-
-/// Tells the gate how many requests the caller's thread has expanded, those of the levels in front of one, and answers it.
-fn tell_requests<G: Gate>(gate: &G, requests: &Requests, from: u16) -> usize {
-    let mut told: usize = 0;
-    let mut level = 0;
-    while let Some(next) = requests.next_level(level) {
-        if next >= from {
-            return told;
-        }
-        let count = requests.count(next);
-        gate.at_requests(count);
-        told = told.saturating_add(count);
-        level = next + 1;
-    }
-    told
+    expand(store, entries, down, limits)
 }
 
 /// The answers of the roots.
@@ -134,10 +114,10 @@ fn root_answers(
 #[derive(Drop)]
 pub(crate) struct Workspace<'a, R, G> {
     pub(crate) crew: &'a Crew<'a, R, G>,
-    down: Down,
+    pub(crate) down: Down,
     answers: Vec<Answers>,
     /// The memory of the workers.
-    rooms: Rooms,
+    pub(crate) rooms: Rooms,
     /// How large the waves before were, of those that came to be reduced.
     sizes: Sizes,
 }
@@ -154,6 +134,7 @@ impl<'a, R: Threads + Wait + Sync, G: Gate> Workspace<'a, R, G> {
                 requests: Requests::new(alloc),
                 rows: Vec::new(alloc),
                 roots: Vec::new(alloc),
+                splits: Splits::new(),
             },
             answers: Vec::new(alloc),
             rooms: Rooms::new(alloc),
@@ -164,6 +145,15 @@ impl<'a, R: Threads + Wait + Sync, G: Gate> Workspace<'a, R, G> {
     /// Where its memory is from.
     pub(crate) fn alloc(&self) -> Global {
         self.crew.alloc
+    }
+
+    /// How many requests were expanded in all its waves, by the caller's thread and by workers.
+    pub(crate) fn expanded(&self) -> u64
+        ensures { result ≡ (self.now.down.splits + self.now.rooms) % 2 ^ 64 }
+    {
+        self.rooms
+            .expanded()
+            .wrapping_add(self.down.splits.count() as u64)
     }
 
     /// The diagram of each operation on its two operands.
@@ -182,6 +172,8 @@ impl<'a, R: Threads + Wait + Sync, G: Gate> Workspace<'a, R, G> {
         ensures past { result ≡ Err WaveFault.TooManyRequests → ArePast (G.bound self.old.crew.now.gate.now) store.old entries.now }
         ensures within_bound { most_of (G.bound self.old.crew.now.gate.now) < 2 ^ 64 - 1 → OnOk result (AreAtMost (most_of (G.bound self.old.crew.now.gate.now)) store.old entries.now) }
         ensures alone { most_of (G.bound self.old.crew.now.gate.now) < 2 ^ 64 - 1 → result ≢ Err WaveFault.NoWorker }
+        ensures expanded { OnOk result (HaveExpanded store.old 1 (requests_of entries.now) (self.old.down.splits + self.old.rooms) (self.new.down.splits + self.new.rooms)) }
+        ensures memory { count_of store.old ≤ store.old.limit → result ≡ Err WaveFault.OutOfMemory → count_of store.new ≤ store.new.limit }
         ensures gate { self.new.crew.now.gate ≡ self.old.crew.now.gate }
     {
         let _ = store.levels();
@@ -190,6 +182,7 @@ impl<'a, R: Threads + Wait + Sync, G: Gate> Workspace<'a, R, G> {
             level: self.crew.most_alone(self.sizes.expected()),
             wave: self.crew.gate.most_requests(),
         };
+        let before = self.down.splits.count();
         let from = go_down(
             alloc,
             store,
@@ -198,7 +191,8 @@ impl<'a, R: Threads + Wait + Sync, G: Gate> Workspace<'a, R, G> {
             &mut self.answers,
             limits,
         )?;
-        let alone = tell_requests(self.crew.gate, &self.down.requests, from);
+        let alone = self.down.splits.count().wrapping_sub(before);
+        self.crew.gate.at_requests(alone);
         let frontier = Frontier {
             requests: &self.down.requests,
             from,

@@ -1,6 +1,7 @@
-use Rattle.std.proofs.Common.{◌≡◌, ◌∙◌, sym, subst, refl, inr, Some}
+use Rattle.std.proofs.Common.{◌≡◌, ◌∙◌, ap, sym, subst, refl, inr, Some}
 use Rattle.net_order.specs.declared.order.Order.TheVariants as orders
 use Rattle.std.proofs.lemmas.Bool.{true≢false}
+use Rattle.report_text.specs.Lines.{Found}
 use Rattle.check_report.specs.declared.choice.Attempt.{Attempt}
 use Rattle.check_report.specs.declared.choice.Candidate.TheVariants.{Declared}
 use Rattle.check_report.specs.declared.choice.Choice.TheVariants.{Auto}
@@ -63,3 +64,6 @@ pub returns-clause-only : goal.returns-clause-only
 returns-clause-only g c = λ told ga e.
     let same : c.in-Err-find_attempt.fault ≡ Only = cc in
     absurd (c.in-Err-find_attempt.ensures.ends.only same)
+
+pub returns-in-Ok-find_attempt-clause-names : goal.returns-in-Ok-find_attempt-clause-names
+returns-in-Ok-find_attempt-clause-names g c = ap (λ (f : Found). f.variables) c.of.ensures ∙ c.in-Ok.ensures.paired.names

@@ -1,4 +1,4 @@
-use Rattle.std.proofs.Common.{◌≡◌, ap, Err}
+use Rattle.std.proofs.Common.{◌≡◌, ◌∙◌, ap, Err}
 use Rattle.net_bench.specs.Circuit.{circuit}
 use Rattle.check_report.specs.declared.fault.CheckFault.TheVariants.{Only}
 use Rattle.check_report.proofs.Findings.{cones_end, cones_fault, found_by_cones}
@@ -17,3 +17,6 @@ returns-in-Err-clause-only g c = λ told ga e.
 
 pub returns-in-Err-clause-ends : goal.returns-in-Err-clause-ends
 returns-in-Err-clause-ends g c = cones_end c.in-Err.fault c.in-Err.ensures.ends
+
+pub returns-in-Ok-clause-names : goal.returns-in-Ok-clause-names
+returns-in-Ok-clause-names g c = c.in-Ok.ensures.told.verdicts.variables ∙ c.requires.pairing.names

@@ -1,7 +1,8 @@
-use Rattle.std.proofs.Common.{◌≡◌, ap, sym, subst, refl, Err}
+use Rattle.std.proofs.Common.{◌≡◌, ◌∙◌, ap, sym, subst, refl, Err}
 use Rattle.net_bench.specs.Circuit.{circuit}
 use Rattle.net_order.specs.Order.{condition}
 use Rattle.expand_work.specs.declared.fault.WaveFault.TheVariants.{Full, TooManyRequests}
+use Rattle.report_text.specs.Lines.{Found}
 use Rattle.check_report.specs.declared.fault.CheckFault.TheVariants.{Wave}
 use Rattle.check_report.specs.Limits.{AreBeyond}
 use Rattle.check_report.proofs.Reporting.{late_fault}
@@ -45,3 +46,6 @@ returns-in-Err-compare-clause-past g c = λ told ga e.
 
 pub returns-in-Err-clause-fault : goal.returns-in-Err-clause-fault
 returns-in-Err-clause-fault g c = λ told ga. (c.args.order.now, refl, c.in-Err.ensures.fault told ga)
+
+pub returns-in-Ok-compare-clause-names : goal.returns-in-Ok-compare-clause-names
+returns-in-Ok-compare-clause-names g c = ap (λ (f : Found). f.variables) c.of.ensures ∙ c.in-Ok.ensures.paired.names

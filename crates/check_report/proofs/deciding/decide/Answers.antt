@@ -1,5 +1,5 @@
 use Rattle.std.proofs.Common.{refl, subst, sym}
-use Rattle.check_report.specs.Best.{IsAllowed, MayGoByCones}
+use Rattle.check_report.specs.Best.{IsAllowed, MayGoByCones, NamesOrder}
 use Rattle.net_order.specs.declared.order.Order.TheVariants as orders
 use Rattle.check_report.proofs.Findings.{allowed_fault, found_in_order, never_full, never_given_up, never_past, never_served, never_written}
 use Rattle.check_report.proofs.Printing.{never_tried}
@@ -31,6 +31,9 @@ returns-in-One-clause-by_cones g c = λ may. absurd (subst MayGoByCones c.in-One
 pub returns-in-One-clause-only : goal.returns-in-One-clause-only
 returns-in-One-clause-only g c = λ told ga e. absurd (c.by_order.ensures.others e)
 
+pub returns-in-One-clause-hired : goal.returns-in-One-clause-hired
+returns-in-One-clause-hired g c = λ _. subst NamesOrder (sym c.in-One.is) tt
+
 -- ---- the best
 
 pub returns-in-Best-clause-found : goal.returns-in-Best-clause-found
@@ -53,6 +56,9 @@ returns-in-Best-clause-by_cones g c = λ may. absurd (subst MayGoByCones c.in-Be
 
 pub returns-in-Best-clause-only : goal.returns-in-Best-clause-only
 returns-in-Best-clause-only g c = λ told ga e. absurd (c.by_best.ensures.others e)
+
+pub returns-in-Best-clause-hired : goal.returns-in-Best-clause-hired
+returns-in-Best-clause-hired g c = λ e. absurd (c.by_best.ensures.alone e)
 
 -- ---- small budgets, then cones
 
@@ -80,6 +86,9 @@ returns-in-Auto-clause-passed g c = λ told ga. rw c.in-Auto.is (c.by_auto.ensur
 pub returns-in-Auto-clause-alone : goal.returns-in-Auto-clause-alone
 returns-in-Auto-clause-alone g c = λ _. never_served c.by_auto.result c.by_auto.ensures.ends
 
+pub returns-in-Auto-clause-hired : goal.returns-in-Auto-clause-hired
+returns-in-Auto-clause-hired g c = λ e. absurd (never_served c.by_auto.result c.by_auto.ensures.ends e)
+
 -- ---- cones
 
 pub returns-in-Cones-clause-full : goal.returns-in-Cones-clause-full
@@ -106,3 +115,18 @@ returns-in-Cones-clause-passed g c = λ told ga. never_tried _ c.by_each.result 
 
 pub returns-in-Cones-clause-alone : goal.returns-in-Cones-clause-alone
 returns-in-Cones-clause-alone g c = λ _. never_served c.by_each.result c.by_each.ensures.ends
+
+pub returns-in-Cones-clause-hired : goal.returns-in-Cones-clause-hired
+returns-in-Cones-clause-hired g c = λ e. absurd (never_served c.by_each.result c.by_each.ensures.ends e)
+
+pub returns-in-One-clause-names : goal.returns-in-One-clause-names
+returns-in-One-clause-names g c = rw c.in-One.is c.by_order.ensures.names
+
+pub returns-in-Best-clause-names : goal.returns-in-Best-clause-names
+returns-in-Best-clause-names g c = rw c.in-Best.is c.by_best.ensures.names
+
+pub returns-in-Auto-clause-names : goal.returns-in-Auto-clause-names
+returns-in-Auto-clause-names g c = rw c.in-Auto.is c.by_auto.ensures.names
+
+pub returns-in-Cones-clause-names : goal.returns-in-Cones-clause-names
+returns-in-Cones-clause-names g c = rw c.in-Cones.is c.by_each.ensures.names

@@ -1,5 +1,6 @@
-use Rattle.std.proofs.Common.{◌≡◌, ap, refl, inr, Err}
+use Rattle.std.proofs.Common.{◌≡◌, ◌∙◌, ap, refl, inr, Err}
 use Rattle.expand_work.specs.declared.fault.WaveFault.TheVariants.{Full}
+use Rattle.report_text.specs.Lines.{Found}
 use Rattle.check_report.specs.declared.fault.CheckFault.TheVariants.{Wave, GivenUp}
 use Rattle.check_report.specs.Best.{order_of}
 use Rattle.check_report.proofs.Rounds.{judged, told_before, told_full, told_passed, within}
@@ -27,3 +28,6 @@ pub returns-in-Err-clause-given_up : goal.returns-in-Err-clause-given_up
 returns-in-Err-clause-given_up g c = λ told ga e k.
     let same : c.in-Err.fault ≡ GivenUp = cc in
     told_passed c.args.task.now told ga c.args.task.now.settings.now.limit (g.G.Gate.bound c.args.gate.now) k (c.in-Err.ensures.given_up (inr same) c.args.task.now.settings.now.limit (inr refl) k)
+
+pub returns-in-Ok-clause-names : goal.returns-in-Ok-clause-names
+returns-in-Ok-clause-names g c = ap (λ (f : Found). f.variables) c.of.ensures ∙ c.in-Ok.ensures.decided.paired.names

@@ -1,7 +1,8 @@
-use Rattle.std.proofs.Common.{◌≡◌, ap, subst, Err}
+use Rattle.std.proofs.Common.{◌≡◌, ap, inr, subst, Err}
 use Rattle.std.specs.Io.KnownBytes.{Appends}
 use Rattle.report_text.specs.Writing.{AppendsFront}
-use Rattle.check_report.specs.declared.fault.CheckFault.TheVariants.{GivenUp, Only}
+use Rattle.expand_work.specs.declared.fault.WaveFault.TheVariants.{NoWorker}
+use Rattle.check_report.specs.declared.fault.CheckFault.TheVariants.{GivenUp, Only, Wave}
 use Rattle.check_report.proofs.Trying.{found_accepted}
 use Rattle.check_report.proofs.judging.check.Goals as goal
 
@@ -9,7 +10,7 @@ pub returns-in-Ok-write_whole-clause-report : goal.returns-in-Ok-write_whole-cla
 returns-in-Ok-write_whole-clause-report g c = (c.in-Ok.text.items, c.in-Ok.ensures.report, subst (Appends _ _) c.as_slice.ensures.value c.in-Ok-write_whole.ensures.ok)
 
 pub returns-clause-fault : goal.returns-clause-fault
-returns-clause-fault g c = found_accepted _ _ _ _ _ c.in-Ok.ensures.report.by
+returns-clause-fault g c = inr (found_accepted _ _ _ _ _ c.in-Ok.ensures.report.by)
 
 pub returns-clause-unwritten : goal.returns-clause-unwritten
 returns-clause-unwritten g c = λ _.
@@ -24,3 +25,8 @@ pub returns-in-Err-clause-only : goal.returns-in-Err-clause-only
 returns-in-Err-clause-only g c = λ e.
     let same : c.in-Err.fault ≡ Only = cc in
     c.in-Err.ensures.only (ap Err same)
+
+pub returns-in-Err-clause-hired : goal.returns-in-Err-clause-hired
+returns-in-Err-clause-hired g c = λ e.
+    let same : c.in-Err.fault ≡ Wave NoWorker = cc in
+    c.in-Err.ensures.hired (ap Err same)

@@ -1,7 +1,7 @@
 use Rattle.std.proofs.Common.{refl, subst, sym}
 use Rattle.net_order.specs.declared.order.Order.TheVariants as orders
 use Rattle.check_report.specs.declared.choice.Candidate.TheVariants.{Declared}
-use Rattle.check_report.specs.Best.{IsAllowed}
+use Rattle.check_report.specs.Best.{IsAllowed, MayGoByCones}
 use Rattle.check_report.proofs.Findings.{allowed_fault}
 use Rattle.check_report.proofs.Printing.{never_tried}
 use Rattle.check_report.proofs.listing.text_for.Goals as goal
@@ -43,3 +43,12 @@ returns-in-Cones-clause-fault g c = λ told ga.
 
 pub returns-in-Cones-clause-passed : goal.returns-in-Cones-clause-passed
 returns-in-Cones-clause-passed g c = λ told ga. never_tried _ c.cones_text.result c.cones_text.ensures.untried
+
+pub returns-in-One-clause-by_cones : goal.returns-in-One-clause-by_cones
+returns-in-One-clause-by_cones g c = λ may. absurd (subst MayGoByCones c.in-One.is may)
+
+pub returns-in-Best-clause-by_cones : goal.returns-in-Best-clause-by_cones
+returns-in-Best-clause-by_cones g c = λ may. absurd (subst MayGoByCones c.in-Best.is may)
+
+pub returns-in-Best-clause-passed : goal.returns-in-Best-clause-passed
+returns-in-Best-clause-passed g c = λ told ga. rw c.in-Best.is (c.best_text.ensures.passed told ga)

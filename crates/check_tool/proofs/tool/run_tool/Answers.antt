@@ -4,7 +4,7 @@ use Rattle.check_tool.specs.declared.done.Done.{Done}
 use Rattle.check_report.specs.declared.fault.CheckFault.TheVariants.{Write}
 use Rattle.check_tool.specs.declared.fault.ToolFault.{ToolFault}
 use Rattle.check_tool.specs.declared.fault.ToolFault.TheVariants.{Check, OutOfMemory}
-use Rattle.check_tool.proofs.Composing.{keeps_own, asked_or, extends_more}
+use Rattle.check_tool.proofs.Composing.{keeps_own, asked_or, extends_more, neither}
 use Rattle.check_tool.proofs.tool.run_tool.Goals as goal
 
 -- the fault of an answer that has one
@@ -22,7 +22,12 @@ returns-in-Ok-run_options-clause-ending g c =
         record {
           report = c.in-Ok-run_options.ensures.report;
           opened_all = c.in-Ok-run_options.ensures.opened;
-          said = c.tell.ensures.said;
+          passed = c.in-Ok-run_options.ensures.passed;
+          said = (
+            record { holds = g.E.Sink.contents c.run_options.new.errors; has_failed = g.E.Sink.has_failed c.run_options.new.errors; has_stopped = g.E.Sink.has_stopped c.run_options.new.errors },
+            c.run_options.ensures.progress,
+            c.tell.ensures.said,
+          );
           code = c.status_of_done.ensures.status;
         },
       ),
@@ -47,14 +52,18 @@ returns-clause-ending g c =
           unread = λ e. c.run_options.ensures.read (c.in-Err-run_options.is ∙ ap Err e);
           full = λ e. c.run_options.ensures.full (c.in-Err-run_options.is ∙ ap Err e);
           given_up = λ e. c.run_options.ensures.given_up (c.in-Err-run_options.is ∙ ap Err e);
-          in_no_order = λ auto e. c.run_options.ensures.in_no_order auto (c.in-Err-run_options.is ∙ ap Err e);
           by_cones = λ may. (
             λ e. (c.run_options.ensures.by_cones may).0 (c.in-Err-run_options.is ∙ ap Err e),
             λ e. (c.run_options.ensures.by_cones may).1 (c.in-Err-run_options.is ∙ ap Err e),
           );
-          only = λ compared e. c.run_options.ensures.only compared (c.in-Err-run_options.is ∙ ap Err e);
+          hired = λ e. c.run_options.ensures.hired (c.in-Err-run_options.is ∙ ap Err e);
+          only = λ e. c.run_options.ensures.only (c.in-Err-run_options.is ∙ ap Err e);
           unbounded = λ e. c.run_options.ensures.unbounded (c.in-Err-run_options.is ∙ ap Err e);
-          line = rw (← c.run_options.ensures.kept) c.refuse_run.ensures.said;
+          line = (
+            record { holds = g.E.Sink.contents c.run_options.new.errors; has_failed = g.E.Sink.has_failed c.run_options.new.errors; has_stopped = g.E.Sink.has_stopped c.run_options.new.errors },
+            c.run_options.ensures.progress,
+            rw (← c.run_options.ensures.kept) c.refuse_run.ensures.said,
+          );
           front = λ e. c.run_options.ensures.unwritten (c.in-Err-run_options.is ∙ ap Err e);
           nothing = λ other.
               let same = subst (λ r. OnErr r (r ≢ Err (Check Write) → c.run_options.new.out ≡ c.args.out.now)) c.in-Err-run_options.is c.run_options.ensures.untouched (λ e. other (ap fault_in e)) in
@@ -66,4 +75,6 @@ returns-clause-ending g c =
 
 pub returns-in-Ok-run_options-clause-silent : goal.returns-in-Ok-run_options-clause-silent
 returns-in-Ok-run_options-clause-silent g c =
-    asked_or c.in-Ok.options.verbose (λ e. (c.in-Ok.options, c.in-Ok.ensures.options, e)) (λ e low. c.tell.ensures.silent e)
+    let verbose = c.in-Ok.options.verbose in
+    let seen = g.E.Screen.seen c.args.errors.now in
+    asked_or verbose (λ e. (c.in-Ok.options, c.in-Ok.ensures.options, e)) (λ e. asked_or seen (λ s. s) (λ s low. c.tell.ensures.silent e ∙ c.run_options.ensures.silent (neither verbose seen e s)))

@@ -9,4 +9,4 @@ invariant-loop-key l =
     ((l.row.items ≡ lean_row l.workers (records_of l.store (take l.key-index l.keys)))
     × (length l.due ≡ l.workers)
     × ((k : ℕ) → k < l.workers → at l.due k ≡ with_levels l.store (filter (owned_by l.workers k) (asked_by (records_of l.store (take l.key-index l.keys))))))
-    × (l.splits.count ≡ l.key-index)
+    × (l.splits ≡ l.key-index)

@@ -1,8 +1,11 @@
-use Rattle.std.proofs.Common.{refl, sym, arith, ◌∙◌, ◌≡◌, [], List, length, ap, subst, get_or}
+use Rattle.std.proofs.Common.{rules, refl, sym, arith, ◌≤◌, Err, ◌∙◌, ◌≡◌, [], List, length, ap, subst, get_or}
 use Rattle.std.proofs.lemmas.Result.{err_from_is_err_and}
 use Rattle.dd_store.specs.declared.reference.Ref.{Ref}
 use Rattle.net_order.specs.Order.{first_level, second_level}
 use Rattle.gate_plan.specs.Building.{AreDiagrams, circuits_of}
+use Rattle.dd_store.specs.Nodes.{Nodes, count_of}
+use Rattle.expand_work.specs.declared.fault.WaveFault.TheVariants.{OutOfMemory}
+use Rattle.gate_plan.proofs.Asked.{within_kept}
 use Rattle.gate_plan.proofs.Finished.{begun_lent, ranks_needed, ranks_fault, ranks_within, ranks_diagrams, ranks_need}
 use Rattle.gate_plan.proofs.Needed.{variables_needed, variables_fault}
 use Rattle.gate_plan.proofs.Pairs.{given_diagrams}
@@ -149,3 +152,14 @@ returns-clause-given g c =
     (λ l lt at.
     subst (λ (z : List (List Ref)). AreDiagrams l.netlist l.level U (get_or z 2 [])) (sym whole)
     (ranks_diagrams p S T U c.requires.levels c.begin.ensures.sound c.begin.ensures.adds sides built begun c.build_all.ensures.adds new right 2 l lt at))
+
+pub returns-in_err-begun-clause-memory : goal.returns-in_err-begun-clause-memory
+returns-in_err-begun-clause-memory g c = λ old _. within_kept c.args.store.now c.begin.new.store c.begin.ensures.within old
+
+pub returns-in_err-build_all-clause-memory : goal.returns-in_err-build_all-clause-memory
+returns-in_err-build_all-clause-memory g c =
+    let O : Nodes = c.args.store.now in
+    let T : Nodes = c.build_all.new.store in
+    let memory : count_of O ≤ O.limit → c.build_all.result ≡ Err OutOfMemory → count_of T ≤ T.limit = λ old.
+    c.build_all.ensures.memory (within_kept O c.begin.new.store c.begin.ensures.within old) in
+    search (rules, memory)

@@ -1,10 +1,12 @@
-use Rattle.std.proofs.Common.{refl, inr, ◌∙◌, arith, ◌≤◌}
+use Rattle.std.proofs.Common.{rules, refl, inr, ◌≡◌, ◌∙◌, arith, ◌≤◌, Err}
+use Rattle.dd_store.specs.Nodes.{Nodes, count_of}
+use Rattle.expand_work.specs.declared.fault.WaveFault.TheVariants.{OutOfMemory}
 use Rattle.gate_plan.specs.Building.{input_level, folds_at}
 use Rattle.gate_plan.specs.Need.{IsCounted}
 use Rattle.gate_plan.specs.Needing.{IsPlacedValue}
 use Rattle.gate_plan.specs.Asking.{AnyAsksAt}
 use Rattle.gate_plan.specs.Plans.{plan_copies, plan_folds}
-use Rattle.gate_plan.proofs.Asked.{none_unasked, next_unasked, rank_unasked}
+use Rattle.gate_plan.proofs.Asked.{none_unasked, next_unasked, rank_unasked, still_within, within_kept}
 use Rattle.gate_plan.proofs.Counted.{adds_same, adds_next}
 use Rattle.gate_plan.proofs.Ranks.{below_greatest}
 use Rattle.gate_plan.proofs.Running.{copies_fit, all_copied, rank_right}
@@ -54,3 +56,11 @@ returns-clause-next g c = (
 pub returns-clause-within : goal.returns-clause-within
 returns-clause-within g c =
     rank_unasked c.args.sides.now c.args.store.now c.loop-fold.store c.args.rank c.loop-fold.fold (λ one there. let most = below_greatest (folds_at c.args.rank) c.args.sides.now one there in let top = c.most_folds-fold-end.ensures in omega arith) c.loop-fold.invariant.within
+
+pub returns-in_err-build_fold-clause-memory : goal.returns-in_err-build_fold-clause-memory
+returns-in_err-build_fold-clause-memory g c =
+    let O : Nodes = c.args.store.now in
+    let T : Nodes = c.build_fold.new.store in
+    let memory : count_of O ≤ O.limit → c.build_fold.result ≡ Err OutOfMemory → count_of T ≤ T.limit = λ old.
+    c.build_fold.ensures.memory (within_kept O c.loop-fold.store (still_within O c.loop-fold.store _ c.loop-fold.invariant.within) old) in
+    search (rules, memory)

@@ -1,10 +1,12 @@
-use Rattle.std.proofs.Common.{refl, inr, arith, ◌∙◌, ◌≡◌, ◌+◌, map, subst}
+use Rattle.std.proofs.Common.{rules, refl, inr, arith, ◌∙◌, ◌≡◌, ◌+◌, ◌≤◌, map, subst, Err}
+use Rattle.dd_store.specs.Nodes.{Nodes, count_of}
+use Rattle.expand_work.specs.declared.fault.WaveFault.TheVariants.{OutOfMemory}
 use Rattle.net_bench.specs.Circuit.{greatest}
 use Rattle.gate_plan.specs.Building.{AllRight, ranks_of}
 use Rattle.gate_plan.specs.Need.{IsCounted}
 use Rattle.gate_plan.specs.Needing.{IsPlacedValue}
 use Rattle.gate_plan.specs.Asking.{AnyAsksIn, AnyAsksBelow, IsWithinOrUnasked}
-use Rattle.gate_plan.proofs.Asked.{none_unasked, next_unasked}
+use Rattle.gate_plan.proofs.Asked.{none_unasked, next_unasked, still_within, within_kept}
 use Rattle.gate_plan.proofs.Counted.{adds_same, adds_next}
 use Rattle.gate_plan.proofs.building.build_ranks.Goals as goal
 
@@ -41,3 +43,11 @@ pub returns-clause-within : goal.returns-clause-within
 returns-clause-within g c =
     let all : c.loop-below.below ≡ greatest (map ranks_of c.args.sides.now) = omega (arith, c.last_rank-ranks.ensures) in
     subst (λ n. IsWithinOrUnasked (AnyAsksBelow c.args.sides.now c.loop-below.store n) c.args.store.now c.loop-below.store) all c.loop-below.invariant.within
+
+pub returns-in_err-build_rank-clause-memory : goal.returns-in_err-build_rank-clause-memory
+returns-in_err-build_rank-clause-memory g c =
+    let O : Nodes = c.args.store.now in
+    let T : Nodes = c.build_rank.new.store in
+    let memory : count_of O ≤ O.limit → c.build_rank.result ≡ Err OutOfMemory → count_of T ≤ T.limit = λ old.
+    c.build_rank.ensures.memory (within_kept O c.loop-below.store (still_within O c.loop-below.store _ c.loop-below.invariant.within) old) in
+    search (rules, memory)

@@ -1,4 +1,5 @@
-use Rattle.std.proofs.Common.{inl, ◌<◌, length, sym, ap, ◌∙◌, subst, arith}
+use Rattle.std.proofs.Common.{◌≡◌, inl, inr, ◌<◌, length, sym, ap, ◌∙◌, subst, arith}
+use Rattle.std.proofs.lemmas.Bool.{cases_lt}
 use Rattle.std.proofs.lemmas.List.{length-set}
 use Rattle.dd_store.specs.Nodes.{count_of}
 use Rattle.expand_work.specs.declared.fault.WaveFault.TheVariants.{Full}
@@ -37,10 +38,24 @@ pub returns-in-Err-clause-row : goal.returns-in-Err-clause-row
 returns-in-Err-clause-row g c =
     let n = c.args.field.workers in let p = c.args.field.parts.now in let a = c.args.progress.now.answers in
     let T = told n p a in let row = team_row n p c.args.level in
-    row_given_up c.args.store.now T c.args.level row 0 c.level_answers.new.store T c.from.result
-    (added c.args.store.now T c.args.level row c.requires.ready.held c.requires.ready.answers c.requires.ready.row c.level_answers.new.store c.level_answers.ensures.sound c.level_answers.ensures.adds)
-    (subst (IsRowFault c.level_answers.new.store c.args.level row) (sym c.from.ensures)
-    (refused c.args.store.now T c.args.level row c.requires.ready.held c.requires.ready.answers c.requires.ready.row c.level_answers.new.store c.level_answers.ensures.sound c.level_answers.ensures.adds c.in-Err.fault c.in-Err.ensures.fault))
+    let u = c.level_answers.new.store in
+    let most = c.level_size.ensures.most in
+    let some = c.if-level_size-eq0.false in
+    row_given_up c.args.store.now T c.args.level row 0 u T c.first_fault.result
+    (added c.args.store.now T c.args.level row c.requires.ready.held c.requires.ready.answers c.requires.ready.row u c.level_answers.ensures.sound c.level_answers.ensures.adds)
+    (elim (cases_lt u.limit (count_of u)) [
+      | inl over ↦ subst (IsRowFault u c.args.level row) (sym (c.first_fault.ensures.past over)) (row_over u c.args.level row (grind (arith, most, some)) over)
+      | inr fits ↦ subst (IsRowFault u c.args.level row) (sym (c.first_fault.ensures.within fits ∙ c.from.ensures))
+          (refused c.args.store.now T c.args.level row c.requires.ready.held c.requires.ready.answers c.requires.ready.row u c.level_answers.ensures.sound c.level_answers.ensures.adds c.in-Err.fault c.in-Err.ensures.fault)
+    ])
+
+pub returns-in-Err-clause-memory : goal.returns-in-Err-clause-memory
+returns-in-Err-clause-memory g c = λ e.
+    let u = c.level_answers.new.store in
+    elim (cases_lt u.limit (count_of u)) [
+      | inl over ↦ absurd (let full : c.first_fault.result ≡ Full = c.first_fault.ensures.past over in cc)
+      | inr fits ↦ fits
+    ]
 
 pub returns-then-count-limit-clause-row : goal.returns-then-count-limit-clause-row
 returns-then-count-limit-clause-row g c =

@@ -7,7 +7,7 @@ use Rattle.reduce_up.proofs.Rooted.{entries_good, requests_again, taken_each}
 use Rattle.reduce_up.proofs.Rooting.{team_closure, roots_left}
 use Rattle.reduce_up.specs.Reducing.{AddsDescribed}
 use Rattle.reduce_up.specs.Waves.{IsWanted, entries_for}
-use Rattle.reduce_up.proofs.Waving.{wave_records, wave_adds, wave_answers, wave_within, wave_refused, wave_given_up, wave_done}
+use Rattle.reduce_up.proofs.Waving.{wave_records, wave_adds, wave_answers, wave_within, wave_refused, wave_given_up, wave_done, within_still}
 use Rattle.reduce_up.proofs.waves.answer_team.Goals as goal
 
 pub reduce_team-requires-clause-records : goal.reduce_team-requires-clause-records
@@ -74,3 +74,15 @@ returns-in_default-root_answers-clause-wave g c =
     let adds : AddsDescribed S c.reduce_team.new.store (IsWanted S E) =
     wave_adds S c.levels.ensures.sound n c.requires.some E operands rows closure c.reduce_team.new.store c.reduce_team.ensures.sound c.reduce_team.ensures.adds in
     wave_given_up S E E c.reduce_team.new.store _ c.reduce_team.ensures.sound adds tt
+
+pub returns-in_default-root_answers-clause-memory : goal.returns-in_default-root_answers-clause-memory
+returns-in_default-root_answers-clause-memory g c = λ old _.
+    let S = c.args.store.now in let f = c.args.field in let n = f.workers in let p = f.parts.now in
+    let rows = gathered S.levels (team_row n p) in
+    let good = c.requires.roots in
+    let E = entries_for f.roots.now in
+    let operands = entries_good S f.roots.now good in
+    let again = sym (requests_again S f.roots.now good) in
+    let closure = team_closure S c.levels.ensures.sound n c.requires.some f.roots.now good p c.requires.parts E again in
+    within_still S E c.reduce_team.new.store
+    (wave_within S c.levels.ensures.sound n c.requires.some E operands rows closure c.reduce_team.new.store c.reduce_team.ensures.sound c.reduce_team.ensures.adds c.in-Ok-reduce_team.ensures.within) old

@@ -7,8 +7,8 @@ abbrev pub invariant-loop-next : goal.invariant-loop-next
 invariant-loop-next l = record {
   bound : l.level ≤ l.store.levels;
   few : l.store.levels < 2 ^ 16;
-  counted : l.limits.wave < 2 ^ 64 - 1 → IsCounted l.store l.entries l.requests l.limits.wave l.left l.level;
-  expanded : AreExpanded l.store l.entries l.roots l.level l.requests l.rows.items;
+  counted : IsCounted l.store l.entries l.down.requests l.limits.wave l.left l.fn.down.splits l.down.splits l.level;
+  expanded : AreExpanded l.store l.entries l.down.roots.items l.level l.down.requests l.down.rows.items;
 }
 
 abbrev pub decreases-loop-next : goal.decreases-loop-next

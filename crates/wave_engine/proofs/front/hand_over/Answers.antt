@@ -5,6 +5,7 @@ use Rattle.dd_store.specs.declared.reference.Ref.{Ref}
 use Rattle.dd_store.specs.Nodes.{IsDiagram, count_of}
 use Rattle.reduce_up.specs.Reducing.{AddsDescribed}
 use Rattle.reduce_up.specs.Waves.{Entry, entry_value, entries_for, IsWanted, AnswersEach, IsWithinLimit, IsWaveFault}
+use Rattle.reduce_up.proofs.Waving.{within_still}
 use Rattle.wave_engine.specs.Front.{keys_from, ArePut}
 use Rattle.req_table.specs.Keys.{IsKey}
 use Rattle.req_table.specs.declared.Key.{Key}
@@ -91,3 +92,6 @@ returns-then-is_empty-clause-expanded g c =
 pub returns-in-Ok-put_answers-clause-expanded : goal.returns-in-Ok-put_answers-clause-expanded
 returns-in-Ok-put_answers-clause-expanded g c =
     subst (λ (ks : List Key). HaveExpanded c.args.store.now c.args.crew.now.workers.count ks c.args.rooms.now c.shared_wave.new.rooms) (c.as_slice-asked.ensures.value ∙ c.in-Ok.ensures) c.in-Ok-shared_wave.ensures.expanded
+
+pub returns-clause-memory : goal.returns-clause-memory
+returns-clause-memory g c = λ old _. within_still c.args.store.now (entries_for c.as_slice-asked.result.now) c.shared_wave.new.store c.in-Ok-shared_wave.ensures.wave.within old

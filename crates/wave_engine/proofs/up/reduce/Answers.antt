@@ -1,7 +1,9 @@
-use Rattle.std.proofs.Common.{rules, ◌≡◌, ℕ, ◌+◌, ◌<◌, ◌≤◌, ◌∙◌, List, length, set, Some, sym, subst, arith}
+use Rattle.std.proofs.Common.{◌≡◌, inl, inr, ℕ, ◌+◌, ◌<◌, ◌≤◌, ◌∙◌, List, length, set, Some, sym, subst, arith}
+use Rattle.std.proofs.lemmas.Bool.{cases_lt}
 use Rattle.std.proofs.lemmas.List.{length-set}
 use Rattle.dd_store.specs.declared.reference.Ref.{Ref}
 use Rattle.dd_store.specs.Nodes.{Nodes, count_of}
+use Rattle.expand_work.specs.declared.fault.WaveFault.TheVariants.{Full}
 use Rattle.req_table.specs.declared.Key.{Key}
 use Rattle.reduce_up.specs.Waves.{Entry, IsWaveFault}
 use Rattle.req_table.specs.declared.placed.Placed.{Placed}
@@ -35,8 +37,8 @@ reduce_level-requires-clause-ready c =
     (level_ready S c.requires.held es c.requires.operands ps T rows c.args.from c.requires.expanded v s A lt fit h.1 d) in
     subst (λ (z : List (Placed × Placed)). IsReadyAt s T z c.as_slice.result.now v) (sym read) (subst (λ (z : List (List Ref)). IsReadyAt s T (row rows v) z v) (sym c.as_slice.ensures.value) ready)
 
-pub returns-in_err-reduce_level-clause-adds : goal.returns-in_err-reduce_level-clause-adds
-returns-in_err-reduce_level-clause-adds c =
+pub returns-in-Err-clause-adds : goal.returns-in-Err-clause-adds
+returns-in-Err-clause-adds c =
     let S : Nodes = c.args.store.now in
     let es : List Entry = c.args.entries.now in
     let ps : List Placed = c.args.down.now.roots.items in
@@ -52,8 +54,8 @@ returns-in_err-reduce_level-clause-adds c =
     let u : Nodes = c.reduce_level.new.store in
     level_adds S c.requires.held es c.requires.operands T v s u c.requires.expanded.admitted d.held c.reduce_level.ensures.sound d.adds c.reduce_level.ensures.adds
 
-pub returns-in_err-reduce_level-clause-fault : goal.returns-in_err-reduce_level-clause-fault
-returns-in_err-reduce_level-clause-fault c =
+pub returns-in-Err-clause-fault : goal.returns-in-Err-clause-fault
+returns-in-Err-clause-fault c =
     let S : Nodes = c.args.store.now in
     let es : List Entry = c.args.entries.now in
     let ps : List Placed = c.args.down.now.roots.items in
@@ -67,9 +69,19 @@ returns-in_err-reduce_level-clause-fault c =
     let fit : v < S.levels = let y : c.args.from ≤ S.levels = c.requires.bound in omega (arith, lt, y) in
     let d : AreReducedBelow S es T (v + 1) s A = levels_left S c.requires.held es c.requires.operands ps T rows c.args.from c.requires.expanded (v + 1) c.loop-level.end s A h.2 c.loop-level.invariant.reduced in
     let u : Nodes = c.reduce_level.new.store in
-    let f : IsWaveFault S es u c.in_err-reduce_level.field-0.0 =
-    level_refused S c.requires.held es c.requires.operands ps T rows c.args.from c.requires.expanded v u (keeps-trans S s u d.adds.keeps c.reduce_level.ensures.adds.keeps) c.in_err-reduce_level.field-0.0 c.in_err-reduce_level.ensures.fault in
-    search (rules, f)
+    elim (cases_lt u.limit (count_of u)) [
+      | inl over ↦ subst (IsWaveFault S es u) (sym (c.first_fault.ensures.past over)) (over_limit S c.requires.held es c.requires.operands ps T rows c.args.from c.requires.expanded v u h.1 over)
+      | inr fits ↦ subst (IsWaveFault S es u) (sym (c.first_fault.ensures.within fits))
+          (level_refused S c.requires.held es c.requires.operands ps T rows c.args.from c.requires.expanded v u (keeps-trans S s u d.adds.keeps c.reduce_level.ensures.adds.keeps) c.in-Err.fault c.in-Err.ensures.fault)
+    ]
+
+pub returns-in-Err-clause-memory : goal.returns-in-Err-clause-memory
+returns-in-Err-clause-memory c = λ e.
+    let u : Nodes = c.reduce_level.new.store in
+    elim (cases_lt u.limit (count_of u)) [
+      | inl over ↦ absurd (let full : c.first_fault.result ≡ Full = c.first_fault.ensures.past over in cc)
+      | inr fits ↦ fits
+    ]
 
 pub returns-then-count-limit-clause-adds : goal.returns-then-count-limit-clause-adds
 returns-then-count-limit-clause-adds c =
@@ -126,7 +138,7 @@ loop-level-preserved c =
     let own : List Ref = c.reduce_level.new.own in
     let B : List (List Ref) = set A v c.replace-own.new.dest in
     let so : IsLevelReduced s T v (length (row rows v)) u own =
-    subst (λ (z : List (Placed × Placed)). IsLevelReduced s T v (length z) u own) read c.in_ok-reduce_level.ensures.whole in
+    subst (λ (z : List (Placed × Placed)). IsLevelReduced s T v (length z) u own) read c.in-Ok.ensures.whole in
     let within : count_of u ≤ u.limit = omega arith in
     let len : length B ≡ length A = length-set A v c.replace-own.new.dest in
     record {

@@ -1,6 +1,8 @@
-use Rattle.std.proofs.Common.{◌≡◌, sym, subst}
+use Rattle.std.proofs.Common.{◌≡◌, ◌∙◌, ◌+◌, List, sym, subst}
 use Rattle.std.proofs.lemmas.Result.{err_from_is_err_and}
 use Rattle.req_table.specs.Memos.{IsRight}
+use Rattle.expand_work.specs.Gathered.{HaveExpanded}
+use Rattle.reduce_up.specs.Waves.{Entry, requests_of}
 use Rattle.reduce_up.proofs.Known.{sought_good, sought_long, sought_count, sought_right, found_each, waved, sought_refused, sought_done, sought_given_up}
 use Rattle.wave_engine.proofs.engine.Runner.wave.Goals as goal
 
@@ -57,3 +59,8 @@ returns-in-Ok-settle-clause-wave g c =
 pub returns-clause-wave : goal.returns-clause-wave
 returns-clause-wave g c =
     sought_given_up c.args.store.now c.levels.ensures.sound c.args.memo.now c.requires.right c.args.entries.now c.requires.operands c.seek.new.self c.in-Ok.ensures c.requests.result.now c.requests.ensures c.wave.new.store c.in_ok-found.ensures.wave.sound c.in_ok-found.ensures.wave.adds _ tt
+
+pub returns-in-Ok-settle-clause-expanded : goal.returns-in-Ok-settle-clause-expanded
+returns-in-Ok-settle-clause-expanded g c =
+    subst (λ (es : List Entry). HaveExpanded c.args.store.now 1 (requests_of es) (c.args.self.now.workspace.down.splits + c.args.self.now.workspace.rooms) (c.wave.new.self.down.splits + c.wave.new.self.rooms))
+    (c.requests.ensures ∙ c.in-Ok.ensures.requests) c.in_ok-found.ensures.expanded

@@ -4,11 +4,12 @@ use Rattle.dd_store.specs.declared.reference.Ref.{Ref}
 use Rattle.req_table.specs.declared.Key.{Key}
 use Rattle.reduce_up.specs.Reducing.{AddsDescribed}
 use Rattle.reduce_up.specs.Waves.{IsWanted, AnswersEach, IsWaveFault}
-use Rattle.reduce_up.proofs.Waving.{not_full, wave_unchanged, wave_given_up, wave_done}
+use Rattle.reduce_up.proofs.Waving.{not_full, wave_unchanged, wave_given_up, wave_done, within_still}
 use Rattle.std.proofs.lemmas.Result.{err_from_is_err_and}
 use Rattle.req_table.specs.declared.placed.Placed.{Placed}
 use Rattle.wave_engine.specs.Down.{AreExpanded, IsDown}
 use Rattle.wave_engine.specs.Up.{ComesTo, AreReducedBelow, IsWithinBelow}
+use Rattle.wave_engine.proofs.Both.{have_both}
 use Rattle.wave_engine.proofs.Whole.{expanded_kept, adds_both, fault_back, roots_come, roots_answered, within_both}
 use Rattle.wave_engine.proofs.workspace.Workspace.wave.Goals as goal
 
@@ -74,3 +75,22 @@ returns-in-Err-clause-wave g c =
     let adds : AddsDescribed c.args.store.now c.reduce.new.store (IsWanted c.args.store.now c.args.entries.now) =
     adds_both c.args.store.now c.levels.ensures.sound c.args.entries.now c.requires.operands c.hand_over.new.store c.hand_over.ensures.adds.keeps c.hand_over.ensures.sound c.reduce.new.store c.hand_over.ensures.adds c.reduce.ensures.adds in
     wave_given_up c.args.store.now c.args.entries.now c.args.entries.now c.reduce.new.store _ c.reduce.ensures.sound adds tt
+
+pub returns-in-Ok-clause-expanded : goal.returns-in-Ok-clause-expanded
+returns-in-Ok-clause-expanded g c =
+    let T : List (List Key) = c.go_down.new.down.requests in
+    let rows : List (List (Placed × Placed)) = c.go_down.new.down.rows.items in
+    let ps : List Placed = c.go_down.new.down.roots.items in
+    let D : IsDown c.args.store.now c.args.entries.now c.in_ok-from.from T rows ps c.go_down.new.answers.items = c.in_ok-from.ensures.down in
+    have_both c.args.store.now c.levels.ensures.sound c.args.entries.now c.requires.operands T rows ps c.in_ok-from.from D.expanded c.args.self.now.crew.now.workers.count c.args.self.now.down.splits c.go_down.new.down.splits
+    c.args.self.now.rooms c.hand_over.new.rooms c.in_ok-from.ensures.split c.in_ok-shared.ensures.expanded
+
+pub returns-in-Err-clause-memory : goal.returns-in-Err-clause-memory
+returns-in-Err-clause-memory g c = λ old _.
+    let T : List (List Key) = c.go_down.new.down.requests in
+    let ps : List Placed = c.go_down.new.down.roots.items in
+    let D : IsDown c.args.store.now c.args.entries.now c.in_ok-from.from T c.go_down.new.down.rows.items ps c.go_down.new.answers.items = c.in_ok-from.ensures.down in
+    let R : AreReducedBelow c.hand_over.new.store c.args.entries.now T 0 c.reduce.new.store c.reduce.new.answers.items = c.in_ok-reduce.ensures.reduced in
+    let first : IsWithinBelow c.args.store.now T c.in_ok-from.from c.hand_over.new.store = c.in_ok-shared.ensures.within in
+    within_still c.args.store.now c.args.entries.now c.reduce.new.store
+    (within_both c.args.store.now c.levels.ensures.sound c.args.entries.now c.requires.operands T ps D.expanded.rooted c.in_ok-from.from c.hand_over.new.store c.reduce.new.store first R.within) old

@@ -1,0 +1,70 @@
+use Rattle.std.proofs.Common.{◌≡◌, ◌∙◌, ◌<◌, All, List, ap, length, sym, subst}
+use Rattle.net_bench.specs.Circuit.{circuit}
+use Rattle.net_order.specs.Order.{condition}
+use Rattle.check_report.specs.Comparing.{IsInside}
+use Rattle.check_report.specs.Explaining.{AreExplained, told_order}
+use Rattle.check_report.proofs.Explanations.{behind_none, behind_some, no_targets, some_targets, told_allowed}
+use Rattle.check_report.proofs.Rounds.{accepted, memory_ends, order_ends}
+use Rattle.check_report.proofs.Subjects.{subjects_inside}
+use Rattle.check_report.specs.declared.target.Target.{Target}
+use Rattle.check_report.proofs.explaining.behind.Goals as goal
+
+pub returns-then-is_empty-clause-behind : goal.returns-then-is_empty-clause-behind
+returns-then-is_empty-clause-behind g c = λ told ga.
+    let s = c.args.task.now.settings.now in
+    let none : length s.explain.items ≡ 0 = ap (λ (ts : List Target). length ts) (sym c.as_slice-targets.ensures.value) ∙ no_targets c.as_slice-targets.result.now c.if-is_empty.ensures in
+    behind_none s.explain.items told s c.args.tried c.args.verdicts.now _ none c.new.ensures.items
+
+-- ---- no pairing
+
+pub returns-in-Err-clause-fault : goal.returns-in-Err-clause-fault
+returns-in-Err-clause-fault g c = λ told ga.
+    let s = c.args.task.now.settings.now in
+    (told_order s.order c.args.tried, told_allowed s.order c.args.tried, c.in-Err.ensures.fault told ga)
+
+pub returns-in-Err-clause-ends : goal.returns-in-Err-clause-ends
+returns-in-Err-clause-ends g c = order_ends c.in-Err.fault c.in-Err.ensures.refused.0 c.in-Err.ensures.refused.1
+
+-- ---- no memory
+
+pub returns-in_default-clause-fault : goal.returns-in_default-clause-fault
+returns-in_default-clause-fault g c = λ told ga.
+    let task = c.args.task.now in
+    let order = told_order task.settings.now.order c.args.tried in
+    (order, told_allowed task.settings.now.order c.args.tried, accepted task told ga order c.in-Ok.pairing c.in-Ok.ensures.paired)
+
+pub returns-in_default-clause-ends : goal.returns-in_default-clause-ends
+returns-in_default-clause-ends g c = memory_ends
+
+pub returns-clause-fault : goal.returns-clause-fault
+returns-clause-fault g c = λ told ga.
+    let task = c.args.task.now in
+    let order = told_order task.settings.now.order c.args.tried in
+    (order, told_allowed task.settings.now.order c.args.tried, accepted task told ga order c.in-Ok.pairing c.in-Ok.ensures.paired)
+
+pub returns-clause-ends : goal.returns-clause-ends
+returns-clause-ends g c = memory_ends
+
+-- ---- explanations
+
+pub explanations-requires-clause-inside : goal.explanations-requires-clause-inside
+explanations-requires-clause-inside g c =
+    let task = c.args.task.now in
+    subst (λ ss. All (IsInside (circuit task.first.now) (circuit task.second.now)) ss) (sym (c.as_slice.ensures.value ∙ c.in-Ok-subjects_of.ensures))
+    (subjects_inside task.settings.now.matching task.first.now task.second.now (condition task.given) (told_order task.settings.now.order c.args.tried) c.in-Ok.pairing c.inputs.ensures.sound c.inputs-2.ensures.sound c.in-Ok.ensures.paired)
+
+pub returns-in-Ok-explanations-clause-behind : goal.returns-in-Ok-explanations-clause-behind
+returns-in-Ok-explanations-clause-behind g c = λ told ga.
+    let task = c.args.task.now in
+    let some : 0 < length task.settings.now.explain.items = subst (λ (ts : List Target). 0 < length ts) c.as_slice-targets.ensures.value (some_targets c.as_slice-targets.result.now c.if-is_empty.ensures) in
+    behind_some task.settings.now.explain.items told task.settings.now c.args.tried c.args.verdicts.now _ some
+    (record {
+      a = task.first.now;
+      b = task.second.now;
+      c = condition task.given;
+      p = c.in-Ok.pairing;
+      paired = record { netlists = ga; pairing = c.in-Ok.ensures.paired };
+      variables = c.requires.names ∙ sym c.in-Ok.ensures.paired.names;
+      known = c.requires.known;
+      explained = subst (λ vs. AreExplained task.first.now task.second.now c.in-Ok.pairing vs task.settings.now.explain.items c.in-Ok-explanations.text.items) c.as_slice-2.ensures c.in-Ok-explanations.ensures;
+    })

@@ -1,0 +1,89 @@
+//! The report of two netlists that were read, with what explains pairs behind it.
+ghost use Rattle.std.specs.Prelude.{◌≡◌, ◌≢◌, ◌++◌, ◌<◌, ◌-◌, ◌^◌, ℕ, List, IfOk, IfErr, IfSome, IsSomeAnd, Err, is_some};
+ghost use Rattle.expand_work.specs.Bounds.{most_of};
+ghost use Rattle.net_bench.specs.Circuit.{circuit};
+ghost use Rattle.net_order.specs.declared.order.Order.{Order as OrderValue};
+ghost use Rattle.check_report.specs.Best.{AreGivenUp, AreTried, IsAllowed, IsGivenUpWithin, MayGoByCones, NamesOrder, last_budget, told_kind};
+ghost use Rattle.check_report.specs.Check.{AreAccepted, IsCheckFault};
+ghost use Rattle.check_report.specs.Deciding.{IsReportBy, IsUnknown};
+ghost use Rattle.check_report.specs.Explaining.{AreTargetsIn, IsBehind, IsReportFault, told_order};
+ghost use Rattle.check_report.specs.Limits.{AreBeyond};
+ghost use Rattle.check_report.specs.Picking.{share_of};
+ghost use Rattle.check_report.specs.Tasks.{OfTask};
+ghost use Rattle.check_report.specs.Trials.{EndsAtOnce, ordered_names};
+ghost use Rattle.check_report.specs.Widths.{AreTooWide};
+ghost use Rattle.report_text.specs.Json.{form_text};
+
+use crate::choice::Attempt;
+use crate::deciding::decide;
+use crate::explaining::{are_known, behind};
+use crate::fault::CheckFault;
+use crate::report::text_of;
+use crate::task::Task;
+use expand_work::{Gate, WaveFault};
+use report_text::{Outcome, Verdicts};
+use std::sync::Wait;
+use std::thread::Threads;
+
+/// The bytes of a report, and behind them what explains the pairs that are asked for.
+fn whole_text<H>(
+    task: &Task<'_, H>,
+    tried: Option<Attempt>,
+    verdicts: &Verdicts,
+) -> Result<Vec<u8>, CheckFault>
+    requires names { verdicts.now.variables ≡ ordered_names task.now (told_order task.now.settings.now.order tried) }
+    requires known { AreTargetsIn (circuit task.now.first.now) task.now.settings.now.explain.items }
+    requires accepted { OfTask task.now (λ told s. (order : OrderValue) × IsAllowed s.order order × AreAccepted told s.matching order) }
+    ensures text { OfTask task.now (λ told s. IfOk result (λ text. (explanations : List ℕ) × IsBehind s.explain.items told s tried verdicts.now explanations
+        × (text.items ≡ form_text s.json s.assignment s.matching (told_kind s.order tried) (is_some told.given) (share_of s.picked) verdicts.now ++ explanations))) }
+    ensures fault { OfTask task.now (λ told s. IfErr result (λ fault. (order : OrderValue) × IsAllowed s.order order × IsCheckFault told ⊥ ⊥ ⊥ s.matching order fault)) }
+    ensures ends { IfErr result EndsAtOnce }
+{
+    let given = task.given.is_some();
+    let Ok(mut text) = text_of(task.alloc, task.settings, tried, given, verdicts) else {
+        return Err(CheckFault::OutOfMemory);
+    };
+    let explanations = match behind(task, tried, verdicts) {
+        Ok(explanations) => explanations,
+        Err(fault) => return Err(fault),
+    };
+    match text.extend_from_slice(explanations.as_slice()) {
+        Ok(()) => Ok(text),
+        Err(_) => Err(CheckFault::OutOfMemory),
+    }
+}
+
+/// The report of a task with its counts, and the attempt that it comes from. What is to be explained is looked for before anything is
+/// compared.
+pub(crate) fn task_report<H: Threads + Wait + Sync, G: Gate>(
+    task: &Task<'_, H>,
+    gate: &G,
+) -> Result<(Vec<u8>, Outcome, Option<Attempt>), CheckFault>
+    ensures report { OfTask task.now (λ told s. IfOk result (λ r. IsReportBy told s (G.bound gate.now) r.2 r.1 r.0.items)) }
+    ensures full { OfTask task.now (λ told s.
+        result ≡ Err (CheckFault.Wave WaveFault.Full) → (order : OrderValue) → IsAllowed s.order order → AreBeyond told s.matching order s.limit) }
+    ensures given_up { OfTask task.now (λ told s.
+        result ≡ Err CheckFault.GivenUp → AreTried s.order × ((order : OrderValue) → IsAllowed s.order order → IsGivenUpWithin told s.matching s.limit (G.bound gate.now) order)) }
+    ensures by_cones { MayGoByCones task.now.settings.now.order → (result ≢ Err (CheckFault.Wave WaveFault.Full)) × (result ≢ Err CheckFault.GivenUp) }
+    ensures only { OfTask task.now (λ told s. result ≡ Err CheckFault.Only → IsUnknown told s.picked) }
+    ensures fault { OfTask task.now (λ told s. IfErr result (IsReportFault told ⊥ ⊥ ⊥ s)) }
+    ensures unwritten { result ≢ Err CheckFault.Write }
+    ensures past { OfTask task.now (λ told s.
+        result ≡ Err (CheckFault.Wave WaveFault.TooManyRequests) → (o : OrderValue) × IsAllowed s.order o × IsSomeAnd (G.bound gate.now) (AreTooWide told s.matching o)) }
+    ensures passed { OfTask task.now (λ told s.
+        IfOk result (λ r. IfSome r.2 (AreGivenUp told s.matching (last_budget s.order s.limit) (G.bound gate.now)))) }
+    ensures alone { most_of (G.bound gate.now) < 2 ^ 64 - 1 → result ≢ Err (CheckFault.Wave WaveFault.NoWorker) }
+    ensures hired { result ≡ Err (CheckFault.Wave WaveFault.NoWorker) → NamesOrder task.now.settings.now.order }
+{
+    if !are_known(task.first, task.settings.explain.as_slice()) {
+        return Err(CheckFault::Explain);
+    }
+    let (verdicts, tried) = match decide(task, gate) {
+        Ok((verdicts, tried)) => (verdicts, tried),
+        Err(fault) => return Err(fault),
+    };
+    match whole_text(task, tried, &verdicts) {
+        Ok(text) => Ok((text, verdicts.outcome(), tried)),
+        Err(fault) => Err(fault),
+    }
+}

@@ -1,0 +1,276 @@
+//! What stands behind a report: an explanation of each pair that is asked for.
+ghost use Rattle.std.specs.Prelude.{◌≡◌, ◌++◌, ◌∷◌, ◌↔◌, ◌<◌, true, false, length, find, All, Contains, IfOk, IfErr, IsTrue, OnOk};
+ghost use Rattle.net_bench.specs.Circuit.{circuit};
+ghost use Rattle.net_explain.specs.Explaining.{Explained, IsExplanation};
+ghost use Rattle.net_explain.specs.Text.{explanation_text};
+ghost use Rattle.net_order.specs.declared.order.Order.{Order as OrderValue};
+ghost use Rattle.net_order.specs.declared.order.OrderFault.{OrderFault as OrderFaultValue};
+ghost use Rattle.report_text.specs.Lines.{subject_text};
+ghost use Rattle.check_report.specs.declared.choice.Choice.{Choice as ChoiceValue};
+ghost use Rattle.check_report.specs.Best.{IsAllowed};
+ghost use Rattle.check_report.specs.Check.{IsCheckFault};
+ghost use Rattle.check_report.specs.Comparing.{IsInside};
+ghost use Rattle.check_report.specs.Explaining.{AreExplained, AreTargetsIn, ExplainsPair, ExplainsTarget, ExplainsVerdict, HasUnknownTarget, IsBehind, IsTargetIn, is_same_role, is_subject_of, is_target, is_verdict_on, said_text, told_order};
+ghost use Rattle.check_report.specs.Report.{subjects};
+ghost use Rattle.check_report.specs.Tasks.{OfTask};
+ghost use Rattle.check_report.specs.Trials.{EndsAtOnce, IsPairingIn, ordered_names};
+
+use crate::choice::{Attempt, Choice};
+use crate::compared::subjects_of;
+use crate::fault::CheckFault;
+use crate::picking::{has_name, registers_of};
+use crate::subject::Subject;
+use crate::target::Target;
+use crate::task::Task;
+use crate::trials::{is_same, paired};
+use net_bench::reader::Netlist;
+use net_explain::{explain, explanation_of};
+use net_order::order::Order;
+use net_order::pairing::Pairing;
+use report_text::{Role, Verdict, Verdicts};
+use std::alloc::{AllocError, Global};
+
+/// Whether two roles are one.
+fn is_same_role(role: Role, other: Role) -> bool
+    ensures { result ≡ is_same_role role other }
+{
+    match (role, other) {
+        (Role::Output, Role::Output) => true,
+        (Role::Output, Role::NextState) => false,
+        (Role::NextState, Role::Output) => false,
+        (Role::NextState, Role::NextState) => true,
+    }
+}
+
+/// Whether this role and this name are asked for.
+fn is_target(target: &Target, role: Role, name: &[u8]) -> bool
+    ensures { result ≡ is_target target.now role name.now }
+{
+    is_same_role(target.role, role) && is_same(target.name.as_slice(), name)
+}
+
+/// Whether the netlist has this output, or this register.
+fn is_known(net: &Netlist, target: &Target) -> bool
+    ensures { IsTrue result ↔ IsTargetIn (circuit net.now) target.now }
+{
+    let name = target.name.as_slice();
+    match target.role {
+        Role::Output => has_name(net, net.outputs(), name),
+        Role::NextState => has_name(net, registers_of(net), name),
+    }
+}
+
+/// Whether the netlist has each of these.
+pub(crate) fn are_known(net: &Netlist, targets: &[Target]) -> bool
+    ensures known { result ≡ true → AreTargetsIn (circuit net.now) targets.now }
+    ensures unknown { result ≡ false → HasUnknownTarget (circuit net.now) targets.now }
+{
+    for target in targets {
+        if !is_known(net, target) {
+            return false;
+        }
+    }
+    true
+}
+
+/// Adds what a line of a report would call it.
+fn add_subject(text: &mut Vec<u8>, target: &Target) -> Result<(), AllocError>
+    ensures { OnOk result (text.new.items ≡ text.old.items ++ subject_text target.now.role target.now.name) }
+{
+    match target.role {
+        Role::Output => {}
+        Role::NextState => text.extend_from_slice(b"NEXT ")?,
+    }
+    text.extend_from_slice(target.name.as_slice())?;
+    Ok(())
+}
+
+/// The line of a pair where there is no assignment to explain it at.
+fn said(alloc: Global, target: &Target, said: &[u8]) -> Result<Vec<u8>, AllocError>
+    ensures { IfOk result (λ text. text.items ≡ said_text target.now said.now) }
+{
+    let mut text = Vec::new(alloc);
+    text.extend_from_slice(b"EXPLAIN ")?;
+    add_subject(&mut text, target)?;
+    text.extend_from_slice(b": ")?;
+    text.extend_from_slice(said)?;
+    text.extend_from_slice(b"\n")?;
+    Ok(text)
+}
+
+/// What explains that a pair differs at an assignment.
+fn difference<H>(
+    task: &Task<'_, H>,
+    pairing: &Pairing,
+    target: &Target,
+    subject: Subject,
+    at: &[bool],
+) -> Result<Vec<u8>, AllocError>
+    requires { IsInside (circuit task.now.first.now) (circuit task.now.second.now) subject }
+    ensures { IfOk result (λ text. (e : Explained) × IsExplanation task.now.first.now task.now.second.now pairing.now (subject.first, subject.second) at.now e
+        × (text.items ≡ explanation_text (subject_text target.now.role target.now.name) task.now.first.now.names e)) }
+{
+    let mut name = Vec::new(task.alloc);
+    add_subject(&mut name, target)?;
+    let pair = (subject.first, subject.second);
+    let explanation = explain(task.alloc, task.first, task.second, pairing, pair, at)?;
+    explanation_of(task.alloc, name.as_slice(), task.first, &explanation)
+}
+
+/// What is said of a pair with this verdict.
+fn explained<H>(
+    task: &Task<'_, H>,
+    pairing: &Pairing,
+    target: &Target,
+    subject: Subject,
+    verdict: &Verdict,
+) -> Result<Vec<u8>, AllocError>
+    requires { IsInside (circuit task.now.first.now) (circuit task.now.second.now) subject }
+    ensures { IfOk result (λ text. ExplainsVerdict task.now.first.now task.now.second.now pairing.now target.now subject verdict.now text.items) }
+{
+    match verdict {
+        Verdict::Equal { .. } => said(task.alloc, target, b"equal"),
+        Verdict::Differs { at, .. } => difference(task, pairing, target, subject, at.as_slice()),
+        Verdict::Lone { .. } => said(task.alloc, target, b"no partner"),
+        Verdict::Undecided { .. } => said(task.alloc, target, b"undecided"),
+    }
+}
+
+/// Whether a verdict is on what is asked for.
+fn is_verdict_on(target: &Target, verdict: &Verdict) -> bool
+    ensures { result ≡ is_verdict_on target.now verdict.now }
+{
+    match verdict {
+        Verdict::Equal { role, name, .. } => is_target(target, *role, name.as_slice()),
+        Verdict::Differs { role, name, .. } => is_target(target, *role, name.as_slice()),
+        Verdict::Lone { role, name, .. } => is_target(target, *role, name.as_slice()),
+        Verdict::Undecided { role, name } => is_target(target, *role, name.as_slice()),
+    }
+}
+
+/// What is said of a pair, by its verdict among these.
+fn explained_pair<H>(
+    task: &Task<'_, H>,
+    pairing: &Pairing,
+    target: &Target,
+    subject: Subject,
+    verdicts: &[Verdict],
+) -> Result<Vec<u8>, AllocError>
+    requires { IsInside (circuit task.now.first.now) (circuit task.now.second.now) subject }
+    ensures { IfOk result (λ text. ExplainsPair task.now.first.now task.now.second.now pairing.now target.now subject (find (is_verdict_on target.now) verdicts.now) text.items) }
+{
+    for place in 0..verdicts.len() {
+        let verdict = &verdicts[place];
+        if is_verdict_on(target, verdict) {
+            return explained(task, pairing, target, subject, verdict);
+        }
+    }
+    said(task.alloc, target, b"not compared")
+}
+
+/// The pair that is asked for, where there is one.
+fn subject_of(net: &Netlist, target: &Target, subjects: &[Subject]) -> Option<Subject>
+    requires { All (λ subject. subject.named < length net.now.names) subjects.now }
+    ensures { result ≡ find (is_subject_of (circuit net.now) target.now) subjects.now }
+{
+    for place in 0..subjects.len() {
+        let subject = subjects[place];
+        if is_target(target, subject.role, net.name(subject.named)) {
+            return Some(subject);
+        }
+    }
+    None
+}
+
+/// The explanation of what is asked for, by its pair among these and its verdict among these.
+fn explanation<H>(
+    task: &Task<'_, H>,
+    pairing: &Pairing,
+    target: &Target,
+    subjects: &[Subject],
+    verdicts: &[Verdict],
+) -> Result<Vec<u8>, AllocError>
+    requires { All (IsInside (circuit task.now.first.now) (circuit task.now.second.now)) subjects.now }
+    ensures { IfOk result (λ text. ExplainsTarget task.now.first.now task.now.second.now pairing.now target.now
+        (find (is_subject_of (circuit task.now.first.now) target.now) subjects.now) (find (is_verdict_on target.now) verdicts.now) text.items) }
+{
+    match subject_of(task.first, target, subjects) {
+        Some(subject) => explained_pair(task, pairing, target, subject, verdicts),
+        None => said(task.alloc, target, b"no partner"),
+    }
+}
+
+/// The explanations of all that is asked for, one behind the other.
+fn explanations<H>(
+    task: &Task<'_, H>,
+    pairing: &Pairing,
+    pairs: &[Subject],
+    verdicts: &[Verdict],
+) -> Result<Vec<u8>, AllocError>
+    requires all { pairs.now ≡ subjects (circuit task.now.first.now) (circuit task.now.second.now) pairing.now }
+    requires inside { All (IsInside (circuit task.now.first.now) (circuit task.now.second.now)) pairs.now }
+    ensures { IfOk result (λ text. AreExplained task.now.first.now task.now.second.now pairing.now verdicts.now task.now.settings.now.explain.items text.items) }
+{
+    let targets = task.settings.explain.as_slice();
+    let mut text = Vec::new(task.alloc);
+    for place in 0..targets.len() {
+        let one = explanation(task, pairing, &targets[place], pairs, verdicts)?;
+        text.extend_from_slice(one.as_slice())?;
+    }
+    Ok(text)
+}
+
+/// The order of the best attempt.
+fn best_order(tried: Option<Attempt>) -> Order
+    ensures { result ≡ told_order ChoiceValue.Best tried }
+{
+    match tried {
+        Some(attempt) => attempt.order.order(),
+        None => Order::Declared,
+    }
+}
+
+/// The pairing over whose variables the report of an attempt is told.
+fn told_pairing<H>(task: &Task<'_, H>, tried: Option<Attempt>) -> Result<Pairing, CheckFault>
+    ensures paired { IfOk result (IsPairingIn task.now (told_order task.now.settings.now.order tried)) }
+    ensures fault { OfTask task.now (λ told s. IfErr result (IsCheckFault told ⊥ ⊥ ⊥ s.matching (told_order s.order tried))) }
+    ensures refused { IfErr result (λ fault. (f : OrderFaultValue) × (fault ≡ CheckFault.Order f)) }
+{
+    match &task.settings.order {
+        Choice::One(order) => paired(task, order),
+        Choice::Best => paired(task, &best_order(tried)),
+        Choice::Auto => paired(task, &Order::Declared),
+        Choice::Cones => paired(task, &Order::Declared),
+    }
+}
+
+/// What stands behind the report of these verdicts.
+pub(crate) fn behind<H>(
+    task: &Task<'_, H>,
+    tried: Option<Attempt>,
+    verdicts: &Verdicts,
+) -> Result<Vec<u8>, CheckFault>
+    requires names { verdicts.now.variables ≡ ordered_names task.now (told_order task.now.settings.now.order tried) }
+    requires known { AreTargetsIn (circuit task.now.first.now) task.now.settings.now.explain.items }
+    ensures behind { OfTask task.now (λ told s. IfOk result (λ text. IsBehind s.explain.items told s tried verdicts.now text.items)) }
+    ensures fault { OfTask task.now (λ told s. IfErr result (λ fault. (order : OrderValue) × IsAllowed s.order order × IsCheckFault told ⊥ ⊥ ⊥ s.matching order fault)) }
+    ensures ends { IfErr result EndsAtOnce }
+{
+    let targets = task.settings.explain.as_slice();
+    if targets.is_empty() {
+        return Ok(Vec::new(task.alloc));
+    }
+    let _ = task.first.inputs();
+    let _ = task.second.inputs();
+    let pairing = match told_pairing(task, tried) {
+        Ok(pairing) => pairing,
+        Err(fault) => return Err(fault),
+    };
+    let Ok(subjects) = subjects_of(task.alloc, task.first, task.second, &pairing) else {
+        return Err(CheckFault::OutOfMemory);
+    };
+    match explanations(task, &pairing, subjects.as_slice(), verdicts.as_slice()) {
+        Ok(text) => Ok(text),
+        Err(_) => Err(CheckFault::OutOfMemory),
+    }
+}

@@ -1,0 +1,81 @@
+-- What the caller's thread and the workers have expanded, taken together.
+use Rattle.std.proofs.Common.{◌≡◌, ◌∙◌, ℕ, ◌+◌, ◌-◌, ◌%◌, ◌^◌, ◌<◌, ◌≤◌, ◌⊎◌, inl, inr, Bool, List, ◌++◌, length, slice_get, Some, ap, subst, arith, Contains, All}
+use Rattle.std.proofs.lemmas.List.{length-append}
+use Rattle.std.proofs.lemmas.List.Elements.{Contains-append_left, Contains-append_right, Contains-append_cases}
+use Rattle.std.proofs.lemmas.Option.{slice_get-get_or, slice_get_within, get_or_from_slice_get}
+use Rattle.slot_table.specs.Lists.{IsIn}
+use Rattle.dd_store.specs.Nodes.{Nodes, IsSound}
+use Rattle.req_table.specs.declared.Key.{Key}
+use Rattle.req_table.specs.declared.placed.Placed.{Placed}
+use Rattle.req_table.specs.Keys.{IsKey, level_of, wave_of}
+use Rattle.req_table.specs.Reached.{IsReached, root as root_of, child as child_from}
+use Rattle.req_table.proofs.Waved.{deeper}
+use Rattle.expand_work.specs.Gathered.{HaveExpanded}
+use Rattle.expand_work.proofs.Once.{once_append}
+use Rattle.reduce_up.specs.Known.{unknown}
+use Rattle.reduce_up.specs.Waves.{Entry, IsEntry, requests_of}
+use Rattle.reduce_up.proofs.Closed.{reached_key}
+use Rattle.wave_engine.specs.Down.{AreExpanded, HaveSplit}
+use Rattle.wave_engine.specs.Front.{keys_from}
+use Rattle.wave_engine.specs.Places.{StandsAt}
+use Rattle.wave_engine.specs.Resting.{AtRest}
+use Rattle.wave_engine.proofs.Counting.{reached_sorted}
+use Rattle.wave_engine.proofs.Fronting.{key_before, key_from, front_keys}
+
+contains_of : {X : Type 0} (xs : List X) (x : X) → IsIn xs x → Contains xs x
+contains_of xs x h = (h.0, slice_get_within xs h.0 x h.1, get_or_from_slice_get xs h.0 x x h.1)
+
+in_of : {X : Type 0} (xs : List X) (x : X) → Contains xs x → IsIn xs x
+in_of xs x m = (m.0, slice_get-get_or xs m.0 x m.1 ∙ ap (λ z. Some z) m.2)
+
+-- Of a wave over the store S whose levels before v the caller's thread has expanded: what stands further down is handed to n workers.
+module _ (S : Nodes) (w : IsSound S) (entries : List Entry) (good : All (IsEntry S) entries) (T : List (List Key)) (rows : List (List (Placed × Placed))) (roots : List Placed) (v : ℕ) (x : AreExpanded S entries roots v T rows) (n : ℕ) where
+  abbrev Over : Key → Type 0
+  Over k = IsReached (wave_of S n) (keys_from v T) k
+
+  -- it stands further down
+  over_below : (k : Key) → Over k → v ≤ level_of S k
+  over_below k (root_of c) = let p = key_from T v k c in let at : level_of S k ≡ p.0 = (x.admitted.keys p.0 p.1 k p.3).level in let le = p.2 in omega (arith, at, le)
+  over_below k (child_from {x = above} b l m r asks) =
+      let i : IsKey S above = reached_key S w n (keys_from v T) (front_keys S w entries good T x.admitted v) above r in
+      let d : level_of S above < level_of S k = deeper S w above k b l m i asks in
+      let a = over_below above r in
+      omega (arith, d, a)
+
+  -- and the entries reach it, however many workers there are
+  over_reached : (k : Key) → Over k → IsReached (wave_of S 1) (requests_of entries) k
+  over_reached k (root_of c) = let p = key_from T v k c in (x.admitted.keys p.0 p.1 k p.3).reached
+  over_reached k (child_from {x = above} b l m r asks) = child_from b l m (over_reached above r) asks
+
+  -- what stands further down is handed over
+  stands_over : (u q : ℕ) (k : Key) → v ≤ u → StandsAt T u q k → Over k
+  stands_over u q k le h = root_of (contains_of (keys_from v T) k (_, key_before T v u q k le h))
+
+  -- both counts together have grown by as many requests as the entries reach
+  pub have_both : (split split' shared shared' : ℕ) → HaveSplit S entries T v split split' → HaveExpanded S n (keys_from v T) shared shared' → HaveExpanded S 1 (requests_of entries) (split + shared) (split' + shared')
+  have_both split split' shared shared' c h = record {
+    requests = c.requests ++ h.requests;
+    once = once_append c.requests h.requests c.once h.once (λ k a b. let above = c.above k a in let below = over_below k (h.reached k (contains_of h.requests k b)) in omega (arith, above, below));
+    reached = λ k i. elim (Contains-append_cases c.requests h.requests k i) [ inl a ↦ c.reached k (in_of c.requests k a) | inr b ↦ over_reached k (h.reached k b) ];
+    all = λ k r.
+        elim (reached_sorted S entries roots T rows v x Over stands_over (λ k y b l m o e. child_from b l m o e) k r) [
+          | inl a ↦ Contains-append_left c.requests h.requests k (contains_of c.requests k (c.whole a.0 a.1 k a.2 a.3))
+          | inr o ↦ Contains-append_right c.requests h.requests k (h.all k o)
+        ];
+    count = let l : length (c.requests ++ h.requests) ≡ length c.requests + length h.requests = length-append c.requests h.requests in let a = c.count in let b = h.count in omega (arith, l, a, b);
+  }
+
+-- A count that grows by as much as another one has grown.
+pub counted_on : (S : Nodes) (n : ℕ) (roots : List Key) (before after : ℕ) → HaveExpanded S n roots before after → (told told' more old new : ℕ) →
+    told ≡ before % 2 ^ 64 → told' ≡ after % 2 ^ 64 → more ≡ (told' + (2 ^ 64 - told)) % 2 ^ 64 → new ≡ (old + more) % 2 ^ 64 → HaveExpanded S n roots old new
+counted_on S n roots before after h told told' more old new a b d e = record {
+  requests = h.requests;
+  once = h.once;
+  reached = h.reached;
+  all = h.all;
+  count = let c = h.count in omega (arith, a, b, c, d, e);
+}
+
+-- the same, of an engine that is seen in two ways
+pub counted_view : (S : Nodes) (entries : List Entry) (new : ℕ) (v w : AtRest) → v ≡ w → HaveExpanded S 1 (requests_of (unknown v.held entries)) v.expanded new → HaveExpanded S 1 (requests_of (unknown w.held entries)) w.expanded new
+counted_view S entries new v w e h = subst (λ (z : AtRest). HaveExpanded S 1 (requests_of (unknown z.held entries)) z.expanded new) e h

@@ -1,0 +1,142 @@
+#!/usr/bin/env python3
+"""What --explain says of random netlists and copies of them with a gate or two changed, against values that are computed here.
+
+usage: tests/explained.py PROGRAM [--seed N]
+"""
+import argparse
+import random
+import re
+import sys
+
+import kit
+from kit import Tally, lines, run
+
+FOLDS = {
+    "AND": all,
+    "OR": any,
+    "XOR": lambda bits: sum(bits) % 2 == 1,
+    "NAND": lambda bits: not all(bits),
+    "NOR": lambda bits: not any(bits),
+    "XNOR": lambda bits: sum(bits) % 2 == 0,
+}
+
+
+class Net:
+    """A netlist: inputs, outputs, registers with what they take next, and gates in the order of the text, each behind its operands."""
+
+    def __init__(self, inputs, outputs, registers, gates):
+        self.inputs, self.outputs, self.registers, self.gates = inputs, outputs, registers, gates
+
+    def statements(self):
+        yield from (f"INPUT({name})" for name in self.inputs)
+        yield from (f"OUTPUT({name})" for name in self.outputs)
+        yield from (f"{name} = DFF({taken})" for name, taken in self.registers.items())
+        yield from (f"{name} = {word}({', '.join(operands)})" for name, (word, operands) in self.gates.items())
+
+    def text(self):
+        return "".join(line + "\n" for line in self.statements())
+
+    def line_of(self, name):
+        """The line of a gate."""
+        return 1 + len(self.inputs) + len(self.outputs) + len(self.registers) + list(self.gates).index(name)
+
+    def values(self, at):
+        known = dict(at)
+        for name, (word, operands) in self.gates.items():
+            known[name] = int(FOLDS[word]([known[operand] for operand in operands]))
+        return known
+
+    def rank(self, name):
+        return 1 + max(map(self.rank, self.gates[name][1])) if name in self.gates else 0
+
+    def below(self, root):
+        found, ahead = set(), [root]
+        while ahead:
+            name = ahead.pop()
+            if name not in found:
+                found.add(name)
+                ahead += self.gates[name][1] if name in self.gates else []
+        return found
+
+
+def random_net(rng):
+    variables = [f"i{k}" for k in range(rng.randrange(2, 6))]
+    held = [f"q{k}" for k in range(rng.randrange(0, 3))]
+    names, gates = [*variables, *held], {}
+    for k in range(rng.randrange(3, 14)):
+        gates[f"g{k}"] = rng.choice(list(FOLDS)), rng.choices(names[-8:], k=rng.randrange(1, 4))
+        names.append(f"g{k}")
+    outputs = rng.sample(list(gates), k=min(3, len(gates)))
+    return Net(variables, outputs, {name: rng.choice(list(gates)) for name in held}, gates)
+
+
+def changed(rng, net):
+    """A copy with some gates of another kind, some by another name, and a statement more in front."""
+    gates = dict(net.gates)
+    for name in rng.sample(list(gates), k=rng.choice([1, 1, 2])):
+        gates[name] = rng.choice(list(FOLDS)), gates[name][1]
+    inner = [name for name in gates if name not in net.outputs and name not in net.registers.values()]
+    other = {name: f"n_{name}" for name in rng.sample(inner, k=rng.randrange(0, len(inner) + 1) // 2)}
+    renamed = {other.get(name, name): (word, [other.get(one, one) for one in operands]) for name, (word, operands) in gates.items()}
+    return Net([*net.inputs, "more"] if rng.random() < 0.5 else net.inputs, net.outputs, net.registers, renamed)
+
+
+def explanation(first, second, label, root, partner, at):
+    """The lines that explain the pair of these signals at an assignment."""
+    seen, other = first.values(at), second.values(at)
+    below, below_other = first.below(root), second.below(partner)
+    shared = [name for name in first.gates if name in below and name in second.gates and name in below_other]
+    differing = [name for name in shared if seen[name] != other[name] and not (name == root and name == partner)]
+    differing.sort(key=first.rank)
+    told = [f"EXPLAIN {label} inner signals that differ: {len(differing)}"]
+    told += [f"  {name} first={seen[name]} second={other[name]} line {first.line_of(name)} line {second.line_of(name)}" for name in differing]
+    if differing:
+        low = differing[0]
+        counts = []
+        for net, top in ((first, root), (second, partner)):
+            cone = [name for name in net.gates if name in net.below(top)]
+            counts.append(f"{sum(name not in net.below(low) for name in cone)} of {len(cone)}")
+        told.append(f"  gates behind {low}: first {counts[0]}, second {counts[1]}")
+    return told
+
+
+def wanted(first, second, label, report):
+    """What stands behind the report for this pair, by its line there."""
+    kind = next(line for line in report if re.sub(r"^[A-Z]+ ", "", line).split(" at ")[0] == label)
+    if kind.startswith("EQUAL"):
+        return [f"EXPLAIN {label}: equal"]
+    bits = dict(word.split("=") for word in kind.split(" at ")[1].split())
+    at = {name: int(bit) for name, bit in bits.items() if name not in ("first", "second")}
+    name = label.removeprefix("NEXT ")
+    roots = [net.registers[name] if label != name else name for net in (first, second)]
+    return explanation(first, second, label, *roots, at)
+
+
+def main():
+    parser = argparse.ArgumentParser()
+    parser.add_argument("program")
+    parser.add_argument("--seed", default="1")
+    given = parser.parse_args()
+    rng, tally = random.Random(given.seed), Tally("explained")
+    differing = 0
+    with kit.folder() as place:
+        for turn in range(300):
+            first = random_net(rng)
+            second = changed(rng, first)
+            paths = [kit.written(place, name, net.text().encode()) for name, net in (("first", first), ("second", second))]
+            labels = [*first.outputs, *(f"NEXT {name}" for name in first.registers)]
+            asked = rng.choices(labels, k=rng.randrange(1, 4))
+            words = rng.choice([[], ["--order", "best"], ["--order", "depth"], ["--order", "cones"], ["--order", "index"], ["--workers", "1"]])
+            plain = run([given.program, *words, *paths])
+            seen = run([given.program, *words, *(f"--explain={label}" for label in asked), *paths])
+            report = plain.out.decode().splitlines()
+            behind = [line for label in asked for line in wanted(first, second, label, report)]
+            differing += sum("first=" in line for line in behind)
+            tally.same(f"seed {given.seed}, turn {turn}, {words}, {asked}", seen, plain.status, plain.out + lines(*behind), b"")
+    tally.check("inner signals differ in many of them", differing > 100, differing)
+    tally.end()
+    sys.exit(tally.failed > 0)
+
+
+if __name__ == "__main__":
+    kit.ended(main)
