@@ -52,13 +52,13 @@ if command -v parallel >/dev/null; then
     begin 'by parallel'
     sh ../blocks/1 >parallel.log 2>&1 </dev/null
     check 'recipe 1, parallel on one machine'
-    # What ssh would do on another machine: it hands the words behind the host to a shell.
+    # What sshd would do on another machine: it sets SHELL, by which parallel runs a command there, and hands the words behind the host to a shell.
     cat >"$place/bin/ssh" <<'END'
 #!/bin/sh
 while [ "${1#-}" != "$1" ]; do shift; done
 shift
 [ "$1" != -- ] || shift
-exec sh -c "$*"
+SHELL=/bin/sh exec sh -c "$*"
 END
     chmod +x "$place/bin/ssh"
     begin 'by ssh'
