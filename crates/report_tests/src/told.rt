@@ -140,10 +140,10 @@ fn told_of_a_bounded_attempt(rt: HostRuntime) -> Result<(), Fail> {
 }
 
 /// So many nodes are enough in each order that is tried.
-const LIMIT: u32 = 1_024;
+const LIMIT: u32 = 3_500;
 
 /// Each of two products compares so many pairs of inputs.
-const COMPARED: usize = 6;
+const COMPARED: usize = 7;
 
 /// Puts the inputs of these letters in, one behind the other, between two texts.
 fn add_list(
@@ -162,7 +162,7 @@ fn add_list(
     text.push_str(behind)
 }
 
-/// Two products that exclude each other, of comparisons of inputs that stand far apart where they are met as in the first output.
+/// Two products that exclude each other, of comparisons of inputs that stand far apart where they are met as by the deepest output.
 fn far_apart(alloc: Global) -> Result<String, AllocError> {
     let mut text = String::new(alloc);
     text.push_str("OUTPUT(p)\nOUTPUT(o)\nINPUT(z)\ny = NOT(z)\no = AND(f, g)\n")?;
@@ -173,7 +173,8 @@ fn far_apart(alloc: Global) -> Result<String, AllocError> {
         text.push_str(&format!(in alloc; "e{place} = XNOR(a{place}, b{place})\n")?)?;
         text.push_str(&format!(in alloc; "h{place} = XNOR(c{place}, d{place})\n")?)?;
     }
-    add_list(&mut text, alloc, "p = XOR(", &["a", "c", "b", "d"], "z)\n")?;
+    add_list(&mut text, alloc, "q = XOR(", &["a", "c", "b", "d"], "z)\n")?;
+    text.push_str("r = NOT(q)\ns = NOT(r)\nt = NOT(s)\np = NOT(t)\n")?;
     add_list(&mut text, alloc, "f = AND(", &["e"], "z)\n")?;
     add_list(&mut text, alloc, "g = AND(", &["h"], "y)\n")?;
     Ok(text)
