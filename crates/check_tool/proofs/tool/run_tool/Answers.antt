@@ -1,24 +1,18 @@
-use Rattle.std.proofs.Common.{◌≡◌, ◌≢◌, ◌∙◌, ℕ, Bool, true, false, List, Option, ap, sym, subst, inl, inr, Result, Ok, Err, OnErr}
+use Rattle.std.proofs.Common.{◌≡◌, ◌≢◌, ◌∙◌, ap, sym, subst, inl, inr, Result, Ok, Err, OnErr, arith}
 use Rattle.std.specs.Io.KnownBytes.{Keeps}
 use Rattle.check_tool.specs.declared.done.Done.{Done}
 use Rattle.check_report.specs.declared.fault.CheckFault.TheVariants.{Write}
 use Rattle.check_tool.specs.declared.fault.ToolFault.{ToolFault}
 use Rattle.check_tool.specs.declared.fault.ToolFault.TheVariants.{Check, OutOfMemory}
-use Rattle.command_line.specs.declared.options.Options.{Options}
-use Rattle.check_tool.specs.Ending.{Written, IsSaidOf}
+use Rattle.check_tool.specs.Ending.{Written}
 use Rattle.check_tool.specs.Faults.{fault_status}
-use Rattle.check_tool.proofs.Composing.{keeps_own, asked_or, extends_more, neither}
+use Rattle.check_tool.proofs.Composing.{keeps_own, asked_or, code_of, extends_more, neither}
 use Rattle.check_tool.proofs.tool.run_tool.Goals as goal
 
 -- the fault of an answer that has one
 abbrev fault_in : Result Done ToolFault → ToolFault
 fault_in (Ok done) = OutOfMemory
 fault_in (Err fault) = fault
-
--- the status that is answered is that of the fault
-code_of : (verbose : Bool) (told : List ℕ → Option (List ℕ)) (o : Options) (w : Written) (fault : ToolFault) (status : ℕ) → IsSaidOf verbose told o w fault status → status ≡ fault_status fault
-code_of false told o w fault status said = said.code
-code_of true told o w fault status said = said.1.code
 
 pub returns-in-Ok-run_options-clause-ending : goal.returns-in-Ok-run_options-clause-ending
 returns-in-Ok-run_options-clause-ending g c =
@@ -81,16 +75,22 @@ returns-clause-ending g c =
       c.run_options.ensures.unasked,
     )
 
+pub returns-clause-untouched : goal.returns-clause-untouched
+returns-clause-untouched g c two =
+    let after = c.refuse_run.new.errors in
+    let said : Written = record {
+      held = g.E.Sink.contents c.run_options.new.errors;
+      holds = g.E.Sink.contents after;
+      has_failed = g.E.Sink.has_failed after;
+      has_stopped = g.E.Sink.has_stopped after;
+    } in
+    let code = code_of c.in-Ok.options.verbose (g.F.Folder.told c.run_options.new.folder) c.in-Ok.options said c.in-Err-run_options.fault c.refuse_run.result c.refuse_run.ensures.said in
+    subst (λ r. OnErr r (r ≢ Err (Check Write) → c.run_options.new.out ≡ c.args.out.now)) c.in-Err-run_options.is c.run_options.ensures.untouched (
+      λ e. let three = sym two ∙ code ∙ ap (λ r. fault_status (fault_in r)) e in absurd (omega (arith, three))
+    )
+
 pub returns-in-Ok-run_options-clause-silent : goal.returns-in-Ok-run_options-clause-silent
 returns-in-Ok-run_options-clause-silent g c =
     let verbose = c.in-Ok.options.verbose in
     let seen = g.E.Screen.seen c.args.errors.now in
     asked_or verbose (λ e. (c.in-Ok.options, c.in-Ok.ensures.options, e)) (λ e. asked_or seen (λ s. s) (λ s low. c.tell.ensures.silent e ∙ c.run_options.ensures.silent (neither verbose seen e s)))
-
-pub returns-clause-untouched : goal.returns-clause-untouched
-returns-clause-untouched g c two =
-    let code = code_of c.in-Ok.options.verbose (g.F.Folder.told c.run_options.new.folder) c.in-Ok.options _ c.in-Err-run_options.fault c.refuse_run.result c.refuse_run.ensures.said in
-    let other : c.in-Err-run_options.fault ≢ Check Write = λ e.
-        let three : c.refuse_run.result ≡ 3 = code ∙ ap fault_status e in
-        absurd (omega (three, two)) in
-    subst (λ r. OnErr r (r ≢ Err (Check Write) → c.run_options.new.out ≡ c.args.out.now)) c.in-Err-run_options.is c.run_options.ensures.untouched (λ e. other (ap fault_in e))
