@@ -39,7 +39,8 @@ pub trait Gate: Watch + Sync {
     /// store has so far.
     fn at_rank(&self, _rank: u32, _ranks: u32, _nodes: u64) {}
 
-    /// Is told how many requests of a level were expanded, by the caller's thread or by a worker.
+    /// Is told how many requests were expanded: by the caller's thread those of all its levels of a wave at once, by a worker those of a
+    /// level.
     fn at_requests(&self, _requests: usize) {}
 
     /// Is told by the caller's thread how an attempt within so many nodes has ended, or a round of pairs that were tried by their cones.
