@@ -1,5 +1,5 @@
 -- The threads of a wave, by the ports that they work for.
-use Rattle.std.proofs.Common.{◌≡◌, ◌≢◌, All, ℕ, ◌+◌, ◌<◌, ◌≤◌, Bool, true, false, if◌then◌else◌, IfOk, IfErr, Err, List, length, slice_index_or, [], ◌∷◌, ◌++◌, refl, sym, ap, ◌∙◌, subst, arith, length-append, append-nil}
+use Rattle.std.proofs.Common.{◌≡◌, ◌≢◌, All, ℕ, ◌+◌, ◌<◌, ◌≤◌, Bool, true, false, if◌then◌else◌, IfOk, Err, List, length, slice_index_or, [], ◌∷◌, ◌++◌, refl, sym, ap, ◌∙◌, subst, arith, length-append, append-nil}
 use Rattle.std.specs.declared.thread.PromisedHandle.{PromisedHandle}
 use Rattle.std.specs.declared.result.Result.{Result}
 use Rattle.std.specs.List.{AllZip}
@@ -103,8 +103,3 @@ module _ (l : LanesView) (ports rest : List PortView) (own : PortView) (new : Ar
 pub judged : {T : Type 0} (P : T → Type 0) (started : Bool) (joined result : Result T WaveFault) → result ≡ (if started then joined else Err NoWorker) → (started ≡ true → IfOk joined P) → IfOk result P
 judged P true joined result is h = subst (λ r. IfOk r P) (sym is) (h refl)
 judged P false joined result is h = subst (λ r. IfOk r P) (sym is) tt
-
--- and a fault is one of theirs, or that of a thread that was not started
-pub judged_fault : {T : Type 0} (P : WaveFault → Type 0) (started : Bool) (joined result : Result T WaveFault) → result ≡ (if started then joined else Err NoWorker) → P NoWorker → IfErr joined P → IfErr result P
-judged_fault P true joined result is none h = subst (λ r. IfErr r P) (sym is) h
-judged_fault P false joined result is none h = subst (λ r. IfErr r P) (sym is) none

@@ -1,11 +1,10 @@
-use Rattle.std.proofs.Common.{rules, ◌≡◌, ◌≢◌, ◌∷◌, [], length, ap, subst, arith, eqb-true, length-append}
-use Rattle.std.proofs.lemmas.Result.{IfErr-weaker, IfOk-weaker}
+use Rattle.std.proofs.Common.{rules, ◌∷◌, [], length, ap, subst, arith, eqb-true, length-append}
+use Rattle.std.proofs.lemmas.Result.{IfOk-weaker}
 use Rattle.std.specs.Prelude.{IfOk}
 use Rattle.std.specs.List.{AllZip}
-use Rattle.expand_work.specs.declared.fault.WaveFault.TheVariants.{Full, OutOfMemory, TooManyRequests}
 use Rattle.expand_work.specs.Team.{IsPromised}
 use Rattle.expand_work.specs.Worked.{IsWorked}
-use Rattle.expand_work.proofs.Teams.{all_worked, no_more_threads, each_has_its, judged, judged_fault}
+use Rattle.expand_work.proofs.Teams.{all_worked, no_more_threads, each_has_its, judged}
 use Rattle.expand_work.proofs.team.work_all.Goals as goal
 
 pub join_all-others-requires : goal.join_all-others-requires
@@ -34,11 +33,4 @@ returns g c =
     all_worked l ports rest own c.requires.ports c.in-Some.ensures.items s r children j.before.items v.items j.part works
     (subst (λ z. IfOk z (λ w. AllZip IsPromised children w.items)) j.others_are c.join_all-others.ensures.parts)
     (subst (λ z. IfOk z (λ p. IsWorked l s r own.number p)) j.last_is c.work-last.ensures) j.all) c.with_last-joined.ensures.parts) in
-    let joined = c.with_last-joined.result in
-    let memory = c.with_last-joined.ensures.fault in
-    record {
-      parts = parts;
-      fault = judged_fault (λ f. f ≢ Full) _ joined c.judge.result c.judge.ensures (λ e. cc) (IfErr-weaker joined (λ f. f ≡ OutOfMemory) (λ f. f ≢ Full) (λ f is e. cc) memory);
-      unbounded = judged_fault (λ f. f ≢ TooManyRequests) _ joined c.judge.result c.judge.ensures (λ e. cc)
-          (IfErr-weaker joined (λ f. f ≡ OutOfMemory) (λ f. f ≢ TooManyRequests) (λ f is e. cc) memory);
-    }
+    record { parts = parts; fault = search rules; unbounded = search rules }
