@@ -176,10 +176,7 @@ fn try_candidate<H: Threads + Wait + Sync, G: Gate>(
     ensures fault { OfTask task.now (λ told s. IfErr result (λ fault. (c : CandidateValue) × IsCheckFault told ⊥ ⊥ ⊥ s.matching (order_of c) fault)) }
     ensures ends { IfErr result EndsAtOnce }
 {
-    let pairing = match paired(task, &candidate.order()) {
-        Ok(pairing) => pairing,
-        Err(fault) => return Err(fault),
-    };
+    let pairing = paired(task, &candidate.order())?;
     if is_tried(trials.as_slice(), pairing.names()) {
         return Ok(Round::GivenUp { full: true });
     }

@@ -54,10 +54,7 @@ fn by_order<H: Threads + Wait + Sync, G: Gate>(
     ensures alone { most_of (G.bound gate.now) < 2 ^ 64 - 1 → result ≢ Err (CheckFault.Wave WaveFault.NoWorker) }
     ensures names { IfOk result (λ r. r.0.variables ≡ ordered_names task.now order.now) }
 {
-    let pairing = match paired(task, order) {
-        Ok(pairing) => pairing,
-        Err(fault) => return Err(fault),
-    };
+    let pairing = paired(task, order)?;
     match compare(task, &pairing, task.settings.limit, gate) {
         Ok(verdicts) => Ok((Verdicts::of(pairing, verdicts), None)),
         Err(fault) => Err(fault),
@@ -149,10 +146,7 @@ fn by_auto<H: Threads + Wait + Sync, G: Gate>(
     ensures passed { OfTask task.now (λ told s. IfOk result (λ r. IfSome r.1 (AreGivenUp told s.matching (whole_limit s.limit) (G.bound gate.now)))) }
     ensures names { IfOk result (λ r. r.0.variables ≡ ordered_names task.now orders.Declared) }
 {
-    let declared = match paired(task, &Order::Declared) {
-        Ok(declared) => declared,
-        Err(fault) => return Err(fault),
-    };
+    let declared = paired(task, &Order::Declared)?;
     let limit = WHOLE_LIMIT.min(task.settings.limit);
     let fault = match find_attempt(task, Some(&declared), limit, gate) {
         Ok(decided) => {

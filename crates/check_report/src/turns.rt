@@ -249,10 +249,7 @@ fn judge_round<H: Threads + Wait + Sync, G: Gate>(
     let Ok(turns) = take_turns(whole, left.as_slice(), budget, gate) else {
         return Err(CheckFault::OutOfMemory);
     };
-    let found = match ended_of(alloc, turns) {
-        Ok(found) => found,
-        Err(fault) => return Err(fault),
-    };
+    let found = ended_of(alloc, turns)?;
     match fill(alloc, known, found) {
         Ok(all) => {
             tell_round(left.as_slice(), all.as_slice(), budget, gate);

@@ -1,7 +1,7 @@
 -- A wave over the entries of which nothing is known, with what is known of the others, is a wave over all entries.
-use Rattle.std.proofs.Common.{◌≡◌, suc, ℕ, ◌+◌, ◌<◌, drop, slice_index_or, inl, inr, Bool, List, [], ◌∷◌, ◌++◌, length, map, Option, Some, None, refl, sym, ◌∙◌, ap, subst, arith, Contains, All, IfSome}
+use Rattle.std.proofs.Common.{◌≡◌, suc, ℕ, ◌+◌, ◌<◌, drop, get_or, slice_index_or, inl, inr, Bool, true, false, List, [], ◌∷◌, ◌++◌, append_assoc, length, map, Option, Some, None, refl, sym, ◌∙◌, ap, subst, arith, Contains, All, IfSome}
 use Rattle.std.specs.Prelude.{Ok, Err}
-use Rattle.std.specs.Option.{option_map}
+use Rattle.std.specs.Option.{is_some, option_map}
 use Rattle.std.specs.declared.vec.Vec.{Vec}
 use Rattle.std.specs.declared.alloc.Global.{Global}
 use Rattle.std.proofs.lemmas.List.{drop_more}
@@ -58,6 +58,32 @@ unknown_good S m es good = all_of (IsEntry S) (unknown m es) (λ e c. All-contai
 
 pub unknown_long : (m : Held) (es : List Entry) → All (λ e. short_of e.0 e.1 e.2 ≡ None) (unknown m es)
 unknown_long m es = all_of (λ e. short_of e.0 e.1 e.2 ≡ None) (unknown m es) (λ e c. (unknown_is m es e c).1)
+
+-- one of which nothing is known is a request, and no other
+pub is_request : (o : Option Ref) (e : Entry) → is_some o ≡ false → unless_known o e ≡ e ∷ []
+is_request None e h = refl
+is_request (Some r) e h = cc
+
+pub no_request : (o : Option Ref) (e : Entry) → is_some o ≡ true → unless_known o e ≡ []
+no_request None e h = cc
+no_request (Some r) e h = refl
+
+-- one more entry is sought
+pub known_next : (m : Held) (es : List Entry) (i : ℕ) (e : Entry) (old new : List (Option Ref)) → i < length es → e ≡ get_or es i e
+    → old ++ map (known_entry m) (drop i es) ≡ map (known_entry m) es → new ≡ old ++ known_entry m e ∷ [] → new ++ map (known_entry m) (drop (i + 1) es) ≡ map (known_entry m) es
+known_next m es i e old new lt is done added =
+    ap (λ z. z ++ map (known_entry m) (drop (i + 1) es)) added
+    ∙ append_assoc old (known_entry m e ∷ []) (map (known_entry m) (drop (i + 1) es))
+    ∙ ap (λ z. old ++ map (known_entry m) z) (sym (drop_more es i e lt ∙ ap (λ z. z ∷ drop (i + 1) es) (sym is)))
+    ∙ done
+
+pub unknown_next : (m : Held) (es : List Entry) (i : ℕ) (e : Entry) (old new : List Entry) → i < length es → e ≡ get_or es i e
+    → old ++ unknown m (drop i es) ≡ unknown m es → new ≡ old ++ unless_known (known_entry m e) e → new ++ unknown m (drop (i + 1) es) ≡ unknown m es
+unknown_next m es i e old new lt is done added =
+    ap (λ z. z ++ unknown m (drop (i + 1) es)) added
+    ∙ append_assoc old (unless_known (known_entry m e) e) (unknown m (drop (i + 1) es))
+    ∙ ap (λ z. old ++ unknown m z) (sym (drop_more es i e lt ∙ ap (λ z. z ∷ drop (i + 1) es) (sym is)))
+    ∙ done
 
 -- as many as are missing
 pub unknown_count : (m : Held) (es : List Entry) → missing (map (known_entry m) es) ≡ length (unknown m es)

@@ -42,10 +42,7 @@ fn make_part(
         let entry = row[next];
         let high = resolve(team, sender, left, entry.1);
         let low = resolve(team, sender, left, entry.0);
-        let answer = match store.make(level, low, high) {
-            Ok(answer) => answer,
-            Err(fault) => return Err(fault),
-        };
+        let answer = store.make(level, low, high)?;
         if answers.push(answer).is_err() {
             return Err(StoreFault::OutOfMemory);
         }

@@ -246,10 +246,7 @@ pub(crate) fn reduce_team<R: Threads + Sync, G: Gate>(
     let mut level = store.levels();
     while level > 0 {
         level -= 1;
-        match reduce_team_level(crew, store, field, progress, level) {
-            Ok(()) => {}
-            Err(fault) => return Err(fault),
-        }
+        reduce_team_level(crew, store, field, progress, level)?;
     }
     Ok(())
 }

@@ -36,10 +36,7 @@ fn answer_team<R: Threads + Sync, G: Gate>(
     let Ok(mut progress) = begin(store, field, used) else {
         return Err(WaveFault::OutOfMemory);
     };
-    match reduce_team(crew, store, field, &mut progress) {
-        Ok(()) => {}
-        Err(fault) => return Err(fault),
-    }
+    reduce_team(crew, store, field, &mut progress)?;
     let Progress { answers, mut rest } = progress;
     let team = field.team(&answers);
     let Ok(found) = root_answers(store, team, &mut rest.lefts) else {
@@ -103,10 +100,7 @@ pub fn shared_wave<R: Threads + Wait + Sync, G: Gate>(
     ensures memory { count_of store.old ≤ store.old.limit → result ≡ Err WaveFault.OutOfMemory → count_of store.new ≤ store.new.limit }
 {
     let _ = store.levels();
-    let parts = match expand_parts(crew, store, roots, &mut rooms.spaces) {
-        Ok((parts, _)) => parts,
-        Err(fault) => return Err(fault),
-    };
+    let (parts, _) = expand_parts(crew, store, roots, &mut rooms.spaces)?;
     let field = Field {
         alloc: crew.alloc,
         parts: &parts,

@@ -109,10 +109,7 @@ pub(crate) fn hand_over<R: Threads + Wait + Sync, G: Gate>(
         return Ok(0);
     }
     let before = rooms.expanded();
-    let found = match shared_wave(crew, store, asked, rooms) {
-        Ok(found) => found,
-        Err(fault) => return Err(fault),
-    };
+    let found = shared_wave(crew, store, asked, rooms)?;
     match put_answers(answers, frontier.requests, frontier.from, found.as_slice()) {
         Ok(()) => Ok(rooms.expanded().wrapping_sub(before) as usize),
         Err(_) => Err(WaveFault::OutOfMemory),

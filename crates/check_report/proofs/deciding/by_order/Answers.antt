@@ -1,4 +1,5 @@
 use Rattle.std.proofs.Common.{◌≡◌, ◌∙◌, ap, sym, subst, refl, Err}
+use Rattle.std.proofs.lemmas.Result.{err_from_is_err_and}
 use Rattle.net_bench.specs.Circuit.{circuit}
 use Rattle.net_order.specs.Order.{condition}
 use Rattle.expand_work.specs.declared.fault.WaveFault.TheVariants.{Full, TooManyRequests}
@@ -10,42 +11,44 @@ use Rattle.check_report.proofs.Rounds.{accepted, beyond, judged, within}
 use Rattle.check_report.proofs.Widening.{wide_given}
 use Rattle.check_report.proofs.deciding.by_order.Goals as goal
 
-pub returns-in-Ok-compare-clause-chosen : goal.returns-in-Ok-compare-clause-chosen
-returns-in-Ok-compare-clause-chosen g c = λ told ga.
+pub returns-in-Ok-clause-chosen : goal.returns-in-Ok-clause-chosen
+returns-in-Ok-clause-chosen g c = λ told ga.
     let task = c.args.task.now in
-    let is = c.in-Ok.ensures.paired in (
+    let is = c.in_ok-pairing.ensures.paired in (
       c.args.order.now,
-      judged task told ga c.args.order.now c.in-Ok.pairing _ _ is c.of.ensures c.in-Ok-compare.ensures.ok,
-      (refl, within task told ga c.args.order.now c.in-Ok.pairing task.settings.now.limit is c.in-Ok-compare.ensures.within),
+      judged task told ga c.args.order.now c.in_ok-pairing.pairing _ _ is c.of.ensures c.in-Ok.ensures.ok,
+      (refl, within task told ga c.args.order.now c.in_ok-pairing.pairing task.settings.now.limit is c.in-Ok.ensures.within),
     )
 
-pub returns-in-Err-compare-clause-full : goal.returns-in-Err-compare-clause-full
-returns-in-Err-compare-clause-full g c = λ told ga e o allowed.
+pub returns-in-Err-clause-full : goal.returns-in-Err-clause-full
+returns-in-Err-clause-full g c = λ told ga e o allowed.
     let task = c.args.task.now in
-    let same : c.in-Err-compare.fault ≡ Wave Full = cc in
+    let same : c.in-Err.fault ≡ Wave Full = cc in
     subst (λ k. AreBeyond told task.settings.now.matching k task.settings.now.limit) (sym allowed)
-    (beyond task told ga c.args.order.now c.in-Ok.pairing task.settings.now.limit c.in-Ok.ensures.paired (c.in-Err-compare.ensures.full (ap Err same)))
+    (beyond task told ga c.args.order.now c.in_ok-pairing.pairing task.settings.now.limit c.in_ok-pairing.ensures.paired (c.in-Err.ensures.full (ap Err same)))
 
-pub returns-in-Err-compare-clause-fault : goal.returns-in-Err-compare-clause-fault
-returns-in-Err-compare-clause-fault g c = λ told ga.
+pub returns-in-Err-clause-fault : goal.returns-in-Err-clause-fault
+returns-in-Err-clause-fault g c = λ told ga.
     let task = c.args.task.now in (
       c.args.order.now,
       refl,
-      late_fault told ⊥ ⊥ ⊥ task.settings.now.matching c.args.order.now c.in-Err-compare.fault (accepted task told ga c.args.order.now c.in-Ok.pairing c.in-Ok.ensures.paired) c.in-Err-compare.ensures.err,
+      late_fault told ⊥ ⊥ ⊥ task.settings.now.matching c.args.order.now c.in-Err.fault (accepted task told ga c.args.order.now c.in_ok-pairing.pairing c.in_ok-pairing.ensures.paired) c.in-Err.ensures.err,
     )
 
-pub returns-in-Err-compare-clause-past : goal.returns-in-Err-compare-clause-past
-returns-in-Err-compare-clause-past g c = λ told ga e.
+pub returns-in-Err-clause-past : goal.returns-in-Err-clause-past
+returns-in-Err-clause-past g c = λ told ga e.
     let task = c.args.task.now in
-    let same : c.in-Err-compare.fault ≡ Wave TooManyRequests = cc in (
+    let same : c.in-Err.fault ≡ Wave TooManyRequests = cc in (
       c.args.order.now,
       refl,
-      wide_given told task.settings.now.matching c.args.order.now (circuit task.first.now) (circuit task.second.now) (condition task.given) c.in-Ok.pairing
-          (record { netlists = ga; pairing = c.in-Ok.ensures.paired }) (g.G.Gate.bound c.args.gate.now) (c.in-Err-compare.ensures.past (ap Err same)),
+      wide_given told task.settings.now.matching c.args.order.now (circuit task.first.now) (circuit task.second.now) (condition task.given) c.in_ok-pairing.pairing
+          (record { netlists = ga; pairing = c.in_ok-pairing.ensures.paired }) (g.G.Gate.bound c.args.gate.now) (c.in-Err.ensures.past (ap Err same)),
     )
 
-pub returns-in-Err-clause-fault : goal.returns-in-Err-clause-fault
-returns-in-Err-clause-fault g c = λ told ga. (c.args.order.now, refl, c.in-Err.ensures.fault told ga)
+pub returns-in_err-pairing-clause-fault : goal.returns-in_err-pairing-clause-fault
+returns-in_err-pairing-clause-fault g c = λ told ga.
+    let e = err_from_is_err_and c.from_residual.result c.from_residual.ensures.1 in
+    rw (e.1, e.2) (c.args.order.now, refl, c.in_err-pairing.ensures.fault told ga)
 
-pub returns-in-Ok-compare-clause-names : goal.returns-in-Ok-compare-clause-names
-returns-in-Ok-compare-clause-names g c = ap (λ (f : Found). f.variables) c.of.ensures ∙ c.in-Ok.ensures.paired.names
+pub returns-in-Ok-clause-names : goal.returns-in-Ok-clause-names
+returns-in-Ok-clause-names g c = ap (λ (f : Found). f.variables) c.of.ensures ∙ c.in_ok-pairing.ensures.paired.names

@@ -1,4 +1,5 @@
 use Rattle.std.proofs.Common.{◌∙◌, All, subst, sym}
+use Rattle.std.proofs.lemmas.Result.{err_from_is_err_and}
 use Rattle.check_report.specs.Coning.{AreEnded, IsOf, left_of}
 use Rattle.check_report.proofs.ByCones.{all_left}
 use Rattle.check_report.proofs.Ended.{fault_of, round_of}
@@ -18,8 +19,9 @@ returns-in-Ok-fill-clause-round g c =
     let ended : AreEnded w c.args.budget bound (left_of ss c.args.known.items) turns =
     subst (λ ks. AreEnded w c.args.budget bound (left_of ss ks) turns) c.as_slice.ensures.value
     (subst (λ left. AreEnded w c.args.budget bound left turns) (c.as_slice-2.ensures.value ∙ c.in-Ok.ensures) c.in-Ok-take_turns.ensures) in
-    round_of w c.args.budget bound ss c.args.known.items c.in-Ok-fill.all.items c.in-Ok-ended_of.found.items turns ended c.in-Ok-ended_of.ensures.found c.in-Ok-fill.ensures
+    round_of w c.args.budget bound ss c.args.known.items c.in-Ok-fill.all.items c.in_ok-found.found.items turns ended c.in_ok-found.ensures.found c.in-Ok-fill.ensures
 
-pub returns-in-Err-clause-ends : goal.returns-in-Err-clause-ends
-returns-in-Err-clause-ends g c =
-    fault_of c.args.whole.now c.args.budget (g.G.Gate.bound c.args.gate.now) _ c.in-Ok-take_turns.turns.items c.in-Err.fault c.in-Ok-take_turns.ensures c.in-Err.ensures.fault
+pub returns-in_err-found-clause-ends : goal.returns-in_err-found-clause-ends
+returns-in_err-found-clause-ends g c =
+    let e = err_from_is_err_and c.from_residual.result c.from_residual.ensures.1 in
+    rw (e.1, e.2) (fault_of c.args.whole.now c.args.budget (g.G.Gate.bound c.args.gate.now) _ c.in-Ok-take_turns.turns.items c.in_err-found.field-0.0 c.in-Ok-take_turns.ensures c.in_err-found.ensures.fault)

@@ -1,4 +1,5 @@
 use Rattle.std.proofs.Common.{rules, ◌≡◌, ℕ, ◌+◌, ◌-◌, ◌<◌, ◌++◌, [], ◌∷◌, length, drop, sym, ap, ◌∙◌, subst, arith}
+use Rattle.std.proofs.lemmas.Result.{err_from_is_err_and}
 use Rattle.std.specs.List.{AllZip}
 use mathlib.Core.List.{reverse}
 use Rattle.dd_store.specs.Graph.{Pair}
@@ -172,11 +173,11 @@ make-requires-clause-above_hi c =
     let can : CanStand c.loop-next.store v q = stands_on c.args.store.now c.loop-next.store v q m.adds.keeps (c.requires.ready r q member of) in
     can.below_high
 
-pub returns-in-Err-clause-adds : goal.returns-in-Err-clause-adds
-returns-in-Err-clause-adds c = rw c.in-Err.ensures.refused c.loop-next.invariant.making.adds
+pub returns-in_err-answer-clause-adds : goal.returns-in_err-answer-clause-adds
+returns-in_err-answer-clause-adds c = rw c.in_err-answer.ensures.refused c.loop-next.invariant.making.adds
 
-pub returns-in-Err-clause-fault : goal.returns-in-Err-clause-fault
-returns-in-Err-clause-fault c =
+pub returns-in_err-answer-clause-fault : goal.returns-in_err-answer-clause-fault
+returns-in_err-answer-clause-fault c =
     let t = c.args.team in let i : ℕ = c.loop-next.next - 1 in let some = c.loop-next-test.true in let bound = c.loop-next.invariant.bound in
     let n = t.workers in let p = t.parts.now in let a = t.answers.now in let v = c.args.level in let s = c.args.sender in
     let own = row_of p.rows s v in
@@ -197,7 +198,8 @@ returns-in-Err-clause-fault c =
     let member = in_team n p v s r c.requires.read.sender (item_at own i r ib w.1) in
     let m = c.loop-next.invariant.making in
     let can : CanStand c.loop-next.store v q = stands_on c.args.store.now c.loop-next.store v q m.adds.keeps (c.requires.ready r q member of) in
-    one_refused T c.loop-next.store c.make.new.self v all r q member of c.in-Err.ensures.refused c.in-Err.fault c.in-Err.ensures.full
+    let p = err_from_is_err_and c.from_residual.result c.from_residual.ensures.1 in
+    rw (p.1, p.2) (one_refused T c.loop-next.store c.make.new.self v all r q member of c.in_err-answer.ensures.refused _ c.in_err-answer.ensures.full)
 
 pub returns-then-is_err-clause-adds : goal.returns-then-is_err-clause-adds
 returns-then-is_err-clause-adds c =
@@ -220,7 +222,7 @@ returns-then-is_err-clause-adds c =
     let all = team_row n p v in
     let member = in_team n p v s r c.requires.read.sender (item_at own i r ib w.1) in
     let m = c.loop-next.invariant.making in
-    adds_one T c.args.store.now c.loop-next.store c.make.new.self v all m.sound m.adds r q c.in-Ok-make.answer member of c.in-Ok-make.ensures.made
+    adds_one T c.args.store.now c.loop-next.store c.make.new.self v all m.sound m.adds r q c.in_ok-answer.answer member of c.in_ok-answer.ensures.made
 
 pub loop-next-preserved : goal.loop-next-preserved
 loop-next-preserved c =
@@ -243,18 +245,18 @@ loop-next-preserved c =
     let all = team_row n p v in
     let member = in_team n p v s r c.requires.read.sender (item_at own i r ib w.1) in
     let m = c.loop-next.invariant.making in
-    let answers : c.push.new.self.items ≡ c.loop-next.answers.items ++ c.in-Ok-make.answer ∷ [] = search rules in
+    let answers : c.push.new.self.items ≡ c.loop-next.answers.items ++ c.in_ok-answer.answer ∷ [] = search rules in
     record {
       bound = omega (arith, bound);
       left = fewer;
       making = record {
         sound = c.make.ensures.sound;
         extends = extends_on c.args.store.now c.loop-next.store c.make.new.self m.extends c.make.ensures.extends;
-        adds = adds_one T c.args.store.now c.loop-next.store c.make.new.self v all m.sound m.adds r q c.in-Ok-make.answer member of c.in-Ok-make.ensures.made;
-        made = next_pair (IsAnswered T c.make.new.self v) own i r c.loop-next.answers.items c.push.new.self.items c.in-Ok-make.answer ib w.1 answers
+        adds = adds_one T c.args.store.now c.loop-next.store c.make.new.self v all m.sound m.adds r q c.in_ok-answer.answer member of c.in_ok-answer.ensures.made;
+        made = next_pair (IsAnswered T c.make.new.self v) own i r c.loop-next.answers.items c.push.new.self.items c.in_ok-answer.answer ib w.1 answers
             (subst (λ z. AllZip (IsAnswered T c.make.new.self v) (drop z own) (reverse c.loop-next.answers.items)) e
             (answered_still T c.loop-next.store c.make.new.self v c.make.ensures.extends (drop c.loop-next.next own) (reverse c.loop-next.answers.items) m.made))
-            (one_made T c.loop-next.store c.make.new.self v r q c.in-Ok-make.answer of c.in-Ok-make.ensures.made);
+            (one_made T c.loop-next.store c.make.new.self v r q c.in_ok-answer.answer of c.in_ok-answer.ensures.made);
       };
     }
 

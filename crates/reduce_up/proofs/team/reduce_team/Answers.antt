@@ -1,4 +1,5 @@
 use Rattle.std.proofs.Common.{◌≡◌, ℕ, ◌+◌, ◌-◌, ◌<◌, ◌∙◌, length, sym, subst, arith}
+use Rattle.std.proofs.lemmas.Result.{err_from_is_err_and}
 use Rattle.reduce_up.specs.Reducing.{AddsDescribed, AskedBy, IsRow, IsRowReduced, IsRowWithin, IsRowFault}
 use Rattle.reduce_up.specs.Levels.{AreReducedFrom, IsWithinFrom}
 use Rattle.reduce_up.specs.Team.{IsHalfway, AreAllLeft, IsReducedTo, gathered, team_row, told}
@@ -48,13 +49,13 @@ loop-level-preserved g c =
     record {
       bound = omega (arith, bound);
       reduced = level_next S rows v c.loop-level.store (told n p c.loop-level.progress.answers) c.reduce_team_level.new.store (told n p c.reduce_team_level.new.progress.answers) c.levels-level.ensures.sound c.requires.records lt d
-          (subst (λ z. IsRowReduced c.loop-level.store (told n p c.loop-level.progress.answers) v z (length z) c.reduce_team_level.new.store (told n p c.reduce_team_level.new.progress.answers)) at c.in-Ok.ensures.row.whole)
-          (subst (λ z. IsRowWithin c.loop-level.store z c.reduce_team_level.new.store) at c.in-Ok.ensures.within);
-      reached = (let r = c.in-Ok.ensures.reached in record { halfway = r.halfway; levels = r.levels ∙ c.loop-level.invariant.reduced.adds.keeps.levels; lefts = r.lefts });
+          (subst (λ z. IsRowReduced c.loop-level.store (told n p c.loop-level.progress.answers) v z (length z) c.reduce_team_level.new.store (told n p c.reduce_team_level.new.progress.answers)) at c.in_ok-reduce_team_level.ensures.row.whole)
+          (subst (λ z. IsRowWithin c.loop-level.store z c.reduce_team_level.new.store) at c.in_ok-reduce_team_level.ensures.within);
+      reached = (let r = c.in_ok-reduce_team_level.ensures.reached in record { halfway = r.halfway; levels = r.levels ∙ c.loop-level.invariant.reduced.adds.keeps.levels; lefts = r.lefts });
     }
 
-pub returns-in-Err-clause-adds : goal.returns-in-Err-clause-adds
-returns-in-Err-clause-adds g c =
+pub returns-in_err-reduce_team_level-clause-adds : goal.returns-in_err-reduce_team_level-clause-adds
+returns-in_err-reduce_team_level-clause-adds g c =
     let S = c.args.store.now in let n = c.args.field.workers in let p = c.args.field.parts.now in
     let rows = gathered S.levels (team_row n p) in
     let v : ℕ = c.loop-level.level - 1 in
@@ -64,15 +65,16 @@ returns-in-Err-clause-adds g c =
     level_adds S rows v c.loop-level.store c.reduce_team_level.new.store c.levels-level.ensures.sound c.loop-level.invariant.reduced.held c.requires.records lt c.loop-level.invariant.reduced.adds
     (subst (λ z. AddsDescribed c.loop-level.store c.reduce_team_level.new.store (AskedBy c.loop-level.store v z)) (sym (gathered_at S.levels (team_row n p) v lt)) c.reduce_team_level.ensures.row.left.adds)
 
-pub returns-in-Err-clause-fault : goal.returns-in-Err-clause-fault
-returns-in-Err-clause-fault g c =
+pub returns-in_err-reduce_team_level-clause-fault : goal.returns-in_err-reduce_team_level-clause-fault
+returns-in_err-reduce_team_level-clause-fault g c =
     let S = c.args.store.now in let n = c.args.field.workers in let p = c.args.field.parts.now in
     let rows = gathered S.levels (team_row n p) in
     let v : ℕ = c.loop-level.level - 1 in
     let some = c.loop-level-test.true in
     let bound = c.loop-level.invariant.bound in
     let lt : v < S.levels = omega (arith, some, bound) in
-    level_fault rows v c.reduce_team_level.new.store c.in-Err.fault (subst (λ z. IsRowFault c.reduce_team_level.new.store v z c.in-Err.fault) (sym (gathered_at S.levels (team_row n p) v lt)) c.in-Err.ensures.row.fault)
+    let e = err_from_is_err_and c.from_residual.result c.from_residual.ensures.1 in
+    rw (e.1, e.2) (level_fault rows v c.reduce_team_level.new.store c.in_err-reduce_team_level.field-0.0 (subst (λ z. IsRowFault c.reduce_team_level.new.store v z c.in_err-reduce_team_level.field-0.0) (sym (gathered_at S.levels (team_row n p) v lt)) c.in_err-reduce_team_level.ensures.row.fault))
 
 pub returns-clause-answers : goal.returns-clause-answers
 returns-clause-answers g c =

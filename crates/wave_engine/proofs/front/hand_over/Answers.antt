@@ -1,4 +1,5 @@
 use Rattle.std.proofs.Common.{◌≡◌, ◌∙◌, ◌≤◌, inl, true, false, List, [], length, All, ap, sym, subst, arith}
+use Rattle.std.proofs.lemmas.Result.{err_from_is_err_and}
 use Rattle.std.specs.Prelude.{◌==◌}
 use Rattle.std.proofs.lemmas.Bool.Decides.{nat_tests}
 use Rattle.dd_store.specs.declared.reference.Ref.{Ref}
@@ -31,8 +32,8 @@ shared_wave-requires-clause-roots g c κs within =
     let slice = c.as_slice-asked.ensures.value ∙ c.in-Ok.ensures in
     subst (All (IsKey c.args.store.now)) (sym slice) (front_keys c.args.store.now c.levels.ensures.sound c.args.entries.now c.requires.operands c.args.frontier.now.requests.now c.requires.admitted c.args.frontier.now.from)
 
-pub returns-in-Err-clause-adds : goal.returns-in-Err-clause-adds
-returns-in-Err-clause-adds g c =
+pub returns-in_err-found-clause-adds : goal.returns-in_err-found-clause-adds
+returns-in_err-found-clause-adds g c =
     let front : c.in-Ok.front.items ≡ keys_from c.args.frontier.now.from c.args.frontier.now.requests.now = c.in-Ok.ensures in
     let slice : entries_for c.as_slice-asked.result.now ≡ entries_for (keys_from c.args.frontier.now.from c.args.frontier.now.requests.now) = ap entries_for (c.as_slice-asked.ensures.value ∙ front) in
     over_adds c.args.store.now c.levels.ensures.sound c.args.entries.now c.requires.operands c.args.frontier.now.requests.now c.requires.admitted c.args.frontier.now.from c.shared_wave.new.store c.shared_wave.ensures.wave.sound (subst (λ (z : List Entry). AddsDescribed c.args.store.now c.shared_wave.new.store (IsWanted c.args.store.now z)) slice c.shared_wave.ensures.wave.adds)
@@ -49,19 +50,20 @@ returns-clause-adds g c =
     let slice : entries_for c.as_slice-asked.result.now ≡ entries_for (keys_from c.args.frontier.now.from c.args.frontier.now.requests.now) = ap entries_for (c.as_slice-asked.ensures.value ∙ front) in
     over_adds c.args.store.now c.levels.ensures.sound c.args.entries.now c.requires.operands c.args.frontier.now.requests.now c.requires.admitted c.args.frontier.now.from c.shared_wave.new.store c.shared_wave.ensures.wave.sound (subst (λ (z : List Entry). AddsDescribed c.args.store.now c.shared_wave.new.store (IsWanted c.args.store.now z)) slice c.shared_wave.ensures.wave.adds)
 
-pub returns-in-Err-clause-fault : goal.returns-in-Err-clause-fault
-returns-in-Err-clause-fault g c =
+pub returns-in_err-found-clause-fault : goal.returns-in_err-found-clause-fault
+returns-in_err-found-clause-fault g c =
     let front : c.in-Ok.front.items ≡ keys_from c.args.frontier.now.from c.args.frontier.now.requests.now = c.in-Ok.ensures in
     let slice : entries_for c.as_slice-asked.result.now ≡ entries_for (keys_from c.args.frontier.now.from c.args.frontier.now.requests.now) = ap entries_for (c.as_slice-asked.ensures.value ∙ front) in
     let adds : AddsDescribed c.args.store.now c.shared_wave.new.store (IsWanted c.args.store.now (entries_for (keys_from c.args.frontier.now.from c.args.frontier.now.requests.now))) = subst (λ (z : List Entry). AddsDescribed c.args.store.now c.shared_wave.new.store (IsWanted c.args.store.now z)) slice c.shared_wave.ensures.wave.adds in
-    over_fault c.args.store.now c.levels.ensures.sound c.args.entries.now c.requires.operands c.args.frontier.now.requests.now c.requires.admitted c.args.frontier.now.from c.shared_wave.new.store c.shared_wave.ensures.wave.sound adds c.in-Err.fault (subst (λ (z : List Entry). IsWaveFault c.args.store.now z c.shared_wave.new.store c.in-Err.fault) slice c.in-Err.ensures.wave.fault)
+    let p = err_from_is_err_and c.from_residual.result c.from_residual.ensures.1 in
+    rw (p.1, p.2) (over_fault c.args.store.now c.levels.ensures.sound c.args.entries.now c.requires.operands c.args.frontier.now.requests.now c.requires.admitted c.args.frontier.now.from c.shared_wave.new.store c.shared_wave.ensures.wave.sound adds c.in_err-found.field-0.0 (subst (λ (z : List Entry). IsWaveFault c.args.store.now z c.shared_wave.new.store c.in_err-found.field-0.0) slice c.in_err-found.ensures.wave.fault))
 
 pub put_answers-requires-clause-all : goal.put_answers-requires-clause-all
 put_answers-requires-clause-all g c =
     let front : c.in-Ok.front.items ≡ keys_from c.args.frontier.now.from c.args.frontier.now.requests.now = c.in-Ok.ensures in
     let slice : entries_for c.as_slice-asked.result.now ≡ entries_for (keys_from c.args.frontier.now.from c.args.frontier.now.requests.now) = ap entries_for (c.as_slice-asked.ensures.value ∙ front) in
-    let answers : AnswersEach c.args.store.now (entries_for (keys_from c.args.frontier.now.from c.args.frontier.now.requests.now)) c.shared_wave.new.store c.in-Ok-shared_wave.found.items = subst (λ (z : List Entry). AnswersEach c.args.store.now z c.shared_wave.new.store c.in-Ok-shared_wave.found.items) slice c.in-Ok-shared_wave.ensures.wave.answers in
-    ap length c.as_slice.ensures.value ∙ zip_length (λ e r. IsDiagram c.shared_wave.new.store r (entry_value c.args.store.now e)) (keys_from c.args.frontier.now.from c.args.frontier.now.requests.now) c.in-Ok-shared_wave.found.items answers
+    let answers : AnswersEach c.args.store.now (entries_for (keys_from c.args.frontier.now.from c.args.frontier.now.requests.now)) c.shared_wave.new.store c.in_ok-found.found.items = subst (λ (z : List Entry). AnswersEach c.args.store.now z c.shared_wave.new.store c.in_ok-found.found.items) slice c.in_ok-found.ensures.wave.answers in
+    ap length c.as_slice.ensures.value ∙ zip_length (λ e r. IsDiagram c.shared_wave.new.store r (entry_value c.args.store.now e)) (keys_from c.args.frontier.now.from c.args.frontier.now.requests.now) c.in_ok-found.found.items answers
 
 pub returns-in-Ok-put_answers-clause-reduced : goal.returns-in-Ok-put_answers-clause-reduced
 returns-in-Ok-put_answers-clause-reduced g c =
@@ -69,10 +71,10 @@ returns-in-Ok-put_answers-clause-reduced g c =
     let slice : entries_for c.as_slice-asked.result.now ≡ entries_for (keys_from c.args.frontier.now.from c.args.frontier.now.requests.now) = ap entries_for (c.as_slice-asked.ensures.value ∙ front) in
     let adds : AddsDescribed c.args.store.now c.shared_wave.new.store (IsWanted c.args.store.now (entries_for (keys_from c.args.frontier.now.from c.args.frontier.now.requests.now))) = subst (λ (z : List Entry). AddsDescribed c.args.store.now c.shared_wave.new.store (IsWanted c.args.store.now z)) slice c.shared_wave.ensures.wave.adds in
     let some : keys_from c.args.frontier.now.from c.args.frontier.now.requests.now ≡ [] → ⊥ = λ e. (let z : (length c.as_slice-asked.result.now == 0) ≡ false = sym c.is_empty.ensures ∙ c.if-is_empty.false in let l : length c.as_slice-asked.result.now ≡ 0 = ap length (c.as_slice-asked.ensures.value ∙ front ∙ e) in grind (arith, nat_tests, z, l)) in
-    let within : count_of c.shared_wave.new.store ≤ c.shared_wave.new.store.limit = over_within c.args.store.now c.levels.ensures.sound c.args.entries.now c.requires.operands c.args.frontier.now.requests.now c.requires.admitted c.args.frontier.now.from c.shared_wave.new.store c.shared_wave.ensures.wave.sound adds some (subst (λ (z : List Entry). IsWithinLimit c.args.store.now z c.shared_wave.new.store) slice c.in-Ok-shared_wave.ensures.wave.within) in
-    let answers : AnswersEach c.args.store.now (entries_for (keys_from c.args.frontier.now.from c.args.frontier.now.requests.now)) c.shared_wave.new.store c.in-Ok-shared_wave.found.items = subst (λ (z : List Entry). AnswersEach c.args.store.now z c.shared_wave.new.store c.in-Ok-shared_wave.found.items) slice c.in-Ok-shared_wave.ensures.wave.answers in
-    let put : ArePut c.args.frontier.now.requests.now c.args.frontier.now.from c.in-Ok-shared_wave.found.items (length c.args.frontier.now.requests.now) c.put_answers.new.answers.items = subst (λ (z : List Ref). ArePut c.args.frontier.now.requests.now c.args.frontier.now.from z (length c.args.frontier.now.requests.now) c.put_answers.new.answers.items) c.as_slice.ensures.value c.in-Ok-put_answers.ensures in
-    over_reduced c.args.store.now c.levels.ensures.sound c.args.entries.now c.requires.operands c.args.frontier.now.requests.now c.requires.admitted c.args.frontier.now.from c.shared_wave.new.store c.shared_wave.ensures.wave.sound adds c.in-Ok-shared_wave.found.items c.put_answers.new.answers.items answers put within
+    let within : count_of c.shared_wave.new.store ≤ c.shared_wave.new.store.limit = over_within c.args.store.now c.levels.ensures.sound c.args.entries.now c.requires.operands c.args.frontier.now.requests.now c.requires.admitted c.args.frontier.now.from c.shared_wave.new.store c.shared_wave.ensures.wave.sound adds some (subst (λ (z : List Entry). IsWithinLimit c.args.store.now z c.shared_wave.new.store) slice c.in_ok-found.ensures.wave.within) in
+    let answers : AnswersEach c.args.store.now (entries_for (keys_from c.args.frontier.now.from c.args.frontier.now.requests.now)) c.shared_wave.new.store c.in_ok-found.found.items = subst (λ (z : List Entry). AnswersEach c.args.store.now z c.shared_wave.new.store c.in_ok-found.found.items) slice c.in_ok-found.ensures.wave.answers in
+    let put : ArePut c.args.frontier.now.requests.now c.args.frontier.now.from c.in_ok-found.found.items (length c.args.frontier.now.requests.now) c.put_answers.new.answers.items = subst (λ (z : List Ref). ArePut c.args.frontier.now.requests.now c.args.frontier.now.from z (length c.args.frontier.now.requests.now) c.put_answers.new.answers.items) c.as_slice.ensures.value c.in-Ok-put_answers.ensures in
+    over_reduced c.args.store.now c.levels.ensures.sound c.args.entries.now c.requires.operands c.args.frontier.now.requests.now c.requires.admitted c.args.frontier.now.from c.shared_wave.new.store c.shared_wave.ensures.wave.sound adds c.in_ok-found.found.items c.put_answers.new.answers.items answers put within
 
 pub returns-in-Ok-put_answers-clause-within : goal.returns-in-Ok-put_answers-clause-within
 returns-in-Ok-put_answers-clause-within g c =
@@ -80,7 +82,7 @@ returns-in-Ok-put_answers-clause-within g c =
     let slice : entries_for c.as_slice-asked.result.now ≡ entries_for (keys_from c.args.frontier.now.from c.args.frontier.now.requests.now) = ap entries_for (c.as_slice-asked.ensures.value ∙ front) in
     let adds : AddsDescribed c.args.store.now c.shared_wave.new.store (IsWanted c.args.store.now (entries_for (keys_from c.args.frontier.now.from c.args.frontier.now.requests.now))) = subst (λ (z : List Entry). AddsDescribed c.args.store.now c.shared_wave.new.store (IsWanted c.args.store.now z)) slice c.shared_wave.ensures.wave.adds in
     let some : keys_from c.args.frontier.now.from c.args.frontier.now.requests.now ≡ [] → ⊥ = λ e. (let z : (length c.as_slice-asked.result.now == 0) ≡ false = sym c.is_empty.ensures ∙ c.if-is_empty.false in let l : length c.as_slice-asked.result.now ≡ 0 = ap length (c.as_slice-asked.ensures.value ∙ front ∙ e) in grind (arith, nat_tests, z, l)) in
-    let within : count_of c.shared_wave.new.store ≤ c.shared_wave.new.store.limit = over_within c.args.store.now c.levels.ensures.sound c.args.entries.now c.requires.operands c.args.frontier.now.requests.now c.requires.admitted c.args.frontier.now.from c.shared_wave.new.store c.shared_wave.ensures.wave.sound adds some (subst (λ (z : List Entry). IsWithinLimit c.args.store.now z c.shared_wave.new.store) slice c.in-Ok-shared_wave.ensures.wave.within) in
+    let within : count_of c.shared_wave.new.store ≤ c.shared_wave.new.store.limit = over_within c.args.store.now c.levels.ensures.sound c.args.entries.now c.requires.operands c.args.frontier.now.requests.now c.requires.admitted c.args.frontier.now.from c.shared_wave.new.store c.shared_wave.ensures.wave.sound adds some (subst (λ (z : List Entry). IsWithinLimit c.args.store.now z c.shared_wave.new.store) slice c.in_ok-found.ensures.wave.within) in
     inl within
 
 pub returns-then-is_empty-clause-expanded : goal.returns-then-is_empty-clause-expanded
@@ -91,7 +93,7 @@ returns-then-is_empty-clause-expanded g c =
 
 pub returns-in-Ok-put_answers-clause-expanded : goal.returns-in-Ok-put_answers-clause-expanded
 returns-in-Ok-put_answers-clause-expanded g c =
-    subst (λ (ks : List Key). HaveExpanded c.args.store.now c.args.crew.now.workers.count ks c.args.rooms.now c.shared_wave.new.rooms) (c.as_slice-asked.ensures.value ∙ c.in-Ok.ensures) c.in-Ok-shared_wave.ensures.expanded
+    subst (λ (ks : List Key). HaveExpanded c.args.store.now c.args.crew.now.workers.count ks c.args.rooms.now c.shared_wave.new.rooms) (c.as_slice-asked.ensures.value ∙ c.in-Ok.ensures) c.in_ok-found.ensures.expanded
 
 pub returns-clause-memory : goal.returns-clause-memory
-returns-clause-memory g c = λ old _. within_still c.args.store.now (entries_for c.as_slice-asked.result.now) c.shared_wave.new.store c.in-Ok-shared_wave.ensures.wave.within old
+returns-clause-memory g c = λ old _. within_still c.args.store.now (entries_for c.as_slice-asked.result.now) c.shared_wave.new.store c.in_ok-found.ensures.wave.within old

@@ -1,8 +1,9 @@
-use Rattle.std.proofs.Common.{◌≡◌, ◌<◌, ℕ, List, length, set, sym, ap, subst, arith}
+use Rattle.std.proofs.Common.{◌≡◌, ◌∙◌, ◌<◌, ℕ, List, [], length, set, sym, ap, subst, arith}
+use Rattle.std.proofs.lemmas.List.{set-get_or}
 use Rattle.req_table.specs.declared.Key.{Key}
 use Rattle.req_table.specs.declared.Child.TheVariants as child
-use Rattle.wave_engine.specs.Places.{row, Enters, Admits}
-use Rattle.wave_engine.proofs.Placing.{ask_admits, offered_enters, row_read}
+use Rattle.wave_engine.specs.Places.{row, AreMarked, Enters, Admits}
+use Rattle.wave_engine.proofs.Placing.{ask_admits, ask_placed, none_admits, offered_enters, row_read}
 use Rattle.wave_engine.proofs.Marked.{marked_first, marked_more}
 use Rattle.wave_engine.proofs.requests.Requests.admit.Goals as goal
 
@@ -50,3 +51,55 @@ returns-else-count-eq0-clause-admits c =
     let read : c.index_mut.result.now ≡ row T l = row_read T l c.index_mut.result.now fits c.index_mut.ensures.value in
     let enters : Enters (row T l) c.args.key c.in_ok-place.place new = subst (λ (z : List Key). Enters z c.args.key c.in_ok-place.place new) read (offered_enters c.index_mut.result.now new c.args.key c.in_ok-place.place c.in_ok-place.field-0-1 c.in_ok-place.ensures.offers c.in_ok-place.ensures.stands) in
     λ m. subst (λ (z : List (List Key)). Admits z (child.Ask l c.args.key m) (set T l new)) c.self.view_is (ask_admits T l c.args.key c.in_ok-place.place new fits enters m)
+
+pub invariant_of-self : goal.invariant_of-self
+invariant_of-self c =
+    let T : List (List Key) = c.self.inside.tables.items in
+    let l : ℕ = c.args.level in
+    let same : length T ≡ length c.args.self.now = ap length c.self.view_is in
+    let fits : l < length T = omega (arith, same, c.requires) in
+    let read : c.index_mut.result.now ≡ row T l = row_read T l c.index_mut.result.now fits c.index_mut.ensures.value in
+    let unchanged : set T l c.admit.new.self ≡ T = ap (set T l) (c.in_err-place.ensures.refused ∙ read) ∙ set-get_or T l [] in
+    subst (AreMarked c.self.inside.marks) (sym unchanged) c.self.invariant
+
+pub returns-in_err-place-clause-admits : goal.returns-in_err-place-clause-admits
+returns-in_err-place-clause-admits c =
+    let T : List (List Key) = c.self.inside.tables.items in
+    let l : ℕ = c.args.level in
+    let same : length T ≡ length c.args.self.now = ap length c.self.view_is in
+    let fits : l < length T = omega (arith, same, c.requires) in
+    let read : c.index_mut.result.now ≡ row T l = row_read T l c.index_mut.result.now fits c.index_mut.ensures.value in
+    let unchanged : set T l c.admit.new.self ≡ T = ap (set T l) (c.in_err-place.ensures.refused ∙ read) ∙ set-get_or T l [] in
+    λ m. subst (λ (z : List (List Key)). Admits z (child.Ask l c.args.key m) (set T l c.admit.new.self)) c.self.view_is
+    (subst (Admits T (child.Ask l c.args.key m)) (sym unchanged) (none_admits T (child.Ask l c.args.key m)))
+
+pub mark-requires : goal.mark-requires
+mark-requires c =
+    let T : List (List Key) = c.self.inside.tables.items in
+    let l : ℕ = c.args.level in
+    let same : length T ≡ length c.args.self.now = ap length c.self.view_is in
+    let fits : l < length T = omega (arith, same, c.requires) in
+    let room = c.self.invariant.room in
+    omega (arith, room, fits)
+
+pub returns-then-count-eq0-clause-stands : goal.returns-then-count-eq0-clause-stands
+returns-then-count-eq0-clause-stands c =
+    let T : List (List Key) = c.self.inside.tables.items in
+    let l : ℕ = c.args.level in
+    let new : List Key = c.admit.new.self in
+    let same : length T ≡ length c.args.self.now = ap length c.self.view_is in
+    let fits : l < length T = omega (arith, same, c.requires) in
+    let read : c.index_mut.result.now ≡ row T l = row_read T l c.index_mut.result.now fits c.index_mut.ensures.value in
+    let enters : Enters (row T l) c.args.key c.in_ok-place.place new = subst (λ (z : List Key). Enters z c.args.key c.in_ok-place.place new) read (offered_enters c.index_mut.result.now new c.args.key c.in_ok-place.place c.in_ok-place.field-0-1 c.in_ok-place.ensures.offers c.in_ok-place.ensures.stands) in
+    ask_placed T l c.args.key c.in_ok-place.place new fits enters
+
+pub returns-else-count-eq0-clause-stands : goal.returns-else-count-eq0-clause-stands
+returns-else-count-eq0-clause-stands c =
+    let T : List (List Key) = c.self.inside.tables.items in
+    let l : ℕ = c.args.level in
+    let new : List Key = c.admit.new.self in
+    let same : length T ≡ length c.args.self.now = ap length c.self.view_is in
+    let fits : l < length T = omega (arith, same, c.requires) in
+    let read : c.index_mut.result.now ≡ row T l = row_read T l c.index_mut.result.now fits c.index_mut.ensures.value in
+    let enters : Enters (row T l) c.args.key c.in_ok-place.place new = subst (λ (z : List Key). Enters z c.args.key c.in_ok-place.place new) read (offered_enters c.index_mut.result.now new c.args.key c.in_ok-place.place c.in_ok-place.field-0-1 c.in_ok-place.ensures.offers c.in_ok-place.ensures.stands) in
+    ask_placed T l c.args.key c.in_ok-place.place new fits enters
