@@ -1,4 +1,4 @@
-use Rattle.std.proofs.Common.{◌≡◌, ◌≢◌, ◌∙◌, ap, sym, subst, inl, inr, Result, Ok, Err, OnErr}
+use Rattle.std.proofs.Common.{◌≡◌, ◌≢◌, ◌∙◌, ap, sym, subst, inl, inr, Result, Ok, Err, OnErr, absurd, arith}
 use Rattle.std.specs.Io.KnownBytes.{Keeps}
 use Rattle.check_tool.specs.declared.done.Done.{Done}
 use Rattle.check_report.specs.declared.fault.CheckFault.TheVariants.{Write}
@@ -6,7 +6,8 @@ use Rattle.check_tool.specs.declared.fault.ToolFault.{ToolFault}
 use Rattle.check_tool.specs.declared.fault.ToolFault.TheVariants.{Check, OutOfMemory}
 use Rattle.check_tool.specs.Ending.{IsSaidOf, Written, asked_again}
 use Rattle.check_tool.specs.Opening.{AreTried}
-use Rattle.check_tool.proofs.Composing.{keeps_own, asked_or, extends_more, neither}
+use Rattle.check_tool.specs.Faults.{fault_status}
+use Rattle.check_tool.proofs.Composing.{keeps_own, asked_or, code_of, extends_more, neither}
 use Rattle.check_tool.proofs.tool.run_tool.Goals as goal
 
 -- the fault of an answer that has one
@@ -78,6 +79,20 @@ returns-clause-ending g c =
         },
       ),
       c.run_options.ensures.unasked,
+    )
+
+pub returns-clause-untouched : goal.returns-clause-untouched
+returns-clause-untouched g c two =
+    let after = c.refuse_run.new.errors in
+    let said : Written = record {
+      held = g.E.Sink.contents c.run_options.new.errors;
+      holds = g.E.Sink.contents after;
+      has_failed = g.E.Sink.has_failed after;
+      has_stopped = g.E.Sink.has_stopped after;
+    } in
+    let code = code_of c.tells-more.result (g.F.Folder.told c.run_options.new.folder) c.in-Ok.options said c.in-Err-run_options.fault c.refuse_run.result c.refuse_run.ensures.said in
+    subst (λ r. OnErr r (r ≢ Err (Check Write) → c.run_options.new.out ≡ c.args.out.now)) c.in-Err-run_options.is c.run_options.ensures.untouched (
+      λ e. let three = sym two ∙ code ∙ ap (λ r. fault_status (fault_in r)) e in absurd (omega (arith, three))
     )
 
 pub returns-in-Ok-run_options-clause-silent : goal.returns-in-Ok-run_options-clause-silent
