@@ -75,6 +75,22 @@ class Devices:
         self.tally.check("a line on a terminal", right and re.fullmatch(rb"(?:(?:" + place + rb")+\r\x1b\[K)+", told), (out, told))
         seen = run(["script", "-qec", f"{self.program} --verbose {self.c17} {self.c17}", "/dev/null"]) if shutil.which("script") else None
         self.tally.check("no line of a short run on a terminal", seen is None or b"\x1b" not in seen.out, seen)
+        self.refused_on_terminal()
+
+    def refused_on_terminal(self):
+        """What helps against a fault stands on a terminal without --verbose."""
+        bad = self.file("inverted", C17 + b"x = INV(1)\n")
+        ours, theirs = os.openpty()
+        child = subprocess.Popen([self.program, bad, self.c17], stdin=subprocess.DEVNULL, stdout=subprocess.PIPE, stderr=theirs)
+        os.close(theirs)
+        told = b""
+        while part := self.front_of(ours):
+            told += part
+        os.close(ours)
+        out = child.communicate()[0]
+        first, second = b"bddcheck: first: line 14: unknown gate", b":14: the word of an inverter is NOT: x = INV(1)"
+        wanted = first + b"\r\nbddcheck: " + os.fsencode(bad) + second + b"\r\n"
+        self.check("what helps on a terminal", (child.returncode, out, told), (2, b"", wanted))
 
     @staticmethod
     def front_of(terminal):
@@ -309,7 +325,7 @@ class Devices:
             self.check(f"fifos of {count} bytes a read", seen, Run(1, C17_DIFFERS, b""))
         refused_fifo = self.fifo("refused", b"a = FOO(b)\n", 1)
         seen = self.run("--verbose", refused_fifo, self.c17)
-        remedy = "abc writes no LUT lines by write_bench -l; for vdd and gnd see docs/FLOWS.md"
+        remedy = "gates are AND, NAND, OR, NOR, XOR, XNOR, NOT, BUFF and DFF; see docs/FLOWS.md"
         told = lines("bddcheck: first: line 1: unknown gate", f"bddcheck: {refused_fifo}:1: {remedy}")
         self.check("a refused fifo is read once", seen, Run(2, b"", told))
         child = subprocess.Popen([self.program], stdin=subprocess.PIPE, stdout=subprocess.PIPE, stderr=subprocess.PIPE, bufsize=0)

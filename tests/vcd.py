@@ -1,5 +1,6 @@
 #!/usr/bin/env python3
-"""Reads the VCD of a proved test by a reader of its own, and compares it with the values that the netlists' gates have.
+"""Reads the VCD of a proved test by a reader of its own, and compares it with the values that the netlists' gates have. Then
+tools/vcd.py is tried, which writes that very text of the same netlists and a line of a report.
 
 usage: tests/vcd.py
 
@@ -86,15 +87,59 @@ def expected(bench: str) -> dict[str, list[tuple[int, str]]]:
     return {name: [(0, str(value(gates, name)))] for name in names}
 
 
+# Reports on the netlists of the proved test, each with its words and what becomes of it: the proved text, or a refusal.
+NEXT = "DIFFER NEXT q at e=1 q=0 first=1 second=1\n"
+REPORTS: list[tuple[str, str, list[str], bytes | None]] = [
+    ("a line", f"EQUAL q\n{NEXT}1 equal, 1 different, 0 unmatched\n", [], None),
+    ("only ones", NEXT.replace(" q=0", ""), [], None),
+    ("sizes", NEXT.replace("\n", " sizes 3 4\n"), [], None),
+    ("another pair first", "DIFFER x at e=0 q=0 first=0 second=1\n" + NEXT, ["--of", "NEXT q"], None),
+    ("by position", NEXT, ["--match", "position"], None),
+    ("as an output", "DIFFER q at e=1 q=0 first=0 second=0\n", [], None),
+    (
+        "JSON",
+        '{"verdicts":[{"verdict":"DIFFER","of":"next state","name":"q","at":{"e":1,"q":0},"first":1,"second":1}]}\n',
+        [],
+        None,
+    ),
+    ("other values", NEXT.replace("first=1", "first=0"), [],
+     b"vcd: the netlists are not those of the report: the pair has other values\n"),
+    ("another name", NEXT, ["--of", "q"], b"vcd: no such pair differs\n"),
+    ("nothing that differs", "EQUAL q\n", [], b"vcd: no such pair differs\n"),
+]
+
+
+def written(tally: Tally, first: str, second: str, text: str) -> None:
+    """tools/vcd.py on these reports, and on files that are none."""
+    with kit.folder() as place:
+        files = [kit.written(place, "first", first.encode()), kit.written(place, "second", second.encode())]
+        for name, report, words, said in REPORTS:
+            seen = kit.run([TOP / "tools/vcd.py", *words, *files], report.encode())
+            tally.same(f"tools/vcd.py, {name}", seen, 0 if said is None else 1, text.encode() if said is None else b"", said or b"")
+        path = kit.written(place, "report", NEXT.encode())
+        out = f"{place}/out.vcd"
+        seen = kit.run([TOP / "tools/vcd.py", "-o", out, *files, path])
+        tally.same("tools/vcd.py, a file", seen, 0, b"", b"")
+        with open(out, "rb") as made:
+            tally.check("tools/vcd.py, what the file has", made.read() == text.encode(), "other bytes")
+        bad = kit.written(place, "bad", b"INPUT(a\n")
+        seen = kit.run([TOP / "tools/vcd.py", bad, files[1], path])
+        tally.same("tools/vcd.py, no netlist", seen, 2, b"", f"vcd: {bad}: no netlist\n".encode())
+
+
 def main() -> None:
     tally = Tally("vcd")
     source = SOURCE.read_text(encoding="utf-8")
     body = source[source.index("fn values_as_vcd") :]
-    found = read(literal(body, r'== b("(?:[^"\\]|\\.)*")'))
+    text = literal(body, r'== b("(?:[^"\\]|\\.)*")')
+    found = read(text)
+    netlists = []
     for scope, constant in (("first", "TOGGLED"), ("second", "HELD")):
         bench = literal(source, rf'static {constant}: &str =\s*("(?:[^"\\]|\\.)*")')
+        netlists.append(bench)
         tally.check(f"the values of the {scope} netlist", found.get(scope) == expected(bench), found.get(scope))
     tally.check("two scopes and no others", set(found) == {"first", "second"}, sorted(found))
+    written(tally, *netlists, text)
     tally.end()
     sys.exit(tally.failed > 0)
 

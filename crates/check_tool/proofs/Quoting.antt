@@ -26,6 +26,16 @@ pub behind_byte : (text : List ℕ) (feeds left at : ℕ) → behind feeds text 
     → behind feeds text ≡ cond (eqb (get_or text at 0) 10) (behind (left - 1) (drop (at + 1) text)) (behind left (drop (at + 1) text))
 behind_byte text feeds left at is ne lt = is ∙ ap (behind left) (drop_more text at 0 lt) ∙ behind_more left (get_or text at 0) (drop (at + 1) text) ne
 
+short_by : (t : Bool) (n : ℕ) (xs ys : List ℕ) → length xs ≤ n → length ys ≤ n → length (cond t xs ys) ≤ suc n
+short_by true n xs ys h k = omega (arith, h)
+short_by false n xs ys h k = omega (arith, k)
+
+-- what stands behind some line feeds is no longer than all
+pub behind_short : (feeds : ℕ) (text : List ℕ) → length (behind feeds text) ≤ length text
+behind_short zero text = omega arith
+behind_short (suc feeds) [] = omega arith
+behind_short (suc feeds) (b ∷ bs) = short_by (eqb b 10) (length bs) (behind feeds bs) (behind (suc feeds) bs) (behind_short feeds bs) (behind_short (suc feeds) bs)
+
 -- a line that is too long is shown cut
 pub excerpt_cut : (bytes : List ℕ) → 100 < length bytes → map shown (take 100 bytes) ++ codes "... (cut)" ≡ excerpt bytes
 excerpt_cut bytes lt = rw (lt-ltb 100 (length bytes) lt) refl

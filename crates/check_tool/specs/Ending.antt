@@ -68,7 +68,8 @@ until w b = record { held = w.held; holds = b.holds; has_failed = b.has_failed; 
 abbrev pub from : Written → Between → Written
 from w b = record { held = b.holds; holds = w.holds; has_failed = w.has_failed; has_stopped = w.has_stopped }
 
--- whether progress may be told while diagrams are built: more is asked for, or the device for it is seen on a terminal
+-- whether more is told: progress while diagrams are built, and what helps behind a fault. It is asked for, or the device for it is seen
+-- on a terminal.
 abbrev pub tells : Options → (seen : Bool) → Bool
 tells o seen = o.verbose || seen
 
@@ -81,13 +82,13 @@ HasProgress true w = ⊤
 abbrev pub IsBehindProgress : (tells : Bool) → Written → (Written → Type 0) → Type 0
 IsBehindProgress t w P = (b : Between) × HasProgress t (until w b) × P (from w b)
 
--- what is said of a fault of a run: its line, and behind it, where more is asked for, what helps
-abbrev pub IsSaidOf : (verbose : Bool) → (told : List ℕ → Option (List ℕ)) → Options → Written → ToolFault → (status : ℕ) → Type 0
+-- what is said of a fault of a run: its line, and behind it, where more is told, what helps
+abbrev pub IsSaidOf : (more : Bool) → (told : List ℕ → Option (List ℕ)) → Options → Written → ToolFault → (status : ℕ) → Type 0
 IsSaidOf false told o w fault status = IsSaid w fault status
 IsSaidOf true told o w fault status = (b : Between) × IsSaid (until w b) fault status × (line : List ℕ) × IsHelp told o fault line × MaySay (from w b) line
 
--- the file that may be opened once more, for the line that was refused: none, unless more is asked for
-abbrev pub asked_again : (verbose : Bool) → Options → ToolFault → List (List ℕ)
+-- the file that may be opened once more, for what was refused in it: none, unless more is told
+abbrev pub asked_again : (more : Bool) → Options → ToolFault → List (List ℕ)
 asked_again false o fault = []
 asked_again true o fault = refused_paths o fault
 
@@ -196,12 +197,12 @@ pub record Reports (s : Scene) (o : Options) (done : Done) (status : ℕ) : Type
   pub code : IsDoneStatus done status
 
 -- There is a fault: its line was said, and nothing was written but for a front part of the report where the writing failed. The file of a
--- refused text may have been opened once more, where more is asked for.
+-- refused text may have been opened once more, where more is told.
 pub record Refuses (broken : List ℕ → Type 0) (s : Scene) (o : Options) (fault : ToolFault) (status : ℕ) : Type 0 where
   pub tries : List Try
   pub again : List Try
   pub tried : Extends s.tried s.tries (tries ++ again)
-  pub once_more : AreTried (asked_again o.verbose o fault) again
+  pub once_more : AreTried (asked_again (tells o s.seen) o fault) again
   pub cause : IsToolFault s.told broken (IsTrue s.input_failed) s.input o tries fault
   pub unread : fault ≡ InputUnread → IsTrue s.input_failed
   pub full : fault ≡ Check (Wave Full) → IsBeyond s.told s.input o
@@ -210,7 +211,7 @@ pub record Refuses (broken : List ℕ → Type 0) (s : Scene) (o : Options) (fau
   pub hired : fault ≡ Check (Wave NoWorker) → (o.print_order ≡ false) × NamesOrder o.order
   pub only : fault ≡ Check Only → AreUnknown s.told s.input o
   pub unbounded : fault ≢ Check (Wave TooManyRequests)
-  pub line : IsBehindProgress (tells o s.seen) s.errors (λ w. IsSaidOf o.verbose s.told o w fault status)
+  pub line : IsBehindProgress (tells o s.seen) s.errors (λ w. IsSaidOf (tells o s.seen) s.told o w fault status)
   pub front : fault ≡ Check Write → HasReportedFront s.told s.input o s.output.held s.output.holds s.output.has_failed s.output.has_stopped
   pub nothing : fault ≢ Check Write → Keeps s.output.held s.output.holds
 

@@ -1,5 +1,5 @@
 -- What is said behind a fault's line where more is asked for: where the fault stands, and what helps.
-use Rattle.std.specs.Prelude.{◌≡◌, ◌⊎◌, ℕ, List, [], ◌∷◌, ◌++◌, Option, Some, None, codes, decimal}
+use Rattle.std.specs.Prelude.{◌≡◌, ◌⊎◌, ◌||◌, ◌==◌, ℕ, Bool, true, false, if◌then◌else◌, List, [], ◌∷◌, ◌++◌, Option, Some, None, codes, decimal}
 use Rattle.std.specs.Borrow.{Bor}
 use Rattle.net_bench.specs.declared.netlist.BenchFault.{BenchFault}
 use Rattle.net_bench.specs.declared.netlist.BenchFault.TheVariants.{TooLong as LongText, BadByte, BadStatement, UnknownGate, WrongOperands, Redefined, TooMany, Undefined, Cycle, Read as ReadFailed, OutOfMemory as NoTextMemory}
@@ -21,7 +21,10 @@ use Rattle.check_tool.specs.declared.folder.Obstacle.{Obstacle}
 use Rattle.check_tool.specs.declared.folder.Obstacle.TheVariants.{Missing, Forbidden, NoFolder, Links, Other}
 use Rattle.check_tool.specs.declared.help.Spot.{Spot}
 use Rattle.check_tool.specs.declared.help.Spot.TheVariants.{Nowhere, Text, Line}
-use Rattle.check_tool.specs.Quoting.{quotation}
+use Rattle.net_bench.specs.Statement.{is_word}
+use Rattle.check_tool.specs.declared.help.Mark.{Mark}
+use Rattle.check_tool.specs.declared.help.Mark.TheVariants.{Line as in_line, Broken, Listed}
+use Rattle.check_tool.specs.Quoting.{remark}
 use Rattle.check_tool.specs.Running.{first_paths, second_paths, order_paths, IsReadOf}
 
 -- what the first text is called: the path of its file, or what it is
@@ -127,12 +130,16 @@ fault_spot texts given choice InputTooLong = None
 fault_spot texts given choice InputUndivided = None
 fault_spot texts given choice OutOfMemory = None
 
+-- what helps against a word that names no gate
+abbrev pub other_word : List ℕ
+other_word = codes "gates are AND, NAND, OR, NOR, XOR, XNOR, NOT, BUFF and DFF; see docs/FLOWS.md"
+
 -- what helps where a text is refused
 abbrev pub text_help : BenchFault → List ℕ
 text_help LongText = codes "a text has at most 67108864 bytes"
 text_help (BadByte line) = codes "outside comments only printable ASCII stands"
 text_help (BadStatement line) = codes "a statement is INPUT(a), OUTPUT(a) or a = GATE(b, c)"
-text_help (UnknownGate line) = codes "abc writes no LUT lines by write_bench -l; for vdd and gnd see docs/FLOWS.md"
+text_help (UnknownGate line) = other_word
 text_help (WrongOperands line) = codes "NOT, BUFF and DFF take one operand"
 text_help (Redefined line) = codes "a signal has one INPUT, gate or register"
 text_help (TooMany line) = codes "at most 1000000 signals, 4000000 operands, and names of 255 bytes"
@@ -144,7 +151,7 @@ text_help NoTextMemory = codes "more memory, or a smaller netlist"
 -- the same of an order
 abbrev pub order_help : OrderFault → List ℕ
 order_help CountsDiffer = codes "--match name pairs by names"
-order_help (NotAPermutation place) = codes "--print-order writes a list that fits"
+order_help (NotAPermutation place) = codes "--extend takes the list as it is, --print-order writes one that fits"
 order_help TooManyInputs = codes "compare parts that have fewer inputs"
 order_help NoOrderMemory = codes "more memory, or a smaller netlist"
 order_help (BadName line) = codes "a list has names and blanks alone, as --print-order writes it"
@@ -205,6 +212,77 @@ fault_help choice (BadOrder fault) = order_help fault
 fault_help choice (Check fault) = check_help choice fault
 fault_help choice OutOfMemory = codes "more memory"
 
+-- ---- a word that names no gate
+
+-- what stands behind the first =
+abbrev pub behind_equals : List ℕ → List ℕ
+behind_equals [] = []
+behind_equals (b ∷ bs) = if b == 61 then bs else behind_equals bs
+
+-- the bytes from the first one on that is no blank
+abbrev pub unindented : List ℕ → List ℕ
+unindented [] = []
+unindented (b ∷ bs) = if b == 32 then unindented bs else b ∷ bs
+
+-- the bytes before the first blank or (
+abbrev pub front_word : List ℕ → List ℕ
+front_word [] = []
+front_word (b ∷ bs) = if b == 32 || b == 40 then [] else b ∷ front_word bs
+
+-- the gate's word in a line, as it is shown
+abbrev pub gate_word : List ℕ → List ℕ
+gate_word shown = front_word (unindented (behind_equals shown))
+
+-- what helps against it, in either case
+abbrev pub word_help : List ℕ → List ℕ
+word_help w =
+    if is_word w (codes "INV") then codes "the word of an inverter is NOT" else (
+    if is_word w (codes "MUX") then codes "a multiplexer is made of NOT, AND and OR gates; see docs/FLOWS.md" else (
+    if is_word w (codes "VDD") then codes "the constant 1 is XNOR(a, a) of any signal a; see docs/FLOWS.md" else (
+    if is_word w (codes "GND") then codes "the constant 0 is XOR(a, a) of any signal a; see docs/FLOWS.md" else (
+    if is_word w (codes "LATCH") then codes "a register is DFF, and no latch has a word; see docs/FLOWS.md" else (
+    if is_word w (codes "LUT") then codes "abc writes no LUT lines by write_bench -l; see docs/FLOWS.md" else other_word)))))
+
+-- a text is refused for such a word
+abbrev pub is_unknown_gate : BenchFault → Bool
+is_unknown_gate (UnknownGate line) = true
+is_unknown_gate LongText = false
+is_unknown_gate (BadByte line) = false
+is_unknown_gate (BadStatement line) = false
+is_unknown_gate (WrongOperands line) = false
+is_unknown_gate (Redefined line) = false
+is_unknown_gate (TooMany line) = false
+is_unknown_gate (Undefined line) = false
+is_unknown_gate (Cycle line) = false
+is_unknown_gate ReadFailed = false
+is_unknown_gate NoTextMemory = false
+
+-- a fault is of such a word
+abbrev pub names_gate : ToolFault → Bool
+names_gate (Check (First fault)) = is_unknown_gate fault
+names_gate (Check (Second fault)) = is_unknown_gate fault
+names_gate (Check (Given fault)) = is_unknown_gate fault
+names_gate (Check GivenOutputs) = false
+names_gate (Check (Order fault)) = false
+names_gate (Check Only) = false
+names_gate (Check Explain) = false
+names_gate (Check (Wave fault)) = false
+names_gate (Check GivenUp) = false
+names_gate (Check Write) = false
+names_gate (Check NoCheckMemory) = false
+names_gate (BadOrder fault) = false
+names_gate (CannotOpen place obstacle) = false
+names_gate OneFile = false
+names_gate DashTwice = false
+names_gate InputUnread = false
+names_gate InputTooLong = false
+names_gate InputUndivided = false
+names_gate OutOfMemory = false
+
+-- what helps against a fault whose line is shown so: against a word that names no gate its own remedy
+abbrev pub shown_help : OrderChoice → ToolFault → List ℕ → List ℕ
+shown_help choice fault shown = if names_gate fault then word_help (gate_word shown) else fault_help choice fault
+
 -- the line of a place and of what helps there
 abbrev pub help_line : Where → List ℕ → List ℕ
 help_line None help = codes "bddcheck: " ++ help ++ codes "\n"
@@ -215,9 +293,9 @@ help_line (Some (name, Some line)) help = codes "bddcheck: " ++ (name ++ (codes 
 abbrev pub help_text : Options → ToolFault → List ℕ
 help_text o fault = help_line (fault_spot o.texts o.given o.order fault) (fault_help o.order fault)
 
--- the same with what is shown of a line
+-- the same with what is shown of the file
 abbrev pub help_quoting : Options → ToolFault → List ℕ → List ℕ
-help_quoting o fault quoted = help_line (fault_spot o.texts o.given o.order fault) (fault_help o.order fault ++ (codes ": " ++ quoted))
+help_quoting o fault quoted = help_line (fault_spot o.texts o.given o.order fault) (shown_help o.order fault quoted ++ (codes ": " ++ quoted))
 
 -- a path, where there is one
 abbrev pub path_in : Option (Bor (List ℕ)) → List (List ℕ)
@@ -231,7 +309,7 @@ refused_paths o (Check (First fault)) = first_paths o.texts
 refused_paths o (Check (Second fault)) = second_paths o.texts
 refused_paths o (Check (Given fault)) = path_in o.given
 refused_paths o (Check GivenOutputs) = []
-refused_paths o (Check (Order fault)) = []
+refused_paths o (Check (Order fault)) = order_paths o.order
 refused_paths o (Check Only) = []
 refused_paths o (Check Explain) = []
 refused_paths o (Check (Wave fault)) = []
@@ -246,17 +324,62 @@ refused_paths o InputTooLong = []
 refused_paths o InputUndivided = []
 refused_paths o OutOfMemory = []
 
--- this is what is shown of the line that a fault stands in, as the file has it
+-- what a refused text is shown by: the line at fault
+abbrev pub text_mark : BenchFault → Option Mark
+text_mark (BadByte line) = Some (in_line line)
+text_mark (BadStatement line) = Some (Broken line)
+text_mark (UnknownGate line) = Some (in_line line)
+text_mark (WrongOperands line) = Some (in_line line)
+text_mark (Redefined line) = Some (in_line line)
+text_mark (TooMany line) = Some (in_line line)
+text_mark (Undefined line) = Some (in_line line)
+text_mark (Cycle line) = Some (in_line line)
+text_mark LongText = None
+text_mark ReadFailed = None
+text_mark NoTextMemory = None
+
+-- what a refused order is shown by: the line at fault, or the first name that does not fit
+abbrev pub order_mark : OrderFault → Option Mark
+order_mark (BadName line) = Some (in_line line)
+order_mark (NotAPermutation place) = Some (Listed place)
+order_mark LongOrder = None
+order_mark OrderReadFailed = None
+order_mark NoOrderMemory = None
+order_mark CountsDiffer = None
+order_mark TooManyInputs = None
+
+-- what a fault points at in the file of a text that was refused
+abbrev pub fault_mark : ToolFault → Option Mark
+fault_mark (BadOrder fault) = order_mark fault
+fault_mark (Check (First fault)) = text_mark fault
+fault_mark (Check (Second fault)) = text_mark fault
+fault_mark (Check (Given fault)) = text_mark fault
+fault_mark (Check (Order fault)) = order_mark fault
+fault_mark (Check GivenOutputs) = None
+fault_mark (Check Only) = None
+fault_mark (Check Explain) = None
+fault_mark (Check (Wave fault)) = None
+fault_mark (Check GivenUp) = None
+fault_mark (Check Write) = None
+fault_mark (Check NoCheckMemory) = None
+fault_mark (CannotOpen place obstacle) = None
+fault_mark OneFile = None
+fault_mark DashTwice = None
+fault_mark InputUnread = None
+fault_mark InputTooLong = None
+fault_mark InputUndivided = None
+fault_mark OutOfMemory = None
+
+-- this is what is shown of what a fault points at, as the file has it
 pub record IsQuoted (told : List ℕ → Option (List ℕ)) (o : Options) (fault : ToolFault) (quoted : List ℕ) : Type 0 where
   pub path : List ℕ
-  pub name : List ℕ
-  pub line : ℕ
+  pub mark : Mark
   pub text : List ℕ
   pub file : refused_paths o fault ≡ path ∷ []
-  pub place : fault_spot o.texts o.given o.order fault ≡ on_line name line
+  pub points : fault_mark fault ≡ Some mark
   pub read : IsReadOf (told path) (Some text)
-  pub is : quoted ≡ quotation text line
+  pub is : quoted ≡ remark mark text
 
--- the line that may be said behind a fault's own: with the refused line of a file, or without
+-- the line that may be said behind a fault's own: with what is shown of the file, or without
 abbrev pub IsHelp : (told : List ℕ → Option (List ℕ)) → Options → ToolFault → List ℕ → Type 0
 IsHelp told o fault line = (line ≡ help_text o fault) ⊎ ((quoted : List ℕ) × IsQuoted told o fault quoted × (line ≡ help_quoting o fault quoted))

@@ -1,6 +1,11 @@
 -- A line of a text, as a reader sees it.
-use Rattle.std.specs.Prelude.{ℕ, zero, suc, ◌-◌, ◌||◌, List, [], ◌∷◌, ◌++◌, ◌==◌, map, length, take, nat_lt, if◌then◌else◌, codes}
+use Rattle.std.specs.Prelude.{ℕ, zero, suc, ◌+◌, ◌-◌, ◌||◌, true, false, List, [], ◌∷◌, ◌++◌, ◌==◌, map, fold, length, take, nat_lt, if◌then◌else◌, codes, decimal, Option, Some, None}
 use Rattle.std.specs.Char.{is_ascii_graphic}
+use Rattle.net_bench.specs.Text.{Open, Close, Comma, Equals, Name, Unknown, End, Tokens}
+use Rattle.net_bench.specs.Pieces.{tokens_at}
+use Rattle.check_tool.specs.declared.help.Mark.{Mark}
+use Rattle.check_tool.specs.declared.help.Mark.TheVariants.{Line, Broken, Listed}
+use Rattle.check_tool.specs.declared.quote.Reading.{Reading}
 
 -- the bytes behind so many line feeds
 abbrev pub behind : ℕ → List ℕ → List ℕ
@@ -28,3 +33,57 @@ excerpt bytes = map shown (take 100 bytes) ++ (if nat_lt 100 (length bytes) then
 -- what is shown of a line of a text
 abbrev pub quotation : List ℕ → ℕ → List ℕ
 quotation text line = excerpt (line_in text line)
+
+-- ---- a statement that is not closed
+
+-- how far a text is read before its first byte
+abbrev pub unread : Reading
+unread = record { line = 1; in_comment = false; unclosed = None }
+
+-- how far it is read behind one byte more: at a ( its line is that of the last one that no ) follows
+abbrev pub read_byte : Reading → ℕ → Reading
+read_byte r b =
+    if b == 10 then record { line = r.line + 1; in_comment = false; unclosed = r.unclosed } else (
+    if r.in_comment then r else (
+    if b == 35 then record { line = r.line; in_comment = true; unclosed = r.unclosed } else (
+    if b == 40 then record { line = r.line; in_comment = false; unclosed = Some r.line } else (
+    if b == 41 then record { line = r.line; in_comment = false; unclosed = None } else r))))
+
+-- the line of the last ( of a text, outside comments, where no ) follows it
+abbrev pub open_in : List ℕ → Option ℕ
+open_in text = (fold read_byte unread text).unclosed
+
+-- the bytes before a line
+abbrev pub before_line : List ℕ → ℕ → List ℕ
+before_line text line = take (length text - length (behind (line - 1) text)) text
+
+-- what is shown of a line with a broken statement: where a ( before it has no ), the line of that
+abbrev pub broken_remark : List ℕ → (line : ℕ) → Option ℕ → List ℕ
+broken_remark text line None = quotation text line
+broken_remark text line (Some unclosed) = codes "the ( of line " ++ (decimal unclosed ++ (codes " has no ): " ++ quotation text unclosed))
+
+-- ---- a name of a list
+
+-- what is shown of the name behind so many tokens, and on which line it stands; or that the list ends
+abbrev pub name_remark : ℕ → Tokens → List ℕ
+name_remark n [] = []
+name_remark zero ((line, Name word) ∷ ts) = codes "line " ++ (decimal line ++ (codes ": " ++ excerpt word.text))
+name_remark (suc n) ((line, Name word) ∷ ts) = name_remark n ts
+name_remark n ((line, End) ∷ ts) = codes "the list ends before each variable has a place"
+name_remark zero ((line, Open) ∷ ts) = []
+name_remark (suc n) ((line, Open) ∷ ts) = name_remark n ts
+name_remark zero ((line, Close) ∷ ts) = []
+name_remark (suc n) ((line, Close) ∷ ts) = name_remark n ts
+name_remark zero ((line, Comma) ∷ ts) = []
+name_remark (suc n) ((line, Comma) ∷ ts) = name_remark n ts
+name_remark zero ((line, Equals) ∷ ts) = []
+name_remark (suc n) ((line, Equals) ∷ ts) = name_remark n ts
+name_remark zero ((line, Unknown byte) ∷ ts) = []
+name_remark (suc n) ((line, Unknown byte) ∷ ts) = name_remark n ts
+
+-- ---- what is shown of what a fault points at
+
+abbrev pub remark : Mark → List ℕ → List ℕ
+remark (Line line) text = quotation text line
+remark (Broken line) text = broken_remark text line (open_in (before_line text line))
+remark (Listed place) text = name_remark (place - 1) (tokens_at 1 text)

@@ -1,6 +1,6 @@
 //! What helps against a fault, and where it stands: the line behind a fault's own.
-ghost use Rattle.std.specs.Prelude.{◌≡◌, ◌∷◌, [], ℕ, List, IfOk, IfSome, string_bytes};
-ghost use Rattle.check_tool.specs.Helping.{first_name, second_name, in_text, on_line, where_of, text_spot, order_spot, given_spot, fault_spot, text_help, order_help, wave_help, opening_help, fewer_nodes, check_help, fault_help, help_line, help_text, help_quoting, path_in, refused_paths};
+ghost use Rattle.std.specs.Prelude.{◌≡◌, ◌∷◌, [], Some, IfOk, IfSome, string_bytes};
+ghost use Rattle.check_tool.specs.Helping.{first_name, second_name, in_text, on_line, where_of, text_spot, order_spot, given_spot, fault_spot, text_help, order_help, wave_help, opening_help, fewer_nodes, check_help, fault_help, help_line, help_text, help_quoting, path_in, refused_paths, text_mark, order_mark, fault_mark, behind_equals, unindented, front_word, gate_word, word_help, names_gate, shown_help};
 ghost use Rattle.check_tool.specs.Running.{first_paths, second_paths, order_paths};
 
 use crate::fault::{Place, ToolFault};
@@ -145,7 +145,9 @@ fn refused_file<'a>(options: &Options<'a>, fault: ToolFault) -> Option<&'a str>
     ensures { path_in result ≡ refused_paths options.now fault }
 {
     match fault {
-        ToolFault::BadOrder(_) => file_of_order(options.order),
+        ToolFault::BadOrder(_) | ToolFault::Check(CheckFault::Order(_)) => {
+            file_of_order(options.order)
+        }
         ToolFault::Check(CheckFault::First(_)) => file_of_first(options.texts),
         ToolFault::Check(CheckFault::Second(_)) => file_of_second(options.texts),
         ToolFault::Check(CheckFault::Given(_)) => options.given,
@@ -153,16 +155,63 @@ fn refused_file<'a>(options: &Options<'a>, fault: ToolFault) -> Option<&'a str>
     }
 }
 
-/// The file and the line that a fault stands in.
-pub fn refused_line<'a>(options: &Options<'a>, fault: ToolFault) -> Option<(&'a str, u32)>
-    ensures { IfSome result (λ r. (refused_paths options.now fault ≡ r.0.now ∷ [])
-        × (name : List ℕ) × (fault_spot options.now.texts options.now.given options.now.order fault ≡ on_line name r.1)) }
+/// What a fault points at in a file: a line, a line with a broken statement, or a name of a list by its place.
+#[derive(Clone, Copy, Drop)]
+pub enum Mark {
+    Line(u32),
+    Broken(u32),
+    Listed(u32),
+}
+
+/// What a refused text is shown by.
+fn mark_in_text(fault: BenchFault) -> Option<Mark>
+    ensures { result ≡ text_mark fault }
 {
-    let path = refused_file(options, fault)?;
-    match spot_of(options, fault) {
-        Spot::Line(_, line) => Some((path, line)),
+    match fault {
+        BenchFault::BadStatement { line } => Some(Mark::Broken(line)),
+        BenchFault::BadByte { line }
+        | BenchFault::UnknownGate { line }
+        | BenchFault::WrongOperands { line }
+        | BenchFault::Redefined { line }
+        | BenchFault::TooMany { line }
+        | BenchFault::Undefined { line }
+        | BenchFault::Cycle { line } => Some(Mark::Line(line)),
+        BenchFault::TooLong | BenchFault::Read | BenchFault::OutOfMemory => None,
+    }
+}
+
+/// What a refused order is shown by.
+fn mark_in_order(fault: OrderFault) -> Option<Mark>
+    ensures { result ≡ order_mark fault }
+{
+    match fault {
+        OrderFault::BadName { line } => Some(Mark::Line(line)),
+        OrderFault::NotAPermutation { place } => Some(Mark::Listed(place)),
         _ => None,
     }
+}
+
+/// What a fault points at in the file of a text that was refused.
+fn mark_of(fault: ToolFault) -> Option<Mark>
+    ensures { result ≡ fault_mark fault }
+{
+    match fault {
+        ToolFault::BadOrder(fault) => mark_in_order(fault),
+        ToolFault::Check(CheckFault::First(fault)) => mark_in_text(fault),
+        ToolFault::Check(CheckFault::Second(fault)) => mark_in_text(fault),
+        ToolFault::Check(CheckFault::Given(fault)) => mark_in_text(fault),
+        ToolFault::Check(CheckFault::Order(fault)) => mark_in_order(fault),
+        _ => None,
+    }
+}
+
+/// The file of a text that was refused, and what the fault points at in it.
+pub fn refused_mark<'a>(options: &Options<'a>, fault: ToolFault) -> Option<(&'a str, Mark)>
+    ensures { IfSome result (λ r. (refused_paths options.now fault ≡ r.0.now ∷ []) × (fault_mark fault ≡ Some r.1)) }
+{
+    let path = refused_file(options, fault)?;
+    let mark = mark_of(fault)?;
+    Some((path, mark))
 }
 
 /// What helps where a text is refused.
@@ -174,7 +223,7 @@ fn help_in_text(fault: BenchFault) -> &'static str
         BenchFault::BadByte { .. } => "outside comments only printable ASCII stands",
         BenchFault::BadStatement { .. } => "a statement is INPUT(a), OUTPUT(a) or a = GATE(b, c)",
         BenchFault::UnknownGate { .. } => {
-            "abc writes no LUT lines by write_bench -l; for vdd and gnd see docs/FLOWS.md"
+            "gates are AND, NAND, OR, NOR, XOR, XNOR, NOT, BUFF and DFF; see docs/FLOWS.md"
         }
         BenchFault::WrongOperands { .. } => "NOT, BUFF and DFF take one operand",
         BenchFault::Redefined { .. } => "a signal has one INPUT, gate or register",
@@ -194,7 +243,9 @@ fn help_in_order(fault: OrderFault) -> &'static str
 {
     match fault {
         OrderFault::CountsDiffer => "--match name pairs by names",
-        OrderFault::NotAPermutation { .. } => "--print-order writes a list that fits",
+        OrderFault::NotAPermutation { .. } => {
+            "--extend takes the list as it is, --print-order writes one that fits"
+        }
         OrderFault::TooManyInputs => "compare parts that have fewer inputs",
         OrderFault::OutOfMemory => "more memory, or a smaller netlist",
         OrderFault::BadName { .. } =>
@@ -281,6 +332,97 @@ fn help_against(choice: OrderChoice<'_>, fault: ToolFault) -> &'static str
     }
 }
 
+/// What stands behind the first equals sign.
+fn behind_equals(line: &[u8]) -> &[u8]
+    ensures { result.now ≡ behind_equals line.now }
+{
+    for at in 0..line.len() {
+        if line[at] == b'=' {
+            return &line[at + 1..];
+        }
+    }
+    &[]
+}
+
+/// The bytes from the first one on that is no blank.
+fn unindented(bytes: &[u8]) -> &[u8]
+    ensures { result.now ≡ unindented bytes.now }
+{
+    for at in 0..bytes.len() {
+        if bytes[at] != b' ' {
+            return &bytes[at..];
+        }
+    }
+    &[]
+}
+
+/// The bytes before the first blank or parenthesis.
+fn front_word(bytes: &[u8]) -> &[u8]
+    ensures { result.now ≡ front_word bytes.now }
+{
+    for at in 0..bytes.len() {
+        if bytes[at] == b' ' || bytes[at] == b'(' {
+            return &bytes[..at];
+        }
+    }
+    bytes
+}
+
+/// The gate's word in a line, as it is shown.
+fn gate_word(shown: &[u8]) -> &[u8]
+    ensures { result.now ≡ gate_word shown.now }
+{
+    front_word(unindented(behind_equals(shown)))
+}
+
+/// What helps against a word that names no gate.
+fn help_by_word(word: &[u8]) -> &'static str
+    ensures { result.now ≡ word_help word.now }
+{
+    if word.eq_ignore_ascii_case(b"INV") {
+        return "the word of an inverter is NOT";
+    }
+    if word.eq_ignore_ascii_case(b"MUX") {
+        return "a multiplexer is made of NOT, AND and OR gates; see docs/FLOWS.md";
+    }
+    if word.eq_ignore_ascii_case(b"VDD") {
+        return "the constant 1 is XNOR(a, a) of any signal a; see docs/FLOWS.md";
+    }
+    if word.eq_ignore_ascii_case(b"GND") {
+        return "the constant 0 is XOR(a, a) of any signal a; see docs/FLOWS.md";
+    }
+    if word.eq_ignore_ascii_case(b"LATCH") {
+        return "a register is DFF, and no latch has a word; see docs/FLOWS.md";
+    }
+    if word.eq_ignore_ascii_case(b"LUT") {
+        return "abc writes no LUT lines by write_bench -l; see docs/FLOWS.md";
+    }
+    "gates are AND, NAND, OR, NOR, XOR, XNOR, NOT, BUFF and DFF; see docs/FLOWS.md"
+}
+
+/// Whether a fault is of a word that names no gate.
+fn names_gate(fault: ToolFault) -> bool
+    ensures { result ≡ names_gate fault }
+{
+    match fault {
+        ToolFault::Check(CheckFault::First(BenchFault::UnknownGate { .. }))
+        | ToolFault::Check(CheckFault::Second(BenchFault::UnknownGate { .. }))
+        | ToolFault::Check(CheckFault::Given(BenchFault::UnknownGate { .. })) => true,
+        _ => false,
+    }
+}
+
+/// What helps against a fault whose line is shown so.
+fn help_shown(choice: OrderChoice<'_>, fault: ToolFault, shown: &str) -> &'static str
+    ensures { result.now ≡ shown_help choice.entry fault shown.now }
+{
+    if names_gate(fault) {
+        help_by_word(gate_word(shown.as_bytes()))
+    } else {
+        help_against(choice, fault)
+    }
+}
+
 fn line_in_text(alloc: Global, name: &str, help: &str) -> Result<String, AllocError>
     ensures { IfOk result (λ line. string_bytes line ≡ help_line (in_text name.now) help.now) }
 {
@@ -313,7 +455,7 @@ pub fn help_of(alloc: Global, options: &Options<'_>, fault: ToolFault) -> Result
     line_at(alloc, spot, help)
 }
 
-/// The same line with what is shown of the line of a file.
+/// The same line with what is shown of a file.
 pub fn help_with(
     alloc: Global,
     options: &Options<'_>,
@@ -323,7 +465,7 @@ pub fn help_with(
     ensures { IfOk result (λ line. string_bytes line ≡ help_quoting options.now fault quoted.now) }
 {
     let spot = spot_of(options, fault);
-    let help = help_against(options.order, fault);
+    let help = help_shown(options.order, fault, quoted);
     let both = format!(in alloc; "{help}: {quoted}")?;
     line_at(alloc, spot, both.as_str())
 }

@@ -1,16 +1,18 @@
-//! A line of a text, as a reader sees it.
-ghost use Rattle.std.specs.Prelude.{◌≡◌, ◌-◌, ◌<◌, ◌∷◌, [], ℕ, List, Some, IfOk, IfSome, map, take, string_bytes};
+//! What is shown of a file that was refused: a line of it, or a name.
+ghost use Rattle.std.specs.Prelude.{◌≡◌, ◌+◌, ◌-◌, ◌^◌, ◌<◌, ◌≤◌, ◌∷◌, [], ℕ, List, Some, IfOk, IfSome, length, codes, decimal, map, take, string_bytes, ◌++◌};
+ghost use Rattle.net_bench.specs.Pieces.{tokens_at};
 ghost use Rattle.check_tool.specs.Helping.{refused_paths, IsQuoted};
 ghost use Rattle.check_tool.specs.Opening.{Extends, Try, AreTried};
-ghost use Rattle.check_tool.specs.Quoting.{behind, first_line, line_in, shown, excerpt, quotation};
+ghost use Rattle.check_tool.specs.Quoting.{before_line, behind, broken_remark, excerpt, first_line, line_in, name_remark, open_in, quotation, read_byte, remark, shown, unread};
 ghost use Rattle.check_tool.specs.Running.{IsReadOf};
 
 use crate::fault::ToolFault;
 use crate::folder::Folder;
-use crate::help::refused_line;
+use crate::help::{Mark, refused_mark};
 use command_line::Options;
 use net_bench::device::read_text;
 use net_bench::reader::MAX_TEXT;
+use net_bench::scan::{Scanner, Token};
 use std::alloc::{AllocError, Global};
 
 const LINE_FEED: u8 = b'\n';
@@ -82,11 +84,10 @@ fn shown(alloc: Global, bytes: &[u8]) -> Result<String, AllocError>
     Ok(text)
 }
 
-/// What is shown of a line of a text, the first of which is 1.
-pub fn quotation(alloc: Global, text: &[u8], line: u32) -> Result<String, AllocError>
-    ensures { IfOk result (λ s. string_bytes s ≡ quotation text.now line) }
+/// The bytes, as they are shown, at most so many, and whether they are cut.
+fn excerpt(alloc: Global, whole: &[u8]) -> Result<String, AllocError>
+    ensures { IfOk result (λ s. string_bytes s ≡ excerpt whole.now) }
 {
-    let whole = first_line(behind(text, line.saturating_sub(1)));
     let front = shown(alloc, front(whole, MOST_SHOWN))?;
     if whole.len() <= MOST_SHOWN {
         return Ok(front);
@@ -94,11 +95,146 @@ pub fn quotation(alloc: Global, text: &[u8], line: u32) -> Result<String, AllocE
     format!(in alloc; "{front}... (cut)")
 }
 
-/// What is shown of a line of a file, which is opened and read once more: nothing where that is no plain file, the file is gone or refused,
+/// What is shown of a line of a text, the first of which is 1.
+pub fn quotation(alloc: Global, text: &[u8], line: u32) -> Result<String, AllocError>
+    ensures { IfOk result (λ s. string_bytes s ≡ quotation text.now line) }
+{
+    excerpt(alloc, first_line(behind(text, line.saturating_sub(1))))
+}
+
+/// How far a text is read: on which line, whether in a comment, and the line of the last parenthesis that is not closed.
+#[derive(Clone, Copy, Drop)]
+struct Reading {
+    line: u32,
+    in_comment: bool,
+    unclosed: Option<u32>,
+}
+
+/// How far it is read behind one byte more.
+fn read_byte(at: Reading, byte: u8) -> Reading
+    requires { at.line < 2 ^ 31 }
+    ensures read { result ≡ read_byte at byte }
+    ensures line { result.line ≤ at.line + 1 }
+{
+    let Reading {
+        line,
+        in_comment,
+        unclosed,
+    } = at;
+    if byte == LINE_FEED {
+        return Reading {
+            line: line + 1,
+            in_comment: false,
+            unclosed,
+        };
+    }
+    if in_comment {
+        return at;
+    }
+    match byte {
+        b'#' => Reading {
+            line,
+            in_comment: true,
+            unclosed,
+        },
+        b'(' => Reading {
+            line,
+            in_comment: false,
+            unclosed: Some(line),
+        },
+        b')' => Reading {
+            line,
+            in_comment: false,
+            unclosed: None,
+        },
+        _ => at,
+    }
+}
+
+/// The line of the last parenthesis that is not closed.
+fn open_in(text: &[u8]) -> Option<u32>
+    requires { length text.now ≤ 67108864 }
+    ensures { result ≡ open_in text.now }
+{
+    let mut at = Reading {
+        line: 1,
+        in_comment: false,
+        unclosed: None,
+    };
+    for place in 0..text.len() {
+        at = read_byte(at, text[place]);
+    }
+    at.unclosed
+}
+
+/// The bytes before a line.
+#[tactic(auto, using(crate::proofs::Quoting::behind_short))]
+fn before_line(text: &[u8], line: u32) -> &[u8]
+    ensures before { result.now ≡ before_line text.now line }
+    ensures few { length result.now ≤ length text.now }
+{
+    let rest = behind(text, line.saturating_sub(1));
+    &text[..text.len() - rest.len()]
+}
+
+/// What is shown of a line with a broken statement: the line of a parenthesis before it that is not closed, where there is one.
+fn broken(alloc: Global, text: &[u8], line: u32) -> Result<String, AllocError>
+    requires { length text.now ≤ 67108864 }
+    ensures { IfOk result (λ s. string_bytes s ≡ broken_remark text.now line (open_in (before_line text.now line))) }
+{
+    match open_in(before_line(text, line)) {
+        Some(unclosed) => {
+            let shown = quotation(alloc, text, unclosed)?;
+            format!(in alloc; "the ( of line {unclosed} has no ): {shown}")
+        }
+        None => quotation(alloc, text, line),
+    }
+}
+
+/// What is shown of a name, and on which line it stands.
+fn named(alloc: Global, line: u32, name: &[u8]) -> Result<String, AllocError>
+    ensures { IfOk result (λ s. string_bytes s ≡ codes "line " ++ (decimal line ++ (codes ": " ++ excerpt name.now))) }
+{
+    let shown = excerpt(alloc, name)?;
+    format!(in alloc; "line {line}: {shown}")
+}
+
+/// What is shown of the name at a place of a list, the first of which is 1, or that the list ends before it.
+fn listed(alloc: Global, text: &[u8], place: u32) -> Result<String, AllocError>
+    requires { length text.now ≤ 67108864 }
+    ensures { IfOk result (λ s. string_bytes s ≡ name_remark (place - 1) (tokens_at 1 text.now)) }
+{
+    let mut scanner = Scanner::new(text);
+    for _ in 0..place.saturating_sub(1) {
+        let _ = scanner.next();
+    }
+    match scanner.next() {
+        (line, Token::Name(name)) => named(alloc, line, name),
+        (_, Token::End) => String::from_str(
+            alloc,
+            "the list ends before each variable has a place",
+        ),
+        _ => Ok(String::new(alloc)),
+    }
+}
+
+/// What is shown of what a fault points at.
+fn remark(alloc: Global, text: &[u8], mark: Mark) -> Result<String, AllocError>
+    requires { length text.now ≤ 67108864 }
+    ensures { IfOk result (λ s. string_bytes s ≡ remark mark text.now) }
+{
+    match mark {
+        Mark::Line(line) => quotation(alloc, text, line),
+        Mark::Broken(line) => broken(alloc, text, line),
+        Mark::Listed(place) => listed(alloc, text, place),
+    }
+}
+
+/// What is shown of a file, which is opened and read once more: nothing where that is no plain file, the file is gone or refused,
 /// or memory is wanting.
 #[tactic(auto, using(crate::proofs::Composing::extends_none, crate::proofs::Quoting::tried_once))]
-fn quote_file<F: Folder>(alloc: Global, folder: &mut F, path: &str, line: u32) -> Option<String>
-    ensures quoted { IfSome result (λ s. (text : List ℕ) × IsReadOf (F.told folder.old path.now) (Some text) × (string_bytes s ≡ quotation text line)) }
+fn quote_file<F: Folder>(alloc: Global, folder: &mut F, path: &str, mark: Mark) -> Option<String>
+    ensures quoted { IfSome result (λ s. (text : List ℕ) × IsReadOf (F.told folder.old path.now) (Some text) × (string_bytes s ≡ remark mark text)) }
     ensures tried { (again : List Try) × Extends (F.tries folder.old) (F.tries folder.new) again × AreTried (path.now ∷ []) again }
 {
     if !folder.is_plain(path) {
@@ -110,13 +246,13 @@ fn quote_file<F: Folder>(alloc: Global, folder: &mut F, path: &str, line: u32) -
     let Ok(text) = read_text(alloc, &mut file, MAX_TEXT) else {
         return None;
     };
-    match quotation(alloc, text.as_slice(), line) {
+    match remark(alloc, text.as_slice(), mark) {
         Ok(shown) => Some(shown),
         Err(_) => None,
     }
 }
 
-/// What is shown of the line of a file that a fault stands in, where it stands in one that can be read once more.
+/// What is shown of the file of a text that was refused, where it can be read once more.
 #[tactic(auto, using(crate::proofs::Composing::extends_none))]
 pub fn quote<F: Folder>(
     alloc: Global,
@@ -127,8 +263,8 @@ pub fn quote<F: Folder>(
     ensures quoted { IfSome result (λ s. IsQuoted (F.told folder.old) options.now fault (string_bytes s)) }
     ensures tried { (again : List Try) × Extends (F.tries folder.old) (F.tries folder.new) again × AreTried (refused_paths options.now fault) again }
 {
-    match refused_line(options, fault) {
-        Some((path, line)) => quote_file(alloc, folder, path, line),
+    match refused_mark(options, fault) {
+        Some((path, mark)) => quote_file(alloc, folder, path, mark),
         None => None,
     }
 }

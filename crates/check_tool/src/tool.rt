@@ -1,7 +1,7 @@
 //! A run of the program: its words, its folder and its devices to a status.
 ghost use Rattle.std.specs.Prelude.{◌≡◌, ◌≢◌, ◌≤◌, ◌⊎◌, ℕ, List, true, false, IfOk, map, string_bytes};
 ghost use Rattle.check_tool.specs.Faults.{number_text};
-ghost use Rattle.check_tool.specs.Ending.{written, scene_of, IsSaid, MaySay, IsSaidOf, AskForMore, asked_again, IsReportStatus, IsDoneStatus, IsRun, IsWordEnd};
+ghost use Rattle.check_tool.specs.Ending.{written, scene_of, IsSaid, MaySay, IsSaidOf, AskForMore, asked_again, tells, IsReportStatus, IsDoneStatus, IsRun, IsWordEnd};
 ghost use Rattle.check_tool.specs.Helping.{IsHelp, refused_paths};
 ghost use Rattle.check_tool.specs.Opening.{AreTried, Extends, HasFailedAt, Try};
 
@@ -87,21 +87,29 @@ fn help<F: Folder, E: Sink>(
     }
 }
 
-/// Prints the line of a fault of a run, and what helps where more is asked for, and answers the status.
+/// Whether more is told than the line of a fault.
+fn tells<E: Screen>(options: &Options<'_>, errors: &E) -> bool
+    ensures { result ≡ tells options.now (E.seen errors.now) }
+{
+    options.verbose || errors.is_seen()
+}
+
+/// Prints the line of a fault of a run, and what helps where more is told, and answers the status.
 fn refuse_run<F: Folder, E: Sink>(
     alloc: Global,
     folder: &mut F,
     options: &Options<'_>,
+    more: bool,
     fault: ToolFault,
     errors: &mut E,
 ) -> u8
-    ensures said { IsSaidOf options.now.verbose (F.told folder.old) options.now (written E.contents E.has_failed E.has_stopped errors.old errors.new) fault result }
-    ensures tried { (again : List Try) × Extends (F.tries folder.old) (F.tries folder.new) again × AreTried (asked_again options.now.verbose options.now fault) again }
+    ensures said { IsSaidOf more (F.told folder.old) options.now (written E.contents E.has_failed E.has_stopped errors.old errors.new) fault result }
+    ensures tried { (again : List Try) × Extends (F.tries folder.old) (F.tries folder.new) again × AreTried (asked_again more options.now fault) again }
     ensures bound { result ≤ 3 }
     ensures refused { 2 ≤ result }
 {
     let status = refuse(alloc, fault, errors);
-    if options.verbose {
+    if more {
         help(alloc, folder, options, fault, errors);
     }
     status
@@ -169,7 +177,7 @@ pub fn run_tool<
     E: Screen + Send,
 >(rt: &H, words: &[String], folder: &mut F, input: &mut R, out: &mut W, errors: &mut E) -> u8
     // The words ask for options, and then the run ends with their report, or their order, and its status, or with the line and the status of a
-    // fault that has its cause, behind which stands what helps where more is asked for, and the input is read only where a text stands on it; or they are refused for a cause, no file is
+    // fault that has its cause, behind which stands what helps where more is asked for or seen on a terminal, and the input is read only where a text stands on it; or they are refused for a cause, no file is
     // opened, nothing is read, and help, a mistake or want of memory is told.
     ensures ending { let scene = scene_of (E.seen errors.old) F.told F.tries folder.old folder.new R.remaining R.has_failed input.old input.new
         (written W.contents W.has_failed W.has_stopped out.old out.new) (written E.contents E.has_failed E.has_stopped errors.old errors.new) in
@@ -184,11 +192,12 @@ pub fn run_tool<
         Ok(options) => options,
         Err(refused) => return refuse_words(alloc, &refused, out, errors),
     };
+    let more = tells(&options, errors);
     match run_options(rt, &options, folder, input, out, errors) {
         Ok(done) => {
             tell(alloc, &options, done, errors);
             status_of_done(done)
         }
-        Err(fault) => refuse_run(alloc, folder, &options, fault, errors),
+        Err(fault) => refuse_run(alloc, folder, &options, more, fault, errors),
     }
 }

@@ -4,7 +4,8 @@ use Rattle.check_tool.specs.declared.done.Done.{Done}
 use Rattle.check_report.specs.declared.fault.CheckFault.TheVariants.{Write}
 use Rattle.check_tool.specs.declared.fault.ToolFault.{ToolFault}
 use Rattle.check_tool.specs.declared.fault.ToolFault.TheVariants.{Check, OutOfMemory}
-use Rattle.check_tool.specs.Ending.{Written}
+use Rattle.check_tool.specs.Ending.{IsSaidOf, Written, asked_again}
+use Rattle.check_tool.specs.Opening.{AreTried}
 use Rattle.check_tool.specs.Faults.{fault_status}
 use Rattle.check_tool.proofs.Composing.{keeps_own, asked_or, code_of, extends_more, neither}
 use Rattle.check_tool.proofs.tool.run_tool.Goals as goal
@@ -40,6 +41,9 @@ pub returns-clause-ending : goal.returns-clause-ending
 returns-clause-ending g c =
     let cause = c.in-Err-run_options.ensures.fault in
     let again = c.refuse_run.ensures.tried in
+    let between = c.run_options.new.errors in
+    let after = c.refuse_run.new.errors in
+    let said : Written = record { held = g.E.Sink.contents between; holds = g.E.Sink.contents after; has_failed = g.E.Sink.has_failed after; has_stopped = g.E.Sink.has_stopped after } in
     inl (
       c.in-Ok.options,
       c.in-Ok.ensures.options,
@@ -49,7 +53,7 @@ returns-clause-ending g c =
           tries = cause.0;
           again = again.0;
           tried = extends_more (g.F.Folder.tries c.args.folder.now) (g.F.Folder.tries c.run_options.new.folder) (g.F.Folder.tries c.refuse_run.new.folder) cause.0 again.0 cause.1 again.1;
-          once_more = again.2;
+          once_more = subst (λ v. AreTried (asked_again v c.in-Ok.options c.in-Err-run_options.fault) again.0) c.tells-more.ensures again.2;
           cause = cause.2;
           unread = λ e. c.run_options.ensures.read (c.in-Err-run_options.is ∙ ap Err e);
           full = λ e. c.run_options.ensures.full (c.in-Err-run_options.is ∙ ap Err e);
@@ -64,7 +68,9 @@ returns-clause-ending g c =
           line = (
             record { holds = g.E.Sink.contents c.run_options.new.errors; has_failed = g.E.Sink.has_failed c.run_options.new.errors; has_stopped = g.E.Sink.has_stopped c.run_options.new.errors },
             c.run_options.ensures.progress,
-            rw (← c.run_options.ensures.kept) c.refuse_run.ensures.said,
+            rw (← c.run_options.ensures.kept) (
+                subst (λ v. IsSaidOf v (g.F.Folder.told c.run_options.new.folder) c.in-Ok.options said c.in-Err-run_options.fault c.refuse_run.result) c.tells-more.ensures c.refuse_run.ensures.said
+                ),
           );
           front = λ e. c.run_options.ensures.unwritten (c.in-Err-run_options.is ∙ ap Err e);
           nothing = λ other.
@@ -84,9 +90,9 @@ returns-clause-untouched g c two =
       has_failed = g.E.Sink.has_failed after;
       has_stopped = g.E.Sink.has_stopped after;
     } in
-    let code = code_of c.in-Ok.options.verbose (g.F.Folder.told c.run_options.new.folder) c.in-Ok.options said c.in-Err-run_options.fault c.refuse_run.result c.refuse_run.ensures.said in
+    let code = code_of c.tells-more.result (g.F.Folder.told c.run_options.new.folder) c.in-Ok.options said c.in-Err-run_options.fault c.refuse_run.result c.refuse_run.ensures.said in
     subst (λ r. OnErr r (r ≢ Err (Check Write) → c.run_options.new.out ≡ c.args.out.now)) c.in-Err-run_options.is c.run_options.ensures.untouched (
-      λ e. let three = sym two ∙ code ∙ ap (λ r. fault_status (fault_in r)) e in absurd (omega (arith, three))
+    λ e. let three = sym two ∙ code ∙ ap (λ r. fault_status (fault_in r)) e in absurd (omega (arith, three))
     )
 
 pub returns-in-Ok-run_options-clause-silent : goal.returns-in-Ok-run_options-clause-silent

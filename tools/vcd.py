@@ -1,0 +1,206 @@
+#!/usr/bin/env python3
+"""Writes the assignment of a pair that differs as a VCD of one step, with the values of all signals of both netlists.
+
+usage: tools/vcd.py [--of NAME] [--match name|position] [-o OUT] FIRST SECOND [REPORT]
+
+REPORT is what bddcheck says of FIRST and SECOND, as lines or as JSON, and standard input where it is not given. The pair is the first one
+that differs, or that of NAME: an output of FIRST, or `NEXT name` for the next state of a register. A variable that the report does not
+tell is 0, as with `--assignment ones`. The signals stand in the scopes `first` and `second`, by their names. Where the values of the pair
+are not those of the report, or nothing differs, there is no VCD, and the status is 1; it is 2 where a file cannot be read as what it is.
+"""
+from __future__ import annotations
+
+import argparse
+import json
+import re
+import sys
+from dataclasses import dataclass, field
+from pathlib import Path
+
+STATEMENT = re.compile(rb"\s*([^\s(),=#]+)\s*(?:=\s*([^\s(),=#]+)\s*)?\(([^()=]*)\)")
+REGISTER = b"DFF"
+
+
+class Refusal(Exception):
+    """Why there is no VCD, and the status."""
+
+    def __init__(self, status: int, said: str) -> None:
+        super().__init__(said)
+        self.status = status
+
+
+@dataclass
+class Net:
+    """Signals in the order in which a text names them, and what drives them."""
+
+    signals: dict[bytes, None] = field(default_factory=dict)
+    inputs: list[bytes] = field(default_factory=list)
+    outputs: list[bytes] = field(default_factory=list)
+    registers: list[bytes] = field(default_factory=list)
+    gates: dict[bytes, tuple[bytes, list[bytes]]] = field(default_factory=dict)
+
+    def add(self, out: bytes, word: bytes | None, operands: list[bytes]) -> None:
+        if word is None:
+            {b"INPUT": self.inputs, b"OUTPUT": self.outputs}[out.upper()].extend(operands)
+            self.signals.update(dict.fromkeys(operands))
+            return
+        self.signals.update(dict.fromkeys([out, *operands]))
+        self.gates[out] = (word.upper(), operands)
+        if word.upper() == REGISTER:
+            self.registers.append(out)
+
+    def signal(self, role: str, place: int) -> bytes:
+        """The output at a place, or what the register at a place takes next."""
+        return self.outputs[place] if role == "output" else self.gates[self.registers[place]][1][0]
+
+
+def net_of(path: str) -> Net:
+    text = re.sub(rb"#[^\n]*", b"", Path(path).read_bytes())
+    net, at = Net(), 0
+    while text[at:].strip():
+        found = STATEMENT.match(text, at)
+        if found is None:
+            raise Refusal(2, f"{path}: no netlist")
+        out, word, operands = found.groups()
+        net.add(out, word, [operand.strip() for operand in operands.split(b",")])
+        at = found.end()
+    return net
+
+
+@dataclass
+class Difference:
+    """A pair that differs: as what, by which name, at which bits of variables, and the two values."""
+
+    role: str
+    name: bytes
+    at: dict[bytes, int]
+    values: tuple[int, int]
+
+    def is_of(self, name: str | None) -> bool:
+        label = self.name if self.role == "output" else b"NEXT " + self.name
+        return name is None or label == name.encode()
+
+
+def of_line(line: bytes) -> Difference:
+    words = line.split(b" ")
+    is_next = words[1] == b"NEXT" and words[3:4] == [b"at"]
+    if words[-3] == b"sizes":
+        words = words[:-3]
+    told = [word.rsplit(b"=", 1) for word in words[4 if is_next else 3 :]]
+    bits = [(name, int(bit)) for name, bit in told]
+    role, name = ("next state", words[2]) if is_next else ("output", words[1])
+    return Difference(role, name, dict(bits[:-2]), (bits[-2][1], bits[-1][1]))
+
+
+def of_member(verdict: dict) -> Difference:
+    at = {name.encode(): bit for name, bit in verdict["at"].items()}
+    return Difference(verdict["of"], verdict["name"].encode(), at, (verdict["first"], verdict["second"]))
+
+
+def differences(report: bytes) -> list[Difference]:
+    try:
+        if report.startswith(b"{"):
+            return [of_member(it) for it in json.loads(report)["verdicts"] if it["verdict"] == "DIFFER"]
+        return [of_line(line) for line in report.split(b"\n") if line.startswith(b"DIFFER ")]
+    except (ValueError, KeyError, IndexError) as error:
+        raise Refusal(2, f"the report cannot be read: {error}") from error
+
+
+def value(word: bytes, bits: list[int]) -> int:
+    ones, all_ones = sum(bits), min(bits)
+    plain = {
+        b"AND": all_ones, b"OR": max(bits), b"XOR": ones % 2, b"BUFF": bits[0], b"BUF": bits[0],
+        b"NAND": 1 - all_ones, b"NOR": 1 - max(bits), b"XNOR": 1 - ones % 2, b"NOT": 1 - bits[0],
+    }
+    return plain[word]
+
+
+def values(net: Net, at: dict[bytes, int]) -> dict[bytes, int]:
+    """The value of each signal; a register has its bit."""
+    known = {name: at.get(name, 0) for name in [*net.inputs, *net.registers]}
+    for signal in net.signals:
+        below = [signal]
+        while below:
+            word, operands = net.gates.get(below[-1], (b"", []))
+            missing = [operand for operand in operands if operand not in known]
+            if below[-1] in known or not missing:
+                name = below.pop()
+                if name not in known:
+                    known[name] = value(word, [known[operand] for operand in operands])
+            else:
+                below.extend(missing)
+    return {signal: known[signal] for signal in net.signals}
+
+
+def code(number: int) -> bytes:
+    made = bytes([33 + number % 94])
+    return made if number < 94 else made + code(number // 94 - 1)
+
+
+def scope(name: bytes, start: int, signals: dict[bytes, int]) -> bytes:
+    rows = [b"$var wire 1 %s %s $end\n" % (code(start + place), signal) for place, signal in enumerate(signals)]
+    return b"$scope module %s $end\n" % name + b"".join(rows) + b"$upscope $end\n"
+
+
+def vcd(first: dict[bytes, int], second: dict[bytes, int]) -> bytes:
+    bits = [*first.values(), *second.values()]
+    changes = b"".join(b"%d%s\n" % (bit, code(number)) for number, bit in enumerate(bits))
+    scopes = scope(b"first", 0, first) + scope(b"second", len(first), second)
+    return b"$timescale 1 ns $end\n" + scopes + b"$enddefinitions $end\n#0\n" + changes + b"#1\n"
+
+
+def matched(first: list[bytes], second: list[bytes], by_name: bool, name: bytes) -> int:
+    """The place in the second list of what has this name in the first."""
+    place = second.index(name) if by_name else first.index(name)
+    if place >= len(second):
+        raise ValueError(name)
+    return place
+
+
+def dumped(one: Net, two: Net, by_name: bool, it: Difference) -> bytes:
+    names = {"output": (one.outputs, two.outputs), "next state": (one.registers, two.registers)}[it.role]
+    variables = [(a, b) for a, b in [*zip(one.inputs, two.inputs), *zip(one.registers, two.registers)]]
+    others = it.at if by_name else {b: it.at.get(a, 0) for a, b in variables}
+    try:
+        pair = one.signal(it.role, names[0].index(it.name)), two.signal(it.role, matched(*names, by_name, it.name))
+        first, second = values(one, it.at), values(two, others)
+    except (ValueError, KeyError) as error:
+        raise Refusal(1, f"the netlists are not those of the report: {error}") from error
+    if (first[pair[0]], second[pair[1]]) != it.values:
+        raise Refusal(1, "the netlists are not those of the report: the pair has other values")
+    return vcd(first, second)
+
+
+def asked() -> argparse.Namespace:
+    parser = argparse.ArgumentParser(usage=(__doc__ or "").split("\n")[2].removeprefix("usage: "))
+    parser.add_argument("--of")
+    parser.add_argument("--match", choices=["name", "position"], default="name")
+    parser.add_argument("-o", dest="out")
+    for name in ("first", "second"):
+        parser.add_argument(name)
+    parser.add_argument("report", nargs="?")
+    return parser.parse_args()
+
+
+def main() -> None:
+    words = asked()
+    try:
+        report = Path(words.report).read_bytes() if words.report else sys.stdin.buffer.read()
+        it = next((it for it in differences(report) if it.is_of(words.of)), None)
+        if it is None:
+            raise Refusal(1, "no such pair differs")
+        text = dumped(net_of(words.first), net_of(words.second), words.match == "name", it)
+        if words.out:
+            Path(words.out).write_bytes(text)
+        else:
+            sys.stdout.buffer.write(text)
+    except Refusal as refusal:
+        print(f"vcd: {refusal}", file=sys.stderr)
+        sys.exit(refusal.status)
+    except OSError as error:
+        print(f"vcd: {error}", file=sys.stderr)
+        sys.exit(2)
+
+
+if __name__ == "__main__":
+    main()
