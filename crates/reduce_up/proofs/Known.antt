@@ -1,5 +1,5 @@
 -- A wave over the entries of which nothing is known, with what is known of the others, is a wave over all entries.
-use Rattle.std.proofs.Common.{◌≡◌, suc, ℕ, ◌+◌, ◌<◌, drop, get_or, slice_index_or, inl, inr, Bool, true, false, List, [], ◌∷◌, ◌++◌, append_assoc, length, map, Option, Some, None, refl, sym, ◌∙◌, ap, subst, arith, Contains, All, IfSome}
+use Rattle.std.proofs.Common.{◌≡◌, suc, ℕ, ◌+◌, ◌<◌, ◌≤◌, drop, get_or, slice_index_or, inl, inr, Bool, true, false, List, [], ◌∷◌, ◌++◌, append_assoc, length, map, Option, Some, None, refl, sym, ◌∙◌, ap, subst, arith, Contains, All, IfSome}
 use Rattle.std.specs.Prelude.{Ok, Err}
 use Rattle.std.specs.Option.{is_some, option_map}
 use Rattle.std.specs.declared.vec.Vec.{Vec}
@@ -83,6 +83,36 @@ unknown_next m es i e old new lt is done added =
     ap (λ z. z ++ unknown m (drop (i + 1) es)) added
     ∙ append_assoc old (unless_known (known_entry m e) e) (unknown m (drop (i + 1) es))
     ∙ ap (λ z. old ++ unknown m z) (sym (drop_more es i e lt ∙ ap (λ z. z ∷ drop (i + 1) es) (sym is)))
+    ∙ done
+
+-- one more answer is woven in: one that was known
+pub woven_known : (ks : List (Option Ref)) (i : ℕ) (k : Option Ref) (r : Ref) (next : ℕ) (found old new whole : List Ref) → i < length ks → k ≡ get_or ks i k → k ≡ Some r
+    → old ++ woven (drop i ks) (drop next found) ≡ whole → new ≡ old ++ r ∷ [] → new ++ woven (drop (i + 1) ks) (drop next found) ≡ whole
+woven_known ks i k r next found old new whole lt is some done added =
+    ap (λ z. z ++ woven (drop (i + 1) ks) (drop next found)) added
+    ∙ append_assoc old (r ∷ []) (woven (drop (i + 1) ks) (drop next found))
+    ∙ ap (λ z. old ++ woven z (drop next found)) (sym (drop_more ks i k lt ∙ ap (λ z. z ∷ drop (i + 1) ks) (sym is ∙ some)))
+    ∙ done
+
+pub left_known : (ks : List (Option Ref)) (i : ℕ) (k : Option Ref) (r : Ref) (next n : ℕ) → i < length ks → k ≡ get_or ks i k → k ≡ Some r
+    → next + missing (drop i ks) ≤ n → next + missing (drop (i + 1) ks) ≤ n
+left_known ks i k r next n lt is some left = subst (λ z. next + missing z ≤ n) (drop_more ks i k lt ∙ ap (λ z. z ∷ drop (i + 1) ks) (sym is ∙ some)) left
+
+-- and one that was found
+pub left_found : (ks : List (Option Ref)) (i : ℕ) (k : Option Ref) (next n : ℕ) → i < length ks → k ≡ get_or ks i k → k ≡ None
+    → next + missing (drop i ks) ≤ n → (next + 1) + missing (drop (i + 1) ks) ≤ n
+left_found ks i k next n lt is none left =
+    let more : next + (missing (drop (i + 1) ks) + 1) ≤ n = subst (λ z. next + missing z ≤ n) (drop_more ks i k lt ∙ ap (λ z. z ∷ drop (i + 1) ks) (sym is ∙ none)) left in
+    omega (arith, more)
+
+pub woven_found : (ks : List (Option Ref)) (i : ℕ) (k : Option Ref) (r : Ref) (next : ℕ) (found old new whole : List Ref) → i < length ks → k ≡ get_or ks i k → k ≡ None → next < length found → r ≡ get_or found next r
+    → old ++ woven (drop i ks) (drop next found) ≡ whole → new ≡ old ++ r ∷ [] → new ++ woven (drop (i + 1) ks) (drop (next + 1) found) ≡ whole
+woven_found ks i k r next found old new whole lt is none low own done added =
+    let rest = woven (drop (i + 1) ks) (drop (next + 1) found) in
+    let here : drop i ks ≡ None ∷ drop (i + 1) ks = drop_more ks i k lt ∙ ap (λ z. z ∷ drop (i + 1) ks) (sym is ∙ none) in
+    let front : drop next found ≡ r ∷ drop (next + 1) found = drop_more found next r low ∙ ap (λ z. z ∷ drop (next + 1) found) (sym own) in
+    ap (λ z. z ++ rest) added ∙ append_assoc old (r ∷ []) rest
+    ∙ ap (λ z. old ++ z) (sym (ap (λ z. woven z (drop next found)) here ∙ ap (λ z. woven (None ∷ drop (i + 1) ks) z) front))
     ∙ done
 
 -- as many as are missing
