@@ -1,10 +1,10 @@
 -- Marks: turning one twice changes nothing, and a marked reference has the complement's values.
-use Rattle.std.proofs.Common.{◌≡◌, ℕ, suc, zero, Bool, true, false, not, ◌+◌, ◌*◌, ◌%◌, List, refl, sym, ◌∙◌, ap}
+use Rattle.std.proofs.Common.{◌≡◌, ℕ, suc, zero, Bool, true, false, not, ◌+◌, ◌%◌, List, refl, sym, ◌∙◌, ap}
 use Rattle.dd_store.specs.declared.reference.NodeId.{NodeId}
 use Rattle.dd_store.specs.declared.reference.Ref.{Ref}
 use Rattle.dd_store.specs.declared.reference.Reference.TheVariants.{False, True, Node}
 use Rattle.dd_store.specs.Marks.{is_marked, negate_of, mark_by, mark_both, plain_pair, turned}
-use Rattle.dd_store.specs.Codes.{code_of, shard_of_pair}
+use Rattle.dd_store.specs.Codes.{block_of, shard_of_pair}
 use Rattle.dd_store.specs.Graph.{Pair, Graph, top, IsRef, walk}
 use Rattle.dd_store.specs.Nodes.{Nodes, den}
 
@@ -68,10 +68,10 @@ plain_pair-turned true p = ap (λ c. mark_both c (mark_both true p)) (is_marked-
 -- so they belong to one shard
 pub shard_of_plain : (lo hi : Ref) → shard_of_pair (plain_pair lo hi).0 (plain_pair lo hi).1 ≡ shard_of_pair lo hi
 shard_of_plain lo hi =
-    ap (λ (p : Pair). (code_of p.0 + 3 * code_of p.1) % 16) (plain_pair-same (plain_pair lo hi).0 (plain_pair lo hi).1 (plain_pair-plain lo hi))
+    ap (λ (p : Pair). (block_of p.0 + block_of p.1) % 16) (plain_pair-same (plain_pair lo hi).0 (plain_pair lo hi).1 (plain_pair-plain lo hi))
 
 pub shard_of_turned : (b : Bool) (p : Pair) → shard_of_pair (mark_by b p.0) (mark_by b p.1) ≡ shard_of_pair p.0 p.1
-shard_of_turned b p = ap (λ (q : Pair). (code_of q.0 + 3 * code_of q.1) % 16) (plain_pair-turned b p)
+shard_of_turned b p = ap (λ (q : Pair). (block_of q.0 + block_of q.1) % 16) (plain_pair-turned b p)
 
 -- a node's reference with a mark
 pub mark_by-node : (b : Bool) (m : NodeId) → mark_by b (Node m false) ≡ Node m b

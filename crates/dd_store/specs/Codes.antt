@@ -1,6 +1,6 @@
--- Numbers of references, and the shard that a pair of children belongs to. They decide where a node lies and
--- nothing else.
-use Rattle.std.specs.Prelude.{ℕ, ◌+◌, ◌*◌, ◌%◌, if◌then◌else◌}
+-- Numbers of references, and the shard that a pair of children belongs to. They decide where a request or a node
+-- lies and nothing else.
+use Rattle.std.specs.Prelude.{ℕ, ◌+◌, ◌*◌, ◌/◌, ◌%◌, if◌then◌else◌}
 use Rattle.dd_store.specs.declared.reference.Ref.{Ref}
 use Rattle.dd_store.specs.declared.reference.Reference.TheVariants.{False, True, Node}
 use Rattle.dd_store.specs.Marks.{plain_pair}
@@ -11,6 +11,12 @@ code_of False = 0
 code_of True = 1
 code_of (Node m b) = 2 + m.shard + 17 * m.level + 65537 * m.index + (if b then 7 else 0)
 
+-- a number that neighbours in a shard share, so that their parents stand together too: a shard has 1,024 places for each
+abbrev pub block_of : Ref → ℕ
+block_of False = 1
+block_of True = 2
+block_of (Node m b) = 1 + m.index / 1024
+
 -- the shard of a node with these children, or with their complements where the second has a mark
 abbrev pub shard_of_pair : Ref → Ref → ℕ
-shard_of_pair lo hi = let p = plain_pair lo hi in (code_of p.0 + 3 * code_of p.1) % 16
+shard_of_pair lo hi = let p = plain_pair lo hi in (block_of p.0 + block_of p.1) % 16

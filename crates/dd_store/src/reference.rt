@@ -1,6 +1,6 @@
-//! References to nodes, and the two numbers that decide where a node lies.
+//! References to nodes, the number that spreads them over workers, and the shard in which a node lies.
 ghost use Rattle.std.specs.Prelude.{◌≡◌, Some, Bool, List, false, not};
-ghost use Rattle.dd_store.specs.Codes.{code_of, shard_of_pair};
+ghost use Rattle.dd_store.specs.Codes.{block_of, code_of, shard_of_pair};
 ghost use Rattle.dd_store.specs.Marks.{is_marked, mark_by, mark_both, negate_of};
 ghost use Rattle.dd_store.specs.Nodes.{Nodes, den};
 ghost use Rattle.dd_store.specs.Words.{word_of, reference_of, IsWord, is_terminal};
@@ -20,6 +20,9 @@ const LEVEL_CODE: u64 = 17;
 const INDEX_CODE: u64 = 65537;
 
 const MARK_CODE: u64 = 7;
+
+/// How many neighbours in a shard have one number of a block.
+const BLOCK: u64 = 1024;
 
 /// The lowest bits of a level, of a shard and of a place in a word. Bit 0 is the mark.
 const LEVEL_BIT: u64 = 1 << 41;
@@ -251,7 +254,7 @@ pub(crate) fn marked_pair(pair: (Ref, Ref), mark: bool) -> (Ref, Ref)
     (pair.0.marked(mark), pair.1.marked(mark))
 }
 
-/// A number that spreads references over shards and workers. Two references may have the same number.
+/// A number that spreads references over workers. Two references may have the same number.
 pub fn code(reference: Ref) -> u64
     ensures { result ≡ code_of reference }
 {
@@ -268,10 +271,21 @@ pub fn code(reference: Ref) -> u64
     }
 }
 
+/// A number that neighbours in a shard share, so that their parents stand together too.
+fn block(reference: Ref) -> u64
+    ensures { result ≡ block_of reference }
+{
+    match reference.view() {
+        Reference::False => 1,
+        Reference::True => 2,
+        Reference::Node { id, .. } => 1 + id.index as u64 / BLOCK,
+    }
+}
+
 /// The shard, 0 to 15, in which the node with these children lies, or with their complements where the second has a mark.
 pub fn shard_of(lo: Ref, hi: Ref) -> u8
     ensures { result ≡ shard_of_pair lo hi }
 {
     let pair = marked_pair((lo, hi), hi.is_marked());
-    ((code(pair.0) + 3 * code(pair.1)) % SHARDS as u64) as u8
+    ((block(pair.0) + block(pair.1)) % SHARDS as u64) as u8
 }
