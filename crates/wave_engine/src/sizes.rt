@@ -1,5 +1,5 @@
 //! How large the waves before were, by which it is decided when workers are called in.
-ghost use Rattle.std.specs.Prelude.{◌≡◌, ◌≤◌, ◌<◌, ◌+◌, ◌⊎◌, ◌^◌};
+ghost use Rattle.std.specs.Prelude.{◌≡◌, ◌≤◌, ◌<◌, ◌+◌, ◌*◌, ◌⊎◌, ◌^◌};
 
 /// How many requests the last wave had, the one before it, and all together, as far as they can be counted.
 #[derive(Clone, Copy, Drop)]
@@ -12,6 +12,10 @@ pub(crate) struct Sizes {
 /// Of an engine that has done fewer requests nothing is expected: a run that ends so early gains nothing by workers, as
 /// docs/PERFORMANCE.md has it.
 const YOUNG: usize = 1 << 18;
+
+/// Of a wave that has fewer requests for each level nothing is expected either: workers meet at each level, and where all processors are
+/// busy a meeting takes as long as thousands of requests.
+const NARROW: usize = 1 << 7;
 
 impl Sizes {
     /// No wave was before.
@@ -39,6 +43,19 @@ impl Sizes {
             self.older
         } else {
             self.last
+        }
+    }
+
+    /// How many requests are expected of the next wave over so many levels, where its levels are wide on average.
+    pub(crate) fn expected_over(self, levels: u16) -> usize
+        ensures young { self.all < 2 ^ 18 → result ≡ 0 }
+        ensures wide { (result ≡ 0) ⊎ (128 * levels ≤ result) }
+    {
+        let expected = self.expected();
+        if expected < NARROW * levels as usize {
+            0
+        } else {
+            expected
         }
     }
 

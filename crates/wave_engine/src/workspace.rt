@@ -176,10 +176,10 @@ impl<'a, R: Threads + Wait + Sync, G: Gate> Workspace<'a, R, G> {
         ensures memory { count_of store.old ≤ store.old.limit → result ≡ Err WaveFault.OutOfMemory → count_of store.new ≤ store.new.limit }
         ensures gate { self.new.crew.now.gate ≡ self.old.crew.now.gate }
     {
-        let _ = store.levels();
+        let levels = store.levels();
         let alloc = self.crew.alloc;
         let limits = Limits {
-            level: self.crew.most_alone(self.sizes.expected()),
+            level: self.crew.most_alone(self.sizes.expected_over(levels)),
             wave: self.crew.gate.most_requests(),
         };
         let before = self.down.splits.count();
