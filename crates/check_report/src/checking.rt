@@ -117,10 +117,7 @@ pub fn compare<H: Threads + Wait + Sync, G: Gate>(
     ensures past { result ≡ Err (CheckFault.Wave WaveFault.TooManyRequests) → IsSomeAnd (G.bound gate.now) (λ n. IsTooWide n (circuit task.now.first.now) (circuit task.now.second.now) (condition task.now.given) pairing.now) }
     ensures alone { most_of (G.bound gate.now) < 2 ^ 64 - 1 → result ≢ Err (CheckFault.Wave WaveFault.NoWorker) }
 {
-    let (store, shown) = match built_within(task, pairing, limit, gate) {
-        Ok((store, shown)) => (store, shown),
-        Err(fault) => return Err(fault),
-    };
+    let (store, shown) = built_within(task, pairing, limit, gate)?;
     let sizes = task.settings.sizes;
     verdicts_in(task, pairing, Telling::ByLevel { sizes }, &store, &shown)
 }
@@ -144,10 +141,7 @@ pub fn compare_as_declared<H: Threads + Wait + Sync, G: Gate>(
     ensures past { result ≡ Err (CheckFault.Wave WaveFault.TooManyRequests) → IsSomeAnd (G.bound gate.now) (λ n. IsTooWide n (circuit task.now.first.now) (circuit task.now.second.now) (condition task.now.given) pairing.now) }
     ensures alone { most_of (G.bound gate.now) < 2 ^ 64 - 1 → result ≢ Err (CheckFault.Wave WaveFault.NoWorker) }
 {
-    let (store, shown) = match built_within(task, pairing, limit, gate) {
-        Ok((store, shown)) => (store, shown),
-        Err(fault) => return Err(fault),
-    };
+    let (store, shown) = built_within(task, pairing, limit, gate)?;
     let Ok(order) = arrangement(task.alloc, pairing, declared) else {
         return Err(CheckFault::OutOfMemory);
     };

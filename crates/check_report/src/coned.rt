@@ -122,10 +122,7 @@ fn judged<H: Threads + Wait + Sync, G: Gate>(
     let task = whole.task;
     let _ = task.first.inputs();
     let _ = task.second.inputs();
-    let known = match judge_all(whole, subjects, gate) {
-        Ok(known) => known,
-        Err(fault) => return Err(fault),
-    };
+    let known = judge_all(whole, subjects, gate)?;
     match told_all(task.alloc, task.first, subjects, known) {
         Ok(verdicts) => Ok(verdicts),
         Err(_) => Err(CheckFault::OutOfMemory),
@@ -197,14 +194,8 @@ pub fn by_cones<H: Threads + Wait + Sync, G: Gate>(
 {
     let _ = task.first.inputs();
     let _ = task.second.inputs();
-    let Picks { subjects, lone } = match picks_of(task, &pairing) {
-        Ok(picks) => picks,
-        Err(fault) => return Err(fault),
-    };
-    let verdicts = match judge_picks(task, &pairing, subjects.as_slice(), gate) {
-        Ok(verdicts) => verdicts,
-        Err(fault) => return Err(fault),
-    };
+    let Picks { subjects, lone } = picks_of(task, &pairing)?;
+    let verdicts = judge_picks(task, &pairing, subjects.as_slice(), gate)?;
     match and_lone(verdicts, lone) {
         Ok(verdicts) => Ok(Verdicts::of(pairing, verdicts)),
         Err(_) => Err(CheckFault::OutOfMemory),

@@ -72,10 +72,7 @@ pub fn judge<H: Threads + Wait + Sync, R1: Source, R2: Source, R3: Source, G: Ga
     ensures unwritten { result ≢ Err CheckFault.Write }
     ensures origins { (R1.origin first.new ≡ R1.origin first.old) × (R2.origin second.new ≡ R2.origin second.old) × (told_by R3.origin given.new ≡ told_by R3.origin given.old) }
 {
-    let nets = match read_netlists(context.alloc, first, second, given) {
-        Ok(nets) => nets,
-        Err(fault) => return Err(fault),
-    };
+    let nets = read_netlists(context.alloc, first, second, given)?;
     let Netlists {
         first: one,
         second: two,
@@ -127,10 +124,7 @@ fn reported<H: Threads + Wait + Sync, R1: Source, R2: Source, R3: Source, G: Gat
     ensures unwritten { result ≢ Err CheckFault.Write }
     ensures origins { (R1.origin first.new ≡ R1.origin first.old) × (R2.origin second.new ≡ R2.origin second.old) × (told_by R3.origin given.new ≡ told_by R3.origin given.old) }
 {
-    let nets = match read_netlists(context.alloc, first, second, given) {
-        Ok(nets) => nets,
-        Err(fault) => return Err(fault),
-    };
+    let nets = read_netlists(context.alloc, first, second, given)?;
     let Netlists {
         first: one,
         second: two,
@@ -204,10 +198,7 @@ pub fn check<H: Threads + Wait + Sync, R1: Source, R2: Source, R3: Source, G: Ga
     ensures written { OnOk result ((W.has_failed out.new ≡ W.has_failed out.old) × (W.has_stopped out.new ≡ W.has_stopped out.old)) }
     ensures origins { (R1.origin first.new ≡ R1.origin first.old) × (R2.origin second.new ≡ R2.origin second.old) × (told_by R3.origin given.new ≡ told_by R3.origin given.old) }
 {
-    let (text, outcome, tried) = match reported(context, first, second, given) {
-        Ok((text, outcome, tried)) => (text, outcome, tried),
-        Err(fault) => return Err(fault),
-    };
+    let (text, outcome, tried) = reported(context, first, second, given)?;
     match write_whole(out, text.as_slice()) {
         Ok(()) => Ok((outcome, tried)),
         Err(_) => Err(CheckFault::Write),

@@ -104,10 +104,7 @@ fn judge_cones<H: Threads + Wait + Sync, G: Gate>(
         return Err(CheckFault::OutOfMemory);
     };
     let task = task_of(whole, cones);
-    let pairing = match cone_pairing(&task, whole.pairing.names(), places.as_slice()) {
-        Ok(pairing) => pairing,
-        Err(fault) => return Err(fault),
-    };
+    let pairing = cone_pairing(&task, whole.pairing.names(), places.as_slice())?;
     let found = match try_cones(&task, &pairing, budget, gate) {
         Ok(found) => found,
         Err(fault) => return Err(as_late(fault)),

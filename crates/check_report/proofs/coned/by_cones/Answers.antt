@@ -21,23 +21,23 @@ judge_picks-requires-clause-inside g c κs within =
     let a = circuit task.first.now in
     let b = circuit task.second.now in
     let signals = all_signals task.settings.now.matching task.first.now task.second.now (condition task.given) Declared c.args.pairing c.inputs.ensures.sound c.inputs-2.ensures.sound c.requires in
-    subst (All (IsInside a b)) (sym c.as_slice.ensures.value) (picked_inside (IsInside a b) a b c.args.pairing c.in-Ok.ensures.picked signals.compared)
+    subst (All (IsInside a b)) (sym c.as_slice.ensures.value) (picked_inside (IsInside a b) a b c.args.pairing c.in_ok-subjects.ensures.picked signals.compared)
 
-pub returns-in-Ok-and_lone-clause-told : goal.returns-in-Ok-and_lone-clause-told
-returns-in-Ok-and_lone-clause-told g c =
+pub returns-in-Ok-clause-told : goal.returns-in-Ok-clause-told
+returns-in-Ok-clause-told g c =
     let task = c.args.task.now in
     let a = circuit task.first.now in
     let b = circuit task.second.now in
     let given = condition task.given in
     let p = c.args.pairing in
     record {
-      pairs = c.in-Ok.picks.subjects.items;
-      lone = c.in-Ok.picks.lone.items;
-      picked = c.in-Ok.ensures.picked;
+      pairs = c.in_ok-subjects.field-0.subjects.items;
+      lone = c.in_ok-subjects.field-0.lone.items;
+      picked = c.in_ok-subjects.ensures.picked;
       verdicts = record {
         variables = ap (λ (f : Found). f.variables) c.of.ensures;
-        of_pairs = c.in-Ok-judge_picks.verdicts.items;
-        told = subst (λ ss. AllZip (IsTold (IsLeft task.settings.now.limit (g.G.Gate.bound c.args.gate.now) a b given p) a b given p) ss c.in-Ok-judge_picks.verdicts.items) c.as_slice.ensures.value c.in-Ok-judge_picks.ensures.told;
-        all = ap (λ (f : Found). f.verdicts) c.of.ensures ∙ c.in-Ok-and_lone.ensures;
+        of_pairs = c.in_ok-verdicts.verdicts.items;
+        told = subst (λ ss. AllZip (IsTold (IsLeft task.settings.now.limit (g.G.Gate.bound c.args.gate.now) a b given p) a b given p) ss c.in_ok-verdicts.verdicts.items) c.as_slice.ensures.value c.in_ok-verdicts.ensures.told;
+        all = ap (λ (f : Found). f.verdicts) c.of.ensures ∙ c.in-Ok.ensures;
       };
     }

@@ -9,15 +9,15 @@ use Rattle.check_report.proofs.coned.judged.Goals as goal
 
 pub told_all-requires-clause-each : goal.told_all-requires-clause-each
 told_all-requires-clause-each g c =
-    length_known (IsToldIn c.args.whole.now) (IsLeftOut c.args.whole.now (g.G.Gate.bound c.args.gate.now)) c.args.subjects.now c.in-Ok.known.items c.in-Ok.ensures.known
+    length_known (IsToldIn c.args.whole.now) (IsLeftOut c.args.whole.now (g.G.Gate.bound c.args.gate.now)) c.args.subjects.now c.in_ok-known.known.items c.in_ok-known.ensures.known
 
-pub returns-in-Ok-told_all-clause-told : goal.returns-in-Ok-told_all-clause-told
-returns-in-Ok-told_all-clause-told g c =
+pub returns-in-Ok-clause-told : goal.returns-in-Ok-clause-told
+returns-in-Ok-clause-told g c =
     let w = c.args.whole.now in
     let task = w.task.now in
     let bound = g.G.Gate.bound c.args.gate.now in
-    subst (AllZip (IsToldOut w bound) c.args.subjects.now) (sym c.in-Ok-told_all.ensures)
+    subst (AllZip (IsToldOut w bound) c.args.subjects.now) (sym c.in-Ok.ensures)
     (told_known (circuit task.first.now) (IsToldIn w) (IsLeftOut w bound) (IsToldOut w bound)
     (λ s v t. told_yes (IsLeftOut w bound) (circuit task.first.now) (circuit task.second.now) (condition task.given) w.pairing.now s v t)
     (λ s left. told_left (IsLeftOut w bound) task.first.now task.second.now (condition task.given) w.pairing.now s c.inputs.ensures.sound c.inputs-2.ensures.sound c.requires.ready.conditional_net left)
-    c.args.subjects.now c.in-Ok.known.items c.in-Ok.ensures.known)
+    c.args.subjects.now c.in_ok-known.known.items c.in_ok-known.ensures.known)

@@ -1,4 +1,5 @@
 use Rattle.std.proofs.Common.{◌≡◌, ap, inr, subst, Err}
+use Rattle.std.proofs.lemmas.Result.{err_from_is_err_and}
 use Rattle.std.specs.Io.KnownBytes.{Appends}
 use Rattle.report_text.specs.Writing.{AppendsFront}
 use Rattle.expand_work.specs.declared.fault.WaveFault.TheVariants.{NoWorker}
@@ -6,27 +7,27 @@ use Rattle.check_report.specs.declared.fault.CheckFault.TheVariants.{GivenUp, On
 use Rattle.check_report.proofs.Trying.{found_accepted}
 use Rattle.check_report.proofs.judging.check.Goals as goal
 
-pub returns-in-Ok-write_whole-clause-report : goal.returns-in-Ok-write_whole-clause-report
-returns-in-Ok-write_whole-clause-report g c = (c.in-Ok.text.items, c.in-Ok.ensures.report, subst (Appends _ _) c.as_slice.ensures.value c.in-Ok-write_whole.ensures.ok)
+pub returns-in-Ok-clause-report : goal.returns-in-Ok-clause-report
+returns-in-Ok-clause-report g c = (c.in_ok-text.text.items, c.in_ok-text.ensures.report, subst (Appends _ _) c.as_slice.ensures.value c.in-Ok.ensures.ok)
 
 pub returns-clause-fault : goal.returns-clause-fault
-returns-clause-fault g c = inr (found_accepted _ _ _ _ _ c.in-Ok.ensures.report.by)
+returns-clause-fault g c = inr (found_accepted _ _ _ _ _ c.in_ok-text.ensures.report.by)
 
 pub returns-clause-unwritten : goal.returns-clause-unwritten
 returns-clause-unwritten g c = λ _.
-    (c.in-Ok.outcome, c.in-Ok.tried, c.in-Ok.text.items, c.in-Ok.ensures.report, subst (AppendsFront _ _ _ _) c.as_slice.ensures.value c.in-Err-write_whole.ensures.err)
+    (c.in_ok-text.outcome, c.in_ok-text.tried, c.in_ok-text.text.items, c.in_ok-text.ensures.report, subst (AppendsFront _ _ _ _) c.as_slice.ensures.value c.in-Err.ensures.err)
 
-pub returns-in-Err-clause-given_up : goal.returns-in-Err-clause-given_up
-returns-in-Err-clause-given_up g c = λ e.
-    let same : c.in-Err.fault ≡ GivenUp = cc in
-    c.in-Err.ensures.given_up (ap Err same)
+pub returns-in_err-text-clause-given_up : goal.returns-in_err-text-clause-given_up
+returns-in_err-text-clause-given_up g c =
+    let r = err_from_is_err_and c.from_residual.result c.from_residual.ensures.1 in
+    rw (r.1, r.2) (λ e. let same : c.in_err-text.field-0.0 ≡ GivenUp = cc in c.in_err-text.ensures.given_up (ap Err same))
 
-pub returns-in-Err-clause-only : goal.returns-in-Err-clause-only
-returns-in-Err-clause-only g c = λ e.
-    let same : c.in-Err.fault ≡ Only = cc in
-    c.in-Err.ensures.only (ap Err same)
+pub returns-in_err-text-clause-only : goal.returns-in_err-text-clause-only
+returns-in_err-text-clause-only g c =
+    let r = err_from_is_err_and c.from_residual.result c.from_residual.ensures.1 in
+    rw (r.1, r.2) (λ e. let same : c.in_err-text.field-0.0 ≡ Only = cc in c.in_err-text.ensures.only (ap Err same))
 
-pub returns-in-Err-clause-hired : goal.returns-in-Err-clause-hired
-returns-in-Err-clause-hired g c = λ e.
-    let same : c.in-Err.fault ≡ Wave NoWorker = cc in
-    c.in-Err.ensures.hired (ap Err same)
+pub returns-in_err-text-clause-hired : goal.returns-in_err-text-clause-hired
+returns-in_err-text-clause-hired g c =
+    let r = err_from_is_err_and c.from_residual.result c.from_residual.ensures.1 in
+    rw (r.1, r.2) (λ e. let same : c.in_err-text.field-0.0 ≡ Wave NoWorker = cc in c.in_err-text.ensures.hired (ap Err same))
