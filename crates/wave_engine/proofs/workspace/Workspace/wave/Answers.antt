@@ -19,13 +19,13 @@ reduce-requires-clause-expanded g c =
     let rows : List (List (Placed × Placed)) = c.go_down.new.down.rows.items in
     let ps : List Placed = c.go_down.new.down.roots.items in
     let D : IsDown c.args.store.now c.args.entries.now c.in_ok-from.from T rows ps c.go_down.new.answers.items = c.in_ok-from.ensures.down in
-    let E : AreExpanded c.hand_over.new.store c.args.entries.now ps c.in_ok-from.from T rows = expanded_kept c.args.store.now c.levels.ensures.sound c.args.entries.now c.requires.operands c.hand_over.new.store c.hand_over.ensures.adds.keeps ps c.in_ok-from.from T rows D.expanded in
+    let E : AreExpanded c.hand_over.new.store c.args.entries.now ps c.in_ok-from.from T rows = expanded_kept c.args.store.now c.levels-levels.ensures.sound c.args.entries.now c.requires.operands c.hand_over.new.store c.hand_over.ensures.adds.keeps ps c.in_ok-from.from T rows D.expanded in
     E
 
 pub returns-in_err-from-clause-wave : goal.returns-in_err-from-clause-wave
 returns-in_err-from-clause-wave g c =
     let p = err_from_is_err_and c.from_residual.result c.from_residual.ensures.1 in
-    rw (p.1, p.2) (wave_unchanged c.args.store.now c.args.entries.now c.args.entries.now _ c.levels.ensures.sound
+    rw (p.1, p.2) (wave_unchanged c.args.store.now c.args.entries.now c.args.entries.now _ c.levels-levels.ensures.sound
     (not_full c.args.store.now c.args.entries.now c.args.store.now _ c.in_err-from.ensures.refused))
 
 pub returns-in_err-shared-clause-wave : goal.returns-in_err-shared-clause-wave
@@ -36,9 +36,9 @@ returns-in_err-shared-clause-wave g c =
 pub returns-in_err-reduce-clause-wave : goal.returns-in_err-reduce-clause-wave
 returns-in_err-reduce-clause-wave g c =
     let adds : AddsDescribed c.args.store.now c.reduce.new.store (IsWanted c.args.store.now c.args.entries.now) =
-    adds_both c.args.store.now c.levels.ensures.sound c.args.entries.now c.requires.operands c.hand_over.new.store c.hand_over.ensures.adds.keeps c.hand_over.ensures.sound c.reduce.new.store c.hand_over.ensures.adds c.reduce.ensures.adds in
+    adds_both c.args.store.now c.levels-levels.ensures.sound c.args.entries.now c.requires.operands c.hand_over.new.store c.hand_over.ensures.adds.keeps c.hand_over.ensures.sound c.reduce.new.store c.hand_over.ensures.adds c.reduce.ensures.adds in
     let f : IsWaveFault c.args.store.now c.args.entries.now c.reduce.new.store c.in_err-reduce.field-0.0 =
-    fault_back c.args.store.now c.levels.ensures.sound c.args.entries.now c.requires.operands c.hand_over.new.store c.hand_over.ensures.adds.keeps c.reduce.new.store c.in_err-reduce.field-0.0 c.in_err-reduce.ensures.fault in
+    fault_back c.args.store.now c.levels-levels.ensures.sound c.args.entries.now c.requires.operands c.hand_over.new.store c.hand_over.ensures.adds.keeps c.reduce.new.store c.in_err-reduce.field-0.0 c.in_err-reduce.ensures.fault in
     let p = err_from_is_err_and c.from_residual-in_err-reduce.result c.from_residual-in_err-reduce.ensures.1 in
     rw (p.1, p.2) (wave_given_up c.args.store.now c.args.entries.now c.args.entries.now c.reduce.new.store c.in_err-reduce.field-0.0 c.reduce.ensures.sound adds f)
 
@@ -51,7 +51,7 @@ root_answers-requires g c =
     let R : AreReducedBelow c.hand_over.new.store c.args.entries.now T 0 c.reduce.new.store c.reduce.new.answers.items = c.in_ok-reduce.ensures.reduced in
     subst (λ (z : List Placed). All (λ p. (r : Ref) × ComesTo c.as_slice-2.result.now p r) z) (sym c.as_slice.ensures.value)
     (subst (λ (z : List (List Ref)). All (λ p. (r : Ref) × ComesTo z p r) ps) (sym c.as_slice-2.ensures.value)
-    (roots_come c.args.store.now c.levels.ensures.sound c.args.entries.now c.requires.operands T c.reduce.new.answers.items (λ v q k h. R.counts v q k (omega arith) h) ps D.expanded.rooted))
+    (roots_come c.args.store.now c.levels-levels.ensures.sound c.args.entries.now c.requires.operands T c.reduce.new.answers.items (λ v q k h. R.counts v q k (omega arith) h) ps D.expanded.rooted))
 
 pub returns-in-Ok-clause-wave : goal.returns-in-Ok-clause-wave
 returns-in-Ok-clause-wave g c =
@@ -63,17 +63,17 @@ returns-in-Ok-clause-wave g c =
     let come : AllZip (ComesTo c.reduce.new.answers.items) ps c.in-Ok.answers.items =
     subst (λ (z : List Placed). AllZip (ComesTo c.reduce.new.answers.items) z c.in-Ok.answers.items) c.as_slice.ensures.value
     (subst (λ (z : List (List Ref)). AllZip (ComesTo z) c.as_slice.result.now c.in-Ok.answers.items) c.as_slice-2.ensures.value c.in-Ok.ensures) in
-    let adds : AddsDescribed c.args.store.now c.reduce.new.store (IsWanted c.args.store.now c.args.entries.now) = adds_both c.args.store.now c.levels.ensures.sound c.args.entries.now c.requires.operands c.hand_over.new.store c.hand_over.ensures.adds.keeps c.hand_over.ensures.sound c.reduce.new.store c.hand_over.ensures.adds c.reduce.ensures.adds in
+    let adds : AddsDescribed c.args.store.now c.reduce.new.store (IsWanted c.args.store.now c.args.entries.now) = adds_both c.args.store.now c.levels-levels.ensures.sound c.args.entries.now c.requires.operands c.hand_over.new.store c.hand_over.ensures.adds.keeps c.hand_over.ensures.sound c.reduce.new.store c.hand_over.ensures.adds c.reduce.ensures.adds in
     let answers : AnswersEach c.args.store.now c.args.entries.now c.reduce.new.store c.in-Ok.answers.items =
-    roots_answered c.args.store.now c.levels.ensures.sound c.args.entries.now c.requires.operands T c.reduce.new.answers.items c.reduce.new.store D.expanded.admitted adds.keeps (λ v q k r h g. R.answered v q k r (omega arith) h g) c.args.entries.now c.requires.operands ps D.expanded.rooted c.in-Ok.answers.items come in
+    roots_answered c.args.store.now c.levels-levels.ensures.sound c.args.entries.now c.requires.operands T c.reduce.new.answers.items c.reduce.new.store D.expanded.admitted adds.keeps (λ v q k r h g. R.answered v q k r (omega arith) h g) c.args.entries.now c.requires.operands ps D.expanded.rooted c.in-Ok.answers.items come in
     let first : IsWithinBelow c.args.store.now T c.in_ok-from.from c.hand_over.new.store = c.in_ok-shared.ensures.within in
     wave_done c.args.store.now c.args.entries.now c.args.entries.now c.reduce.new.store c.in-Ok.answers c.reduce.ensures.sound adds answers
-    (within_both c.args.store.now c.levels.ensures.sound c.args.entries.now c.requires.operands T ps D.expanded.rooted c.in_ok-from.from c.hand_over.new.store c.reduce.new.store first R.within)
+    (within_both c.args.store.now c.levels-levels.ensures.sound c.args.entries.now c.requires.operands T ps D.expanded.rooted c.in_ok-from.from c.hand_over.new.store c.reduce.new.store first R.within)
 
 pub returns-in-Err-clause-wave : goal.returns-in-Err-clause-wave
 returns-in-Err-clause-wave g c =
     let adds : AddsDescribed c.args.store.now c.reduce.new.store (IsWanted c.args.store.now c.args.entries.now) =
-    adds_both c.args.store.now c.levels.ensures.sound c.args.entries.now c.requires.operands c.hand_over.new.store c.hand_over.ensures.adds.keeps c.hand_over.ensures.sound c.reduce.new.store c.hand_over.ensures.adds c.reduce.ensures.adds in
+    adds_both c.args.store.now c.levels-levels.ensures.sound c.args.entries.now c.requires.operands c.hand_over.new.store c.hand_over.ensures.adds.keeps c.hand_over.ensures.sound c.reduce.new.store c.hand_over.ensures.adds c.reduce.ensures.adds in
     wave_given_up c.args.store.now c.args.entries.now c.args.entries.now c.reduce.new.store _ c.reduce.ensures.sound adds tt
 
 pub returns-in-Ok-clause-expanded : goal.returns-in-Ok-clause-expanded
@@ -82,7 +82,7 @@ returns-in-Ok-clause-expanded g c =
     let rows : List (List (Placed × Placed)) = c.go_down.new.down.rows.items in
     let ps : List Placed = c.go_down.new.down.roots.items in
     let D : IsDown c.args.store.now c.args.entries.now c.in_ok-from.from T rows ps c.go_down.new.answers.items = c.in_ok-from.ensures.down in
-    have_both c.args.store.now c.levels.ensures.sound c.args.entries.now c.requires.operands T rows ps c.in_ok-from.from D.expanded c.args.self.now.crew.now.workers.count c.args.self.now.down.splits c.go_down.new.down.splits
+    have_both c.args.store.now c.levels-levels.ensures.sound c.args.entries.now c.requires.operands T rows ps c.in_ok-from.from D.expanded c.args.self.now.crew.now.workers.count c.args.self.now.down.splits c.go_down.new.down.splits
     c.args.self.now.rooms c.hand_over.new.rooms c.in_ok-from.ensures.split c.in_ok-shared.ensures.expanded
 
 pub returns-in-Err-clause-memory : goal.returns-in-Err-clause-memory
@@ -93,4 +93,4 @@ returns-in-Err-clause-memory g c = λ old _.
     let R : AreReducedBelow c.hand_over.new.store c.args.entries.now T 0 c.reduce.new.store c.reduce.new.answers.items = c.in_ok-reduce.ensures.reduced in
     let first : IsWithinBelow c.args.store.now T c.in_ok-from.from c.hand_over.new.store = c.in_ok-shared.ensures.within in
     within_still c.args.store.now c.args.entries.now c.reduce.new.store
-    (within_both c.args.store.now c.levels.ensures.sound c.args.entries.now c.requires.operands T ps D.expanded.rooted c.in_ok-from.from c.hand_over.new.store c.reduce.new.store first R.within) old
+    (within_both c.args.store.now c.levels-levels.ensures.sound c.args.entries.now c.requires.operands T ps D.expanded.rooted c.in_ok-from.from c.hand_over.new.store c.reduce.new.store first R.within) old
