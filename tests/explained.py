@@ -133,7 +133,7 @@ def main():
             behind = [line for label in asked for line in wanted(first, second, label, report)]
             differing += sum("first=" in line for line in behind)
             tally.same(f"seed {given.seed}, turn {turn}, {words}, {asked}", seen, plain.status, plain.out + lines(*behind), b"")
-    tally.check("inner signals differ in many of them", differing > 100, differing)
+    tally.check("inner signals differ in many of them", differing > 40, differing)
     tally.end()
     sys.exit(tally.failed > 0)
 
