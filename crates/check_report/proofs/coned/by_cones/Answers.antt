@@ -4,6 +4,7 @@ use Rattle.net_bench.specs.Circuit.{circuit}
 use Rattle.net_order.specs.declared.order.Order.TheVariants.{Declared}
 use Rattle.net_order.specs.Order.{condition}
 use Rattle.report_text.specs.Lines.{Found}
+use Rattle.check_report.specs.Asking.{unsized}
 use Rattle.check_report.specs.Comparing.{IsInside}
 use Rattle.check_report.specs.Cones.{IsLeft, IsTold}
 use Rattle.check_report.proofs.ByCones.{picked_inside}
@@ -37,7 +38,7 @@ returns-in-Ok-and_lone-clause-told g c =
       verdicts = record {
         variables = ap (λ (f : Found). f.variables) c.of.ensures;
         of_pairs = c.in-Ok-judge_picks.verdicts.items;
-        told = subst (λ ss. AllZip (IsTold (IsLeft task.settings.now.limit (g.G.Gate.bound c.args.gate.now) a b given p) a b given p) ss c.in-Ok-judge_picks.verdicts.items) c.as_slice.ensures.value c.in-Ok-judge_picks.ensures.told;
+        told = subst (λ ss. AllZip (IsTold (unsized task.settings.now.assignment) (IsLeft task.settings.now.limit (g.G.Gate.bound c.args.gate.now) a b given p) a b given p) ss c.in-Ok-judge_picks.verdicts.items) c.as_slice.ensures.value c.in-Ok-judge_picks.ensures.told;
         all = ap (λ (f : Found). f.verdicts) c.of.ensures ∙ c.in-Ok-and_lone.ensures;
       };
     }
