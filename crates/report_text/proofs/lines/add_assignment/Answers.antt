@@ -7,7 +7,7 @@ loop-i-preserved c =
     let lb : c.loop-i.i < length c.args.bits.now = omega arith in
     let lv : c.loop-i.i < length c.args.names.now = omega arith in
     moved _ _ _ _ _ _ c.loop-i.invariant
-    (assignment_next c.args.which c.args.names.now c.args.bits.now c.args.marks.now c.loop-i.i c.at.result.now lv lb c.at.ensures)
+    (assignment_next c.args.which c.args.names.now c.args.bits.now c.args.marks.now c.loop-i.i c.at.result.now c.mark_at.result lv lb c.at.ensures c.mark_at.ensures)
     c.in_ok-add_told.ensures
 
 pub returns : goal.returns
