@@ -1,5 +1,5 @@
 -- The comparison of a pair's cones, and what it says of the pair.
-use Rattle.std.proofs.Common.{◌≡◌, ◌∙◌, ap, refl, ℕ, ◌∷◌, [], List, Option, Some, None, length, map, false}
+use Rattle.std.proofs.Common.{◌≡◌, ◌∙◌, ap, refl, ℕ, ◌∷◌, [], List, Option, Some, None, length, map, false, Bool, subst}
 use Rattle.std.specs.Prelude.{IfSome}
 use Rattle.net_bench.specs.Circuit.{IsNet, circuit}
 use Rattle.net_cone.specs.Cones.{variable_name}

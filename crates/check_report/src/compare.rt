@@ -1,6 +1,7 @@
 //! The comparison of two netlists whose diagrams stand in one store: a verdict for each line of the report.
 ghost use Rattle.std.specs.Prelude.{◌≡◌, ◌++◌, ◌+◌, ◌<◌, false, length, map, All, OnOk, IfOk};
 ghost use Rattle.counter_walk.specs.Arranged.{IsOrder, by_declared};
+ghost use Rattle.counter_walk.specs.Support.{AreLevelsOf};
 ghost use Rattle.net_bench.specs.Circuit.{circuit};
 ghost use Rattle.net_order.specs.Order.{condition, name_of, names_of};
 ghost use Rattle.dd_store.specs.Nodes.{den};
@@ -114,29 +115,60 @@ fn extras_of(
     Ok(Extras { support, sizes })
 }
 
-/// The same in another order of the variables, without sizes.
+/// The variables on which one of two diagrams depends, in another order.
+fn arranged_support(
+    alloc: Global,
+    store: &Store,
+    of: &Diagrams<'_>,
+    order: &[u16],
+) -> Result<Bits, AllocError>
+    requires first_known { Has store.now of.now.first }
+    requires second_known { Has store.now of.now.second }
+    requires order { IsOrder store.now.levels order.now }
+    ensures { IfOk result (AreLevelsOf store.now.levels (by_declared order.now (den store.now of.now.first)) (by_declared order.now (den store.now of.now.second))) }
+{
+    let levels = support_of(alloc, store, of.first, of.second)?;
+    let declared = spread_bits(alloc, levels.as_slice(), order.len(), order)?;
+    Ok(Bits::of(declared))
+}
+
+/// The same where they are asked for.
+fn arranged_support_in(
+    alloc: Global,
+    store: &Store,
+    of: &Diagrams<'_>,
+    order: &[u16],
+    asked: bool,
+) -> Result<Option<Bits>, AllocError>
+    requires first_known { Has store.now of.now.first }
+    requires second_known { Has store.now of.now.second }
+    requires order { IsOrder store.now.levels order.now }
+    ensures { IfOk result (λ shown. IsSupportShown asked store.now.levels (by_declared order.now (den store.now of.now.first)) (by_declared order.now (den store.now of.now.second)) shown) }
+{
+    if asked {
+        let support = arranged_support(alloc, store, of, order)?;
+        Ok(Some(support))
+    } else {
+        Ok(None)
+    }
+}
+
+/// What is told of two diagrams besides, in another order of the variables, without sizes.
 fn arranged_extras(
     alloc: Global,
     store: &Store,
     of: &Diagrams<'_>,
     order: &[u16],
-    support: bool,
+    asked: bool,
 ) -> Result<Extras, AllocError>
     requires first_known { Has store.now of.now.first }
     requires second_known { Has store.now of.now.second }
     requires order { IsOrder store.now.levels order.now }
-    ensures { IfOk result (AreExtrasShown (record { sizes = false; support = support }) store.now.levels (by_declared order.now (den store.now of.now.first)) (by_declared order.now (den store.now of.now.second))) }
+    ensures { IfOk result (AreExtrasShown (record { sizes = false; support = asked }) store.now.levels (by_declared order.now (den store.now of.now.first)) (by_declared order.now (den store.now of.now.second))) }
 {
-    if !support {
-        return Ok(Extras {
-            support: None,
-            sizes: None,
-        });
-    }
-    let levels = support_of(alloc, store, of.first, of.second)?;
-    let declared = spread_bits(alloc, levels.as_slice(), order.len(), order)?;
+    let support = arranged_support_in(alloc, store, of, order, asked)?;
     Ok(Extras {
-        support: Some(Bits::of(declared)),
+        support,
         sizes: None,
     })
 }
