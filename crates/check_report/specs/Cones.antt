@@ -1,5 +1,5 @@
 -- Pairs that are judged alone, each by its cones.
-use Rattle.std.specs.Prelude.{◌≡◌, ◌/◌, ◌⊎◌, ◌↔◌, ℕ, min, max, ◌*◌, ◌++◌, Bool,  List, [], Option, Some, None, length, slice_index, All, ⊤}
+use Rattle.std.specs.Prelude.{◌≡◌, ◌/◌, ◌⊎◌, ◌↔◌, ℕ, min, max, ◌*◌, ◌++◌, Bool, List, [], Option, Some, None, length, slice_index, All, ⊤}
 use Rattle.std.specs.List.{AllZip, slice_index_or}
 use Rattle.expand_work.specs.Bounds.{most_of}
 use Rattle.net_bench.specs.Circuit.{Circuit, Net, circuit, variables_of}

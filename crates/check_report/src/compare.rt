@@ -11,8 +11,8 @@ ghost use Rattle.check_report.specs.Conditions.{everywhere};
 ghost use Rattle.check_report.specs.Report.{IsSizeShown, IsSupportShown, AreExtrasShown, AreSizesShown, IsVerdictOf, AreVerdicts, lone_side};
 ghost use Rattle.check_report.specs.Comparing.{AreCompared, AreSignals, HaveAllVerdicts, IsTelling, as_built, as_told, compared_of, subject_at, asked_of};
 
-use crate::subject::Subject;
 use crate::spreading::spread_bits;
+use crate::subject::Subject;
 use crate::telling::{Asked, Telling};
 use counter_walk::{by_level, least_declared, least_difference, support_of, value};
 use dd_store::{Ref, Store};
