@@ -159,15 +159,15 @@ def cited():
 
 
 def listed():
-    """The names that the page has, with the files of their rows."""
-    rows = []
-    for line in PAGE.read_text().splitlines():
-        cells = [cell.strip() for cell in line.strip().strip("|").split("|")]
-        if len(cells) == 3 and ".antt`" in cells[2]:
-            files = re.findall(r"`([\w/]+\.antt)`", cells[2])
-            folder = files[0].rsplit("/", 1)[0]
-            files = [f if "/" in f else f"{folder}/{f}" for f in files]
-            rows += [(re.match(WORD, name).group(), files) for name in re.findall(r"`([^`]+)`", cells[0])]
+    """The names that the page has, each with its file: those before the first colon of an item, under a crate and a file."""
+    rows, crate, file = [], "", ""
+    for line in re.sub(r"\n +", " ", PAGE.read_text()).splitlines():
+        if line.startswith("## "):
+            crate = re.match(r"## (\w+)", line).group(1)
+        elif line.startswith("**"):
+            file = f"{crate}/specs/{line.split('**')[1]}.antt"
+        elif line.startswith("- "):
+            rows += [(name, file) for name in re.findall(rf"`({WORD})`", line.split(":")[0])]
     return rows
 
 
@@ -206,8 +206,8 @@ def main():
     if "--uses" in sys.argv[1:]:
         for (name, file), names in sorted(uses.items(), key=lambda use: (use[0][1], use[0][0])):
             print(f"{file} {name}: {' '.join(sorted(names))}")
-    missing = sorted((file, name) for name, file in uses if not any(name == n and file in files for n, files in rows))
-    stale = sorted((files[0], name) for name, files in rows if not any(defines(file, name) for file in files))
+    missing = sorted((file, name) for name, file in uses.keys() - set(rows))
+    stale = sorted((file, name) for name, file in rows if not defines(file, name))
     for file, name in missing:
         print(f"cited by a public contract and not on the page: {name} of {file}")
     for file, name in stale:

@@ -1,4 +1,7 @@
 //! The program: two netlists in, a report and a status out.
+//!
+//! **Promises.** The exit status is that of the run (`code_of`), whose report and faults `check_tool` promises
+//! (`status_of`: `ending`). **Only tests show** what `main` hands to it: one expression. **Begin** with `check_tool`.
 #![tactic(auto)]
 
 ghost use Rattle.std.specs.Prelude.{◌≡◌};

@@ -1,4 +1,19 @@
 //! Two netlists to the report of their comparison.
+//!
+//! **Promises.** `judge` answers the verdicts of what was read, `check` writes their report and nothing else
+//! (`verdicts`, `report`): EQUAL exactly where functions agree wherever the condition holds, else the least difference.
+//! Each fault has its cause (`fault`), with nothing written (`untouched`), or at Write a front part (`unwritten`). Full
+//! comes only where each order that is allowed needs more nodes than the limit (`full`), GivenUp only where each was
+//! given up (`given_up`), neither where cones may be taken (`by_cones`); the attempts before the one that is told were
+//! given up (`passed`). NoWorker wants an order that is named (`hired`) and no bound (`alone`), too many requests are
+//! past the bound (`past`), a picked name is refused only where it is unknown (`only`). `print_order` writes the order
+//! (`order`). Laws: `limits`, `one_report`, `without_condition`, `conjunctions`, `shares`.
+//!
+//! **Only tests show** what attempts and workers tell meanwhile, and devices that fail at each byte (`report_tests`).
+//!
+//! **Begin** with `specs/Report` and `Conditions`, verdicts over functions alone; then `judging`, `deciding` (the
+//! whole, or cones), `attempts` (orders within budgets), `checking` (one order), and for single pairs `coning`,
+//! `turns`, `coned`.
 #![tactic(auto)]
 
 mod arranging;

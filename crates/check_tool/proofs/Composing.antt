@@ -19,6 +19,8 @@ use Rattle.check_tool.specs.declared.fault.Place.TheVariants.{First, Second, Giv
 use Rattle.check_tool.specs.declared.fault.ToolFault.{ToolFault}
 use Rattle.check_tool.specs.declared.fault.ToolFault.TheVariants.{OneFile, InputTwice as DashTwice, CannotOpen, InputUnread, InputTooLong, InputUndivided, BadOrder, Check, OutOfMemory}
 use Rattle.check_tool.specs.Splitting.{IsSplit}
+use Rattle.check_tool.specs.Ending.{Written, IsSaidOf}
+use Rattle.check_tool.specs.Faults.{fault_status}
 use Rattle.check_tool.specs.Opening.{Try, Extends, opened, AreTried}
 use Rattle.check_tool.specs.Running.{IsOpenFault, first_paths, second_paths, text_paths, order_paths, given_paths, later_paths, paths_of, IsShort, AreNamed, AreTexts, HasTexts, IsGivenOf, IsOrderOf, IsLaterFault, IsCompared, HasReported, HasReportedFront, HasFirstFailed, HasSecondFailed, HasGivenFailed, IsBeyond, IsGivenUp, ArePassed, AreUnknown, ArePicksUnknown, IsCompareFault, IsToolFault, attempt_of, limit_of}
 use Rattle.check_tool.proofs.Failing.{failed_check}
@@ -60,6 +62,11 @@ keeps_own (Some xs) = refl
 -- nothing is told where more is not asked for, nor seen
 pub neither : (verbose seen : Bool) → verbose ≡ false → seen ≡ false → (verbose || seen) ≡ false
 neither verbose seen e f = ap (λ v. v || seen) e ∙ f
+
+-- the status of a fault that is said is that fault's
+pub code_of : (more : Bool) (told : List ℕ → Option (List ℕ)) (o : Options) (w : Written) (fault : ToolFault) (status : ℕ) → IsSaidOf more told o w fault status → status ≡ fault_status fault
+code_of false told o w fault status said = said.code
+code_of true told o w fault status said = said.1.code
 
 -- either more is asked for, or it is not
 pub asked_or : {A B : Type 0} (verbose : Bool) → (verbose ≡ true → A) → (verbose ≡ false → B) → A ⊎ B

@@ -210,7 +210,10 @@ fn listed(alloc: Global, text: &[u8], place: u32) -> Result<String, AllocError>
     }
     match scanner.next() {
         (line, Token::Name(name)) => named(alloc, line, name),
-        (_, Token::End) => String::from_str(alloc, "the list ends before each variable has a place"),
+        (_, Token::End) => String::from_str(
+            alloc,
+            "the list ends before each variable has a place",
+        ),
         _ => Ok(String::new(alloc)),
     }
 }

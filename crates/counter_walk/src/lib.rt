@@ -1,4 +1,14 @@
 //! Comparing two functions of a store: whether they are equal, and the least assignment at which they differ.
+//!
+//! **Promises.** `same` is equality of functions (`functions`) and of references (`references`), `value` the denotation
+//! (`value`). `least_difference` answers the least assignment by level at which two functions differ, `least_declared`
+//! the least as declared, in any order of the levels, or none where they agree (`least`); `by_level` turns one into the
+//! other. `support_of` tells exactly the levels on whose bits one of two functions depends. No call makes nodes.
+//!
+//! **Only tests show** that ample memory suffices (`wave_tests`).
+//!
+//! **Begin** here: a walk down both diagrams at once, to 1 only where the children for 0 are equal; as declared in
+//! `least`, with `specs/Arranged`.
 #![tactic(auto)]
 
 ghost use Rattle.std.specs.Prelude.{◌≡◌, ◌<◌, ◌≤◌, ◌↔◌, IsTrue, length, MatchOption, IfOk};

@@ -1,5 +1,18 @@
-//! A store of nodes of shared, reduced, ordered binary decision diagrams (Bryant 1986), with the unique table of
-//! each level divided into 16 shards (van Dijk 2016).
+//! A store of nodes of shared, reduced, ordered binary decision diagrams (Bryant 1986), with the unique table of each
+//! level divided into 16 shards (van Dijk 2016).
+//!
+//! **Promises.** Every store is ordered and reduced (`Store::levels`: `sound`), and references are equal exactly where
+//! they denote one function (`canonical`). `make` and `variable` answer the node or its cause of refusal (`makes`,
+//! `meaning`, `refused`, `full`) and keep all nodes (`extends`). `Ref::negate` is the complement, makes no node and
+//! undoes itself (`value`, `meaning`). By threads, `make_by` answers a level's references (`answers`), adds these nodes
+//! and no others (`grows`) and says why not (`fault`), as one thread would; `add_all` adds nodes and answers none
+//! (`grows`, `answer`).
+//!
+//! **Only tests show** that ample memory suffices, and that two threads are in the shards of one level at once
+//! (`wave_tests`).
+//!
+//! **Begin** with docs/CALLING.md and `specs/View`, what callers see; then `specs/Nodes`, which has the store as data,
+//! and `store`.
 #![tactic(auto)]
 
 ghost use Rattle.std.specs.Prelude.{Some};

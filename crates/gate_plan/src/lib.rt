@@ -1,4 +1,17 @@
 //! The diagrams of netlists' gates: which folds they need, rank by rank, and the building of them.
+//!
+//! **Promises.** A `Plan` has exactly the steps and copies of each gate by rank. `build` gives each signal of both
+//! netlists and of a condition the diagram of its function (`first`, `second`, `given`), adds needed nodes alone
+//! (`adds`), leaves an empty store with exactly these, within its limit (`need`, `within`), and is Full only where it
+//! is over or lacks one (`fault`); its requests are too many only where one wave is past the gate's bound (`past`,
+//! `alone`), and OutOfMemory leaves a store within its limit that was so (`memory`). `conjoin` takes references
+//! together with a condition's (`conjoined`, `adds`, `within_bound`).
+//!
+//! **Only tests show** that ample memory suffices, and that what two netlists have at other ranks makes no request
+//! (`wave_tests`).
+//!
+//! **Begin** with `specs/Folds` and `Plans`, a gate as a left fold; then `steps` and `building`, a wave for each fold
+//! number of a rank.
 #![tactic(auto)]
 
 mod building;

@@ -1,4 +1,13 @@
-//! Level clocks: a worker counts, for each sender, the levels that the sender has ended, and so knows which levels are closed.
+//! Level clocks: a worker counts, for each sender, the levels that the sender has ended, and so knows which levels are
+//! closed.
+//!
+//! **Promises.** A `Clock` is these counts: `new` has none, `note` counts one more of a sender, `ended` tells how many;
+//! `closed` says whether every sender has ended a level (`AreAbove`), `all_closed` whether each has ended all
+//! (`AreAll`).
+//!
+//! **Only tests show** that ample memory suffices (`wave_tests`).
+//!
+//! **Begin** here, with `specs/Counts`.
 #![tactic(auto)]
 
 ghost use Rattle.std.specs.Prelude.{◌≡◌, ℕ, ◌+◌, ◌<◌, ◌≤◌, List, length, slice_index, slice_set, All, IfOk, IsTrue, ◌↔◌, replicate};

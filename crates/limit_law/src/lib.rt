@@ -1,4 +1,10 @@
 //! A law of the limit: what two netlists need is within it or beyond it.
+//!
+//! **Promises.** `one_of_both`, for each pairing and each limit below 2^32; that never both hold is a law of
+//! `check_report` (`limits`). There is no code, so nothing is left to tests.
+//!
+//! **Begin** with `check_report`'s `specs/Limits`; the proof draws the needed nodes one by one (`proofs/Drawing`,
+//! `Making`, `Covering`).
 #![tactic(auto)]
 
 ghost use Rattle.std.specs.Prelude.{◌<◌, ◌^◌, ◌⊎◌, ℕ, length, Option, IfSome, option_map};

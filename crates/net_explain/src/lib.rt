@@ -1,4 +1,16 @@
-//! Why two signals differ at an assignment: the inner signals of one name that have other values there, and all values as a VCD.
+//! Why two signals differ at an assignment: the inner signals of one name that have other values there, and all values
+//! as a VCD.
+//!
+//! **Promises.** `values` answers a labelling (`labelling`), so each value is that of the signal's function
+//! (`functions`). `explain` answers exactly the inner signals that differ, in their order, with the gates behind the
+//! first of them (`explains`); that these are all, and no others, is the law `exact`. `explanation_of` writes the
+//! lines, `vcd_of` the VCD, in which distinct signals have distinct identifiers (law `identifiers`).
+//!
+//! **Only tests show** that ample memory suffices (`netlist_tests`), that a reader of its own takes the VCD, and that
+//! values which a test finds for itself are the same (`tests/vcd.py`, `tests/explained.py`). That time and memory are
+//! linear in the netlists no clause says.
+//!
+//! **Begin** with `specs/Explaining`; then `explaining`, over `view` (what is seen of one netlist) and `differing`.
 #![tactic(auto)]
 
 mod cones;

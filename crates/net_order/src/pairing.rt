@@ -228,14 +228,8 @@ pub fn pair(
         return Err(OrderFault::OutOfMemory);
     };
     let (both, condition) = sides.as_slice().split_at(2);
-    let variables = match declared_table(alloc, both, condition) {
-        Ok(variables) => variables,
-        Err(fault) => return Err(fault),
-    };
-    let table = match ordered_table(alloc, both, condition, order, variables) {
-        Ok(table) => table,
-        Err(fault) => return Err(fault),
-    };
+    let variables = declared_table(alloc, both, condition)?;
+    let table = ordered_table(alloc, both, condition, order, variables)?;
     match finish(alloc, first, second, how, sides.as_slice(), table) {
         Ok(pairing) => Ok(pairing),
         Err(_) => Err(OrderFault::OutOfMemory),

@@ -129,10 +129,7 @@ pub fn unfit_name(
         return Err(OrderFault::OutOfMemory);
     };
     let (both, condition) = sides.as_slice().split_at(2);
-    let variables = match declared_table(alloc, both, condition) {
-        Ok(variables) => variables,
-        Err(fault) => return Err(fault),
-    };
+    let variables = declared_table(alloc, both, condition)?;
     match unfit_among(alloc, &variables, list) {
         Ok(unfit) => Ok(unfit),
         Err(_) => Err(OrderFault::OutOfMemory),

@@ -1,4 +1,17 @@
-//! From the requests of a wave to their diagrams: reduction from the last level up, of what workers in threads recorded.
+//! From the requests of a wave to their diagrams: reduction from the last level up, of what workers in threads
+//! recorded.
+//!
+//! **Promises.** `shared_wave` gives each request its diagram, adds nodes below the answers alone, or complements of
+//! such, and answers Full only where the store is over its limit, or at it and lacks a node that is wanted (`wave`);
+//! exactly the requests that are reached were expanded (`expanded`); OutOfMemory leaves a store within its limit that
+//! was so (`memory`); requests are never too many (`unbounded`). `Sought` knows which entries a memo answers, and puts
+//! answers and memo together (`Sought::settle`: `answers`, `kept`, `refused`).
+//!
+//! **Only tests show** when threads share a level (8,192 records, two workers), how many, and that every width answers
+//! what the workers on one thread do (`wave_tests`).
+//!
+//! **Begin** with `waves`; a level goes to `narrow`, or by threads to `wide` with `reads`, `division` and `picking`.
+//! What a wave comes to is in `specs/Waves`, what threads share in `specs/Team`.
 #![tactic(auto)]
 
 mod answers;

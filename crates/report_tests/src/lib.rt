@@ -1,5 +1,9 @@
-//! Tests of a whole check and of the program's runs, over devices that fail, with threads that meet, and of what is told meanwhile. They stand
-//! apart, since a crate with tests is proved twice. What the built program can show stands in tests/.
+//! Tests of a whole check and of the program's runs, over devices that fail, with threads that meet, and of what is
+//! told meanwhile. They stand apart, since a crate with tests is proved twice. What the built program can show stands
+//! in tests/.
+//!
+//! **Begin** with `runs`, over a folder in memory, and `failing`, readers and writers that fail at each byte; `told`,
+//! `auto` and `picks` have what attempts tell, `meetings` the threads, `progress` and `quotes` what standard error has.
 #![tactic(auto)]
 
 #[cfg(test)]

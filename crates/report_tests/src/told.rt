@@ -5,14 +5,14 @@ use dd_store::Watch;
 use expand_work::{AttemptEnd, Gate};
 use net_bench::device::Through;
 use net_order::order::{Match, Order};
-use std::alloc::Global;
+use std::alloc::{AllocError, Global};
 use std::sync::Wait;
 use std::sync::atomic::{AtomicU64, AtomicUsize, Ordering};
 use std::test::Fail;
 use std::thread::Threads;
 
-/// Adds up what it is told: how often of a rank, their numbers, those of the last ranks, the nodes, the requests, and the attempts that have
-/// decided.
+/// Adds up what it is told: how often of a rank, their numbers, those of the last ranks, the nodes, the requests, the attempts that have
+/// decided, and those that were given up for a wave's requests.
 #[derive(Drop)]
 struct Listener {
     times: AtomicUsize,
@@ -21,6 +21,7 @@ struct Listener {
     nodes: AtomicU64,
     requests: AtomicUsize,
     decided: AtomicUsize,
+    wide: AtomicUsize,
 }
 
 impl Watch for Listener {
@@ -54,6 +55,9 @@ impl Gate for Listener {
         if matches!(end, AttemptEnd::Decided { .. }) {
             self.decided.fetch_add(1, Ordering::SeqCst);
         }
+        if matches!(end, AttemptEnd::TooManyRequests { .. }) {
+            self.wide.fetch_add(1, Ordering::SeqCst);
+        }
     }
 }
 
@@ -66,21 +70,23 @@ struct Told {
     nodes: u64,
     requests: usize,
     decided: usize,
+    wide: usize,
 }
 
-/// What a gate is told of the comparison of a netlist with itself.
+/// What a gate is told of the comparison of a netlist with itself, within so many nodes.
 fn told_of<R: Threads + Wait + Sync>(
     rt: &R,
     alloc: Global,
     text: &str,
     order: Choice,
+    limit: u32,
 ) -> Result<Told, CheckFault> {
     let settings = Settings {
         matching: Match::Name,
         order,
         picked: Picked::All,
         workers: 1,
-        limit: 70_000,
+        limit: u64::from(limit.max(1)),
         sizes: false,
         json: false,
         explain: Vec::new(alloc),
@@ -93,6 +99,7 @@ fn told_of<R: Threads + Wait + Sync>(
         nodes: AtomicU64::new(0),
         requests: AtomicUsize::new(0),
         decided: AtomicUsize::new(0),
+        wide: AtomicUsize::new(0),
     };
     let mut first = Through::new(text.as_bytes());
     let mut second = Through::new(text.as_bytes());
@@ -111,22 +118,82 @@ fn told_of<R: Threads + Wait + Sync>(
         nodes: gate.nodes.load(Ordering::SeqCst),
         requests: gate.requests.load(Ordering::SeqCst),
         decided: gate.decided.load(Ordering::SeqCst),
+        wide: gate.wide.load(Ordering::SeqCst),
     })
 }
 
 // C17 has three ranks. The limit is above the first budget, so the best order's one attempt is bounded by that.
 #[test]
 fn told_of_a_bounded_attempt(rt: HostRuntime) -> Result<(), Fail> {
-    let single = told_of(&rt, rt.alloc(), C17, Choice::One(Order::Interleave))?;
+    let single = told_of(&rt, rt.alloc(), C17, Choice::One(Order::Interleave), 70_000)?;
     assert!(rt; single.times == 3 && single.ranks == 6 && single.last_ranks == 9);
     assert!(rt; single.nodes > 15 && single.requests > 0);
-    let best = told_of(&rt, rt.alloc(), C17, Choice::Best)?;
-    assert!(rt; single.decided == 0);
+    let best = told_of(&rt, rt.alloc(), C17, Choice::Best, 70_000)?;
+    assert!(rt; single.decided == 0 && single.wide == 0);
     assert!(rt;
         best == Told {
             decided: 1,
             ..single
         }
     );
+    Ok(())
+}
+
+/// So many nodes are enough in each order that is tried.
+const LIMIT: u32 = 3_500;
+
+/// Each of two products compares so many pairs of inputs.
+const COMPARED: usize = 7;
+
+/// Puts the inputs of these letters in, one behind the other, between two texts.
+fn add_list(
+    text: &mut String,
+    alloc: Global,
+    front: &str,
+    letters: &[&str],
+    behind: &str,
+) -> Result<(), AllocError> {
+    text.push_str(front)?;
+    for letter in letters {
+        for place in 0..COMPARED {
+            text.push_str(&format!(in alloc; "{letter}{place}, ")?)?;
+        }
+    }
+    text.push_str(behind)
+}
+
+/// Two products that exclude each other, of comparisons of inputs that stand far apart where they are met as by the deepest output.
+fn far_apart(alloc: Global) -> Result<String, AllocError> {
+    let mut text = String::new(alloc);
+    text.push_str("OUTPUT(p)\nOUTPUT(o)\nINPUT(z)\ny = NOT(z)\no = AND(f, g)\n")?;
+    for place in 0..COMPARED {
+        for letter in ["a", "b", "c", "d"] {
+            text.push_str(&format!(in alloc; "INPUT({letter}{place})\n")?)?;
+        }
+        text.push_str(&format!(in alloc; "e{place} = XNOR(a{place}, b{place})\n")?)?;
+        text.push_str(&format!(in alloc; "h{place} = XNOR(c{place}, d{place})\n")?)?;
+    }
+    add_list(&mut text, alloc, "q = XOR(", &["a", "c", "b", "d"], "z)\n")?;
+    text.push_str("r = NOT(q)\ns = NOT(r)\nt = NOT(s)\np = NOT(t)\n")?;
+    add_list(&mut text, alloc, "f = AND(", &["e"], "z)\n")?;
+    add_list(&mut text, alloc, "g = AND(", &["h"], "y)\n")?;
+    Ok(text)
+}
+
+// In the first order that is tried the nodes are within the limit, and the last wave has more than eight requests for each node of it: this
+// attempt is given up, and one in another order decides.
+#[test]
+fn requests_for_each_node(rt: HostRuntime) -> Result<(), Fail> {
+    let text = far_apart(rt.alloc())?;
+    let single = told_of(
+        &rt,
+        rt.alloc(),
+        &text,
+        Choice::One(Order::Interleave),
+        LIMIT,
+    )?;
+    assert!(rt; single.requests > 8 * LIMIT as usize);
+    let best = told_of(&rt, rt.alloc(), &text, Choice::Best, LIMIT)?;
+    assert!(rt; best.decided == 1 && best.wide == 1);
     Ok(())
 }

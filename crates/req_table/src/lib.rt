@@ -1,4 +1,16 @@
 //! Requests, their records, and the items that carry them from worker to worker.
+//!
+//! **Promises.** `requests::short`, `normal`, `child`, `split` and `known` follow their tables (`value`, `key`) and
+//! mean the operation on the operands' functions (`means`, `low`, `high`). A `Key` is a request, in sixteen bytes
+//! (`Key::op`: `request`). A `Table` is a list of requests, each once (`Table::admit`: `offers`, `stands`, `refused`).
+//! A `Memo` is a list of keys with answers (`Memo::peek`: `value`, `once`, `few`); `keep` puts a pair first and drops
+//! the key's old one, or the last of a full memo, or changes nothing.
+//!
+//! **Only tests show** that ample memory suffices, that then a pair is kept, and that a full store answers what is held
+//! (`wave_tests`).
+//!
+//! **Begin** with `specs/Short` and `Keys`, what an operation comes to; what both forms of workers share, lanes and
+//! settled waves, is in `specs/Lanes` and `Settled`.
 #![tactic(auto)]
 
 ghost use Rattle.std.specs.Prelude.{◌≡◌, None};

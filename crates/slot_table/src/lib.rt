@@ -1,5 +1,15 @@
 //! Items in the order in which they were added, each once, beside slots that find the place of an item by open
 //! addressing.
+//!
+//! **Promises.** A `SlotTable` is a list of items without double ones (`SlotTable::as_slice`: `all`, `once`). `find`
+//! answers an item's place, or that it is not there; `find_or_add` finds it, adds it last, or refuses and changes
+//! nothing (`IsPlaced`); `slots` is the least power of two that is at least 8 and twice the items, and none for none
+//! (`IsSlotCount`); `clear` leaves no items. All this holds whatever numbers spread the items.
+//!
+//! **Only tests show** that ample memory suffices (`wave_tests`). How far a search goes nothing shows.
+//!
+//! **Begin** with `Spread`, which is all that an item needs, and with `specs/Placing`; how slots find items is in
+//! `specs/Probes` and `Stamps`.
 #![tactic(auto)]
 
 ghost use Rattle.std.specs.Prelude.{◌≡◌, ◌<◌, ◌≤◌, ◌*◌, ◌+◌, ◌==◌, ◌++◌, ◌∷◌, [], ◌^◌, ℕ, true, length, slice_get, Some, MatchOption, IfOk, OnOk, OnErr, if◌then◌else◌};

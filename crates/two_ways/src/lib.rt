@@ -1,4 +1,10 @@
-//! A caller of the store and of waves, to start from: one function built in two ways, and the proof that both are one diagram.
+//! A caller of the store and of waves, to start from: one function built in two ways, and the proof that both are one
+//! diagram.
+//!
+//! **Promises.** `two_ways` answers equal references (`same`). **Only tests show** that ample memory suffices
+//! (`wave_tests`).
+//!
+//! **Begin** here, with docs/CALLING.md beside it: copy it, and change what is built.
 #![tactic(auto)]
 
 ghost use Rattle.std.specs.Prelude.{◌≡◌, Bool, List, IfOk};

@@ -1,4 +1,15 @@
-//! The workers of a wave as a state machine on one thread.
+//! The workers of a wave as a state machine on one thread. The program does not link it: it is a model of its workers,
+//! for every list of events.
+//!
+//! **Promises.** `Core::step` does exactly a step of the relation (`ok`), of an open level (`open`), and is refused
+//! exactly where there is none (`refused`), unchanged (`unchanged`) and counted (`counts`). `run` does events in turn
+//! (`ok`, `refused`); `drive` ends finished (`driven`, `finished`, `reached`). At each time the lane law holds
+//! (`taken`: `lane`), lists are fair (`sent`: `fair`) and no key stands twice (`records`: `once`); a finished core has
+//! exactly the requests reached from the roots, each once (`into_records`: `closure`).
+//!
+//! **Only tests show** that ample memory suffices (`wave_tests`).
+//!
+//! **Begin** with `specs/Step`, the relation, and `specs/Cores`, what contracts see; then `waves` and `machine`.
 #![tactic(auto)]
 
 mod events;

@@ -1,4 +1,17 @@
 //! Waves that begin on the caller's own thread, by places, and call in the workers where a level is wide.
+//!
+//! **Promises.** `Engine::wave` gives each entry its diagram, whatever is held and wherever workers are called in
+//! (`wave`); exactly the requests of which nothing is held were expanded, each once, modulo 2^64 (`expanded`). The memo
+//! has then each request's answer (`kept`), a refused wave changes nothing (`refused`), and what is held stays right
+//! (`right`). Requests are refused only past the gate's bound (`past`, `within_bound`), and with a bound no worker is
+//! wanted (`alone`); OutOfMemory leaves a store within its limit that was so (`memory`). `Engine::new` and `forget`
+//! hold nothing (`empty`, `right`). `wave` is one wave with a memo of the caller's.
+//!
+//! **Only tests show** that ample memory suffices, and when workers are called in: always, never, and at the levels
+//! that the numbers of `Free` say (`wave_tests`).
+//!
+//! **Begin** with `engine` and `workspace`: a wave goes `down`, and `up` again; what waits before the first wide level
+//! (`sizes`) is handed over by `front`.
 #![tactic(auto)]
 
 mod down;

@@ -1,4 +1,9 @@
 //! Tests of the store, of workers, of waves and of plans, by their public calls alone.
+//!
+//! They show what no contract can: that calls with ample memory succeed (`refused`: what a refused wave leaves), that
+//! threads meet in a level and in its shards (`meeting`, `stores`, `wide`), when workers are called in (`earlier`),
+//! that each request is told once (`bounds`), and that each number of workers answers the same (`workers`, `widths`).
+//! **Begin** with `waves` and `ways`.
 #![tactic(auto)]
 
 #[cfg(test)]

@@ -1,4 +1,4 @@
-use Rattle.std.proofs.Common.{◌≡◌, ◌≢◌, ◌∙◌, ap, sym, subst, inl, inr, Result, Ok, Err, OnErr}
+use Rattle.std.proofs.Common.{◌≡◌, ◌≢◌, ◌∙◌, ap, sym, subst, inl, inr, Result, Ok, Err, OnErr, arith}
 use Rattle.std.specs.Io.KnownBytes.{Keeps}
 use Rattle.check_tool.specs.declared.done.Done.{Done}
 use Rattle.check_report.specs.declared.fault.CheckFault.TheVariants.{Write}
@@ -6,7 +6,8 @@ use Rattle.check_tool.specs.declared.fault.ToolFault.{ToolFault}
 use Rattle.check_tool.specs.declared.fault.ToolFault.TheVariants.{Check, OutOfMemory}
 use Rattle.check_tool.specs.Ending.{IsSaidOf, Written, asked_again}
 use Rattle.check_tool.specs.Opening.{AreTried}
-use Rattle.check_tool.proofs.Composing.{keeps_own, asked_or, extends_more, neither}
+use Rattle.check_tool.specs.Faults.{fault_status}
+use Rattle.check_tool.proofs.Composing.{keeps_own, asked_or, code_of, extends_more, neither}
 use Rattle.check_tool.proofs.tool.run_tool.Goals as goal
 
 -- the fault of an answer that has one
@@ -68,8 +69,8 @@ returns-clause-ending g c =
             record { holds = g.E.Sink.contents c.run_options.new.errors; has_failed = g.E.Sink.has_failed c.run_options.new.errors; has_stopped = g.E.Sink.has_stopped c.run_options.new.errors },
             c.run_options.ensures.progress,
             rw (← c.run_options.ensures.kept) (
-              subst (λ v. IsSaidOf v (g.F.Folder.told c.run_options.new.folder) c.in-Ok.options said c.in-Err-run_options.fault c.refuse_run.result) c.tells-more.ensures c.refuse_run.ensures.said
-            ),
+                subst (λ v. IsSaidOf v (g.F.Folder.told c.run_options.new.folder) c.in-Ok.options said c.in-Err-run_options.fault c.refuse_run.result) c.tells-more.ensures c.refuse_run.ensures.said
+                ),
           );
           front = λ e. c.run_options.ensures.unwritten (c.in-Err-run_options.is ∙ ap Err e);
           nothing = λ other.
@@ -78,6 +79,20 @@ returns-clause-ending g c =
         },
       ),
       c.run_options.ensures.unasked,
+    )
+
+pub returns-clause-untouched : goal.returns-clause-untouched
+returns-clause-untouched g c two =
+    let after = c.refuse_run.new.errors in
+    let said : Written = record {
+      held = g.E.Sink.contents c.run_options.new.errors;
+      holds = g.E.Sink.contents after;
+      has_failed = g.E.Sink.has_failed after;
+      has_stopped = g.E.Sink.has_stopped after;
+    } in
+    let code = code_of c.tells-more.result (g.F.Folder.told c.run_options.new.folder) c.in-Ok.options said c.in-Err-run_options.fault c.refuse_run.result c.refuse_run.ensures.said in
+    subst (λ r. OnErr r (r ≢ Err (Check Write) → c.run_options.new.out ≡ c.args.out.now)) c.in-Err-run_options.is c.run_options.ensures.untouched (
+    λ e. let three = sym two ∙ code ∙ ap (λ r. fault_status (fault_in r)) e in absurd (omega (arith, three))
     )
 
 pub returns-in-Ok-run_options-clause-silent : goal.returns-in-Ok-run_options-clause-silent

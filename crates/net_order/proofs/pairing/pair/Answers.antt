@@ -9,7 +9,7 @@ returns-in-Ok-finish-clause-paired c =
     let sides = c.as_slice.ensures.value ∙ c.in-Ok.ensures in
     let done = c.in-Ok-finish.ensures in
     is_pairing c.args.how (circuit c.args.first.now) (circuit c.args.second.now) (condition c.args.given) c.args.order.now c.in-Ok-finish.pairing c.as_slice-2.result.now c.split_at.result.0.now c.split_at.result.1.now
-    c.in-Ok-declared_table.variables c.in-Ok-ordered_table.table (search rules) (c.as_slice-2.ensures.value ∙ c.in-Ok.ensures)
+    c.in_ok-variables.variables c.in_ok-table.table (search rules) (c.as_slice-2.ensures.value ∙ c.in-Ok.ensures)
     (c.split_at.ensures.front ∙ ap (λ (xs : List Sided). take 2 xs) sides) (c.split_at.ensures.back ∙ ap (λ (xs : List Sided). drop 2 xs) sides)
-    c.in-Ok-declared_table.ensures.ok c.in-Ok-declared_table.ensures.few c.in-Ok-ordered_table.ensures.fit c.in-Ok-ordered_table.ensures.ok
+    c.in_ok-variables.ensures.ok c.in_ok-variables.ensures.few c.in_ok-table.ensures.fit c.in_ok-table.ensures.ok
     done.names done.levels done.outputs done.registers
