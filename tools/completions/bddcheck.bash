@@ -6,7 +6,7 @@ _bddcheck() {
     --match) mapfile -t COMPREPLY < <(compgen -W 'name position' -- "$word") ;;
     --order) mapfile -t COMPREPLY < <(compgen -W 'auto cones declared depth interleave index force best' -- "$word") ;;
     --format) mapfile -t COMPREPLY < <(compgen -W 'text json' -- "$word") ;;
-    --assignment) mapfile -t COMPREPLY < <(compgen -W 'all ones' -- "$word") ;;
+    --assignment) mapfile -t COMPREPLY < <(compgen -W 'all support ones' -- "$word") ;;
     --workers) mapfile -t COMPREPLY < <(compgen -W '1 2 4 8 16' -- "$word") ;;
     --limit | --only | --explain) COMPREPLY=() ;;
     --share) mapfile -t COMPREPLY < <(compgen -W '1/2 1/4 1/8 1/16' -- "$word") ;;

@@ -11,6 +11,7 @@ use Rattle.dd_store.specs.Nodes.{Nodes}
 use Rattle.report_text.specs.declared.outcome.Role.{Role}
 use Rattle.report_text.specs.declared.outcome.Side.{Side}
 use Rattle.report_text.specs.declared.outcome.Side.TheVariants.{First, Second}
+use Rattle.check_report.specs.declared.telling.Asked.{Asked}
 use Rattle.check_report.specs.declared.subject.Subject.{Subject}
 use Rattle.report_text.specs.declared.verdict.Verdict.{Verdict}
 use Rattle.report_text.specs.declared.verdict.Verdict.TheVariants.{Lone}
@@ -38,36 +39,36 @@ zip_map R S f (x ∷ xs) (y ∷ ys) a = (f x y a.0, zip_map R S f xs ys a.1)
 
 -- ---- the verdicts of what is compared
 
-module _ (sizes : Bool) (holds : List Bool → Bool) (a b : Circuit) (p : Paired) where
-  pub start : HaveVerdicts sizes holds a b p [] []
+module _ (asked : Asked) (holds : List Bool → Bool) (a b : Circuit) (p : Paired) where
+  pub start : HaveVerdicts asked holds a b p [] []
   start = record { compared = []; functions = tt; are_verdicts = tt }
 
   pub next : (n : ℕ) (all : List Subject) (i : ℕ) (subject : Subject) (c : Compared) (v : Verdict) (verdicts more : List Verdict) → n ≡ length p.names → i < length all → get_or all i subject ≡ subject →
-      HaveVerdicts sizes holds a b p (take i all) verdicts → AreFunctions a b p subject c → IsVerdictOf n sizes holds c v → more ≡ verdicts ++ v ∷ [] → HaveVerdicts sizes holds a b p (take (i + 1) all) more
+      HaveVerdicts asked holds a b p (take i all) verdicts → AreFunctions a b p subject c → IsVerdictOf n asked holds c v → more ≡ verdicts ++ v ∷ [] → HaveVerdicts asked holds a b p (take (i + 1) all) more
   next n all i subject c v verdicts more levels lt here h functions is grown =
       let e : take (i + 1) all ≡ take i all ++ subject ∷ [] = take_more all i subject lt ∙ ap (λ z. take i all ++ z ∷ []) here in
       record {
         compared = h.compared ++ c ∷ [];
         functions = subst (λ us. AllZip (AreFunctions a b p) us (h.compared ++ c ∷ [])) (sym e) (zip_push (AreFunctions a b p) (take i all) h.compared subject c h.functions functions);
-        are_verdicts = subst (AllZip (IsVerdictOf (length p.names) sizes holds) (h.compared ++ c ∷ [])) (sym grown)
-            (zip_push (IsVerdictOf (length p.names) sizes holds) h.compared verdicts c v h.are_verdicts (subst (λ m. IsVerdictOf m sizes holds c v) levels is));
+        are_verdicts = subst (AllZip (IsVerdictOf (length p.names) asked holds) (h.compared ++ c ∷ [])) (sym grown)
+            (zip_push (IsVerdictOf (length p.names) asked holds) h.compared verdicts c v h.are_verdicts (subst (λ m. IsVerdictOf m asked holds c v) levels is));
       }
 
   -- all have their verdicts
   pub all_added : (all : List Subject) (i : ℕ) (verdicts : List Verdict) → all ≡ subjects a b p → length all ≤ i →
-      HaveVerdicts sizes holds a b p (take i all) verdicts → HaveVerdicts sizes holds a b p (subjects a b p) verdicts
-  all_added all i verdicts e le h = subst (λ us. HaveVerdicts sizes holds a b p us verdicts) (take_all i all le ∙ e) h
+      HaveVerdicts asked holds a b p (take i all) verdicts → HaveVerdicts asked holds a b p (subjects a b p) verdicts
+  all_added all i verdicts e le h = subst (λ us. HaveVerdicts asked holds a b p us verdicts) (take_all i all le ∙ e) h
 
   -- one more verdict, by the references of its subject
   pub next_shown : (told : (List Bool → Bool) → List Bool → Bool) (S : Nodes) (all : List Subject) (i : ℕ) (role : Role) (name : List ℕ) (one two r q : Ref) (v : Verdict) (verdicts more : List Verdict) → S.levels ≡ length p.names → i < length all →
       role ≡ (subject_at all i).role → name ≡ name_of a (subject_at all i).named → one ≡ r → two ≡ q →
       DenotesWhere told holds a (first_level p) S (subject_at all i).first r → DenotesWhere told holds b (second_level p) S (subject_at all i).second q →
-      HaveVerdicts sizes holds a b p (take i all) verdicts → IsVerdictOf S.levels sizes everywhere (compared_of told S role name one two) v → more ≡ verdicts ++ v ∷ [] → HaveVerdicts sizes holds a b p (take (i + 1) all) more
+      HaveVerdicts asked holds a b p (take i all) verdicts → IsVerdictOf S.levels asked everywhere (compared_of told S role name one two) v → more ≡ verdicts ++ v ∷ [] → HaveVerdicts asked holds a b p (take (i + 1) all) more
   next_shown told S all i role name one two r q v verdicts more levels lt er en eo et first second h is grown =
       let subject = subject_at all i in
       let c : Compared = record { role = subject.role; name = name_of a subject.named; first = first.1.0; second = second.1.0 } in
       let e : compared_of told S role name one two ≡ compared_of told S subject.role (name_of a subject.named) r q = λ j. compared_of told S (er j) (en j) (eo j) (et j) in
-      let plain : IsVerdictOf S.levels sizes everywhere (compared_of told S subject.role (name_of a subject.named) r q) v = subst (λ z. IsVerdictOf S.levels sizes everywhere z v) e is in
+      let plain : IsVerdictOf S.levels asked everywhere (compared_of told S subject.role (name_of a subject.named) r q) v = subst (λ z. IsVerdictOf S.levels asked everywhere z v) e is in
       next S.levels all i subject c v verdicts more levels lt (any_default all i subject _ lt) h
       (record {
         role = refl;
@@ -75,18 +76,18 @@ module _ (sizes : Bool) (holds : List Bool → Bool) (a b : Circuit) (p : Paired
         first = subst (λ n. IsFunctionOf a (slice_index p.first) n subject.first first.1.0) levels first.1.1;
         second = subst (λ n. IsFunctionOf b (slice_index p.second) n subject.second second.1.0) levels second.1.1;
       })
-      (verdict_where S.levels sizes holds (compared_of told S subject.role (name_of a subject.named) r q) first.1.0 second.1.0 first.1.2 second.1.2 v plain) grown
+      (verdict_where S.levels asked holds (compared_of told S subject.role (name_of a subject.named) r q) first.1.0 second.1.0 first.1.2 second.1.2 v plain) grown
 
 -- what is compared has names
 pub all_named : (a b : Circuit) (p : Paired) (all : List Subject) → all ≡ subjects a b p → AreSignals a b p → All (λ subject. subject.named < length a.names) all
 all_named a b p all e signals = λ i d lt. (subst (All (IsInside a b)) (sym e) signals.compared i d lt).0
 
 -- with the verdicts of what has no partner behind them
-pub whole : (sizes : Bool) (a b : Circuit) (given : Option Circuit) (p : Paired) (of_pairs one two : List Verdict) → HaveAllVerdicts sizes a b given p of_pairs →
+pub whole : (asked : Asked) (a b : Circuit) (given : Option Circuit) (p : Paired) (of_pairs one two : List Verdict) → HaveAllVerdicts asked a b given p of_pairs →
     one ≡ of_pairs ++ lone_side First a p.outputs.only_first p.registers.only_first →
     two ≡ one ++ lone_side Second b p.outputs.only_second p.registers.only_second →
-    AreVerdicts sizes a b given p (record { variables = p.names; verdicts = two })
-whole sizes a b given p of_pairs one two (holds, is, h) e f = record {
+    AreVerdicts asked a b given p (record { variables = p.names; verdicts = two })
+whole asked a b given p of_pairs one two (holds, is, h) e f = record {
   variables = refl;
   holds = holds;
   condition = is;
@@ -94,7 +95,7 @@ whole sizes a b given p of_pairs one two (holds, is, h) e f = record {
   functions = h.functions;
   of_pairs = of_pairs;
   are_verdicts = h.are_verdicts;
-  called_equal = zip_map (IsVerdictOf (length p.names) sizes holds) (λ c v. CallsEqual v ↔ AgreeWhere (length p.names) holds c.first c.second) (exact (length p.names) sizes holds) h.compared of_pairs h.are_verdicts;
+  called_equal = zip_map (IsVerdictOf (length p.names) asked holds) (λ c v. CallsEqual v ↔ AgreeWhere (length p.names) holds c.first c.second) (exact (length p.names) asked holds) h.compared of_pairs h.are_verdicts;
   all = f ∙ ap (λ z. z ++ lone_side Second b p.outputs.only_second p.registers.only_second) e
       ∙ append_assoc of_pairs (lone_side First a p.outputs.only_first p.registers.only_first) (lone_side Second b p.outputs.only_second p.registers.only_second);
 }

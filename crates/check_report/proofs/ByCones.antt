@@ -14,6 +14,9 @@ use Rattle.net_order.specs.Order.{IsPairing, Paired, condition, name_of}
 use Rattle.report_text.specs.declared.verdict.Verdict.{Verdict}
 use Rattle.report_text.specs.declared.verdict.Verdict.TheVariants.{Undecided}
 use Rattle.report_text.specs.Lines.{Found}
+use Rattle.report_text.specs.declared.assignment.Assignment.{Assignment}
+use Rattle.check_report.specs.declared.telling.Asked.{Asked}
+use Rattle.check_report.specs.Asking.{unsized}
 use Rattle.check_report.specs.declared.choice.Candidate.{Candidate}
 use Rattle.check_report.specs.declared.fault.CheckFault.{CheckFault}
 use Rattle.check_report.specs.declared.turns.Turn.{Turn}
@@ -40,8 +43,8 @@ use Rattle.check_report.proofs.ConeVerdicts.{told_widened}
 -- ---- what a pair is told
 
 -- what is told of a pair that is decided is told of it, whatever is left
-pub told_yes : (other : Subject → Type 0) (a b : Circuit) (given : Option Circuit) (p : Paired) (s : Subject) (v : Verdict) → IsTold (λ t. ⊥) a b given p s v → IsTold other a b given p s v
-told_yes other a b given p s v t = record {
+pub told_yes : (asked : Asked) (other : Subject → Type 0) (a b : Circuit) (given : Option Circuit) (p : Paired) (s : Subject) (v : Verdict) → IsTold asked (λ t. ⊥) a b given p s v → IsTold asked other a b given p s v
+told_yes asked other a b given p s v t = record {
   holds = t.holds;
   condition = t.condition;
   compared = t.compared;
@@ -49,7 +52,7 @@ told_yes other a b given p s v t = record {
   verdict = by (length p.names) t.holds t.compared v t.verdict;
 }
   where
-    by : (n : ℕ) (holds : List Bool → Bool) (c : Compared) (v : Verdict) → IsToldOf n ⊥ holds c v → IsToldOf n (other s) holds c v
+    by : (n : ℕ) (holds : List Bool → Bool) (c : Compared) (v : Verdict) → IsToldOf n asked ⊥ holds c v → IsToldOf n asked (other s) holds c v
     by n holds c v (decided is equal) = decided is equal
     by n holds c v (undecided never) = absurd never
 
@@ -60,9 +63,9 @@ some_holds (Some c) p is =
     (f, subst (λ (d : Circuit). IsFunctionOf d (slice_index p.given) (length p.names) (output_of c) f) is.is_circuit (some_function is.net is.sound (slice_index p.given) (length p.names) (output_of c)))
 
 -- a pair that is left is told as undecided
-pub told_left : (left : Subject → Type 0) (n m : Net) (given : Option Circuit) (p : Paired) (s : Subject) → IsNet n → IsNet m → IfSome given IsOfNet → left s →
-    IsTold left (circuit n) (circuit m) given p s (Undecided s.role (name_of (circuit n) s.named))
-told_left left n m given p s first second net is =
+pub told_left : (asked : Asked) (left : Subject → Type 0) (n m : Net) (given : Option Circuit) (p : Paired) (s : Subject) → IsNet n → IsNet m → IfSome given IsOfNet → left s →
+    IsTold asked left (circuit n) (circuit m) given p s (Undecided s.role (name_of (circuit n) s.named))
+told_left asked left n m given p s first second net is =
     let c : Compared = record {
       role = s.role;
       name = name_of (circuit n) s.named;
@@ -93,8 +96,8 @@ module _ {H : Type 0} (task : Task H) (k m : Circuit) (w : Option Circuit) (by_n
   pub pairing_of_cones : (order : Order) (q : Paired) → IsPairing task.settings.now.matching (circuit task.first.now) (circuit task.second.now) (condition task.given) order q → IsPairing Name k m w order q
   pairing_of_cones order q h = as_cones (λ how a b g. IsPairing how a b g order q) h
 
-  pub verdicts_of_cones : (q : Paired) (found : Found) → AreVerdicts false (circuit task.first.now) (circuit task.second.now) (condition task.given) q found → AreVerdicts false k m w q found
-  verdicts_of_cones q found h = as_cones (λ how a b g. AreVerdicts false a b g q found) h
+  pub verdicts_of_cones : (asked : Asked) (q : Paired) (found : Found) → AreVerdicts asked (circuit task.first.now) (circuit task.second.now) (condition task.given) q found → AreVerdicts asked k m w q found
+  verdicts_of_cones asked q found h = as_cones (λ how a b g. AreVerdicts asked a b g q found) h
 
   pub left_by_cones : (a b : Circuit) (c : Option Circuit) (p : Paired) (s : Subject) → AreCones a b c p s k m w → (budget : ℕ) (bound : Option ℕ) →
       ((x : Candidate) → IsPassed task budget bound x) → IsLeftWithin budget bound a b c p s
@@ -108,14 +111,14 @@ module _ {H : Type 0} (task : Task H) (k m : Circuit) (w : Option Circuit) (by_n
   }
 
 -- a verdict by cones, or none, over all variables
-pub known_by_cones : (a b : Circuit) (given : Option Circuit) (p : Paired) (s : Subject) (k m : Circuit) (w : Option Circuit) (places : List ℕ) (q : Paired) →
+pub known_by_cones : (which : Option Assignment) (a b : Circuit) (given : Option Circuit) (p : Paired) (s : Subject) (k m : Circuit) (w : Option Circuit) (places : List ℕ) (q : Paired) →
     IsConePairing a b given p s k m w places q → (left : Subject → Type 0) (found told : Option Verdict) →
     told ≡ option_map (widened_verdict s.role (name_of a s.named) (length p.names) places) found →
-    IfSome found (λ v. AreVerdicts false k m w q (record { variables = q.names; verdicts = v ∷ [] })) → (found ≡ None → left s) →
-    IsKnown (IsTold (λ t. ⊥) a b given p) left s told
-known_by_cones a b given p s k m w places q is left None told e are none = subst (IsKnown (IsTold (λ t. ⊥) a b given p) left s) (sym e) (none refl)
-known_by_cones a b given p s k m w places q is left (Some v) told e are none =
-    subst (IsKnown (IsTold (λ t. ⊥) a b given p) left s) (sym e) (told_widened a b given p s k m w places q is (λ t. ⊥) v are)
+    IfSome found (λ v. AreVerdicts (unsized which) k m w q (record { variables = q.names; verdicts = v ∷ [] })) → (found ≡ None → left s) →
+    IsKnown (IsTold (unsized which) (λ t. ⊥) a b given p) left s told
+known_by_cones which a b given p s k m w places q is left None told e are none = subst (IsKnown (IsTold (unsized which) (λ t. ⊥) a b given p) left s) (sym e) (none refl)
+known_by_cones which a b given p s k m w places q is left (Some v) told e are none =
+    subst (IsKnown (IsTold (unsized which) (λ t. ⊥) a b given p) left s) (sym e) (told_widened a b given p s k m w places q is which (λ t. ⊥) v are)
 
 -- ---- turns
 

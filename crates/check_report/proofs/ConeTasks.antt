@@ -1,5 +1,5 @@
 -- The comparison of a pair's cones, and what it says of the pair.
-use Rattle.std.proofs.Common.{◌≡◌, ◌∙◌, ap, refl, ℕ, ◌∷◌, [], List, Option, Some, None, length, map, false}
+use Rattle.std.proofs.Common.{◌≡◌, ◌∙◌, ap, refl, ℕ, ◌∷◌, [], List, Option, Some, None, length, map, false, Bool, subst}
 use Rattle.std.specs.Prelude.{IfSome}
 use Rattle.net_bench.specs.Circuit.{IsNet, circuit}
 use Rattle.net_cone.specs.Cones.{variable_name}
@@ -9,6 +9,8 @@ use Rattle.net_order.specs.declared.order.Order.TheVariants.{Declared}
 use Rattle.net_order.specs.Order.{Paired, condition}
 use Rattle.report_text.specs.declared.verdict.Verdict.{Verdict}
 use Rattle.report_text.specs.Lines.{Found}
+use Rattle.check_report.specs.declared.telling.Asked.{Asked}
+use Rattle.check_report.specs.Asking.{asked_in, asks_support, unsized}
 use Rattle.check_report.specs.declared.choice.Candidate.{Candidate}
 use Rattle.check_report.specs.declared.coning.Cones.{Cones}
 use Rattle.check_report.specs.declared.coning.Whole.{Whole}
@@ -22,12 +24,21 @@ use Rattle.check_report.specs.Trials.{IsPairingIn, IsPassed}
 use Rattle.check_report.proofs.ByCones.{known_by_cones, left_by_cones, pairing_of_cones, verdicts_of_cones}
 use Rattle.check_report.proofs.ConeVerdicts.{one_verdict}
 
+abbrev asked : (sizes support : Bool) → Asked
+asked sizes support = record { sizes = sizes; support = support }
+
 module _ {H : Type 0} (whole : Whole H) (s : Subject) (cones : Cones) (task : Task H) (ready : IsReady whole) (are : AreConesOf whole s cones) (of : IsConeTask whole cones task) where
   by_name : task.settings.now.matching ≡ Name
   by_name = ap (λ (t : Settings). t.matching) of.settings ∙ ready.by_name
 
   pub no_sizes : task.settings.now.sizes ≡ false
   no_sizes = ap (λ (t : Settings). t.sizes) of.settings ∙ ready.no_sizes
+
+  -- what a pair's comparison asks for is what the whole does, without sizes
+  same_asked : asked_in task.settings.now ≡ unsized whole.task.now.settings.now.assignment
+  same_asked =
+      ap (λ b. asked b (asks_support task.settings.now.assignment)) no_sizes
+      ∙ ap (λ z. asked false (asks_support z)) (ap (λ (t : Settings). t.assignment) of.settings ∙ ready.assignment)
 
   first_is : circuit task.first.now ≡ circuit cones.first.net
   first_is = ap circuit of.first
@@ -50,24 +61,29 @@ module _ {H : Type 0} (whole : Whole H) (s : Subject) (cones : Cones) (task : Ta
       names = paired.2;
     }
 
+    of_cones : (found : Found) → AreVerdicts (asked_in task.settings.now) (circuit task.first.now) (circuit task.second.now) (condition task.given) q found →
+        AreVerdicts (unsized whole.task.now.settings.now.assignment) (circuit cones.first.net) (circuit cones.second.net) (circuit_of whole.given) q found
+    of_cones found verdicts =
+        subst (λ z. AreVerdicts z (circuit cones.first.net) (circuit cones.second.net) (circuit_of whole.given) q found) same_asked
+        (verdicts_of_cones task (circuit cones.first.net) (circuit cones.second.net) (circuit_of whole.given) by_name first_is second_is of.given (asked_in task.settings.now) q found verdicts)
+
     -- it is one pair
-    pub one_pair : (found : Found) → AreVerdicts false (circuit task.first.now) (circuit task.second.now) (condition task.given) q found → length found.verdicts ≡ 1
+    pub one_pair : (found : Found) → AreVerdicts (asked_in task.settings.now) (circuit task.first.now) (circuit task.second.now) (condition task.given) q found → length found.verdicts ≡ 1
     one_pair found verdicts =
         one_verdict (circuit whole.task.now.first.now) (circuit whole.task.now.second.now) (condition whole.task.now.given) whole.pairing.now s (circuit cones.first.net) (circuit cones.second.net) (circuit_of whole.given) places q
-        cone_pair found (verdicts_of_cones task (circuit cones.first.net) (circuit cones.second.net) (circuit_of whole.given) by_name first_is second_is of.given q found verdicts)
+        cone_pair whole.task.now.settings.now.assignment found (of_cones found verdicts)
 
-    as_decided : (found : Option Verdict) → IfSome found (λ v. AreVerdicts false (circuit task.first.now) (circuit task.second.now) (condition task.given) q (record { variables = q.names; verdicts = v ∷ [] })) →
-        IfSome found (λ v. AreVerdicts false (circuit cones.first.net) (circuit cones.second.net) (circuit_of whole.given) q (record { variables = q.names; verdicts = v ∷ [] }))
+    as_decided : (found : Option Verdict) → IfSome found (λ v. AreVerdicts (asked_in task.settings.now) (circuit task.first.now) (circuit task.second.now) (condition task.given) q (record { variables = q.names; verdicts = v ∷ [] })) →
+        IfSome found (λ v. AreVerdicts (unsized whole.task.now.settings.now.assignment) (circuit cones.first.net) (circuit cones.second.net) (circuit_of whole.given) q (record { variables = q.names; verdicts = v ∷ [] }))
     as_decided None h = tt
-    as_decided (Some v) h =
-        verdicts_of_cones task (circuit cones.first.net) (circuit cones.second.net) (circuit_of whole.given) by_name first_is second_is of.given q (record { variables = q.names; verdicts = v ∷ [] }) h
+    as_decided (Some v) h = of_cones (record { variables = q.names; verdicts = v ∷ [] }) h
 
     -- and what it comes to is what the pair comes to
     pub judged_pair : (budget : ℕ) (bound : Option ℕ) (found told : Option Verdict) →
-        IfSome found (λ v. AreVerdicts false (circuit task.first.now) (circuit task.second.now) (condition task.given) q (record { variables = q.names; verdicts = v ∷ [] })) →
+        IfSome found (λ v. AreVerdicts (asked_in task.settings.now) (circuit task.first.now) (circuit task.second.now) (condition task.given) q (record { variables = q.names; verdicts = v ∷ [] })) →
         (found ≡ None → (c : Candidate) → IsPassed task budget bound c) → IsWidened whole s places found told → IsJudgedIn whole budget bound s told
     judged_pair budget bound found told decided left widened =
-        known_by_cones (circuit whole.task.now.first.now) (circuit whole.task.now.second.now) (condition whole.task.now.given) whole.pairing.now s (circuit cones.first.net) (circuit cones.second.net) (circuit_of whole.given) places q
+        known_by_cones whole.task.now.settings.now.assignment (circuit whole.task.now.first.now) (circuit whole.task.now.second.now) (condition whole.task.now.given) whole.pairing.now s (circuit cones.first.net) (circuit cones.second.net) (circuit_of whole.given) places q
         cone_pair (IsLeftIn whole budget bound) found told widened (as_decided found decided)
         (λ e. left_by_cones task (circuit cones.first.net) (circuit cones.second.net) (circuit_of whole.given) by_name first_is second_is of.given (circuit whole.task.now.first.now) (circuit whole.task.now.second.now)
         (condition whole.task.now.given) whole.pairing.now s are budget bound (left e))

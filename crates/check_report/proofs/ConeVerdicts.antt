@@ -1,5 +1,5 @@
 -- The verdict of a pair by its cones, over the variables of its pairing.
-use Rattle.std.proofs.Common.{◌≡◌, ◌∙◌, ap, sym, refl, subst, arith, ℕ, ◌+◌, Bool, false, List, [], ◌∷◌, ◌++◌, length, get_or, Option, Some, None}
+use Rattle.std.proofs.Common.{◌≡◌, ◌∙◌, ap, sym, refl, subst, arith, inl, inr, ℕ, ◌+◌, ◌<◌, Bool, true, false, List, [], ◌∷◌, ◌++◌, length, get_or, Option, Some, None}
 use Rattle.std.specs.Prelude.{IfSome, slice_index}
 use Rattle.std.specs.List.{AllZip}
 use Rattle.std.proofs.lemmas.List.{length-append, length-map, nil_from_length}
@@ -16,15 +16,20 @@ use Rattle.report_text.specs.declared.outcome.Role.{Role}
 use Rattle.report_text.specs.declared.verdict.Verdict.{Verdict}
 use Rattle.report_text.specs.declared.verdict.Verdict.TheVariants.{Differs}
 use Rattle.report_text.specs.Lines.{Found}
+use Rattle.report_text.specs.declared.assignment.Assignment.{Assignment}
+use Rattle.check_report.specs.Asking.{asks_support, unsized}
 use Rattle.check_report.specs.declared.subject.Subject.{Subject}
-use Rattle.check_report.specs.Conditions.{HoldsWhere, output_of}
+use Rattle.check_report.specs.Conditions.{HoldsWhere, output_of, restricted}
 use Rattle.check_report.specs.Cones.{IsConditionCone, IsTold}
 use Rattle.check_report.specs.Cones.IsToldOf.{decided}
-use Rattle.check_report.specs.Report.{AreFunctions, AreVerdicts, Compared, IsVerdictOf, lone_verdicts, output_subject, subjects}
+use Rattle.check_report.specs.Report.{AreFunctions, AreVerdicts, Compared, IsSupportShown, IsVerdictOf, lone_verdicts, output_subject, subjects}
 use Rattle.check_report.specs.Report.IsVerdictOf.{where_equal, where_different}
-use Rattle.check_report.specs.Spreading.{ArePlaces, IsConePairing, IsOfNet, spread, widened_verdict}
+use Rattle.check_report.specs.Spreading.{ArePlaces, IsConePairing, IsOfNet, spread, spread_marks, widened_verdict}
 use Rattle.check_report.proofs.Calling.{exact}
 use Rattle.check_report.proofs.ConePairs.{found_there, function_widened, name_at, names_apart, no_lone, no_registers, one_output, one_subject, out, out_low, out_name, out_of, own_apart}
+use Rattle.std.proofs.lemmas.Bool.{cases_lt}
+use Rattle.std.proofs.Math.Nat.{eq-or-lt_of_le}
+use Rattle.check_report.proofs.Supporting.{AreApart, levels_spread}
 use Rattle.check_report.proofs.Spread.{agree_where_picked, least_where_picked, pick-spread}
 
 -- ---- verdicts
@@ -33,38 +38,58 @@ use Rattle.check_report.proofs.Spread.{agree_where_picked, least_where_picked, p
 abbrev pub picked_of : (places : List ℕ) → Role → (name : List ℕ) → Compared → Compared
 picked_of places role name c = record { role = role; name = name; first = λ x. c.first (pick places x); second = λ x. c.second (pick places x) }
 
--- a verdict over the places is one over all levels
-pub verdict_widened : (n : ℕ) (places : List ℕ) → ArePlaces n places → (holds : List Bool → Bool) (c : Compared) (role : Role) (name : List ℕ) (v : Verdict) →
-    IsVerdictOf (length places) false holds c v → IsVerdictOf n false (λ x. holds (pick places x)) (picked_of places role name c) (widened_verdict role name n places v)
-verdict_widened n places are holds c role name v (where_equal agree size) = where_equal ((agree_where_picked n places are holds c.first c.second).0 agree) refl
-verdict_widened n places are holds c role name v (where_different {x = x} least sizes) =
-    subst (λ y. IsVerdictOf n false (λ x. holds (pick places x)) (picked_of places role name c) (Differs role name (spread n places x) (c.first y) (c.second y) None))
-    (pick-spread n places are x least.bits) (where_different (least_where_picked n places are holds c.first c.second x least) refl)
-
--- the one pair that is compared, and its verdict
-record IsOne (k m : Circuit) (q : Paired) (s : Subject) (holds : List Bool → Bool) (v : Verdict) : Type 0 where
-  compared : Compared
-  functions : AreFunctions k m q s compared
-  verdict : IsVerdictOf (length q.names) false holds compared v
-
-one_of : (k m : Circuit) (q : Paired) (s : Subject) (holds : List Bool → Bool) (v : Verdict) (compared : List Compared) (of_pairs more : List Verdict) →
-    AllZip (AreFunctions k m q) (s ∷ []) compared → AllZip (IsVerdictOf (length q.names) false holds) compared of_pairs → v ∷ [] ≡ of_pairs ++ more → IsOne k m q s holds v
-one_of k m q s holds v [] of_pairs more fs vs e = absurd fs
-one_of k m q s holds v (c ∷ d ∷ cs) of_pairs more fs vs e = absurd fs.1
-one_of k m q s holds v (c ∷ []) [] more fs vs e = absurd vs
-one_of k m q s holds v (c ∷ []) (u ∷ us) more fs vs e = record {
-  compared = c;
-  functions = fs.0;
-  verdict = subst (IsVerdictOf (length q.names) false holds c) (ap (λ vs. get_or vs 0 u) (sym e)) vs.0;
+-- places that rise are apart
+apart : (n : ℕ) (places : List ℕ) → ArePlaces n places → AreApart n places
+apart n places are = record {
+  below = λ i low. are.below i 0 low;
+  apart = λ i j li lj e. elim (cases_lt i j) [
+    | inl less ↦ let low : get_or places i 0 < get_or places j 0 = are.rising i j less lj in absurd (omega (arith, low, e))
+    | inr more ↦ elim (eq-or-lt_of_le more) [
+      | inl same ↦ sym same
+      | inr less ↦ let low : get_or places j 0 < get_or places i 0 = are.rising j i less li in absurd (omega (arith, low, e))
+    ]
+  ];
 }
 
-one_verdict_of : (k m : Circuit) (q : Paired) (s : Subject) (holds : List Bool → Bool) (compared : List Compared) (of_pairs : List Verdict) →
-    AllZip (AreFunctions k m q) (s ∷ []) compared → AllZip (IsVerdictOf (length q.names) false holds) compared of_pairs → length of_pairs ≡ 1
-one_verdict_of k m q s holds [] of_pairs fs vs = absurd fs
-one_verdict_of k m q s holds (c ∷ d ∷ cs) of_pairs fs vs = absurd fs.1
-one_verdict_of k m q s holds (c ∷ []) [] fs vs = absurd vs
-one_verdict_of k m q s holds (c ∷ []) (u ∷ []) fs vs = refl
-one_verdict_of k m q s holds (c ∷ []) (u ∷ t ∷ us) fs vs = absurd vs.1
+-- marks over the places are marks over all levels
+support_widened : (asked : Bool) (n : ℕ) (places : List ℕ) → ArePlaces n places → (f g : List Bool → Bool) (shown : Option (List Bool)) →
+    IsSupportShown asked (length places) f g shown → IsSupportShown asked n (λ x. f (pick places x)) (λ x. g (pick places x)) (spread_marks n places shown)
+support_widened false n places are f g shown is = ap (spread_marks n places) is
+support_widened true n places are f g shown is = (spread n places is.0, levels_spread n places (apart n places are) f g is.0 is.1, ap (spread_marks n places) is.2)
+
+-- a verdict over the places is one over all levels
+pub verdict_widened : (which : Option Assignment) (n : ℕ) (places : List ℕ) → ArePlaces n places → (holds : List Bool → Bool) (c : Compared) (role : Role) (name : List ℕ) (v : Verdict) →
+    IsVerdictOf (length places) (unsized which) holds c v → IsVerdictOf n (unsized which) (λ x. holds (pick places x)) (picked_of places role name c) (widened_verdict role name n places v)
+verdict_widened which n places are holds c role name v (where_equal agree size) = where_equal ((agree_where_picked n places are holds c.first c.second).0 agree) refl
+verdict_widened which n places are holds c role name v (where_different {x = x} {shown = shown} least more) =
+    subst (λ y. IsVerdictOf n (unsized which) (λ x. holds (pick places x)) (picked_of places role name c) (Differs role name (spread n places x) (c.first y) (c.second y) (record { support = spread_marks n places shown.support; sizes = None })))
+    (pick-spread n places are x least.bits) (where_different (least_where_picked n places are holds c.first c.second x least)
+    (record { sizes = refl; support = support_widened (asks_support which) n places are (restricted holds c.first) (restricted holds c.second) shown.support more.support }))
+
+-- the one pair that is compared, and its verdict
+record IsOne (which : Option Assignment) (k m : Circuit) (q : Paired) (s : Subject) (holds : List Bool → Bool) (v : Verdict) : Type 0 where
+  compared : Compared
+  functions : AreFunctions k m q s compared
+  verdict : IsVerdictOf (length q.names) (unsized which) holds compared v
+
+one_of : (which : Option Assignment) (k m : Circuit) (q : Paired) (s : Subject) (holds : List Bool → Bool) (v : Verdict) (compared : List Compared) (of_pairs more : List Verdict) →
+    AllZip (AreFunctions k m q) (s ∷ []) compared → AllZip (IsVerdictOf (length q.names) (unsized which) holds) compared of_pairs → v ∷ [] ≡ of_pairs ++ more → IsOne which k m q s holds v
+one_of which k m q s holds v [] of_pairs more fs vs e = absurd fs
+one_of which k m q s holds v (c ∷ d ∷ cs) of_pairs more fs vs e = absurd fs.1
+one_of which k m q s holds v (c ∷ []) [] more fs vs e = absurd vs
+one_of which k m q s holds v (c ∷ []) (u ∷ us) more fs vs e = record {
+  compared = c;
+  functions = fs.0;
+  verdict = subst (IsVerdictOf (length q.names) (unsized which) holds c) (ap (λ vs. get_or vs 0 u) (sym e)) vs.0;
+}
+
+one_verdict_of : (which : Option Assignment) (k m : Circuit) (q : Paired) (s : Subject) (holds : List Bool → Bool) (compared : List Compared) (of_pairs : List Verdict) →
+    AllZip (AreFunctions k m q) (s ∷ []) compared → AllZip (IsVerdictOf (length q.names) (unsized which) holds) compared of_pairs → length of_pairs ≡ 1
+one_verdict_of which k m q s holds [] of_pairs fs vs = absurd fs
+one_verdict_of which k m q s holds (c ∷ d ∷ cs) of_pairs fs vs = absurd fs.1
+one_verdict_of which k m q s holds (c ∷ []) [] fs vs = absurd vs
+one_verdict_of which k m q s holds (c ∷ []) (u ∷ []) fs vs = refl
+one_verdict_of which k m q s holds (c ∷ []) (u ∷ t ∷ us) fs vs = absurd vs.1
 
 -- ---- a pair
 
@@ -103,11 +128,11 @@ module _ (a b : Circuit) (given : Option Circuit) (p : Paired) (s : Subject) (k 
   size = ap length is.names ∙ length-map places (variable_name p.names)
 
   -- two cones are one pair, and nothing of them has no partner
-  pub one_verdict : (found : Found) → AreVerdicts false k m w q found → length found.verdicts ≡ 1
-  one_verdict found are =
+  pub one_verdict : (which : Option Assignment) (found : Found) → AreVerdicts (unsized which) k m w q found → length found.verdicts ≡ 1
+  one_verdict which found are =
       let fs : AllZip (AreFunctions k m q) (own_subject ∷ []) are.compared = subst (λ of. AllZip (AreFunctions k m q) of are.compared) one_compared are.functions in
       ap length are.all ∙ length-append are.of_pairs (lone_verdicts k m q) ∙ ap (λ vs. length are.of_pairs + length vs) none_lone ∙
-      ap (λ n. n + 0) (one_verdict_of k m q own_subject are.holds are.compared are.of_pairs fs are.are_verdicts)
+      ap (λ n. n + 0) (one_verdict_of which k m q own_subject are.holds are.compared are.of_pairs fs are.are_verdicts)
 
   -- ---- functions
 
@@ -141,16 +166,16 @@ module _ (a b : Circuit) (given : Option Circuit) (p : Paired) (s : Subject) (k 
 
   -- ---- the verdict, over all variables
 
-  pub told_widened : (left : Subject → Type 0) (v : Verdict) → AreVerdicts false k m w q (record { variables = q.names; verdicts = v ∷ [] }) →
-      IsTold left a b given p s (widened_verdict s.role (name_of a s.named) (length p.names) places v)
-  told_widened left v are =
+  pub told_widened : (which : Option Assignment) (left : Subject → Type 0) (v : Verdict) → AreVerdicts (unsized which) k m w q (record { variables = q.names; verdicts = v ∷ [] }) →
+      IsTold (unsized which) left a b given p s (widened_verdict s.role (name_of a s.named) (length p.names) places v)
+  told_widened which left v are =
       let n = length p.names in
       let fs : AllZip (AreFunctions k m q) (own_subject ∷ []) are.compared = subst (λ of. AllZip (AreFunctions k m q) of are.compared) one_compared are.functions in
-      let one : IsOne k m q own_subject are.holds v = one_of k m q own_subject are.holds v are.compared are.of_pairs (lone_verdicts k m q) fs are.are_verdicts are.all in
+      let one : IsOne which k m q own_subject are.holds v = one_of which k m q own_subject are.holds v are.compared are.of_pairs (lone_verdicts k m q) fs are.are_verdicts are.all in
       let holds = λ (x : List Bool). are.holds (pick places x) in
       let compared = picked_of places s.role (name_of a s.named) one.compared in
-      let verdict : IsVerdictOf n false holds compared (widened_verdict s.role (name_of a s.named) n places v) =
-      verdict_widened n places is.in_order are.holds one.compared s.role (name_of a s.named) v (subst (λ l. IsVerdictOf l false are.holds one.compared v) size one.verdict) in
+      let verdict : IsVerdictOf n (unsized which) holds compared (widened_verdict s.role (name_of a s.named) n places v) =
+      verdict_widened which n places is.in_order are.holds one.compared s.role (name_of a s.named) v (subst (λ l. IsVerdictOf l (unsized which) are.holds one.compared v) size one.verdict) in
       record {
         holds = holds;
         condition = condition_widened given w refl refl is.cones.condition are.holds are.condition;
@@ -161,14 +186,14 @@ module _ (a b : Circuit) (given : Option Circuit) (p : Paired) (s : Subject) (k 
           first = first_function one.compared.first one.functions.first;
           second = second_function one.compared.second one.functions.second;
         };
-        verdict = decided verdict (exact n false holds compared (widened_verdict s.role (name_of a s.named) n places v) verdict);
+        verdict = decided verdict (exact n (unsized which) holds compared (widened_verdict s.role (name_of a s.named) n places v) verdict);
       }
 
   -- so the last verdict of what a comparison finds is the one that is meant
-  pub told_last : (left : Subject → Type 0) (front : List Verdict) (v : Verdict) → AreVerdicts false k m w q (record { variables = q.names; verdicts = front ++ v ∷ [] }) →
-      IsTold left a b given p s (widened_verdict s.role (name_of a s.named) (length p.names) places v)
-  told_last left front v are =
+  pub told_last : (which : Option Assignment) (left : Subject → Type 0) (front : List Verdict) (v : Verdict) → AreVerdicts (unsized which) k m w q (record { variables = q.names; verdicts = front ++ v ∷ [] }) →
+      IsTold (unsized which) left a b given p s (widened_verdict s.role (name_of a s.named) (length p.names) places v)
+  told_last which left front v are =
       let size : length (front ++ v ∷ []) ≡ length front + 1 = length-append front (v ∷ []) in
-      let one : length (front ++ v ∷ []) ≡ 1 = one_verdict (record { variables = q.names; verdicts = front ++ v ∷ [] }) are in
+      let one : length (front ++ v ∷ []) ≡ 1 = one_verdict which (record { variables = q.names; verdicts = front ++ v ∷ [] }) are in
       let none : front ≡ [] = nil_from_length front (omega (arith, size, one)) in
-      told_widened left v (subst (λ vs. AreVerdicts false k m w q (record { variables = q.names; verdicts = vs ++ v ∷ [] })) none are)
+      told_widened which left v (subst (λ vs. AreVerdicts (unsized which) k m w q (record { variables = q.names; verdicts = vs ++ v ∷ [] })) none are)

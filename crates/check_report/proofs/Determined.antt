@@ -15,12 +15,15 @@ use Rattle.report_text.specs.declared.outcome.Outcome.{Outcome}
 use Rattle.report_text.specs.declared.verdict.Verdict.{Verdict}
 use Rattle.report_text.specs.declared.verdict.Verdict.TheVariants.{Equal, Differs}
 use Rattle.report_text.specs.Lines.{Found, counted}
-use Rattle.check_report.specs.Report.{Compared, IsSizeShown, AreSizesShown, IsVerdictOf, AreFunctions, AreVerdicts, lone_verdicts, subjects, IsReport}
+use Rattle.report_text.specs.declared.verdict.Extras.{Extras}
+use Rattle.check_report.specs.declared.telling.Asked.{Asked}
+use Rattle.check_report.specs.Report.{Compared, IsSizeShown, IsSupportShown, AreExtrasShown, AreSizesShown, IsVerdictOf, AreFunctions, AreVerdicts, lone_verdicts, subjects, IsReport}
 use Rattle.check_report.specs.Report.IsVerdictOf.{where_equal, where_different}
 use Rattle.check_report.specs.declared.subject.Subject.{Subject}
 use Rattle.check_report.specs.Conditions.{HasOneOutput, HoldsWhere, output_of, restricted, AgreeWhere, IsLeastWhere}
 use Rattle.check_report.specs.Comparing.{IsInside}
 use Rattle.check_report.proofs.Restricting.{size_as}
+use Rattle.check_report.proofs.Supporting.{levels_as, one_levels}
 use Rattle.check_report.proofs.Subjects.{subjects_inside}
 
 -- ---- the least difference
@@ -60,29 +63,43 @@ two_sizes true n f g f' g' shown more same other s t =
     let h : s.1 ≡ t.1 = HasSize-one n g' s.1 t.1 (size_as n g g' s.1 other s.3) t.3 in
     s.4 ∙ ap (λ k. Some (k, s.1)) e ∙ ap (λ m. Some (t.0, m)) h ∙ sym t.4
 
+-- ---- what is told besides
+
+two_supports : (asked : Bool) (n : ℕ) (f g f' g' : List Bool → Bool) (shown more : Option (List Bool)) → Agree n f f' → Agree n g g' → IsSupportShown asked n f g shown → IsSupportShown asked n f' g' more → shown ≡ more
+two_supports false n f g f' g' shown more same other s t = s ∙ sym t
+two_supports true n f g f' g' shown more same other s t = s.2 ∙ (ap (λ l. Some l) (one_levels n f' g' s.0 t.0 (levels_as n f g f' g' s.0 same other s.1) t.1) ∙ sym t.2)
+
+abbrev extras : Option (List Bool) → Option (ℕ × ℕ) → Extras
+extras support sizes = record { support = support; sizes = sizes }
+
+two_extras : (asked : Asked) (n : ℕ) (f g f' g' : List Bool → Bool) (shown more : Extras) → Agree n f f' → Agree n g g' → AreExtrasShown asked n f g shown → AreExtrasShown asked n f' g' more → shown ≡ more
+two_extras asked n f g f' g' shown more same other s t =
+    ap (λ z. extras z shown.sizes) (two_supports asked.support n f g f' g' shown.support more.support same other s.support t.support)
+    ∙ ap (λ z. extras more.support z) (two_sizes asked.sizes n f g f' g' shown.sizes more.sizes same other s.sizes t.sizes)
+
 -- ---- verdicts
 
-CallsBoth : (n : ℕ) (sizes : Bool) (holds : List Bool → Bool) → Compared → Verdict → Type 0
-CallsBoth n sizes holds c l = (shown : Option ℕ) × AgreeWhere n holds c.first c.second × IsSizeShown sizes n (restricted holds c.first) shown × (l ≡ Equal c.role c.name shown)
+CallsBoth : (n : ℕ) (asked : Asked) (holds : List Bool → Bool) → Compared → Verdict → Type 0
+CallsBoth n asked holds c l = (shown : Option ℕ) × AgreeWhere n holds c.first c.second × IsSizeShown asked.sizes n (restricted holds c.first) shown × (l ≡ Equal c.role c.name shown)
 
-TellsApart : (n : ℕ) (sizes : Bool) (holds : List Bool → Bool) → Compared → Verdict → Type 0
-TellsApart n sizes holds c l =
-    (x : List Bool) × (shown : Option (ℕ × ℕ)) × IsLeastWhere n holds c.first c.second x × AreSizesShown sizes n (restricted holds c.first) (restricted holds c.second) shown
+TellsApart : (n : ℕ) (asked : Asked) (holds : List Bool → Bool) → Compared → Verdict → Type 0
+TellsApart n asked holds c l =
+    (x : List Bool) × (shown : Extras) × IsLeastWhere n holds c.first c.second x × AreExtrasShown asked n (restricted holds c.first) (restricted holds c.second) shown
     × (l ≡ Differs c.role c.name x (c.first x) (c.second x) shown)
 
-kind_of : (n : ℕ) (sizes : Bool) (holds : List Bool → Bool) (c : Compared) (l : Verdict) → IsVerdictOf n sizes holds c l → CallsBoth n sizes holds c l ⊎ TellsApart n sizes holds c l
+kind_of : (n : ℕ) (asked : Asked) (holds : List Bool → Bool) (c : Compared) (l : Verdict) → IsVerdictOf n asked holds c l → CallsBoth n asked holds c l ⊎ TellsApart n asked holds c l
 unfolding CallsBoth TellsApart
-kind_of n sizes holds c l (where_equal {shown = shown} agree size) = inl (shown, agree, size, refl)
-kind_of n sizes holds c l (where_different {x = x} {shown = shown} least size) = inr (x, shown, least, size, refl)
+kind_of n asked holds c l (where_equal {shown = shown} agree size) = inl (shown, agree, size, refl)
+kind_of n asked holds c l (where_different {x = x} {shown = shown} least size) = inr (x, shown, least, size, refl)
 
 -- restrictions of functions that agree
 agree_restricted : (n : ℕ) (holds holds' f f' : List Bool → Bool) → Agree n holds holds' → Agree n f f' → Agree n (restricted holds f) (restricted holds' f')
 agree_restricted n holds holds' f f' there same x len = ap (λ z. z && f x) (there x len) ∙ ap (λ z. holds' x && z) (same x len)
 
-one_verdict : (n : ℕ) (sizes : Bool) (holds holds' : List Bool → Bool) (c d : Compared) → c.role ≡ d.role → c.name ≡ d.name → Agree n holds holds' → Agree n c.first d.first → Agree n c.second d.second →
-    (l m : Verdict) → IsVerdictOf n sizes holds c l → IsVerdictOf n sizes holds' d m → l ≡ m
+one_verdict : (n : ℕ) (asked : Asked) (holds holds' : List Bool → Bool) (c d : Compared) → c.role ≡ d.role → c.name ≡ d.name → Agree n holds holds' → Agree n c.first d.first → Agree n c.second d.second →
+    (l m : Verdict) → IsVerdictOf n asked holds c l → IsVerdictOf n asked holds' d m → l ≡ m
 unfolding CallsBoth TellsApart
-one_verdict n sizes holds holds' c d role name there same other l m h k = by (kind_of n sizes holds c l h) (kind_of n sizes holds' d m k)
+one_verdict n asked holds holds' c d role name there same other l m h k = by (kind_of n asked holds c l h) (kind_of n asked holds' d m k)
   where
     first_restricted : Agree n (restricted holds c.first) (restricted holds' d.first)
     first_restricted = agree_restricted n holds holds' c.first d.first there same
@@ -90,10 +107,10 @@ one_verdict n sizes holds holds' c d role name there same other l m h k = by (ki
     second_restricted : Agree n (restricted holds c.second) (restricted holds' d.second)
     second_restricted = agree_restricted n holds holds' c.second d.second there other
 
-    by : CallsBoth n sizes holds c l ⊎ TellsApart n sizes holds c l → CallsBoth n sizes holds' d m ⊎ TellsApart n sizes holds' d m → l ≡ m
+    by : CallsBoth n asked holds c l ⊎ TellsApart n asked holds c l → CallsBoth n asked holds' d m ⊎ TellsApart n asked holds' d m → l ≡ m
     by (inl s) (inl t) =
         s.3 ∙ ap (λ w. Equal w c.name s.0) role ∙ ap (λ w. Equal d.role w s.0) name
-        ∙ ap (λ z. Equal d.role d.name z) (one_size sizes n (restricted holds c.first) (restricted holds' d.first) s.0 t.0 first_restricted s.2 t.2) ∙ sym t.3
+        ∙ ap (λ z. Equal d.role d.name z) (one_size asked.sizes n (restricted holds c.first) (restricted holds' d.first) s.0 t.0 first_restricted s.2 t.2) ∙ sym t.3
     by (inl s) (inr t) =
         absurd (t.2.differ (sym (same t.0 t.2.bits) ∙ s.1 t.0 t.2.bits (there t.0 t.2.bits ∙ t.2.satisfies) ∙ other t.0 t.2.bits))
     by (inr s) (inl t) =
@@ -101,7 +118,7 @@ one_verdict n sizes holds holds' c d role name there same other l m h k = by (ki
     by (inr s) (inr t) =
         let x : s.0 ≡ t.0 = one_difference n holds holds' c.first c.second d.first d.second s.0 t.0 there same other s.2 t.2 in
         let shown : s.1 ≡ t.1 =
-        two_sizes sizes n (restricted holds c.first) (restricted holds c.second) (restricted holds' d.first) (restricted holds' d.second) s.1 t.1 first_restricted second_restricted s.3 t.3 in
+        two_extras asked n (restricted holds c.first) (restricted holds c.second) (restricted holds' d.first) (restricted holds' d.second) s.1 t.1 first_restricted second_restricted s.3 t.3 in
         let one : c.first s.0 ≡ d.first t.0 = same s.0 s.2.bits ∙ ap d.first x in
         let two : c.second s.0 ≡ d.second t.0 = other s.0 s.2.bits ∙ ap d.second x in
         let e = s.4 in
@@ -126,12 +143,12 @@ one_function net sound level more same n s lt f g h k = λ x len.
 
 -- ---- the report
 
-module _ (n : ℕ) (sizes : Bool) (one two : Net) (sound : IsNet one) (sound' : IsNet two) (p q : Paired) (size : length p.names ≡ n) (size' : length q.names ≡ n)
+module _ (n : ℕ) (asked : Asked) (one two : Net) (sound : IsNet one) (sound' : IsNet two) (p q : Paired) (size : length p.names ≡ n) (size' : length q.names ≡ n)
     (first_same : All (λ s. slice_index p.first s ≡ slice_index q.first s) (variables_of (circuit one)))
     (second_same : All (λ s. slice_index p.second s ≡ slice_index q.second s) (variables_of (circuit two))) (holds holds' : List Bool → Bool) (there : Agree n holds holds') where
   one_list : (all : List Subject) (cs ds : List Compared) (ls ms : List Verdict) → All (IsInside (circuit one) (circuit two)) all
       → AllZip (AreFunctions (circuit one) (circuit two) p) all cs → AllZip (AreFunctions (circuit one) (circuit two) q) all ds
-      → AllZip (IsVerdictOf n sizes holds) cs ls → AllZip (IsVerdictOf n sizes holds') ds ms → ls ≡ ms
+      → AllZip (IsVerdictOf n asked holds) cs ls → AllZip (IsVerdictOf n asked holds') ds ms → ls ≡ ms
   one_list [] [] [] [] [] inside a b h k = refl
   one_list [] [] [] (l ∷ ls) ms inside a b h k = absurd h
   one_list [] [] [] [] (m ∷ ms) inside a b h k = absurd k
@@ -149,7 +166,7 @@ module _ (n : ℕ) (sizes : Bool) (one two : Net) (sound : IsNet one) (sound' : 
       let other : Agree n c.second d.second =
       one_function two sound' (slice_index p.second) (slice_index q.second) second_same n w.second low.2 c.second d.second
       (subst (λ z. IsFunctionOf (circuit two) (slice_index p.second) z w.second c.second) size a.0.second) (subst (λ z. IsFunctionOf (circuit two) (slice_index q.second) z w.second d.second) size' b.0.second) in
-      let e : l ≡ m = one_verdict n sizes holds holds' c d (a.0.role ∙ sym b.0.role) (a.0.name ∙ sym b.0.name) there same other l m h.0 k.0 in
+      let e : l ≡ m = one_verdict n asked holds holds' c d (a.0.role ∙ sym b.0.role) (a.0.name ∙ sym b.0.name) there same other l m h.0 k.0 in
       let r : ls ≡ ms = one_list ws cs ds ls ms (λ i v lt. inside (suc i) v (omega arith)) a.1 b.1 h.1 k.1 in
       cc
 
@@ -178,8 +195,8 @@ one_condition (Some net) sound p q size same holds holds' h k =
 
 -- what two comparisons of two netlists in one order find is the same
 pub one_found : (one two : Net) (given : Option Net) → IsNet one → IsNet two → IfSome given (λ net. IsNet net × HasOneOutput (circuit net)) → (how : Match) (order : Order) (p q : Paired) → IsPairing how (circuit one) (circuit two) (option_map circuit given) order p → IsPairing how (circuit one) (circuit two) (option_map circuit given) order q
-    → (sizes : Bool) (found more : Found) → AreVerdicts sizes (circuit one) (circuit two) (option_map circuit given) p found → AreVerdicts sizes (circuit one) (circuit two) (option_map circuit given) q more → found ≡ more
-one_found one two given sound sound' sound_given how order p q h k sizes found more r t =
+    → (asked : Asked) (found more : Found) → AreVerdicts asked (circuit one) (circuit two) (option_map circuit given) p found → AreVerdicts asked (circuit one) (circuit two) (option_map circuit given) q more → found ≡ more
+one_found one two given sound sound' sound_given how order p q h k asked found more r t =
     let names : p.names ≡ q.names = h.names ∙ sym k.names in
     let outputs : p.outputs ≡ q.outputs = h.outputs ∙ sym k.outputs in
     let registers : p.registers ≡ q.registers = h.registers ∙ sym k.registers in
@@ -187,9 +204,9 @@ one_found one two given sound sound' sound_given how order p q h k sizes found m
     let size : length p.names ≡ length q.names = ap length names in
     let inside = subjects_inside how one two (option_map circuit given) order q sound sound' k in
     let of_pairs : r.of_pairs ≡ t.of_pairs =
-    one_list (length q.names) sizes one two sound sound' p q size refl (λ i d lt. h.first i d lt ∙ sym (k.first i d lt)) (λ i d lt. h.second i d lt ∙ sym (k.second i d lt))
+    one_list (length q.names) asked one two sound sound' p q size refl (λ i d lt. h.first i d lt ∙ sym (k.first i d lt)) (λ i d lt. h.second i d lt ∙ sym (k.second i d lt))
     r.holds t.holds (one_condition given sound_given p q size (λ net e i d lt. conditional_same how (circuit one) (circuit two) given order p q h k net e i d lt) r.holds t.holds r.condition t.condition) (subjects (circuit one) (circuit two) q) r.compared t.compared r.of_pairs t.of_pairs
-    inside (subst (λ ws. AllZip (AreFunctions (circuit one) (circuit two) p) ws r.compared) all_same r.functions) t.functions (subst (λ n. AllZip (IsVerdictOf n sizes r.holds) r.compared r.of_pairs) size r.are_verdicts) t.are_verdicts in
+    inside (subst (λ ws. AllZip (AreFunctions (circuit one) (circuit two) p) ws r.compared) all_same r.functions) t.functions (subst (λ n. AllZip (IsVerdictOf n asked r.holds) r.compared r.of_pairs) size r.are_verdicts) t.are_verdicts in
     let lone : lone_verdicts (circuit one) (circuit two) p ≡ lone_verdicts (circuit one) (circuit two) q = cc in
     let variables : found.variables ≡ more.variables = r.variables ∙ names ∙ sym t.variables in
     let verdicts : found.verdicts ≡ more.verdicts =
@@ -198,8 +215,8 @@ one_found one two given sound sound' sound_given how order p q h k sizes found m
 
 -- two reports of two netlists in one order have the same counts and the same bytes
 pub one_report : (one two : Net) (given : Option Net) → IsNet one → IsNet two → IfSome given (λ net. IsNet net × HasOneOutput (circuit net)) → (how : Match) (order : Order) (p q : Paired) → IsPairing how (circuit one) (circuit two) (option_map circuit given) order p → IsPairing how (circuit one) (circuit two) (option_map circuit given) order q
-    → (form : Found → List ℕ) (sizes : Bool) (o more : Outcome) (bytes text : List ℕ) → IsReport form sizes (circuit one) (circuit two) (option_map circuit given) p o bytes → IsReport form sizes (circuit one) (circuit two) (option_map circuit given) q more text
+    → (form : Found → List ℕ) (asked : Asked) (o more : Outcome) (bytes text : List ℕ) → IsReport form asked (circuit one) (circuit two) (option_map circuit given) p o bytes → IsReport form asked (circuit one) (circuit two) (option_map circuit given) q more text
     → (o ≡ more) × (bytes ≡ text)
-one_report one two given sound sound' sound_given how order p q h k form sizes o more bytes text r t =
-    let found : r.found ≡ t.found = one_found one two given sound sound' sound_given how order p q h k sizes r.found t.found r.verdicts t.verdicts in
+one_report one two given sound sound' sound_given how order p q h k form asked o more bytes text r t =
+    let found : r.found ≡ t.found = one_found one two given sound sound' sound_given how order p q h k asked r.found t.found r.verdicts t.verdicts in
     (r.counts ∙ ap (λ (f : Found). counted f.verdicts) found ∙ sym t.counts, r.text ∙ ap form found ∙ sym t.text)

@@ -7,6 +7,7 @@ use Rattle.net_order.specs.declared.order.Order.{Order}
 use Rattle.net_order.specs.declared.order.Order.TheVariants as orders
 use Rattle.net_order.specs.Order.{Paired, condition}
 use Rattle.report_text.specs.Lines.{Found}
+use Rattle.check_report.specs.Asking.{asked_in}
 use Rattle.check_report.specs.declared.choice.Attempt.{Attempt}
 use Rattle.check_report.specs.declared.choice.Choice.{Choice}
 use Rattle.check_report.specs.declared.choice.Choice.TheVariants.{Auto}
@@ -29,7 +30,7 @@ use Rattle.check_report.proofs.Rounds.{accepted, told_passed}
 
 -- in an order
 pub found_in_order : {E : Type 0} (told : Told) (s : Settings) (bound : Option ℕ) (choice : Choice) → s.order ≡ choice → (r : Result (Found × Option Attempt) E) →
-    IfOk r (λ r. (o : Order) × IsJudged told s.matching o s.sizes r.0 × IsChosen told s.matching choice s.limit r.1 o) → IfOk r (λ r. IsFoundBy told s bound r.0 r.1)
+    IfOk r (λ r. (o : Order) × IsJudged told s.matching o (asked_in s) r.0 × IsChosen told s.matching choice s.limit r.1 o) → IfOk r (λ r. IsFoundBy told s bound r.0 r.1)
 found_in_order told s bound choice same (Ok (found, tried)) w = in_order w.0 w.1 (subst (λ c. IsChosen told s.matching c s.limit tried w.0) (sym same) w.2)
 found_in_order told s bound choice same (Err e) w = tt
 

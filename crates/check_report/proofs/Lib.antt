@@ -16,6 +16,7 @@ pub mod Widening
 pub mod Rounds
 pub mod Budgets
 pub mod Spread
+pub mod Supporting
 pub mod ConePairs
 pub mod ConeVerdicts
 pub mod Called

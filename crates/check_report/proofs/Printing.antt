@@ -3,6 +3,7 @@ use Rattle.std.proofs.Common.{◌≡◌, ◌∙◌, ap, sym, subst, ℕ, Bool, L
 use Rattle.net_order.specs.declared.order.Match.{Match}
 use Rattle.net_order.specs.declared.order.Order.{Order}
 use Rattle.net_order.specs.OrderText.{order_text}
+use Rattle.check_report.specs.declared.telling.Asked.{Asked}
 use Rattle.check_report.specs.Devices.{Told}
 use Rattle.check_report.specs.declared.choice.Choice.{Choice}
 use Rattle.check_report.specs.declared.choice.Choice.TheVariants.{One, Best, Auto, Cones}
@@ -13,8 +14,8 @@ use Rattle.check_report.specs.Check.{IsJudged}
 use Rattle.report_text.specs.Lines.{Found}
 use Rattle.check_report.specs.Listing.{IsOrderPrinted}
 
-pub printed : (told : Told) (how : Match) (order : Order) (sizes : Bool) (found : Found) (bytes : List ℕ) → IsJudged told how order sizes found → bytes ≡ order_text found.variables → IsOrderPrinted told how order bytes
-printed told how order sizes found bytes j e = record { a = j.a; b = j.b; c = j.c; p = j.p; paired = j.paired; text = e ∙ ap order_text j.verdicts.variables }
+pub printed : (told : Told) (how : Match) (order : Order) (asked : Asked) (found : Found) (bytes : List ℕ) → IsJudged told how order asked found → bytes ≡ order_text found.variables → IsOrderPrinted told how order bytes
+printed told how order asked found bytes j e = record { a = j.a; b = j.b; c = j.c; p = j.p; paired = j.paired; text = e ∙ ap order_text j.verdicts.variables }
 
 -- an order that was found is allowed
 pub found_allowed : (told : Told) (how : Match) (choice : Choice) (limit : ℕ) (tried : Option Attempt) (order : Order) → IsFound told how choice limit tried order → IsAllowed choice order

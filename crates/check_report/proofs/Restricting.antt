@@ -6,9 +6,12 @@ use Rattle.dd_store.specs.Size.{HasSize}
 use Rattle.net_order.specs.Order.{Paired}
 use Rattle.report_text.specs.declared.verdict.Verdict.{Verdict}
 use Rattle.report_text.specs.declared.verdict.Verdict.TheVariants.{Differs}
+use Rattle.report_text.specs.declared.verdict.Extras.{Extras}
+use Rattle.check_report.specs.declared.telling.Asked.{Asked}
 use Rattle.check_report.specs.Conditions.{HoldsWhere, everywhere, restricted, AgreeWhere, IsLeastWhere}
-use Rattle.check_report.specs.Report.{Compared, IsSizeShown, AreSizesShown, IsVerdictOf}
+use Rattle.check_report.specs.Report.{Compared, IsSizeShown, IsSupportShown, AreExtrasShown, AreSizesShown, IsVerdictOf}
 use Rattle.check_report.specs.Report.IsVerdictOf.{where_equal, where_different}
+use Rattle.check_report.proofs.Supporting.{levels_as}
 
 -- ---- sizes of functions that agree
 
@@ -22,6 +25,16 @@ shown_as true n f g shown same s = (s.0, size_as n f g s.0 same s.1, s.2)
 both_as : (sizes : Bool) (n : ℕ) (f g f' g' : List Bool → Bool) (shown : Option (ℕ × ℕ)) → Agree n f f' → Agree n g g' → AreSizesShown sizes n f g shown → AreSizesShown sizes n f' g' shown
 both_as false n f g f' g' shown same other s = s
 both_as true n f g f' g' shown same other s = (s.0, s.1, size_as n f f' s.0 same s.2, size_as n g g' s.1 other s.3, s.4)
+
+support_as : (asked : Bool) (n : ℕ) (f g f' g' : List Bool → Bool) (shown : Option (List Bool)) → Agree n f f' → Agree n g g' → IsSupportShown asked n f g shown → IsSupportShown asked n f' g' shown
+support_as false n f g f' g' shown same other s = s
+support_as true n f g f' g' shown same other s = (s.0, levels_as n f g f' g' s.0 same other s.1, s.2)
+
+extras_as : (asked : Asked) (n : ℕ) (f g f' g' : List Bool → Bool) (shown : Extras) → Agree n f f' → Agree n g g' → AreExtrasShown asked n f g shown → AreExtrasShown asked n f' g' shown
+extras_as asked n f g f' g' shown same other s = record {
+  sizes = both_as asked.sizes n f g f' g' shown.sizes same other s.sizes;
+  support = support_as asked.support n f g f' g' shown.support same other s.support;
+}
 
 -- ---- values where the condition holds
 
@@ -80,18 +93,18 @@ least_both n holds f g x l = record {
 -- ---- verdicts
 
 -- the verdict of the plain functions of restrictions is the verdict where the condition holds
-pub verdict_where : (n : ℕ) (sizes : Bool) (holds : List Bool → Bool) (d : Compared) (f g : List Bool → Bool) → Agree n d.first (restricted holds f) → Agree n d.second (restricted holds g) →
-    (v : Verdict) → IsVerdictOf n sizes everywhere d v → IsVerdictOf n sizes holds (record { role = d.role; name = d.name; first = f; second = g }) v
-verdict_where n sizes holds d f g first second v (where_equal {shown = shown} agree size) =
-    where_equal (agree_where n holds f g d.first d.second first second (λ x len. agree x len refl)) (shown_as sizes n d.first (restricted holds f) shown first size)
-verdict_where n sizes holds d f g first second v (where_different {x = x} {shown = shown} least size) =
+pub verdict_where : (n : ℕ) (asked : Asked) (holds : List Bool → Bool) (d : Compared) (f g : List Bool → Bool) → Agree n d.first (restricted holds f) → Agree n d.second (restricted holds g) →
+    (v : Verdict) → IsVerdictOf n asked everywhere d v → IsVerdictOf n asked holds (record { role = d.role; name = d.name; first = f; second = g }) v
+verdict_where n asked holds d f g first second v (where_equal {shown = shown} agree size) =
+    where_equal (agree_where n holds f g d.first d.second first second (λ x len. agree x len refl)) (shown_as asked.sizes n d.first (restricted holds f) shown first size)
+verdict_where n asked holds d f g first second v (where_different {x = x} {shown = shown} least size) =
     let plain : IsLeastDifference n d.first d.second x = record { bits = least.bits; differ = least.differ; least = λ y len before. least.least y len before refl } in
     let l : IsLeastWhere n holds f g x = least_where n holds f g d.first d.second first second x plain in
     let one : f x ≡ d.first x = sym (with_one (holds x) (f x) l.satisfies) ∙ sym (first x l.bits) in
     let two : g x ≡ d.second x = sym (with_one (holds x) (g x) l.satisfies) ∙ sym (second x l.bits) in
-    subst (λ b. IsVerdictOf n sizes holds (record { role = d.role; name = d.name; first = f; second = g }) (Differs d.role d.name x b (d.second x) shown)) one
-    (subst (λ b. IsVerdictOf n sizes holds (record { role = d.role; name = d.name; first = f; second = g }) (Differs d.role d.name x (f x) b shown)) two
-    (where_different l (both_as sizes n d.first d.second (restricted holds f) (restricted holds g) shown first second size)))
+    subst (λ b. IsVerdictOf n asked holds (record { role = d.role; name = d.name; first = f; second = g }) (Differs d.role d.name x b (d.second x) shown)) one
+    (subst (λ b. IsVerdictOf n asked holds (record { role = d.role; name = d.name; first = f; second = g }) (Differs d.role d.name x (f x) b shown)) two
+    (where_different l (extras_as asked n d.first d.second (restricted holds f) (restricted holds g) shown first second size)))
 
 -- ---- without a condition
 

@@ -10,6 +10,7 @@ use Rattle.net_order.specs.declared.order.Order.{Order}
 use Rattle.net_order.specs.declared.order.OrderFault.{OrderFault}
 use Rattle.net_order.specs.Order.{Paired, IsPairing, HasLevels, condition, own, names_by}
 use Rattle.expand_work.specs.declared.fault.WaveFault.TheVariants.{Full, TooManyRequests, NoWorker}
+use Rattle.check_report.specs.Asking.{asked_in}
 use Rattle.check_report.specs.declared.choice.Attempt.{Attempt}
 use Rattle.check_report.specs.declared.choice.Candidate.{Candidate}
 use Rattle.check_report.specs.declared.choice.Candidate.TheVariants.{Interleave, Force, Index, Depth, Declared}
@@ -83,14 +84,14 @@ module _ {H : Type 0} (task : Task H) (told : Told) (given : AreGiven told (circ
   accepted o p is = (circuit task.first.now, circuit task.second.now, condition task.given, p, record { netlists = given; pairing = is })
 
   pub judged : (o : Order) (p : Paired) (found verdicts : Found) → IsPairingIn task o p → found ≡ verdicts →
-      AreVerdicts task.settings.now.sizes (circuit task.first.now) (circuit task.second.now) (condition task.given) p verdicts → IsJudged told task.settings.now.matching o task.settings.now.sizes found
+      AreVerdicts (asked_in task.settings.now) (circuit task.first.now) (circuit task.second.now) (condition task.given) p verdicts → IsJudged told task.settings.now.matching o (asked_in task.settings.now) found
   judged o p found verdicts is e v = record {
     a = circuit task.first.now;
     b = circuit task.second.now;
     c = condition task.given;
     p = p;
     paired = record { netlists = given; pairing = is };
-    verdicts = subst (AreVerdicts task.settings.now.sizes (circuit task.first.now) (circuit task.second.now) (condition task.given) p) (sym e) v;
+    verdicts = subst (AreVerdicts (asked_in task.settings.now) (circuit task.first.now) (circuit task.second.now) (condition task.given) p) (sym e) v;
   }
 
   pub within : (o : Order) (p : Paired) (budget : ℕ) → IsPairingIn task o p → FitsWithin budget (circuit task.first.now) (circuit task.second.now) (condition task.given) p → AreWithin told task.settings.now.matching o budget

@@ -14,7 +14,7 @@ use Rattle.check_report.specs.Spreading.{ArePlaces, spread, with_bit}
 
 -- ---- bits that are set one after the other
 
-abbrev with_bits : List Bool → (places : List ℕ) → List Bool → List Bool
+abbrev pub with_bits : List Bool → (places : List ℕ) → List Bool → List Bool
 with_bits bits places x = fold with_bit bits (zip places x)
 
 pub as_long : (bits : List Bool) (ats : List (ℕ × Bool)) → length (fold with_bit bits ats) ≡ length bits
@@ -31,7 +31,7 @@ before_all bits (l ∷ places) (b ∷ x) u h =
     before_all (set bits l b) places x u (λ j low. h (suc j) (omega arith)) ∙ get_or-set_other bits l u b false (λ e. absurd (omega (arith, less, e)))
 
 -- a bit that is 1 was 1, or is at a place
-was_or_set : (bits : List Bool) (places : List ℕ) (x : List Bool) (u : ℕ) → get_or (with_bits bits places x) u false ≡ true →
+pub was_or_set : (bits : List Bool) (places : List ℕ) (x : List Bool) (u : ℕ) → get_or (with_bits bits places x) u false ≡ true →
     (get_or bits u false ≡ true) ⊎ ((j : ℕ) × (j < length places) × (get_or places j 0 ≡ u))
 was_or_set bits [] x u e = inl e
 was_or_set bits (l ∷ places) [] u e = inl e

@@ -13,6 +13,7 @@ use Rattle.check_report.specs.declared.fault.CheckFault.{CheckFault}
 use Rattle.check_report.specs.declared.fault.CheckFault.TheVariants.{First, Second, Given, GivenOutputs, Order as OrderRefused, Only, Explain, Wave, GivenUp, Write, OutOfMemory}
 use Rattle.check_report.specs.Conditions.{HasOneOutput}
 use Rattle.report_text.specs.Lines.{Found}
+use Rattle.check_report.specs.declared.telling.Asked.{Asked}
 use Rattle.check_report.specs.Report.{AreVerdicts}
 
 -- what a device told is the text of this netlist
@@ -38,13 +39,13 @@ pub record ArePaired (told : Told) (how : Match) (order : Order) (a b : Circuit)
   pub pairing : IsPairing how a b c order p
 
 -- This is what a comparison of what the devices gave finds.
-pub record IsJudged (told : Told) (how : Match) (order : Order) (sizes : Bool) (found : Found) : Type 0 where
+pub record IsJudged (told : Told) (how : Match) (order : Order) (asked : Asked) (found : Found) : Type 0 where
   pub a : Circuit
   pub b : Circuit
   pub c : Option Circuit
   pub p : Paired
   pub paired : ArePaired told how order a b c p
-  pub verdicts : AreVerdicts sizes a b c p found
+  pub verdicts : AreVerdicts asked a b c p found
 
 -- Why a text was not accepted: want of memory, a device that has failed, or the text's first fault.
 pub record IsUnread (told : Option (List ℕ)) (has_failed : Type 0) (fault : BenchFault) : Type 0 where

@@ -13,6 +13,7 @@ use Rattle.gate_plan.specs.Building.{References, AreDiagrams, reference_of}
 use Rattle.report_text.specs.declared.outcome.Role.{Role}
 use Rattle.report_text.specs.declared.outcome.Role.TheVariants.{Output}
 use Rattle.check_report.specs.declared.subject.Subject.{Subject}
+use Rattle.check_report.specs.declared.telling.Asked.{Asked}
 use Rattle.check_report.specs.declared.telling.Telling.{Telling}
 use Rattle.check_report.specs.declared.telling.Telling.TheVariants.{ByLevel, Arranged}
 use Rattle.report_text.specs.declared.verdict.Verdict.{Verdict}
@@ -53,18 +54,18 @@ as_built f = f
 
 -- what a diagram denotes, as it is told: over the variables by level, or in another order
 abbrev pub as_told : Telling → (List Bool → Bool) → List Bool → Bool
-as_told (ByLevel sizes) f = as_built f
-as_told (Arranged order) f = by_declared order.now f
+as_told (ByLevel asked) f = as_built f
+as_told (Arranged order support) f = by_declared order.now f
 
 -- where verdicts are told in another order than that of n levels, it has each level's variable
 abbrev pub IsTelling : ℕ → Telling → Type 0
-IsTelling n (ByLevel sizes) = ⊤
-IsTelling n (Arranged order) = IsOrder n order.now
+IsTelling n (ByLevel asked) = ⊤
+IsTelling n (Arranged order support) = IsOrder n order.now
 
--- whether sizes are told
-abbrev pub tells_sizes : Telling → Bool
-tells_sizes (ByLevel sizes) = sizes
-tells_sizes (Arranged order) = false
+-- what is told besides
+abbrev pub asked_of : Telling → Asked
+asked_of (ByLevel asked) = asked
+asked_of (Arranged order support) = record { sizes = false; support = support }
 
 -- r denotes the function of a signal where the condition holds, as it is told
 abbrev pub DenotesWhere : (told : (List Bool → Bool) → List Bool → Bool) → (List Bool → Bool) → Circuit → (ℕ → ℕ) → Nodes → ℕ → Ref → Type 0
@@ -86,14 +87,14 @@ pub record AreCompared (told : (List Bool → Bool) → List Bool → Bool) (a b
   pub shown : AreShown told a b given p S of refs
 
 -- these are the verdicts of what is compared
-pub record HaveVerdicts (sizes : Bool) (holds : List Bool → Bool) (a b : Circuit) (p : Paired) (of : List Subject) (verdicts : List Verdict) : Type 0 where
+pub record HaveVerdicts (asked : Asked) (holds : List Bool → Bool) (a b : Circuit) (p : Paired) (of : List Subject) (verdicts : List Verdict) : Type 0 where
   pub compared : List Compared
   pub functions : AllZip (AreFunctions a b p) of compared
-  pub are_verdicts : AllZip (IsVerdictOf (length p.names) sizes holds) compared verdicts
+  pub are_verdicts : AllZip (IsVerdictOf (length p.names) asked holds) compared verdicts
 
 -- the verdicts of all that is compared, for the condition
-abbrev pub HaveAllVerdicts : Bool → Circuit → Circuit → Option Circuit → Paired → List Verdict → Type 0
-HaveAllVerdicts sizes a b given p verdicts = (holds : List Bool → Bool) × HoldsWhere given p holds × HaveVerdicts sizes holds a b p (subjects a b p) verdicts
+abbrev pub HaveAllVerdicts : Asked → Circuit → Circuit → Option Circuit → Paired → List Verdict → Type 0
+HaveAllVerdicts asked a b given p verdicts = (holds : List Bool → Bool) × HoldsWhere given p holds × HaveVerdicts asked holds a b p (subjects a b p) verdicts
 
 -- two functions of this role and name, whose diagrams these are, as they are told
 abbrev pub compared_of : (told : (List Bool → Bool) → List Bool → Bool) → Nodes → Role → List ℕ → Ref → Ref → Compared

@@ -1,5 +1,5 @@
 -- Pairs that are judged alone, each by its cones.
-use Rattle.std.specs.Prelude.{◌≡◌, ◌/◌, ◌⊎◌, ◌↔◌, ℕ, min, max, ◌*◌, ◌++◌, Bool, false, List, [], Option, Some, None, length, slice_index, All, ⊤}
+use Rattle.std.specs.Prelude.{◌≡◌, ◌/◌, ◌⊎◌, ◌↔◌, ℕ, min, max, ◌*◌, ◌++◌, Bool, List, [], Option, Some, None, length, slice_index, All, ⊤}
 use Rattle.std.specs.List.{AllZip, slice_index_or}
 use Rattle.expand_work.specs.Bounds.{most_of}
 use Rattle.net_bench.specs.Circuit.{Circuit, Net, circuit, variables_of}
@@ -14,6 +14,7 @@ use Rattle.check_report.specs.declared.subject.Subject.{Subject}
 use Rattle.check_report.specs.Best.{IsBudget, order_of}
 use Rattle.check_report.specs.Conditions.{AgreeWhere, HoldsWhere, output_of}
 use Rattle.check_report.specs.Limits.{Exceeds}
+use Rattle.check_report.specs.declared.telling.Asked.{Asked}
 use Rattle.check_report.specs.Report.{AreFunctions, CallsEqual, Compared, IsVerdictOf}
 use Rattle.check_report.specs.Widths.{IsTooWide}
 
@@ -72,22 +73,22 @@ IsLeft limit bound a b given p s = (budget : ℕ) → IsBudget (cone_limit limit
 
 -- The verdict of a pair over the variables of the pairing: that of its functions where the condition holds, or Undecided where this says
 -- that no attempt decides it.
-pub data IsToldOf (n : ℕ) (left : Type 0) (holds : List Bool → Bool) (c : Compared) : Verdict → Type 0 where
-  decided : {v : Verdict} → IsVerdictOf n false holds c v → (CallsEqual v ↔ AgreeWhere n holds c.first c.second) → IsToldOf n left holds c v
-  undecided : left → IsToldOf n left holds c (Undecided c.role c.name)
+pub data IsToldOf (n : ℕ) (asked : Asked) (left : Type 0) (holds : List Bool → Bool) (c : Compared) : Verdict → Type 0 where
+  decided : {v : Verdict} → IsVerdictOf n asked holds c v → (CallsEqual v ↔ AgreeWhere n holds c.first c.second) → IsToldOf n asked left holds c v
+  undecided : left → IsToldOf n asked left holds c (Undecided c.role c.name)
 
 -- The same of the pair that is meant.
-pub record IsTold (left : Subject → Type 0) (a b : Circuit) (given : Option Circuit) (p : Paired) (s : Subject) (v : Verdict) : Type 0 where
+pub record IsTold (asked : Asked) (left : Subject → Type 0) (a b : Circuit) (given : Option Circuit) (p : Paired) (s : Subject) (v : Verdict) : Type 0 where
   pub holds : List Bool → Bool
   pub condition : HoldsWhere given p holds
   pub compared : Compared
   pub functions : AreFunctions a b p s compared
-  pub verdict : IsToldOf (length p.names) (left s) holds compared v
+  pub verdict : IsToldOf (length p.names) asked (left s) holds compared v
 
 -- What a comparison by cones finds: a verdict for each pair that is picked, then these lines of what has no partner. The variables stand by
 -- level.
-pub record AreTold (left : Subject → Type 0) (a b : Circuit) (given : Option Circuit) (p : Paired) (pairs : List Subject) (lone : List Verdict) (found : Found) : Type 0 where
+pub record AreTold (asked : Asked) (left : Subject → Type 0) (a b : Circuit) (given : Option Circuit) (p : Paired) (pairs : List Subject) (lone : List Verdict) (found : Found) : Type 0 where
   pub variables : found.variables ≡ p.names
   pub of_pairs : List Verdict
-  pub told : AllZip (IsTold left a b given p) pairs of_pairs
+  pub told : AllZip (IsTold asked left a b given p) pairs of_pairs
   pub all : found.verdicts ≡ of_pairs ++ lone

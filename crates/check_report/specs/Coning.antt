@@ -22,6 +22,7 @@ use Rattle.check_report.specs.declared.naming.Part.TheVariants.{First, Second, G
 use Rattle.check_report.specs.declared.turns.Turn.{Turn}
 use Rattle.check_report.specs.declared.subject.Subject.{Subject}
 use Rattle.check_report.specs.declared.task.Task.{Task}
+use Rattle.check_report.specs.Asking.{unsized}
 use Rattle.check_report.specs.Check.{IsLate}
 use Rattle.check_report.specs.Comparing.{IsInside}
 use Rattle.check_report.specs.Cones.{AreCones, AreNamed, AreTold, IsConditionCone, IsLeft, IsLeftWithin, IsTold}
@@ -65,6 +66,7 @@ pub record IsReady {H : Type 0} (whole : Whole H) : Type 0 where
   pub conditional_net : IfSome (condition whole.task.now.given) IsOfNet
   pub by_name : whole.settings.now.matching ≡ Name
   pub no_sizes : whole.settings.now.sizes ≡ false
+  pub assignment : whole.settings.now.assignment ≡ whole.task.now.settings.now.assignment
 
 -- what is judged are signals of the netlists
 abbrev pub IsOf : {H : Type 0} → Whole H → Subject → Type 0
@@ -86,7 +88,7 @@ pub record IsConeTask {H : Type 0} (whole : Whole H) (cones : Cones) (task : Tas
 
 -- the pair is decided, and this is its verdict
 abbrev pub IsToldIn : {H : Type 0} → Whole H → Subject → Verdict → Type 0
-IsToldIn whole s v = IsTold (λ t. ⊥) (circuit whole.task.now.first.now) (circuit whole.task.now.second.now) (condition whole.task.now.given) whole.pairing.now s v
+IsToldIn whole s v = IsTold (unsized whole.task.now.settings.now.assignment) (λ t. ⊥) (circuit whole.task.now.first.now) (circuit whole.task.now.second.now) (condition whole.task.now.given) whole.pairing.now s v
 
 -- the pair is left within so many nodes
 abbrev pub IsLeftIn : {H : Type 0} → Whole H → (budget : ℕ) → (bound : Option ℕ) → Subject → Type 0
@@ -162,7 +164,7 @@ IsLeftOut whole bound s =
 -- the same, and its verdict
 abbrev pub IsToldOut : {H : Type 0} → Whole H → (bound : Option ℕ) → Subject → Verdict → Type 0
 IsToldOut whole bound s v =
-    IsTold (IsLeftOut whole bound) (circuit whole.task.now.first.now) (circuit whole.task.now.second.now) (condition whole.task.now.given) whole.pairing.now s v
+    IsTold (unsized whole.task.now.settings.now.assignment) (IsLeftOut whole bound) (circuit whole.task.now.first.now) (circuit whole.task.now.second.now) (condition whole.task.now.given) whole.pairing.now s v
 
 -- the verdict of a pair: Undecided, where there is none
 abbrev pub told_of : Circuit → Subject → Option Verdict → Verdict
@@ -180,7 +182,7 @@ pub record IsToldByCones {H : Type 0} (task : Task H) (bound : Option ℕ) (p : 
   pub pairs : List Subject
   pub lone : List Verdict
   pub picked : ArePicked (circuit task.first.now) (circuit task.second.now) p task.settings.now.picked pairs lone
-  pub verdicts : AreTold (IsLeft task.settings.now.limit bound (circuit task.first.now) (circuit task.second.now) (condition task.given) p)
+  pub verdicts : AreTold (unsized task.settings.now.assignment) (IsLeft task.settings.now.limit bound (circuit task.first.now) (circuit task.second.now) (condition task.given) p)
       (circuit task.first.now) (circuit task.second.now) (condition task.given) p pairs lone found
 
 -- a fault of a comparison by cones: a name that is picked is unknown, or what ends the judging of pairs

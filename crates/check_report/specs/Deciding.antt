@@ -15,6 +15,7 @@ use Rattle.check_report.specs.declared.choice.Choice.TheVariants.{One, Best, Aut
 use Rattle.check_report.specs.declared.picked.Picked.{Picked}
 use Rattle.check_report.specs.declared.settings.Settings.{Settings}
 use Rattle.check_report.specs.declared.subject.Subject.{Subject}
+use Rattle.check_report.specs.Asking.{asked_in, unsized}
 use Rattle.check_report.specs.Best.{IsBudget, IsChosen, IsGivenUpWithin, order_of, told_kind, whole_limit}
 use Rattle.check_report.specs.Check.{ArePaired, Gives, IsJudged}
 use Rattle.check_report.specs.Cones.{AreTold, IsLeft}
@@ -32,7 +33,7 @@ pub record IsJudgedByCones (told : Told) (s : Settings) (bound : Option ℕ) (fo
   pub pairs : List Subject
   pub lone : List Verdict
   pub picked : ArePicked a b p s.picked pairs lone
-  pub verdicts : AreTold (IsLeft s.limit bound a b c p) a b c p pairs lone found
+  pub verdicts : AreTold (unsized s.assignment) (IsLeft s.limit bound a b c p) a b c p pairs lone found
 
 -- Cones may be taken: they are asked for, or each attempt of the whole was given up.
 abbrev pub HasCause : Told → Settings → (bound : Option ℕ) → Choice → Type 0
@@ -43,7 +44,7 @@ HasCause told s bound Cones = ⊤
 
 -- What a comparison finds by its settings, and the attempt that it is told with.
 pub data IsFoundBy (told : Told) (s : Settings) (bound : Option ℕ) (found : Found) : Option Attempt → Type 0 where
-  in_order : {tried : Option Attempt} (order : Order) → IsJudged told s.matching order s.sizes found → IsChosen told s.matching s.order s.limit tried order → IsFoundBy told s bound found tried
+  in_order : {tried : Option Attempt} (order : Order) → IsJudged told s.matching order (asked_in s) found → IsChosen told s.matching s.order s.limit tried order → IsFoundBy told s bound found tried
   by_cones : HasCause told s bound s.order → IsJudgedByCones told s bound found → IsFoundBy told s bound found None
 
 -- The bytes are the report of what the devices gave, by these settings, with these counts, and behind it the explanations that they ask for;

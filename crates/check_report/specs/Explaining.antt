@@ -68,14 +68,14 @@ is_subject_of a t s = is_target t s.role (name_of a s.named)
 -- the verdict is on it
 abbrev pub is_verdict_on : Target → Verdict → Bool
 is_verdict_on t (Equal role name size) = is_target t role name
-is_verdict_on t (Differs role name at first second sizes) = is_target t role name
+is_verdict_on t (Differs role name at first second extras) = is_target t role name
 is_verdict_on t (Lone side role name) = is_target t role name
 is_verdict_on t (Undecided role name) = is_target t role name
 
 -- The text is what is said of a pair with this verdict: where it differs, what explains that at the assignment of the verdict.
 abbrev pub ExplainsVerdict : Net → Net → Paired → Target → Subject → Verdict → List ℕ → Type 0
 ExplainsVerdict a b p t s (Equal role name size) text = text ≡ said_text t (codes "equal")
-ExplainsVerdict a b p t s (Differs role name at first second sizes) text =
+ExplainsVerdict a b p t s (Differs role name at first second extras) text =
     (e : Explained) × IsExplanation a b p (s.first, s.second) at e × (text ≡ explanation_text (subject_text t.role t.name) a.names e)
 ExplainsVerdict a b p t s (Lone side role name) text = text ≡ said_text t (codes "no partner")
 ExplainsVerdict a b p t s (Undecided role name) text = text ≡ said_text t (codes "undecided")

@@ -18,3 +18,4 @@ pub mod Deciding
 pub mod Texts
 pub mod Listing
 pub mod Spreading
+pub mod Asking

@@ -71,7 +71,7 @@ is_pair_of a names s = is_one_of a names s.named
 -- What has no partner in the second netlist, of one of these names.
 abbrev pub is_lone_of : List (List ℕ) → Verdict → Bool
 is_lone_of names (Equal role name size) = false
-is_lone_of names (Differs role name at first second sizes) = false
+is_lone_of names (Differs role name at first second extras) = false
 is_lone_of names (Lone side role name) = is_among names name
 is_lone_of names (Undecided role name) = false
 

@@ -11,7 +11,10 @@ use Rattle.report_text.specs.declared.outcome.Role.TheVariants.{Output, NextStat
 use Rattle.report_text.specs.declared.outcome.Side.{Side}
 use Rattle.report_text.specs.declared.outcome.Side.TheVariants.{First, Second}
 use Rattle.check_report.specs.declared.subject.Subject.{Subject}
+use Rattle.counter_walk.specs.Support.{AreLevelsOf}
+use Rattle.report_text.specs.declared.verdict.Extras.{Extras}
 use Rattle.report_text.specs.declared.verdict.Verdict.{Verdict}
+use Rattle.check_report.specs.declared.telling.Asked.{Asked}
 use Rattle.report_text.specs.declared.verdict.Verdict.TheVariants.{Equal, Differs, Lone, Undecided}
 use Rattle.check_report.specs.Conditions.{HoldsWhere, restricted, AgreeWhere, IsLeastWhere}
 use Rattle.report_text.specs.Lines.{Found, counted}
@@ -49,12 +52,22 @@ abbrev pub AreSizesShown : Bool → ℕ → (List Bool → Bool) → (List Bool 
 AreSizesShown false n f g shown = shown ≡ None
 AreSizesShown true n f g shown = (k : ℕ) × (m : ℕ) × HasSize n f k × HasSize n g m × (shown ≡ Some (k, m))
 
+-- the variables on which one of two functions depends are marked where that is asked for
+abbrev pub IsSupportShown : Bool → ℕ → (List Bool → Bool) → (List Bool → Bool) → Option (List Bool) → Type 0
+IsSupportShown false n f g shown = shown ≡ None
+IsSupportShown true n f g shown = (levels : List Bool) × AreLevelsOf n f g levels × (shown ≡ Some levels)
+
+-- what is told of two different functions besides, where it is asked for
+pub record AreExtrasShown (asked : Asked) (n : ℕ) (f g : List Bool → Bool) (shown : Extras) : Type 0 where
+  pub sizes : AreSizesShown asked.sizes n f g shown.sizes
+  pub support : IsSupportShown asked.support n f g shown.support
+
 -- The verdict of what is compared: Equal where their functions of n bits agree wherever the condition holds, else Differs with the least
--- difference there and the two values. Sizes are those of the functions where the condition holds. There is no verdict of another kind.
-pub data IsVerdictOf (n : ℕ) (sizes : Bool) (holds : List Bool → Bool) (c : Compared) : Verdict → Type 0 where
-  where_equal : {shown : Option ℕ} → AgreeWhere n holds c.first c.second → IsSizeShown sizes n (restricted holds c.first) shown → IsVerdictOf n sizes holds c (Equal c.role c.name shown)
-  where_different : {x : List Bool} {shown : Option (ℕ × ℕ)} → IsLeastWhere n holds c.first c.second x → AreSizesShown sizes n (restricted holds c.first) (restricted holds c.second) shown →
-      IsVerdictOf n sizes holds c (Differs c.role c.name x (c.first x) (c.second x) shown)
+-- difference there and the two values. Sizes, and the variables that are marked, are those of the functions where the condition holds. There is no verdict of another kind.
+pub data IsVerdictOf (n : ℕ) (asked : Asked) (holds : List Bool → Bool) (c : Compared) : Verdict → Type 0 where
+  where_equal : {shown : Option ℕ} → AgreeWhere n holds c.first c.second → IsSizeShown asked.sizes n (restricted holds c.first) shown → IsVerdictOf n asked holds c (Equal c.role c.name shown)
+  where_different : {x : List Bool} {shown : Extras} → IsLeastWhere n holds c.first c.second x → AreExtrasShown asked n (restricted holds c.first) (restricted holds c.second) shown →
+      IsVerdictOf n asked holds c (Differs c.role c.name x (c.first x) (c.second x) shown)
 
 -- the function of each of the two signals, over the variables of the pairing
 pub record AreFunctions (a b : Circuit) (p : Paired) (subject : Subject) (c : Compared) : Type 0 where
@@ -74,27 +87,27 @@ lone_verdicts a b p = lone_side First a p.outputs.only_first p.registers.only_fi
 -- a verdict calls its two functions equal
 abbrev pub CallsEqual : Verdict → Type 0
 CallsEqual (Equal role name size) = Unit {0}
-CallsEqual (Differs role name at first second sizes) = ⊥
+CallsEqual (Differs role name at first second extras) = ⊥
 CallsEqual (Lone side role name) = ⊥
 CallsEqual (Undecided role name) = ⊥
 
 -- What a comparison finds of two netlists that are paired: a verdict for each pair of outputs, then for the next states of each pair of
 -- registers, then for the outputs and registers without a partner. A condition has no verdicts of its own. The variables stand by level.
-pub record AreVerdicts (sizes : Bool) (a b : Circuit) (given : Option Circuit) (p : Paired) (found : Found) : Type 0 where
+pub record AreVerdicts (asked : Asked) (a b : Circuit) (given : Option Circuit) (p : Paired) (found : Found) : Type 0 where
   pub variables : found.variables ≡ p.names
   pub holds : List Bool → Bool
   pub condition : HoldsWhere given p holds
   pub compared : List Compared
   pub functions : AllZip (AreFunctions a b p) (subjects a b p) compared
   pub of_pairs : List Verdict
-  pub are_verdicts : AllZip (IsVerdictOf (length p.names) sizes holds) compared of_pairs
+  pub are_verdicts : AllZip (IsVerdictOf (length p.names) asked holds) compared of_pairs
   -- two outputs, or two next states, are called equal exactly where their functions agree wherever the condition holds
   pub called_equal : AllZip (λ c v. CallsEqual v ↔ AgreeWhere (length p.names) holds c.first c.second) compared of_pairs
   pub all : found.verdicts ≡ of_pairs ++ lone_verdicts a b p
 
 -- The report of two netlists that are paired, in some form: the text of what a comparison finds, and its counts.
-pub record IsReport (form : Found → List ℕ) (sizes : Bool) (a b : Circuit) (given : Option Circuit) (p : Paired) (o : Outcome) (bytes : List ℕ) : Type 0 where
+pub record IsReport (form : Found → List ℕ) (asked : Asked) (a b : Circuit) (given : Option Circuit) (p : Paired) (o : Outcome) (bytes : List ℕ) : Type 0 where
   pub found : Found
-  pub verdicts : AreVerdicts sizes a b given p found
+  pub verdicts : AreVerdicts asked a b given p found
   pub counts : o ≡ counted found.verdicts
   pub text : bytes ≡ form found

@@ -1,5 +1,5 @@
 -- What is found of a pair by its cones, told over all variables of its pairing.
-use Rattle.std.specs.Prelude.{◌≡◌, ◌<◌, ℕ, Bool, false, List, fold, map, length, replicate, zip, Option, None, IfSome, slice_index, slice_set, All}
+use Rattle.std.specs.Prelude.{◌≡◌, ◌<◌, ℕ, Bool, false, List, fold, map, length, replicate, zip, Option, Some, None, IfSome, slice_index, slice_set, All}
 use Rattle.net_bench.specs.Circuit.{Circuit, Net, IsNet, circuit}
 use Rattle.net_cone.specs.Cones.{variable_name}
 use Rattle.net_order.specs.declared.order.Match.TheVariants.{Name}
@@ -29,10 +29,15 @@ spread n places x = fold with_bit (replicate n false) (zip places x)
 
 -- ---- verdicts
 
+-- marks over the variables at the places over all n of them, where there are some
+abbrev pub spread_marks : (n : ℕ) → (places : List ℕ) → Option (List Bool) → Option (List Bool)
+spread_marks n places None = None
+spread_marks n places (Some marks) = Some (spread n places marks)
+
 -- A verdict over the variables at the places as the verdict of this role and name over all n of them. Sizes are not told.
 abbrev pub widened_verdict : Role → (name : List ℕ) → (n : ℕ) → (places : List ℕ) → Verdict → Verdict
 widened_verdict role name n places (Equal own_role own_name size) = Equal role name None
-widened_verdict role name n places (Differs own_role own_name x first second sizes) = Differs role name (spread n places x) first second None
+widened_verdict role name n places (Differs own_role own_name x first second extras) = Differs role name (spread n places x) first second (record { support = spread_marks n places extras.support; sizes = None })
 widened_verdict role name n places (Lone side own_role own_name) = Lone side role name
 widened_verdict role name n places (Undecided own_role own_name) = Undecided role name
 

@@ -20,6 +20,7 @@ use Rattle.check_report.specs.declared.task.Task.{Task}
 use Rattle.check_report.specs.declared.trials.Trial.{Trial}
 use Rattle.check_report.specs.Best.{AllBefore, IsBudget, first_budget, order_of}
 use Rattle.check_report.specs.Limits.{FitsWithin, Exceeds}
+use Rattle.check_report.specs.Asking.{asked_in}
 use Rattle.check_report.specs.Report.{AreVerdicts}
 use Rattle.check_report.specs.Widths.{IsTooWide}
 
@@ -64,7 +65,7 @@ told_in (Some d) p = d.now
 pub record IsDecided {H : Type 0} (task : Task H) (declared : Option (Bor Paired)) (budget : ℕ) (t : Trial) (verdicts : List Verdict) : Type 0 where
   pub paired : IsTrial task t
   pub within : FitsWithin budget (circuit task.first.now) (circuit task.second.now) (condition task.given) t.pairing
-  pub verdicts_of : AreVerdicts task.settings.now.sizes (circuit task.first.now) (circuit task.second.now) (condition task.given) (told_in declared t.pairing)
+  pub verdicts_of : AreVerdicts (asked_in task.settings.now) (circuit task.first.now) (circuit task.second.now) (condition task.given) (told_in declared t.pairing)
       (record { variables = (told_in declared t.pairing).names; verdicts = verdicts })
 
 -- the nodes that a pairing needs are more

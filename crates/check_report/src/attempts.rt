@@ -4,6 +4,7 @@ ghost use Rattle.expand_work.specs.Bounds.{most_of};
 ghost use Rattle.net_bench.specs.Circuit.{circuit};
 ghost use Rattle.net_order.specs.declared.order.Order.{Order as OrderValue};
 ghost use Rattle.net_order.specs.Order.{condition};
+ghost use Rattle.check_report.specs.Asking.{asked_in};
 ghost use Rattle.check_report.specs.declared.choice.Candidate.{Candidate as CandidateValue};
 ghost use Rattle.check_report.specs.Best.{IsBudget, order_of};
 ghost use Rattle.check_report.specs.Check.{IsCheckFault, IsLate};
@@ -79,7 +80,7 @@ fn verdicts_by<H: Threads + Wait + Sync, G: Gate>(
     requires small { limit < 2 ^ 32 }
     requires telling { IsTelling task.now declared }
     requires paired { (order : OrderValue) × IsPairingIn task.now order pairing.now }
-    ensures ok { IfOk result (λ v. AreVerdicts task.now.settings.now.sizes (circuit task.now.first.now) (circuit task.now.second.now) (condition task.now.given) (told_in declared.entry pairing.now)
+    ensures ok { IfOk result (λ v. AreVerdicts (asked_in task.now.settings.now) (circuit task.now.first.now) (circuit task.now.second.now) (condition task.now.given) (told_in declared.entry pairing.now)
         (record { variables = (told_in declared.entry pairing.now).names; verdicts = v.items })) }
     ensures err { IfErr result IsLate }
     ensures within { OnOk result (FitsWithin limit (circuit task.now.first.now) (circuit task.now.second.now) (condition task.now.given) pairing.now) }

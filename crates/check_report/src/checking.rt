@@ -6,8 +6,9 @@ ghost use Rattle.net_order.specs.Order.{condition};
 ghost use Rattle.gate_plan.specs.Building.{IsPaired};
 ghost use Rattle.check_report.specs.Arranging.{ArePairings};
 ghost use Rattle.check_report.specs.Report.{AreVerdicts};
+ghost use Rattle.check_report.specs.Asking.{asked_in};
 ghost use Rattle.check_report.specs.Check.{IsLate};
-ghost use Rattle.check_report.specs.Comparing.{AreCompared, IsTelling, as_built, as_told, tells_sizes};
+ghost use Rattle.check_report.specs.Comparing.{AreCompared, IsTelling, as_built, as_told, asked_of};
 ghost use Rattle.check_report.specs.Limits.{FitsWithin, Exceeds};
 ghost use Rattle.check_report.specs.Widths.{IsTooWide};
 
@@ -16,7 +17,7 @@ use crate::compare::{Comparison, verdicts_of};
 use crate::compared::{Shown, shown_of};
 use crate::fault::CheckFault;
 use crate::task::Task;
-use crate::telling::Telling;
+use crate::telling::{Telling, asked_in, asks_support};
 use dd_store::Store;
 use expand_work::{Crew, Gate, WaveFault, Workers};
 use gate_plan::{Circuits, build};
@@ -79,7 +80,7 @@ fn verdicts_in<H>(
 ) -> Result<Vec<Verdict>, CheckFault>
     requires compared { AreCompared (as_told telling) (circuit task.now.first.now) (circuit task.now.second.now) (condition task.now.given) pairing.now store.now shown.now.subjects.items shown.now.references.items }
     requires order { IsTelling store.now.levels telling }
-    ensures ok { IfOk result (λ v. AreVerdicts (tells_sizes telling.entry) (circuit task.now.first.now) (circuit task.now.second.now) (condition task.now.given) pairing.now (record { variables = pairing.now.names; verdicts = v.items })) }
+    ensures ok { IfOk result (λ v. AreVerdicts (asked_of telling.entry) (circuit task.now.first.now) (circuit task.now.second.now) (condition task.now.given) pairing.now (record { variables = pairing.now.names; verdicts = v.items })) }
     ensures err { IfErr result IsLate }
     ensures unbuilt { result ≢ Err (CheckFault.Wave WaveFault.Full) }
     ensures unbounded { result ≢ Err (CheckFault.Wave WaveFault.TooManyRequests) }
@@ -110,7 +111,7 @@ pub fn compare<H: Threads + Wait + Sync, G: Gate>(
 ) -> Result<Vec<Verdict>, CheckFault>
     requires paired { IsPaired (circuit task.now.first.now) (circuit task.now.second.now) (condition task.now.given) pairing.now }
     requires small { limit < 2 ^ 32 }
-    ensures ok { IfOk result (λ v. AreVerdicts task.now.settings.now.sizes (circuit task.now.first.now) (circuit task.now.second.now) (condition task.now.given) pairing.now (record { variables = pairing.now.names; verdicts = v.items })) }
+    ensures ok { IfOk result (λ v. AreVerdicts (asked_in task.now.settings.now) (circuit task.now.first.now) (circuit task.now.second.now) (condition task.now.given) pairing.now (record { variables = pairing.now.names; verdicts = v.items })) }
     ensures err { IfErr result IsLate }
     ensures within { OnOk result (FitsWithin limit (circuit task.now.first.now) (circuit task.now.second.now) (condition task.now.given) pairing.now) }
     ensures full { result ≡ Err (CheckFault.Wave WaveFault.Full) → Exceeds limit (circuit task.now.first.now) (circuit task.now.second.now) (condition task.now.given) pairing.now }
@@ -118,8 +119,8 @@ pub fn compare<H: Threads + Wait + Sync, G: Gate>(
     ensures alone { most_of (G.bound gate.now) < 2 ^ 64 - 1 → result ≢ Err (CheckFault.Wave WaveFault.NoWorker) }
 {
     let (store, shown) = built_within(task, pairing, limit, gate)?;
-    let sizes = task.settings.sizes;
-    verdicts_in(task, pairing, Telling::ByLevel { sizes }, &store, &shown)
+    let asked = asked_in(task.settings);
+    verdicts_in(task, pairing, Telling::ByLevel { asked }, &store, &shown)
 }
 
 /// What a comparison of two netlists finds, within so many nodes, told over the variables of another pairing of them than that by which
@@ -134,7 +135,7 @@ pub fn compare_as_declared<H: Threads + Wait + Sync, G: Gate>(
     requires paired { ArePairings task.now.settings.now.matching (circuit task.now.first.now) (circuit task.now.second.now) (condition task.now.given) pairing.now declared.now }
     requires no_sizes { task.now.settings.now.sizes ≡ false }
     requires small { limit < 2 ^ 32 }
-    ensures ok { IfOk result (λ v. AreVerdicts false (circuit task.now.first.now) (circuit task.now.second.now) (condition task.now.given) declared.now (record { variables = declared.now.names; verdicts = v.items })) }
+    ensures ok { IfOk result (λ v. AreVerdicts (asked_in task.now.settings.now) (circuit task.now.first.now) (circuit task.now.second.now) (condition task.now.given) declared.now (record { variables = declared.now.names; verdicts = v.items })) }
     ensures err { IfErr result IsLate }
     ensures within { OnOk result (FitsWithin limit (circuit task.now.first.now) (circuit task.now.second.now) (condition task.now.given) pairing.now) }
     ensures full { result ≡ Err (CheckFault.Wave WaveFault.Full) → Exceeds limit (circuit task.now.first.now) (circuit task.now.second.now) (condition task.now.given) pairing.now }
@@ -145,6 +146,9 @@ pub fn compare_as_declared<H: Threads + Wait + Sync, G: Gate>(
     let Ok(order) = arrangement(task.alloc, pairing, declared) else {
         return Err(CheckFault::OutOfMemory);
     };
-    let order = order.as_slice();
-    verdicts_in(task, declared, Telling::Arranged { order }, &store, &shown)
+    let telling = Telling::Arranged {
+        order: order.as_slice(),
+        support: asks_support(task.settings.assignment),
+    };
+    verdicts_in(task, declared, telling, &store, &shown)
 }

@@ -1,23 +1,25 @@
 //! The comparison of two netlists whose diagrams stand in one store: a verdict for each line of the report.
 ghost use Rattle.std.specs.Prelude.{◌≡◌, ◌++◌, ◌+◌, ◌<◌, false, length, map, All, OnOk, IfOk};
 ghost use Rattle.counter_walk.specs.Arranged.{IsOrder, by_declared};
+ghost use Rattle.counter_walk.specs.Support.{AreLevelsOf};
 ghost use Rattle.net_bench.specs.Circuit.{circuit};
 ghost use Rattle.net_order.specs.Order.{condition, name_of, names_of};
 ghost use Rattle.dd_store.specs.Nodes.{den};
 ghost use Rattle.dd_store.specs.View.{Has};
 ghost use Rattle.gate_plan.specs.Building.{reference_of};
 ghost use Rattle.check_report.specs.Conditions.{everywhere};
-ghost use Rattle.check_report.specs.Report.{IsSizeShown, AreSizesShown, IsVerdictOf, AreVerdicts, lone_side};
-ghost use Rattle.check_report.specs.Comparing.{AreCompared, AreSignals, HaveAllVerdicts, IsTelling, as_built, as_told, compared_of, subject_at, tells_sizes};
+ghost use Rattle.check_report.specs.Report.{IsSizeShown, IsSupportShown, AreExtrasShown, AreSizesShown, IsVerdictOf, AreVerdicts, lone_side};
+ghost use Rattle.check_report.specs.Comparing.{AreCompared, AreSignals, HaveAllVerdicts, IsTelling, as_built, as_told, compared_of, subject_at, asked_of};
 
+use crate::spreading::spread_bits;
 use crate::subject::Subject;
-use crate::telling::Telling;
-use counter_walk::{by_level, least_declared, least_difference, value};
+use crate::telling::{Asked, Telling};
+use counter_walk::{by_level, least_declared, least_difference, support_of, value};
 use dd_store::{Ref, Store};
 use net_bench::netlist::Signal;
 use net_bench::reader::Netlist;
 use net_order::pairing::Pairing;
-use report_text::{Bits, Name, Role, Side, Verdict};
+use report_text::{Bits, Extras, Name, Role, Side, Verdict};
 use std::alloc::{AllocError, Global};
 
 /// Two netlists, how they are paired, what is compared of them, the diagrams of this, the first netlist's of each and then the second's,
@@ -76,16 +78,111 @@ fn sizes_of(
     }
 }
 
+/// The variables on which one of two diagrams depends, by level, where they are asked for.
+fn support_in(
+    alloc: Global,
+    store: &Store,
+    first: Ref,
+    second: Ref,
+    asked: bool,
+) -> Result<Option<Bits>, AllocError>
+    requires first_known { Has store.now first }
+    requires second_known { Has store.now second }
+    ensures { IfOk result (λ shown. IsSupportShown asked store.now.levels (den store.now first) (den store.now second) shown) }
+{
+    if asked {
+        let levels = support_of(alloc, store, first, second)?;
+        Ok(Some(Bits::of(levels)))
+    } else {
+        Ok(None)
+    }
+}
+
+/// What is told of two diagrams besides.
+fn extras_of(
+    alloc: Global,
+    store: &Store,
+    first: Ref,
+    second: Ref,
+    asked: Asked,
+) -> Result<Extras, AllocError>
+    requires first_known { Has store.now first }
+    requires second_known { Has store.now second }
+    ensures { IfOk result (AreExtrasShown asked store.now.levels (den store.now first) (den store.now second)) }
+{
+    let sizes = sizes_of(store, first, second, asked.sizes)?;
+    let support = support_in(alloc, store, first, second, asked.support)?;
+    Ok(Extras { support, sizes })
+}
+
+/// The variables on which one of two diagrams depends, in another order.
+fn arranged_support(
+    alloc: Global,
+    store: &Store,
+    of: &Diagrams<'_>,
+    order: &[u16],
+) -> Result<Bits, AllocError>
+    requires first_known { Has store.now of.now.first }
+    requires second_known { Has store.now of.now.second }
+    requires order { IsOrder store.now.levels order.now }
+    ensures { IfOk result (AreLevelsOf store.now.levels (by_declared order.now (den store.now of.now.first)) (by_declared order.now (den store.now of.now.second))) }
+{
+    let levels = support_of(alloc, store, of.first, of.second)?;
+    let declared = spread_bits(alloc, levels.as_slice(), order.len(), order)?;
+    Ok(Bits::of(declared))
+}
+
+/// The same where they are asked for.
+fn arranged_support_in(
+    alloc: Global,
+    store: &Store,
+    of: &Diagrams<'_>,
+    order: &[u16],
+    asked: bool,
+) -> Result<Option<Bits>, AllocError>
+    requires first_known { Has store.now of.now.first }
+    requires second_known { Has store.now of.now.second }
+    requires order { IsOrder store.now.levels order.now }
+    ensures { IfOk result (λ shown. IsSupportShown asked store.now.levels (by_declared order.now (den store.now of.now.first)) (by_declared order.now (den store.now of.now.second)) shown) }
+{
+    if asked {
+        let support = arranged_support(alloc, store, of, order)?;
+        Ok(Some(support))
+    } else {
+        Ok(None)
+    }
+}
+
+/// What is told of two diagrams besides, in another order of the variables, without sizes.
+fn arranged_extras(
+    alloc: Global,
+    store: &Store,
+    of: &Diagrams<'_>,
+    order: &[u16],
+    asked: bool,
+) -> Result<Extras, AllocError>
+    requires first_known { Has store.now of.now.first }
+    requires second_known { Has store.now of.now.second }
+    requires order { IsOrder store.now.levels order.now }
+    ensures { IfOk result (AreExtrasShown (record { sizes = false; support = asked }) store.now.levels (by_declared order.now (den store.now of.now.first)) (by_declared order.now (den store.now of.now.second))) }
+{
+    let support = arranged_support_in(alloc, store, of, order, asked)?;
+    Ok(Extras {
+        support,
+        sizes: None,
+    })
+}
+
 /// The verdict of two functions, over the variables by level.
 fn verdict_of(
     alloc: Global,
     store: &Store,
     of: &Diagrams<'_>,
-    sizes: bool,
+    asked: Asked,
 ) -> Result<Verdict, AllocError>
     requires first_known { Has store.now of.now.first }
     requires second_known { Has store.now of.now.second }
-    ensures { IfOk result (λ v. IsVerdictOf store.now.levels sizes everywhere (compared_of as_built store.now of.now.role of.now.name.now of.now.first of.now.second) v) }
+    ensures { IfOk result (λ v. IsVerdictOf store.now.levels asked everywhere (compared_of as_built store.now of.now.role of.now.name.now of.now.first of.now.second) v) }
 {
     let role = of.role;
     let name = Name::copied(alloc, of.name)?;
@@ -93,11 +190,11 @@ fn verdict_of(
     let second = of.second;
     match least_difference(alloc, store, first, second)? {
         None => {
-            let size = size_of(store, first, sizes)?;
+            let size = size_of(store, first, asked.sizes)?;
             Ok(Verdict::Equal { role, name, size })
         }
         Some(bits) => {
-            let sizes = sizes_of(store, first, second, sizes)?;
+            let extras = extras_of(alloc, store, first, second, asked)?;
             let first = value(store, first, bits.as_slice());
             let second = value(store, second, bits.as_slice());
             Ok(Verdict::Differs {
@@ -106,7 +203,7 @@ fn verdict_of(
                 at: Bits::of(bits),
                 first,
                 second,
-                sizes,
+                extras,
             })
         }
     }
@@ -118,11 +215,12 @@ fn arranged_verdict(
     store: &Store,
     of: &Diagrams<'_>,
     order: &[u16],
+    support: bool,
 ) -> Result<Verdict, AllocError>
     requires first_known { Has store.now of.now.first }
     requires second_known { Has store.now of.now.second }
     requires order { IsOrder store.now.levels order.now }
-    ensures { IfOk result (λ v. IsVerdictOf store.now.levels false everywhere (compared_of (by_declared order.now) store.now of.now.role of.now.name.now of.now.first of.now.second) v) }
+    ensures { IfOk result (λ v. IsVerdictOf store.now.levels (record { sizes = false; support = support }) everywhere (compared_of (by_declared order.now) store.now of.now.role of.now.name.now of.now.first of.now.second) v) }
 {
     let role = of.role;
     let name = Name::copied(alloc, of.name)?;
@@ -135,6 +233,7 @@ fn arranged_verdict(
             size: None,
         }),
         Some(bits) => {
+            let extras = arranged_extras(alloc, store, of, order, support)?;
             let levels = by_level(alloc, bits.as_slice(), order)?;
             let first = value(store, first, levels.as_slice());
             let second = value(store, second, levels.as_slice());
@@ -144,7 +243,7 @@ fn arranged_verdict(
                 at: Bits::of(bits),
                 first,
                 second,
-                sizes: None,
+                extras,
             })
         }
     }
@@ -160,11 +259,13 @@ fn told_verdict(
     requires first_known { Has store.now of.now.first }
     requires second_known { Has store.now of.now.second }
     requires order { IsTelling store.now.levels telling.now }
-    ensures { IfOk result (λ v. IsVerdictOf store.now.levels (tells_sizes telling.now) everywhere (compared_of (as_told telling.now) store.now of.now.role of.now.name.now of.now.first of.now.second) v) }
+    ensures { IfOk result (λ v. IsVerdictOf store.now.levels (asked_of telling.now) everywhere (compared_of (as_told telling.now) store.now of.now.role of.now.name.now of.now.first of.now.second) v) }
 {
     match telling {
-        Telling::ByLevel { sizes } => verdict_of(alloc, store, of, *sizes),
-        Telling::Arranged { order } => arranged_verdict(alloc, store, of, order),
+        Telling::ByLevel { asked } => verdict_of(alloc, store, of, *asked),
+        Telling::Arranged { order, support } => {
+            arranged_verdict(alloc, store, of, order, *support)
+        }
     }
 }
 
@@ -191,7 +292,7 @@ fn diagrams_of<'a>(of: &Comparison<'a>, place: usize) -> Diagrams<'a>
 fn verdicts_of_pairs(alloc: Global, of: &Comparison<'_>) -> Result<Vec<Verdict>, AllocError>
     requires compared { AreCompared (as_told of.now.telling) (circuit of.now.first.now) (circuit of.now.second.now) (condition of.now.given) of.now.pairing.now of.now.store.now of.now.subjects.now of.now.references.now }
     requires order { IsTelling of.now.store.now.levels of.now.telling }
-    ensures { IfOk result (λ v. HaveAllVerdicts (tells_sizes of.now.telling) (circuit of.now.first.now) (circuit of.now.second.now) (condition of.now.given) of.now.pairing.now v.items) }
+    ensures { IfOk result (λ v. HaveAllVerdicts (asked_of of.now.telling) (circuit of.now.first.now) (circuit of.now.second.now) (condition of.now.given) of.now.pairing.now v.items) }
 {
     let mut verdicts = Vec::new(alloc);
     for i in 0..of.subjects.len() {
@@ -273,7 +374,7 @@ pub fn add_second_lone(
 pub fn verdicts_of(alloc: Global, of: &Comparison<'_>) -> Result<Vec<Verdict>, AllocError>
     requires compared { AreCompared (as_told of.now.telling) (circuit of.now.first.now) (circuit of.now.second.now) (condition of.now.given) of.now.pairing.now of.now.store.now of.now.subjects.now of.now.references.now }
     requires order { IsTelling of.now.store.now.levels of.now.telling }
-    ensures { IfOk result (λ v. AreVerdicts (tells_sizes of.now.telling) (circuit of.now.first.now) (circuit of.now.second.now) (condition of.now.given) of.now.pairing.now (record { variables = of.now.pairing.now.names; verdicts = v.items })) }
+    ensures { IfOk result (λ v. AreVerdicts (asked_of of.now.telling) (circuit of.now.first.now) (circuit of.now.second.now) (condition of.now.given) of.now.pairing.now (record { variables = of.now.pairing.now.names; verdicts = v.items })) }
 {
     let mut verdicts = verdicts_of_pairs(alloc, of)?;
     add_first_lone(alloc, &mut verdicts, of.first, of.pairing)?;

@@ -5,6 +5,7 @@ ghost use Rattle.net_bench.specs.Circuit.{circuit};
 ghost use Rattle.net_order.specs.declared.order.Match.TheVariants.{Name as ByName};
 ghost use Rattle.net_order.specs.declared.order.Order.TheVariants.{Declared};
 ghost use Rattle.net_order.specs.Order.{condition};
+ghost use Rattle.check_report.specs.Asking.{unsized};
 ghost use Rattle.check_report.specs.Comparing.{IsInside};
 ghost use Rattle.check_report.specs.Cones.{IsConditionCone, IsLeft, IsTold};
 ghost use Rattle.check_report.specs.Coning.{EndsCones, EndsPairs, IsOf, IsReady, IsToldByCones, IsToldOut, all_told, circuit_in, told_of};
@@ -36,6 +37,7 @@ use std::thread::Threads;
 fn alone(alloc: Global, settings: &Settings) -> Settings
     ensures matching { result.matching ≡ ByName }
     ensures no_sizes { result.sizes ≡ false }
+    ensures assignment { result.assignment ≡ settings.now.assignment }
 {
     Settings {
         matching: Match::Name,
@@ -46,7 +48,7 @@ fn alone(alloc: Global, settings: &Settings) -> Settings
         sizes: false,
         json: false,
         explain: Vec::new(alloc),
-        assignment: None,
+        assignment: settings.assignment,
     }
 }
 
@@ -146,7 +148,7 @@ fn judge_picks<H: Threads + Wait + Sync, G: Gate>(
 ) -> Result<Vec<Verdict>, CheckFault>
     requires pairing { IsPairingIn task.now Declared pairing.now }
     requires inside { All (IsInside (circuit task.now.first.now) (circuit task.now.second.now)) subjects.now }
-    ensures told { IfOk result (λ v. AllZip (IsTold (IsLeft task.now.settings.now.limit (G.bound gate.now) (circuit task.now.first.now) (circuit task.now.second.now) (condition task.now.given) pairing.now)
+    ensures told { IfOk result (λ v. AllZip (IsTold (unsized task.now.settings.now.assignment) (IsLeft task.now.settings.now.limit (G.bound gate.now) (circuit task.now.first.now) (circuit task.now.second.now) (condition task.now.given) pairing.now)
         (circuit task.now.first.now) (circuit task.now.second.now) (condition task.now.given) pairing.now) subjects.now v.items) }
     ensures ends { IfErr result EndsPairs }
 {

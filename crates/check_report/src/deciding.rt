@@ -5,6 +5,7 @@ ghost use Rattle.net_order.specs.declared.order.Order.{Order as OrderValue};
 ghost use Rattle.net_order.specs.declared.order.Order.TheVariants as orders;
 ghost use Rattle.check_report.specs.declared.choice.Candidate.{Candidate as CandidateValue};
 ghost use Rattle.check_report.specs.declared.choice.Choice.{Choice as ChoiceValue};
+ghost use Rattle.check_report.specs.Asking.{asked_in};
 ghost use Rattle.check_report.specs.Best.{AreGivenUp, AreTried, IsAllowed, IsChosen, IsGivenUpWithin, MayGoByCones, NamesOrder, last_budget, order_of, whole_limit};
 ghost use Rattle.check_report.specs.Check.{IsJudged, IsCheckFault};
 ghost use Rattle.check_report.specs.Coning.{EndsAuto};
@@ -39,7 +40,7 @@ fn by_order<H: Threads + Wait + Sync, G: Gate>(
     gate: &G,
 ) -> Result<(Verdicts, Option<Attempt>), CheckFault>
     ensures chosen { OfTask task.now (λ told s.
-        IfOk result (λ r. (o : OrderValue) × IsJudged told s.matching o s.sizes r.0
+        IfOk result (λ r. (o : OrderValue) × IsJudged told s.matching o (asked_in s) r.0
         × IsChosen told s.matching (Choice.One order.now) s.limit r.1 o)) }
     ensures full { OfTask task.now (λ told s.
         result ≡ Err (CheckFault.Wave WaveFault.Full) → (o : OrderValue) → IsAllowed (Choice.One order.now) o → AreBeyond told s.matching o s.limit) }
@@ -66,7 +67,7 @@ pub fn find_best<H: Threads + Wait + Sync, G: Gate>(
     task: &Task<'_, H>,
     gate: &G,
 ) -> Result<(Verdicts, Attempt), CheckFault>
-    ensures judged { OfTask task.now (λ told s. IfOk result (λ r. IsJudged told s.matching (order_of r.1.order) s.sizes r.0)) }
+    ensures judged { OfTask task.now (λ told s. IfOk result (λ r. IsJudged told s.matching (order_of r.1.order) (asked_in s) r.0)) }
     ensures chosen { OfTask task.now (λ told s.
         IfOk result (λ r. IsChosen told s.matching Choice.Best s.limit (Some r.1) (order_of r.1.order))) }
     ensures full { OfTask task.now (λ told s.
@@ -190,7 +191,7 @@ fn by_best<H: Threads + Wait + Sync, G: Gate>(
     gate: &G,
 ) -> Result<(Verdicts, Option<Attempt>), CheckFault>
     ensures chosen { OfTask task.now (λ told s.
-        IfOk result (λ r. (o : OrderValue) × IsJudged told s.matching o s.sizes r.0
+        IfOk result (λ r. (o : OrderValue) × IsJudged told s.matching o (asked_in s) r.0
         × IsChosen told s.matching Choice.Best s.limit r.1 o)) }
     ensures full { OfTask task.now (λ told s.
         result ≡ Err (CheckFault.Wave WaveFault.Full) → (o : OrderValue) → IsAllowed Choice.Best o → AreBeyond told s.matching o s.limit) }

@@ -6,6 +6,7 @@ ghost use Rattle.net_order.specs.declared.order.Order.{Order};
 ghost use Rattle.net_order.specs.Order.{Paired, IsPairing};
 ghost use Rattle.dd_store.specs.Functions.{Agree, IsLeastDifference};
 ghost use Rattle.report_text.specs.declared.outcome.Outcome.{Outcome};
+ghost use Rattle.check_report.specs.declared.telling.Asked.{Asked};
 ghost use Rattle.check_report.specs.Conditions.{HasOneOutput, HoldsWhere, restricted, AgreeWhere, IsLeastWhere};
 ghost use Rattle.check_report.specs.declared.subject.Subject.{Subject};
 ghost use Rattle.check_report.specs.Picking.{AreShares};
@@ -18,13 +19,13 @@ pub fn limits()
     ensures { (limit : ℕ) (a b : Circuit) (given : Option Circuit) (p : Paired) → FitsWithin limit a b given p → Exceeds limit a b given p → ⊥ }
 {}
 
-/// Two netlists, with a condition or without, have one report for a form, a matching, an order and a wish for sizes: its counts and its
+/// Two netlists, with a condition or without, have one report for a form, a matching, an order and a wish for sizes and for the variables that count: its counts and its
 /// bytes are determined.
 pub fn one_report()
     ensures { (one two : Net) (given : Option Net) → IsNet one → IsNet two → IfSome given (λ net. IsNet net × HasOneOutput (circuit net)) → (how : Match) (order : Order) (p q : Paired) →
         IsPairing how (circuit one) (circuit two) (option_map circuit given) order p → IsPairing how (circuit one) (circuit two) (option_map circuit given) order q →
-        (form : Found → List ℕ) (sizes : Bool) (o more : Outcome) (bytes text : List ℕ) → IsReport form sizes (circuit one) (circuit two) (option_map circuit given) p o bytes →
-        IsReport form sizes (circuit one) (circuit two) (option_map circuit given) q more text → (o ≡ more) × (bytes ≡ text) }
+        (form : Found → List ℕ) (asked : Asked) (o more : Outcome) (bytes text : List ℕ) → IsReport form asked (circuit one) (circuit two) (option_map circuit given) p o bytes →
+        IsReport form asked (circuit one) (circuit two) (option_map circuit given) q more text → (o ≡ more) × (bytes ≡ text) }
 {}
 
 /// Without a condition the report speaks of all assignments.

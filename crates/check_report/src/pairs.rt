@@ -5,6 +5,7 @@ ghost use Rattle.net_order.specs.declared.order.Order.{Order as OrderValue};
 ghost use Rattle.net_order.specs.Order.{condition};
 ghost use Rattle.report_text.specs.Lines.{Found};
 ghost use Rattle.check_report.specs.declared.choice.Candidate.{Candidate as CandidateValue};
+ghost use Rattle.check_report.specs.Asking.{asked_in};
 ghost use Rattle.check_report.specs.Coning.{AreConesOf, EndsPairs, IsConeTask, IsEndedIn, IsOf, IsReady, IsWidened};
 ghost use Rattle.check_report.specs.Report.{AreVerdicts};
 ghost use Rattle.check_report.specs.Trials.{EndsAtOnce, IsPairingIn, IsPassed};
@@ -41,8 +42,8 @@ fn try_cones<H: Threads + Wait + Sync, G: Gate>(
     requires small { budget < 2 ^ 32 }
     requires paired { (order : OrderValue) × IsPairingIn task.now order pairing.now }
     requires no_sizes { task.now.settings.now.sizes ≡ false }
-    requires one { (found : Found) → AreVerdicts false (circuit task.now.first.now) (circuit task.now.second.now) (condition task.now.given) pairing.now found → length found.verdicts ≡ 1 }
-    ensures decided { IfOk result (λ o. IfSome o (λ v. AreVerdicts false (circuit task.now.first.now) (circuit task.now.second.now) (condition task.now.given) pairing.now
+    requires one { (found : Found) → AreVerdicts (asked_in task.now.settings.now) (circuit task.now.first.now) (circuit task.now.second.now) (condition task.now.given) pairing.now found → length found.verdicts ≡ 1 }
+    ensures decided { IfOk result (λ o. IfSome o (λ v. AreVerdicts (asked_in task.now.settings.now) (circuit task.now.first.now) (circuit task.now.second.now) (condition task.now.given) pairing.now
         (record { variables = pairing.now.names; verdicts = v ∷ [] }))) }
     ensures left { result ≡ Ok None → (c : CandidateValue) → IsPassed task.now budget (G.bound gate.now) c }
     ensures ends { IfErr result EndsAtOnce }

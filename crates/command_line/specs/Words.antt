@@ -14,7 +14,7 @@ use Rattle.clap.specs.declared.parser.matches.ValueSource.TheVariants.{CommandLi
 use Rattle.net_order.specs.declared.order.Match.{Match}
 use Rattle.net_order.specs.declared.order.Match.TheVariants.{Name, Position}
 use Rattle.report_text.specs.declared.assignment.Assignment.{Assignment}
-use Rattle.report_text.specs.declared.assignment.Assignment.TheVariants.{All as AllVariables, Ones}
+use Rattle.report_text.specs.declared.assignment.Assignment.TheVariants.{All as AllVariables, Support, Ones}
 use Rattle.report_text.specs.declared.outcome.Share.{Share}
 use Rattle.command_line.specs.declared.options.Options.{Options}
 use Rattle.command_line.specs.declared.options.OrderChoice.{OrderChoice}
@@ -106,7 +106,7 @@ abbrev pub TakesFormats : Option ValueParser → Type 0
 TakesFormats = TakesOnly (codes "text" ∷ codes "json" ∷ [])
 
 abbrev pub TakesAssignments : Option ValueParser → Type 0
-TakesAssignments = TakesOnly (codes "all" ∷ codes "ones" ∷ [])
+TakesAssignments = TakesOnly (codes "all" ∷ codes "support" ∷ codes "ones" ∷ [])
 
 -- The command with its arguments. The parsers of four lists of words are named apart.
 abbrev pub tool_app : (matching order format assignment : Option ValueParser) → App
@@ -256,7 +256,8 @@ IsForm None json = json ≡ false
 -- which variables of an assignment are told: those of the word, where there is one
 abbrev pub IsAssignment : Option (List ℕ) → Option Assignment → Type 0
 IsAssignment (Some word) (Some Ones) = bytes_eq word (codes "ones") ≡ true
-IsAssignment (Some word) (Some AllVariables) = bytes_eq word (codes "ones") ≡ false
+IsAssignment (Some word) (Some Support) = bytes_eq word (codes "support") ≡ true
+IsAssignment (Some word) (Some AllVariables) = (bytes_eq word (codes "ones") ≡ false) × (bytes_eq word (codes "support") ≡ false)
 IsAssignment (Some word) None = ⊥
 IsAssignment None which = which ≡ None
 

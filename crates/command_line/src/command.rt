@@ -21,7 +21,7 @@ static ORDERS: [&str; 8] = [
 
 static FORMATS: [&str; 2] = ["text", "json"];
 
-static ASSIGNMENTS: [&str; 2] = ["all", "ones"];
+static ASSIGNMENTS: [&str; 3] = ["all", "support", "ones"];
 
 static ABOUT: &str =
     "Decides for each pair of outputs and of registers of two bench netlists whether both compute the same Boolean function";
@@ -219,7 +219,7 @@ fn assignment<'a>(alloc: Global) -> Arg<'a>
         .value_name("WHICH")
         .value_parser(ASSIGNMENTS.as_slice())
         .help(
-            "Tell all variables of an assignment, or only those that are 1; as JSON tell the numbers of buses too",
+            "Tell all variables of an assignment, only those on which one of the two functions depends, or only those that are 1; as JSON tell the numbers of buses too",
         )
 }
 

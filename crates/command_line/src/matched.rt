@@ -177,6 +177,7 @@ fn assignment_of(word: Option<&str>) -> Option<Assignment>
 {
     match word {
         Some("ones") => Some(Assignment::Ones),
+        Some("support") => Some(Assignment::Support),
         Some(_) => Some(Assignment::All),
         None => None,
     }

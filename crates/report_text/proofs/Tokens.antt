@@ -7,25 +7,25 @@ use Rattle.json.specs.Token.{Token, key, number, string}
 use Rattle.json.specs.Written.{Writes, Written}
 use Rattle.report_text.specs.declared.assignment.Assignment.{Assignment}
 use Rattle.report_text.specs.Json.{Adds, assignment_tokens, variable_tokens, names_tokens, shown, undecided_tokens}
-use Rattle.report_text.proofs.Wording.{there}
+use Rattle.report_text.proofs.Wording.{first_mark, other_marks, there}
 
 -- a variable with its bit, and then the rest
-pub assignment_next : (which : Option Assignment) (vs : List (List ℕ)) (bs : List Bool) (i : ℕ) (v : List ℕ) → i < length vs → i < length bs → slice_get vs i ≡ Some v →
-    assignment_tokens which (drop i vs) (drop i bs) ≡ variable_tokens which v (get_or bs i false) ++ assignment_tokens which (drop (i + 1) vs) (drop (i + 1) bs)
-assignment_next which vs bs i v lv lb ev = rw (add-one, drop-cons vs i v, drop-cons bs i false, there vs i v v ev) refl
+pub assignment_next : (which : Option Assignment) (vs : List (List ℕ)) (bs ms : List Bool) (i : ℕ) (v : List ℕ) (m : Bool) → i < length vs → i < length bs → slice_get vs i ≡ Some v → m ≡ get_or ms i true →
+    assignment_tokens which (drop i vs) (drop i bs) (drop i ms) ≡ variable_tokens which v (get_or bs i false) m ++ assignment_tokens which (drop (i + 1) vs) (drop (i + 1) bs) (drop (i + 1) ms)
+assignment_next which vs bs ms i v m lv lb ev em = rw (em, add-one, drop-cons vs i v, drop-cons bs i false, there vs i v v ev, first_mark ms i, other_marks ms i) refl
 
-no_bits : (which : Option Assignment) (vs : List (List ℕ)) → assignment_tokens which vs [] ≡ []
-no_bits which [] = refl
-no_bits which (v ∷ vs) = refl
+no_bits : (which : Option Assignment) (vs : List (List ℕ)) (ms : List Bool) → assignment_tokens which vs [] ms ≡ []
+no_bits which [] ms = refl
+no_bits which (v ∷ vs) ms = refl
 
 -- where the variables or the bits are over, nothing follows
-pub assignment_over : (which : Option Assignment) (vs : List (List ℕ)) (bs : List Bool) (i : ℕ) → min (length bs) (length vs) ≤ i → assignment_tokens which (drop i vs) (drop i bs) ≡ []
-assignment_over which [] bs zero le = refl
-assignment_over which [] bs (suc i) le = refl
-assignment_over which (v ∷ vs) [] zero le = refl
-assignment_over which (v ∷ vs) [] (suc i) le = no_bits which (drop i vs)
-assignment_over which (v ∷ vs) (b ∷ bs) zero le = absurd (omega (arith, le))
-assignment_over which (v ∷ vs) (b ∷ bs) (suc i) le = assignment_over which vs bs i (omega (arith, le))
+pub assignment_over : (which : Option Assignment) (vs : List (List ℕ)) (bs ms : List Bool) (i : ℕ) → min (length bs) (length vs) ≤ i → assignment_tokens which (drop i vs) (drop i bs) ms ≡ []
+assignment_over which [] bs ms zero le = refl
+assignment_over which [] bs ms (suc i) le = refl
+assignment_over which (v ∷ vs) [] ms zero le = refl
+assignment_over which (v ∷ vs) [] ms (suc i) le = no_bits which (drop i vs) ms
+assignment_over which (v ∷ vs) (b ∷ bs) ms zero le = absurd (omega (arith, le))
+assignment_over which (v ∷ vs) (b ∷ bs) ms (suc i) le = assignment_over which vs bs ms i (omega (arith, le))
 
 -- a variable, and then the rest
 pub names_next : (vs : List (List ℕ)) (i : ℕ) (v n : List ℕ) → i < length vs → slice_get vs i ≡ Some v → n ≡ shown v → names_tokens (drop i vs) ≡ (string n ∷ []) ++ names_tokens (drop (i + 1) vs)

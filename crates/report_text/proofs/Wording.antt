@@ -1,5 +1,5 @@
 -- The bytes of a report, part by part.
-use Rattle.std.proofs.Common.{◌≡◌, ◌∙◌, ap, sym, refl, ℕ, zero, suc, ◌+◌, ◌<◌, ◌≤◌, min, arith, Bool, false, List, [], ◌∷◌, ◌++◌, length, get_or, drop, append_assoc, add-one, drop-cons, Option, Some}
+use Rattle.std.proofs.Common.{◌≡◌, ◌∙◌, ap, sym, refl, ℕ, zero, suc, ◌+◌, ◌<◌, ◌≤◌, min, arith, Bool, true, false, List, [], ◌∷◌, ◌++◌, length, get_or, drop, append_assoc, add-one, drop-cons, Option, Some}
 use Rattle.std.specs.Prelude.{slice_get}
 use Rattle.report_text.specs.declared.assignment.Assignment.{Assignment}
 use Rattle.report_text.specs.Lines.{variable_text, assignment_text}
@@ -10,23 +10,36 @@ there [] i v d e = cc
 there (x ∷ xs) zero v d e = cc
 there (x ∷ xs) (suc i) v d e = there xs i v d e
 
--- a variable with its bit, and then the rest
-pub assignment_next : (which : Option Assignment) (vs : List (List ℕ)) (bs : List Bool) (i : ℕ) (v : List ℕ) → i < length vs → i < length bs → slice_get vs i ≡ Some v →
-    assignment_text which (drop i vs) (drop i bs) ≡ variable_text which v (get_or bs i false) ++ assignment_text which (drop (i + 1) vs) (drop (i + 1) bs)
-assignment_next which vs bs i v lv lb ev = rw (add-one, drop-cons vs i v, drop-cons bs i false, there vs i v v ev) refl
+-- a mark, and then the others
+pub first_mark : (ms : List Bool) (i : ℕ) → get_or (drop i ms) 0 true ≡ get_or ms i true
+first_mark [] zero = refl
+first_mark [] (suc i) = refl
+first_mark (m ∷ ms) zero = refl
+first_mark (m ∷ ms) (suc i) = first_mark ms i
 
-no_bits : (which : Option Assignment) (vs : List (List ℕ)) → assignment_text which vs [] ≡ []
-no_bits which [] = refl
-no_bits which (v ∷ vs) = refl
+pub other_marks : (ms : List Bool) (i : ℕ) → drop 1 (drop i ms) ≡ drop (suc i) ms
+other_marks [] zero = refl
+other_marks [] (suc i) = refl
+other_marks (m ∷ ms) zero = refl
+other_marks (m ∷ ms) (suc i) = other_marks ms i
+
+-- a variable with its bit, and then the rest
+pub assignment_next : (which : Option Assignment) (vs : List (List ℕ)) (bs ms : List Bool) (i : ℕ) (v : List ℕ) (m : Bool) → i < length vs → i < length bs → slice_get vs i ≡ Some v → m ≡ get_or ms i true →
+    assignment_text which (drop i vs) (drop i bs) (drop i ms) ≡ variable_text which v (get_or bs i false) m ++ assignment_text which (drop (i + 1) vs) (drop (i + 1) bs) (drop (i + 1) ms)
+assignment_next which vs bs ms i v m lv lb ev em = rw (em, add-one, drop-cons vs i v, drop-cons bs i false, there vs i v v ev, first_mark ms i, other_marks ms i) refl
+
+no_bits : (which : Option Assignment) (vs : List (List ℕ)) (ms : List Bool) → assignment_text which vs [] ms ≡ []
+no_bits which [] ms = refl
+no_bits which (v ∷ vs) ms = refl
 
 -- where the variables or the bits are over, nothing follows
-pub assignment_over : (which : Option Assignment) (vs : List (List ℕ)) (bs : List Bool) (i : ℕ) → min (length bs) (length vs) ≤ i → assignment_text which (drop i vs) (drop i bs) ≡ []
-assignment_over which [] bs zero le = refl
-assignment_over which [] bs (suc i) le = refl
-assignment_over which (v ∷ vs) [] zero le = refl
-assignment_over which (v ∷ vs) [] (suc i) le = no_bits which (drop i vs)
-assignment_over which (v ∷ vs) (b ∷ bs) zero le = absurd (omega (arith, le))
-assignment_over which (v ∷ vs) (b ∷ bs) (suc i) le = assignment_over which vs bs i (omega (arith, le))
+pub assignment_over : (which : Option Assignment) (vs : List (List ℕ)) (bs ms : List Bool) (i : ℕ) → min (length bs) (length vs) ≤ i → assignment_text which (drop i vs) (drop i bs) ms ≡ []
+assignment_over which [] bs ms zero le = refl
+assignment_over which [] bs ms (suc i) le = refl
+assignment_over which (v ∷ vs) [] ms zero le = refl
+assignment_over which (v ∷ vs) [] ms (suc i) le = no_bits which (drop i vs) ms
+assignment_over which (v ∷ vs) (b ∷ bs) ms zero le = absurd (omega (arith, le))
+assignment_over which (v ∷ vs) (b ∷ bs) ms (suc i) le = assignment_over which vs bs ms i (omega (arith, le))
 
 -- what was added goes from the rest to the text
 pub moved : {A : Type 0} (whole text more part rest all : List A) → text ++ all ≡ whole → all ≡ part ++ rest → more ≡ text ++ part → more ++ rest ≡ whole

@@ -1,5 +1,5 @@
 -- What a comparison found as one JSON object: its tokens, and their text.
-use Rattle.std.specs.Prelude.{◌≡◌, ℕ, zero, suc, Bool, true, false, List, [], ◌∷◌, ◌++◌, Option, Some, None, Result, OnOk, codes, decimal, if◌then◌else◌}
+use Rattle.std.specs.Prelude.{◌≡◌, ℕ, zero, suc, Bool, true, false, List, [], ◌∷◌, ◌++◌, Option, Some, None, Result, OnOk, codes, decimal, drop, slice_index_or, if◌then◌else◌}
 use Rattle.std.specs.Str.{is_utf8}
 use Rattle.json.specs.Print.{print}
 use Rattle.json.specs.Token.{Token, begin_object, end_object, begin_array, end_array, key, string, number, boolean}
@@ -20,6 +20,7 @@ use Rattle.report_text.specs.declared.outcome.Share.{Share}
 use Rattle.report_text.specs.declared.verdict.Verdict.TheVariants.{Equal, Differs, Lone, Undecided}
 use Rattle.report_text.specs.declared.assignment.Assignment.{Assignment}
 use Rattle.report_text.specs.Buses.{Bus, buses_of, hex_text}
+use Rattle.report_text.specs.Marks.{marks_of}
 use Rattle.report_text.specs.Lines.{Found, counted, is_told, report_text}
 
 -- how inputs, outputs and registers are paired
@@ -79,13 +80,13 @@ sizes_tokens None = []
 sizes_tokens (Some p) = key (codes "sizes") ∷ begin_array ∷ number (decimal p.0) ∷ number (decimal p.1) ∷ end_array ∷ []
 
 -- a variable with its bit, where it is told
-abbrev pub variable_tokens : Option Assignment → List ℕ → Bool → List Token
-variable_tokens which v b = if is_told which b then key (shown v) ∷ bit_token b ∷ [] else []
+abbrev pub variable_tokens : Option Assignment → List ℕ → (bit mark : Bool) → List Token
+variable_tokens which v b m = if is_told which b m then key (shown v) ∷ bit_token b ∷ [] else []
 
--- each variable that is told with its bit
-abbrev pub assignment_tokens : Option Assignment → List (List ℕ) → List Bool → List Token
-assignment_tokens which (v ∷ vs) (b ∷ bs) = variable_tokens which v b ++ assignment_tokens which vs bs
-assignment_tokens which vs bs = []
+-- each variable that is told with its bit; a variable without a mark has 1
+abbrev pub assignment_tokens : Option Assignment → List (List ℕ) → (bits marks : List Bool) → List Token
+assignment_tokens which (v ∷ vs) (b ∷ bs) ms = variable_tokens which v b (slice_index_or ms 0 true) ++ assignment_tokens which vs bs (drop 1 ms)
+assignment_tokens which vs bs ms = []
 
 -- each bus with its number
 abbrev pub numbers_tokens : List Bool → List Bus → List Token
@@ -109,9 +110,9 @@ values_tokens first second = key (codes "first") ∷ bit_token first ∷ key (co
 -- the members of a verdict; the variables stand by level
 abbrev pub verdict_members : Option Assignment → List (List ℕ) → Verdict → List Token
 verdict_members which variables (Equal role name size) = key (codes "verdict") ∷ string (codes "EQUAL") ∷ (subject_tokens role name ++ size_tokens size)
-verdict_members which variables (Differs role name at first second sizes) =
+verdict_members which variables (Differs role name at first second extras) =
     key (codes "verdict") ∷ string (codes "DIFFER") ∷ (subject_tokens role name
-    ++ (key (codes "at") ∷ begin_object ∷ (assignment_tokens which variables at ++ (end_object ∷ (buses_tokens which (buses_in which variables) at ++ (values_tokens first second ++ sizes_tokens sizes))))))
+    ++ (key (codes "at") ∷ begin_object ∷ (assignment_tokens which variables at (marks_of extras.support) ++ (end_object ∷ (buses_tokens which (buses_in which variables) at ++ (values_tokens first second ++ sizes_tokens extras.sizes))))))
 verdict_members which variables (Lone side role name) = key (codes "verdict") ∷ string (codes "ONLY") ∷ key (codes "side") ∷ string (side_word side) ∷ subject_tokens role name
 verdict_members which variables (Undecided role name) = key (codes "verdict") ∷ string (codes "UNDECIDED") ∷ subject_tokens role name
 

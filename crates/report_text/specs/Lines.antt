@@ -1,7 +1,7 @@
 -- The verdicts of a comparison, and the bytes of their lines in a report. A name is a list of bytes.
-use Rattle.std.specs.Prelude.{ℕ, zero, suc, Bool, true, false, List, [], ◌∷◌, ◌++◌, Option, Some, None, codes, decimal, count_by, if◌then◌else◌}
+use Rattle.std.specs.Prelude.{ℕ, zero, suc, Bool, true, false, List, [], ◌∷◌, ◌++◌, Option, Some, None, codes, decimal, count_by, drop, slice_index_or, if◌then◌else◌}
 use Rattle.report_text.specs.declared.assignment.Assignment.{Assignment}
-use Rattle.report_text.specs.declared.assignment.Assignment.TheVariants.{All, Ones}
+use Rattle.report_text.specs.declared.assignment.Assignment.TheVariants.{All, Support, Ones}
 use Rattle.report_text.specs.declared.outcome.Outcome.{Outcome}
 use Rattle.report_text.specs.declared.outcome.Role.{Role}
 use Rattle.report_text.specs.declared.outcome.Role.TheVariants.{Output, NextState}
@@ -9,6 +9,7 @@ use Rattle.report_text.specs.declared.outcome.Side.{Side}
 use Rattle.report_text.specs.declared.outcome.Side.TheVariants.{First, Second}
 use Rattle.report_text.specs.declared.verdict.Verdict.{Verdict}
 use Rattle.report_text.specs.declared.outcome.Share.{Share}
+use Rattle.report_text.specs.Marks.{marks_of}
 use Rattle.report_text.specs.declared.verdict.Verdict.TheVariants.{Equal, Differs, Lone, Undecided}
 
 -- What a comparison found: the variables by level, and the verdicts in the order of the report.
@@ -31,20 +32,21 @@ abbrev pub sizes_text : Option (ℕ × ℕ) → List ℕ
 sizes_text None = []
 sizes_text (Some p) = codes " sizes " ++ (decimal p.0 ++ (codes " " ++ decimal p.1))
 
--- whether a variable with this bit is told: each one, where nothing else is asked for
-abbrev pub is_told : Option Assignment → Bool → Bool
-is_told None b = true
-is_told (Some All) b = true
-is_told (Some Ones) b = b
+-- whether a variable with this bit and this mark is told: each one, where nothing else is asked for
+abbrev pub is_told : Option Assignment → (bit mark : Bool) → Bool
+is_told None b m = true
+is_told (Some All) b m = true
+is_told (Some Support) b m = m
+is_told (Some Ones) b m = b
 
 -- a variable with its bit behind a space, where it is told
-abbrev pub variable_text : Option Assignment → List ℕ → Bool → List ℕ
-variable_text which v b = if is_told which b then codes " " ++ (v ++ (codes "=" ++ bit_text b)) else []
+abbrev pub variable_text : Option Assignment → List ℕ → (bit mark : Bool) → List ℕ
+variable_text which v b m = if is_told which b m then codes " " ++ (v ++ (codes "=" ++ bit_text b)) else []
 
--- each variable that is told with its bit, a space before each
-abbrev pub assignment_text : Option Assignment → List (List ℕ) → List Bool → List ℕ
-assignment_text which (v ∷ vs) (b ∷ bs) = variable_text which v b ++ assignment_text which vs bs
-assignment_text which vs bs = []
+-- each variable that is told with its bit, a space before each; a variable without a mark has 1
+abbrev pub assignment_text : Option Assignment → List (List ℕ) → (bits marks : List Bool) → List ℕ
+assignment_text which (v ∷ vs) (b ∷ bs) ms = variable_text which v b (slice_index_or ms 0 true) ++ assignment_text which vs bs (drop 1 ms)
+assignment_text which vs bs ms = []
 
 -- the word of a netlist
 abbrev pub side_text : Side → List ℕ
@@ -59,8 +61,8 @@ subject_text NextState name = codes "NEXT " ++ name
 -- the line of a verdict, without its end; the variables stand by level
 abbrev pub line_text : Option Assignment → List (List ℕ) → Verdict → List ℕ
 line_text which variables (Equal role name size) = codes "EQUAL " ++ (subject_text role name ++ size_text size)
-line_text which variables (Differs role name at first second sizes) =
-    codes "DIFFER " ++ (subject_text role name ++ (codes " at" ++ (assignment_text which variables at ++ (codes " first=" ++ (bit_text first ++ (codes " second=" ++ (bit_text second ++ sizes_text sizes)))))))
+line_text which variables (Differs role name at first second extras) =
+    codes "DIFFER " ++ (subject_text role name ++ (codes " at" ++ (assignment_text which variables at (marks_of extras.support) ++ (codes " first=" ++ (bit_text first ++ (codes " second=" ++ (bit_text second ++ sizes_text extras.sizes)))))))
 line_text which variables (Lone side role name) = codes "ONLY " ++ (side_text side ++ (codes " " ++ subject_text role name))
 line_text which variables (Undecided role name) = codes "UNDECIDED " ++ subject_text role name
 
@@ -72,25 +74,25 @@ lines_text which variables (v ∷ vs) = line_text which variables v ++ (10 ∷ l
 -- the kinds of verdicts
 abbrev pub is_equal : Verdict → Bool
 is_equal (Equal role name size) = true
-is_equal (Differs role name at first second sizes) = false
+is_equal (Differs role name at first second extras) = false
 is_equal (Lone side role name) = false
 is_equal (Undecided role name) = false
 
 abbrev pub is_different : Verdict → Bool
 is_different (Equal role name size) = false
-is_different (Differs role name at first second sizes) = true
+is_different (Differs role name at first second extras) = true
 is_different (Lone side role name) = false
 is_different (Undecided role name) = false
 
 abbrev pub is_lone : Verdict → Bool
 is_lone (Equal role name size) = false
-is_lone (Differs role name at first second sizes) = false
+is_lone (Differs role name at first second extras) = false
 is_lone (Lone side role name) = true
 is_lone (Undecided role name) = false
 
 abbrev pub is_undecided : Verdict → Bool
 is_undecided (Equal role name size) = false
-is_undecided (Differs role name at first second sizes) = false
+is_undecided (Differs role name at first second extras) = false
 is_undecided (Lone side role name) = false
 is_undecided (Undecided role name) = true
 

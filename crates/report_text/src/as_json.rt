@@ -3,7 +3,7 @@ ghost use Rattle.std.specs.Prelude.{◌≡◌, ◌∷◌, [], ◌++◌, IfOk, co
 ghost use Rattle.json.specs.Token.{begin_object, end_object, key, string, number, boolean};
 ghost use Rattle.report_text.specs.Json.{Adds, bit_token, subject_tokens, size_tokens, sizes_tokens, variable_tokens, assignment_tokens, numbers_tokens, buses_in, buses_tokens, values_tokens, verdict_members, verdicts_tokens, names_tokens, settings_tokens, given_tokens, undecided_tokens, share_tokens, counts_tokens, array_tokens, json_text};
 
-use crate::assignment::{Assignment, is_told};
+use crate::assignment::{Assignment, is_told, mark_at};
 use crate::buses::{Bus, buses_of, hex_of};
 use crate::kind::OrderKind;
 use crate::outcome::{Outcome, Role, Share};
@@ -85,10 +85,11 @@ fn add_variable(
     which: Option<Assignment>,
     name: &[u8],
     bit: bool,
+    mark: bool,
 ) -> Result<(), AllocError>
-    ensures { Adds result out.old out.new (variable_tokens which name.now bit) }
+    ensures { Adds result out.old out.new (variable_tokens which name.now bit mark) }
 {
-    if is_told(which, bit) {
+    if is_told(which, bit, mark) {
         return add_bit(out, text_of(name), bit);
     }
     Ok(())
@@ -100,12 +101,13 @@ fn add_assignment(
     which: Option<Assignment>,
     names: &Names,
     bits: &[bool],
+    marks: &[bool],
 ) -> Result<(), AllocError>
-    ensures { Adds result out.old out.new (assignment_tokens which names.now bits.now) }
+    ensures { Adds result out.old out.new (assignment_tokens which names.now bits.now marks.now) }
 {
     let count = bits.len().min(names.len());
     for i in 0..count {
-        add_variable(out, which, names.at(i), bits[i])?;
+        add_variable(out, which, names.at(i), bits[i], mark_at(marks, i))?;
     }
     Ok(())
 }
@@ -177,12 +179,17 @@ fn add_values(out: &mut Writer, first: bool, second: bool) -> Result<(), AllocEr
 }
 
 /// Adds the assignment at which two functions differ.
-fn add_difference(out: &mut Writer, telling: &Telling<'_>, bits: &[bool]) -> Result<(), AllocError>
-    ensures { Adds result out.old out.new (key (codes "at") ∷ begin_object ∷ (assignment_tokens telling.now.which telling.now.names.now bits.now ++ end_object ∷ [])) }
+fn add_difference(
+    out: &mut Writer,
+    telling: &Telling<'_>,
+    bits: &[bool],
+    marks: &[bool],
+) -> Result<(), AllocError>
+    ensures { Adds result out.old out.new (key (codes "at") ∷ begin_object ∷ (assignment_tokens telling.now.which telling.now.names.now bits.now marks.now ++ end_object ∷ [])) }
 {
     out.key("at")?;
     out.begin_object()?;
-    add_assignment(out, telling.which, telling.names, bits)?;
+    add_assignment(out, telling.which, telling.names, bits, marks)?;
     out.end_object()
 }
 
@@ -208,14 +215,14 @@ fn add_members(
             at,
             first,
             second,
-            sizes,
+            extras,
         } => {
             add_text(out, "verdict", "DIFFER")?;
             add_subject(out, *role, name.as_slice())?;
-            add_difference(out, telling, at.as_slice())?;
+            add_difference(out, telling, at.as_slice(), extras.marks())?;
             add_buses(alloc, out, telling, at.as_slice())?;
             add_values(out, *first, *second)?;
-            add_sizes(out, *sizes)
+            add_sizes(out, extras.sizes)
         }
         Verdict::Lone { side, role, name } => {
             add_text(out, "verdict", "ONLY")?;

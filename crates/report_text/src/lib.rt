@@ -29,6 +29,6 @@ pub use assignment::Assignment;
 pub use kind::OrderKind;
 pub use outcome::{Outcome, Role, Share, Side};
 pub use report::report_of;
-pub use verdict::{Bits, Name, Verdict};
+pub use verdict::{Bits, Extras, Name, Verdict};
 pub use verdicts::Verdicts;
 pub use write::write_whole;

@@ -2,9 +2,9 @@
 ghost use Rattle.std.specs.Prelude.{◌≡◌, ◌++◌, ℕ, List, [], ◌∷◌, None, OnOk, codes};
 ghost use Rattle.report_text.specs.Lines.{line_text, variable_text, assignment_text, bit_text, side_text, sizes_text, subject_text, undecided_text, share_text, counts_text};
 
-use crate::assignment::{Assignment, is_told};
+use crate::assignment::{Assignment, is_told, mark_at};
 use crate::outcome::{Outcome, Role, Share, Side};
-use crate::verdict::Verdict;
+use crate::verdict::{Extras, Verdict};
 use net_order::names::Names;
 use std::alloc::{AllocError, Global};
 
@@ -39,10 +39,11 @@ fn add_told(
     which: Option<Assignment>,
     name: &[u8],
     bit: bool,
+    mark: bool,
 ) -> Result<(), AllocError>
-    ensures { OnOk result (text.new.items ≡ text.old.items ++ variable_text which name.now bit) }
+    ensures { OnOk result (text.new.items ≡ text.old.items ++ variable_text which name.now bit mark) }
 {
-    if is_told(which, bit) {
+    if is_told(which, bit, mark) {
         add_variable(text, name, bit)?;
     }
     Ok(())
@@ -54,12 +55,13 @@ fn add_assignment(
     which: Option<Assignment>,
     names: &Names,
     bits: &[bool],
+    marks: &[bool],
 ) -> Result<(), AllocError>
-    ensures { OnOk result (text.new.items ≡ text.old.items ++ assignment_text which names.now bits.now) }
+    ensures { OnOk result (text.new.items ≡ text.old.items ++ assignment_text which names.now bits.now marks.now) }
 {
     let count = bits.len().min(names.len());
     for i in 0..count {
-        add_told(text, which, names.at(i), bits[i])?;
+        add_told(text, which, names.at(i), bits[i], mark_at(marks, i))?;
     }
     Ok(())
 }
@@ -117,13 +119,14 @@ fn add_sizes(alloc: Global, text: &mut Vec<u8>, sizes: Option<(u64, u64)>) -> Re
     Ok(())
 }
 
-/// Where two functions differ: an assignment by level, which of its variables are told, and the value of each there.
+/// Where two functions differ: an assignment by level, which of its variables are told, the value of each there, and what is told besides.
 #[derive(Clone, Copy, Drop)]
 struct Difference<'a> {
     bits: &'a [bool],
     which: Option<Assignment>,
     first: bool,
     second: bool,
+    extras: &'a Extras,
 }
 
 /// Adds the line of two different functions.
@@ -133,16 +136,15 @@ fn add_different(
     names: &Names,
     label: Label<'_>,
     at: Difference<'_>,
-    sizes: Option<(u64, u64)>,
 ) -> Result<(), AllocError>
-    ensures { OnOk result (text.new.items ≡ text.old.items ++ (line_text at.entry.which names.now (Verdict.Differs label.entry.role label.entry.name.now at.entry.bits.now at.entry.first at.entry.second sizes) ++ 10 ∷ [])) }
+    ensures { OnOk result (text.new.items ≡ text.old.items ++ (line_text at.entry.which names.now (Verdict.Differs label.entry.role label.entry.name.now at.entry.bits.now at.entry.first at.entry.second at.entry.extras.now) ++ 10 ∷ [])) }
 {
     text.extend_from_slice(b"DIFFER ")?;
     add_label(text, label)?;
     text.extend_from_slice(b" at")?;
-    add_assignment(text, at.which, names, at.bits)?;
+    add_assignment(text, at.which, names, at.bits, at.extras.marks())?;
     add_values(text, at.first, at.second)?;
-    add_sizes(alloc, text, sizes)?;
+    add_sizes(alloc, text, at.extras.sizes)?;
     text.extend_from_slice(b"\n")?;
     Ok(())
 }
@@ -203,7 +205,7 @@ pub fn add_line(
             at,
             first,
             second,
-            sizes,
+            extras,
         } => {
             let label = Label {
                 role: *role,
@@ -214,8 +216,9 @@ pub fn add_line(
                 which,
                 first: *first,
                 second: *second,
+                extras,
             };
-            add_different(alloc, text, names, label, at, *sizes)
+            add_different(alloc, text, names, label, at)
         }
         Verdict::Lone { side, role, name } => {
             let label = Label {

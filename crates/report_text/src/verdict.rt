@@ -1,5 +1,6 @@
 //! What a comparison says of one pair, or of what has no partner.
 ghost use Rattle.std.specs.Prelude.{◌≡◌, IfOk};
+ghost use Rattle.report_text.specs.Marks.{marks_of};
 
 use crate::outcome::{Role, Side};
 use std::alloc::{AllocError, Global};
@@ -66,6 +67,27 @@ impl Bits {
     }
 }
 
+/// What is told of two different functions where it is asked for.
+#[derive(Debug, Drop)]
+pub struct Extras {
+    /// A mark for each variable, by level: those on which one of the two functions depends.
+    pub support: Option<Bits>,
+    /// The sizes of both.
+    pub sizes: Option<(u64, u64)>,
+}
+
+impl Extras {
+    /// The marks of the variables, none where they are not asked for.
+    pub(crate) fn marks(&self) -> &[bool]
+        ensures { result.now ≡ marks_of self.now.support }
+    {
+        match &self.support {
+            Some(support) => support.as_slice(),
+            None => &[],
+        }
+    }
+}
+
 /// What a comparison says of one pair of functions, or of what has no partner.
 #[derive(Debug, Drop)]
 pub enum Verdict {
@@ -82,7 +104,7 @@ pub enum Verdict {
         at: Bits,
         first: bool,
         second: bool,
-        sizes: Option<(u64, u64)>,
+        extras: Extras,
     },
     /// An output or a register of one netlist has no partner in the other.
     Lone {

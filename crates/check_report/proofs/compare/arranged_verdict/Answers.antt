@@ -34,4 +34,4 @@ returns-in_ok-levels-in-Some c =
       c.as_slice-in-Some-2.ensures.value,
       c.in_ok-levels-in-Some.ensures,
       c.as_slice.ensures.value,
-    ) (where_different where_least refl)
+    ) (where_different where_least c.in_ok-extras-in-Some.ensures)

@@ -1,6 +1,6 @@
 use Rattle.std.proofs.Common.{◌≡◌, ◌<◌, [], length, sym, subst}
 use Rattle.net_bench.specs.Circuit.{circuit}
-use Rattle.check_report.specs.Comparing.{HaveVerdicts, as_told, tells_sizes}
+use Rattle.check_report.specs.Comparing.{HaveVerdicts, as_told, asked_of}
 use Rattle.check_report.proofs.Adding.{start, next_shown, all_added, all_named}
 use Rattle.check_report.proofs.compare.verdicts_of_pairs.Goals as goal
 
@@ -8,7 +8,7 @@ pub loop-i-init : goal.loop-i-init
 loop-i-init c = λ h.
     let of = c.args.of.now in
     let none : c.new-verdicts.result.items ≡ [] = cc in
-    subst (λ vs. HaveVerdicts (tells_sizes of.telling) h.shown.holds (circuit of.first.now) (circuit of.second.now) of.pairing.now [] vs) (sym none) (start (tells_sizes of.telling) h.shown.holds (circuit of.first.now) (circuit of.second.now) of.pairing.now)
+    subst (λ vs. HaveVerdicts (asked_of of.telling) h.shown.holds (circuit of.first.now) (circuit of.second.now) of.pairing.now [] vs) (sym none) (start (asked_of of.telling) h.shown.holds (circuit of.first.now) (circuit of.second.now) of.pairing.now)
 
 pub diagrams_of-diagrams-requires : goal.diagrams_of-diagrams-requires
 diagrams_of-diagrams-requires c = record {
@@ -22,7 +22,7 @@ loop-i-preserved c = λ h.
     let of = c.args.of.now in
     let lt : c.loop-i.i < length of.subjects.now = c.loop-i-test.true in
     let d = c.diagrams_of-diagrams in
-    next_shown (tells_sizes of.telling) h.shown.holds (circuit of.first.now) (circuit of.second.now) of.pairing.now (as_told of.telling) of.store.now of.subjects.now c.loop-i.i d.result.role d.result.name.now d.result.first d.result.second _ _ c.in_ok-verdict.verdict _ _
+    next_shown (asked_of of.telling) h.shown.holds (circuit of.first.now) (circuit of.second.now) of.pairing.now (as_told of.telling) of.store.now of.subjects.now c.loop-i.i d.result.role d.result.name.now d.result.first d.result.second _ _ c.in_ok-verdict.verdict _ _
     h.levels lt d.ensures.role d.ensures.name d.ensures.first d.ensures.second (h.shown.first c.loop-i.i lt) (h.shown.second c.loop-i.i lt) (c.loop-i.invariant h) c.in_ok-verdict.ensures c.in_ok-push.ensures.items
 
 pub returns : goal.returns
@@ -30,5 +30,5 @@ returns c =
     let of = c.args.of.now in (
       c.requires.compared.shown.holds,
       c.requires.compared.shown.condition,
-      all_added (tells_sizes of.telling) c.requires.compared.shown.holds (circuit of.first.now) (circuit of.second.now) of.pairing.now of.subjects.now c.loop-i.i _ c.requires.compared.all c.loop-i-test.false (c.loop-i.invariant c.requires.compared),
+      all_added (asked_of of.telling) c.requires.compared.shown.holds (circuit of.first.now) (circuit of.second.now) of.pairing.now of.subjects.now c.loop-i.i _ c.requires.compared.all c.loop-i-test.false (c.loop-i.invariant c.requires.compared),
     )

@@ -4,6 +4,7 @@ use Rattle.net_bench.specs.Circuit.{circuit}
 use Rattle.net_order.specs.declared.order.Order.TheVariants.{Declared}
 use Rattle.net_order.specs.Order.{condition}
 use Rattle.report_text.specs.Lines.{Found}
+use Rattle.check_report.specs.Asking.{unsized}
 use Rattle.check_report.specs.Comparing.{IsInside}
 use Rattle.check_report.specs.Cones.{IsLeft, IsTold}
 use Rattle.check_report.proofs.ByCones.{picked_inside}
@@ -37,7 +38,7 @@ returns-in-Ok-clause-told g c =
       verdicts = record {
         variables = ap (λ (f : Found). f.variables) c.of.ensures;
         of_pairs = c.in_ok-verdicts.verdicts.items;
-        told = subst (λ ss. AllZip (IsTold (IsLeft task.settings.now.limit (g.G.Gate.bound c.args.gate.now) a b given p) a b given p) ss c.in_ok-verdicts.verdicts.items) c.as_slice.ensures.value c.in_ok-verdicts.ensures.told;
+        told = subst (λ ss. AllZip (IsTold (unsized task.settings.now.assignment) (IsLeft task.settings.now.limit (g.G.Gate.bound c.args.gate.now) a b given p) a b given p) ss c.in_ok-verdicts.verdicts.items) c.as_slice.ensures.value c.in_ok-verdicts.ensures.told;
         all = ap (λ (f : Found). f.verdicts) c.of.ensures ∙ c.in-Ok.ensures;
       };
     }

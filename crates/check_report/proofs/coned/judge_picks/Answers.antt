@@ -41,4 +41,5 @@ judged-requires-clause-ready g c κs within =
       conditional_net = c.in-Ok-given_cone.ensures.net;
       by_name = c.alone-settings.ensures.matching;
       no_sizes = c.alone-settings.ensures.no_sizes;
+      assignment = c.alone-settings.ensures.assignment;
     }

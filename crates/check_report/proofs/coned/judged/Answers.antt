@@ -2,6 +2,7 @@ use Rattle.std.proofs.Common.{sym, subst}
 use Rattle.std.specs.List.{AllZip}
 use Rattle.net_bench.specs.Circuit.{circuit}
 use Rattle.net_order.specs.Order.{condition}
+use Rattle.check_report.specs.Asking.{unsized}
 use Rattle.check_report.specs.Coning.{IsLeftOut, IsToldIn, IsToldOut}
 use Rattle.check_report.proofs.ByCones.{told_left, told_yes}
 use Rattle.check_report.proofs.Filling.{length_known, told_known}
@@ -18,6 +19,6 @@ returns-in-Ok-clause-told g c =
     let bound = g.G.Gate.bound c.args.gate.now in
     subst (AllZip (IsToldOut w bound) c.args.subjects.now) (sym c.in-Ok.ensures)
     (told_known (circuit task.first.now) (IsToldIn w) (IsLeftOut w bound) (IsToldOut w bound)
-    (λ s v t. told_yes (IsLeftOut w bound) (circuit task.first.now) (circuit task.second.now) (condition task.given) w.pairing.now s v t)
-    (λ s left. told_left (IsLeftOut w bound) task.first.now task.second.now (condition task.given) w.pairing.now s c.inputs.ensures.sound c.inputs-2.ensures.sound c.requires.ready.conditional_net left)
+    (λ s v t. told_yes (unsized task.settings.now.assignment) (IsLeftOut w bound) (circuit task.first.now) (circuit task.second.now) (condition task.given) w.pairing.now s v t)
+    (λ s left. told_left (unsized task.settings.now.assignment) (IsLeftOut w bound) task.first.now task.second.now (condition task.given) w.pairing.now s c.inputs.ensures.sound c.inputs-2.ensures.sound c.requires.ready.conditional_net left)
     c.args.subjects.now c.in_ok-known.known.items c.in_ok-known.ensures.known)

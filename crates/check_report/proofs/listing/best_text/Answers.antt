@@ -1,6 +1,7 @@
 use Rattle.std.proofs.Common.{◌≡◌, ◌∙◌, ap, sym, subst, refl, Err}
 use Rattle.expand_work.specs.declared.fault.WaveFault.TheVariants.{Full}
 use Rattle.net_order.specs.OrderText.{order_text}
+use Rattle.check_report.specs.Asking.{asked_in}
 use Rattle.check_report.specs.declared.fault.CheckFault.TheVariants.{Wave, GivenUp}
 use Rattle.check_report.specs.Best.{IsGivenUpWithin, order_of}
 use Rattle.check_report.specs.Check.{IsCheckFault}
@@ -11,7 +12,7 @@ use Rattle.check_report.proofs.listing.best_text.Goals as goal
 pub returns-in-Ok-text_of-clause-text : goal.returns-in-Ok-text_of-clause-text
 returns-in-Ok-text_of-clause-text g c = λ told ga. (
   order_of c.in-Ok.found.order,
-  printed told c.args.task.now.settings.now.matching (order_of c.in-Ok.found.order) c.args.task.now.settings.now.sizes c.in-Ok.verdicts c.in-Ok-text_of.text.items (c.in-Ok.ensures.judged told ga)
+  printed told c.args.task.now.settings.now.matching (order_of c.in-Ok.found.order) (asked_in c.args.task.now.settings.now) c.in-Ok.verdicts c.in-Ok-text_of.text.items (c.in-Ok.ensures.judged told ga)
       (c.in-Ok-text_of.ensures.text ∙ ap order_text c.variables.ensures),
   c.in-Ok.ensures.chosen told ga,
 )

@@ -1,7 +1,6 @@
 use Rattle.std.proofs.Common.{Some, subst}
 use Rattle.net_bench.specs.Circuit.{circuit}
 use Rattle.net_order.specs.Order.{condition}
-use Rattle.check_report.specs.Report.{AreVerdicts}
 use Rattle.check_report.specs.Trials.{Decides, IsRound}
 use Rattle.check_report.proofs.pairs.try_cones.Goals as goal
 
@@ -13,4 +12,4 @@ only_one-requires g c =
     let d : Decides task (Some c.args.pairing) c.args.budget t =
     subst (IsRound task (Some c.args.pairing) c.args.budget (g.G.Gate.bound c.args.gate.now) c.try_first.new.trials.items) c.in-Decided.is c.in_ok-decided.ensures.round in
     c.requires.one (record { variables = q.names; verdicts = t.verdicts.items })
-    (subst (λ z. AreVerdicts z (circuit task.first.now) (circuit task.second.now) (condition task.given) q (record { variables = q.names; verdicts = t.verdicts.items })) c.requires.no_sizes d.0.verdicts_of)
+    d.0.verdicts_of
