@@ -244,15 +244,22 @@ def judged(case):
     return result
 
 
-DIFFER = re.compile(rb"(DIFFER (?:NEXT )?\S+ at)((?: [^\s=]+=[01])*)( first=[01] second=[01].*)")
+DIFFER = re.compile(rb"DIFFER ((?:NEXT )?\S+) at((?: [^\s=]+=[01])*)( first=[01] second=[01].*)")
 
 
-def told(case, seen):
+def told(case, paired, seen):
     """The run with the variables that the case tells of assignments."""
-    if case.assignment != "ones":
+    if case.assignment not in ("ones", "support"):
         return seen
-    ones = lambda found: found[1] + b"".join(b" " + bit for bit in found[2].split() if bit.endswith(b"=1")) + found[3]
-    return Run(seen.status, DIFFER.sub(ones, seen.out), seen.err)
+    supports = judge(paired, "declared", False).supports if case.assignment == "support" else {}
+
+    def line(found):
+        label, bits, values = found.groups()
+        among = supports.get(label.decode(), ())
+        kept = [bit for bit in bits.split() if (bit[:-2].decode() in among if case.assignment == "support" else bit.endswith(b"=1"))]
+        return b"DIFFER " + label + b" at" + b"".join(b" " + bit for bit in kept) + values
+
+    return Run(seen.status, DIFFER.sub(line, seen.out), seen.err)
 
 
 def answers(case):
@@ -260,7 +267,7 @@ def answers(case):
     try:
         paired, order = paired_of(case)
         if order in TRIED:
-            return [told(case, seen) for seen in {"best": best, "auto": auto, "cones": by_cones}[order](paired, case)]
-        return [order_of(paired, order) if case.print_order else told(case, report_of(judged(case)))]
+            return [told(case, paired, seen) for seen in {"best": best, "auto": auto, "cones": by_cones}[order](paired, case)]
+        return [order_of(paired, order) if case.print_order else told(case, paired, report_of(judged(case)))]
     except Refusal as refusal:
         return [run_of(refusal)]

@@ -273,7 +273,7 @@ def make_case(kind, rng):
         if rng.random() < 0.1:
             case.given = damaged(rng, case.given)
     if rng.random() < 0.3:
-        case.assignment = rng.choice(["all", "ones"])
+        case.assignment = rng.choice(["all", "support", "ones"])
     return case
 
 

@@ -217,6 +217,13 @@ def variable_tables(count):
     return tables
 
 
+def support(tables, count):
+    """The levels on which one of these functions depends."""
+    ones = variable_tables(count)
+    parted = [(table & ones[level], table & (ones[level] >> (1 << (count - 1 - level))), level) for table in tables for level in range(count)]
+    return {level for high, low, level in parted if high >> (1 << (count - 1 - level)) != low}
+
+
 FOLDS = {
     "AND": lambda a, b: a & b,
     "NAND": lambda a, b: a & b,
@@ -307,13 +314,15 @@ class Lone:
 
 @dataclass
 class Judged:
-    """What the report says, how many nodes are needed for it, and of which pairs of functions folds are asked."""
+    """What the report says, how many nodes are needed for it, of which pairs of functions folds are asked, and on which variables the two
+    functions of a pair that differs depend, by its label."""
 
     pairs: list
     lone: list
     nodes: int
     asked: list
     count: int
+    supports: dict
 
     def requests(self):
         """No wave reaches more."""
@@ -338,7 +347,7 @@ def judge(paired, order, sizes):
     built = [*tables.values(), *(fold for functions in known for fold in functions.folds)]
     asked = [pair for functions in known for pair in functions.asked]
     condition = given[0].known[paired.given.outputs[0]] if given else whole
-    compared = []
+    compared, supports = [], {}
 
     def line(what, name, f, g):
         if given:
@@ -347,6 +356,7 @@ def judge(paired, order, sizes):
         compared.extend([f, g])
         if f == g:
             return f"EQUAL {what}{name}" + (f" size {node_count([f], count)}" if sizes else "")
+        supports[f"{what}{name}"] = {names[level] for level in support([f, g], count)}
         place = ((f ^ g) & -(f ^ g)).bit_length() - 1
         bits = [f"{v}={place >> (count - 1 - i) & 1}" for i, v in enumerate(names)]
         told = f"DIFFER {what}{name} at {' '.join([*bits, f'first={f >> place & 1}', f'second={g >> place & 1}'])}"
@@ -362,7 +372,7 @@ def judge(paired, order, sizes):
             lone += [Lone(side, what, name) for name in single]
     if given:
         built += compared
-    return Judged(pairs, [*alone[0], *alone[1]], node_count(built, count), asked, count)
+    return Judged(pairs, [*alone[0], *alone[1]], node_count(built, count), asked, count, supports)
 
 
 def outputs(net):

@@ -39,7 +39,7 @@ def pairs(place):
             yield [*words, *files]
     buses, wider = written(place, "buses", BUSES), written(place, "wider", BUSES.replace(b"NOR", b"XOR"))
     for files in ((c17, c17b), (odd, odder), (s27, wrong), (buses, wider), (buses, buses)):
-        for words in (["all"], ["ones"], ["ones", "--order", "depth"], ["all", "--sizes"], ["ones", "--order", "cones"]):
+        for words in (["all"], ["support"], ["ones"], ["ones", "--order", "depth"], ["all", "--sizes"], ["support", "--sizes"], ["ones", "--order", "cones"]):
             yield ["--assignment", *words, *files]
     yield ["--only", 23, "--only", 22, c17, c17b]
     yield ["--only", 23, c17, lone]
@@ -92,7 +92,7 @@ def tells(verdict, variables, words):
     """Whether an assignment has the variables that the words ask for, and the numbers of their buses."""
     at = verdict["at"]
     which = words[words.index("--assignment") + 1] if "--assignment" in words else None
-    if list(at) != [name for name in variables if which != "ones" or name in at] or (which == "ones" and 0 in at.values()):
+    if list(at) != [name for name in variables if which in (None, "all") or name in at] or (which == "ones" and 0 in at.values()):
         return False
     number = lambda name, bits: f"0x{sum(at.get(f'{name}[{i}]', 0) << i for i in range(bits)):0{(bits + 3) // 4}x}"
     buses = {name: number(name, bits) for name, bits in widths(variables).items()}
