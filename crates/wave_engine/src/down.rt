@@ -95,8 +95,26 @@ pub(crate) struct Limits {
     pub(crate) wave: usize,
 }
 
-/// Expands level after level, of those that have requests, and stops before the first with more than its limit: all levels
-/// before the one that is answered are expanded. Where the levels that it comes to have more than the wave's limit together, it refuses.
+/// Where the caller may have so many requests of a level, workers are called in only where levels are wide on average.
+const WIDE: usize = 1 << 10;
+
+/// How many requests that is. Workers meet at each level, and where all processors are busy a meeting takes as long as thousands of
+/// requests.
+const AVERAGE: usize = 1 << 7;
+
+/// The most requests that a level may have which has so many: its limit, or any number where few requests wait from there on.
+fn most_at(limits: Limits, requests: &Requests, level: u16, count: usize) -> usize
+    ensures least { limits.level ≤ result }
+{
+    if count <= limits.level || limits.level < WIDE || requests.are_many(level, AVERAGE) {
+        limits.level
+    } else {
+        usize::MAX
+    }
+}
+
+/// Expands level after level, of those that have requests, and stops before the first with more than its limit, where the levels from
+/// there on are wide on average: all levels before the one that is answered are expanded. Where the levels that it comes to have more than the wave's limit together, it refuses.
 pub(crate) fn expand(
     store: &Store,
     entries: &[(Op, Ref, Ref)],
@@ -124,7 +142,8 @@ pub(crate) fn expand(
         if limits.wave < usize::MAX && count > left {
             return Err(WaveFault::TooManyRequests);
         }
-        if count > limits.level {
+        let most = most_at(limits, &down.requests, next, count);
+        if count > most {
             return Ok(next);
         }
         left = left.saturating_sub(count);

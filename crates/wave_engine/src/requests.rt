@@ -116,6 +116,16 @@ impl Requests {
         self.tables[level as usize].len()
     }
 
+    /// Whether so many requests or more wait at a level on average, from one on.
+    pub(crate) fn are_many(&self, from: u16, average: usize) -> bool {
+        let levels = self.tables.len();
+        let mut waiting: usize = 0;
+        for level in from as usize..levels {
+            waiting = waiting.saturating_add(self.tables[level].len());
+        }
+        waiting >= average.saturating_mul(levels.saturating_sub(from as usize))
+    }
+
     /// The request at a place of a level.
     pub(crate) fn key_at(&self, level: u16, place: usize) -> Key
         requires { place < length (row self.now level) }

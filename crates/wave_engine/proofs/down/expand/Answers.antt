@@ -10,8 +10,8 @@ use Rattle.wave_engine.proofs.Counting.{none_counted, more_counted, too_many, al
 use Rattle.wave_engine.proofs.down.expand.Goals.{else-limits-lt18446744073709551615-via-then-limits-lt18446744073709551615+else-count-left, else-limits-lt18446744073709551615-via-else-limits-lt18446744073709551615}
 use Rattle.wave_engine.proofs.down.expand.Goals as goal
 
-pub returns-then-count-limits-clause-expanded : goal.returns-then-count-limits-clause-expanded
-returns-then-count-limits-clause-expanded c =
+pub returns-then-count-most-clause-expanded : goal.returns-then-count-most-clause-expanded
+returns-then-count-most-clause-expanded c =
     let S : Nodes = c.args.store.now in
     let es : List Entry = c.args.entries.now in
     let ps : List Placed = c.loop-next.down.roots.items in
@@ -100,8 +100,8 @@ loop-next-init c = record {
   expanded = c.requires.start;
 }
 
-pub returns-then-count-limits-clause-split : goal.returns-then-count-limits-clause-split
-returns-then-count-limits-clause-split c =
+pub returns-then-count-most-clause-split : goal.returns-then-count-most-clause-split
+returns-then-count-most-clause-split c =
     let h : IsNextLevel c.loop-next.down.requests c.loop-next.level (Some c.in-Some.next) = c.in-Some.ensures in
     split_passed c.args.store.now c.args.entries.now c.loop-next.down.requests c.loop-next.level c.in-Some.next c.args.down.now.splits c.loop-next.down.splits c.loop-next.invariant.counted.split h.0 h.3
 
