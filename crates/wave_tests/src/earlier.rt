@@ -43,8 +43,9 @@ impl Gate for Heard {
 const SUMS: usize = 133;
 
 /// Waves that ask, at one level, for the difference of each two of so many sums, the first so many places behind the first sum; and
-/// whether four workers are called in. 45 sums have 990 differences, 46 have 1,035, 128 have 8,128, 190 have 17,955 and 450 have 101,025.
-/// Each comes to two requests at least. So those of 128 come to over 16,384, and those of 450 with all before to over 262,144.
+/// whether four workers are called in. 45 sums have 990 differences, 46 have 1,035, 128 have 8,128, 140 have 9,730, 190 have 17,955 and
+/// 450 have 101,025. Each comes to two requests at least. So those of 128 come to over 16,384, and those of 450 with all before to over
+/// 262,144. 66 levels with 128 requests each have 8,448.
 const WAVES: [(u16, u16, bool); 12] = [
     (0, 46, false),
     (50, 128, false),
@@ -52,11 +53,11 @@ const WAVES: [(u16, u16, bool); 12] = [
     (300, 190, true),
     (500, 46, false),
     (600, 450, true),
-    (1300, 46, true),
+    (1300, 140, true),
     (1400, 45, false),
     (1500, 46, false),
     (1600, 128, false),
-    (1800, 46, true),
+    (1800, 140, true),
     (1900, 45, false),
 ];
 
@@ -94,7 +95,8 @@ fn call_in<R: Threads + Wait + Abort + Sync>(
 }
 
 // Four workers are called in at a level of more than 16,384 requests, and at one of more than 1,024 where the engine has done 262,144
-// requests and one of its last two waves had more than 16,384. Two are not called in by 17,955, and one never is.
+// requests and one of its last two waves had more than 16,384, where the levels from there on have 128 on average: 1,035 at one level
+// never do it here. Two are not called in by 17,955, and one never is.
 #[test]
 fn workers_after_large_waves(rt: HostRuntime) -> Result<(), Fail> {
     call_in(&rt, rt.alloc(), 4, &WAVES)?;
