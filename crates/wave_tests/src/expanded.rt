@@ -236,12 +236,12 @@ fn many_equal_roots(rt: HostRuntime) -> Result<(), Fail> {
 }
 
 // However the threads run, the records are as many, and the Ends are put, and a bundle for each two different workers
-// of whom one asks the other at a level: 3 of 2 workers, 5 of 3, and of 16 one for each of 5 roots and 2 children.
+// of whom one asks the other at a level: 3 of 2 workers, 4 of 3, and of 16 one for each of 5 roots and 2 children.
 #[test]
 fn any_schedule(rt: HostRuntime) -> Result<(), Fail> {
     let store = store_of_six(&rt, rt.alloc());
     let roots = five_roots(&rt, &store);
-    for (workers, runs, put) in [(1, 1, 4), (2, 10, 19), (3, 10, 41), (16, 200, 1031)] {
+    for (workers, runs, put) in [(1, 1, 4), (2, 10, 19), (3, 10, 40), (16, 200, 1031)] {
         for _ in 0..runs {
             let expanded = expand_all(&rt, rt.alloc(), &store, &roots, workers, &Free)?;
             let records = expanded.records();
