@@ -120,7 +120,7 @@ def main():
     rng, tally = random.Random(given.seed), Tally("explained")
     differing = 0
     with kit.folder() as place:
-        for turn in range(300):
+        for turn in range(500):
             first = random_net(rng)
             second = changed(rng, first)
             paths = [kit.written(place, name, net.text().encode()) for name, net in (("first", first), ("second", second))]
@@ -133,7 +133,7 @@ def main():
             behind = [line for label in asked for line in wanted(first, second, label, report)]
             differing += sum("first=" in line for line in behind)
             tally.same(f"seed {given.seed}, turn {turn}, {words}, {asked}", seen, plain.status, plain.out + lines(*behind), b"")
-    tally.check("inner signals differ in many of them", differing > 40, differing)
+    tally.check("inner signals differ in many of them", differing > 100, differing)
     tally.end()
     sys.exit(tally.failed > 0)
 
