@@ -53,7 +53,7 @@ def circuit_rows(folder, settings):
 
 
 def chain(levels, gates):
-    """A chain of XOR gates with the last of so many variables, over the one before it. No gate has a short answer."""
+    """A chain of XOR gates with the last of so many variables, over the one before it. No gate has a terminal case."""
     lines = [f"INPUT(x{i})" for i in range(levels)] + ["OUTPUT(o)"]
     lines += [f"g{i} = XOR({f'g{i - 1}' if i else f'x{levels - 2}'}, x{levels - 1})" for i in range(gates)]
     return "\n".join([*lines, f"o = BUFF(g{gates - 1})"]) + "\n"

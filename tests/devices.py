@@ -61,17 +61,9 @@ class Devices:
     def terminal(self):
         """On a terminal one line is written in place where a rank begins over a second after the start, and gone at the end."""
         late = self.fifo("slow", C17, len(C17), wait=1.2)
-        ours, theirs = os.openpty()
-        child = subprocess.Popen([self.program, self.c17, late], stdin=subprocess.DEVNULL, stdout=subprocess.PIPE, stderr=theirs)
-        os.close(theirs)
-        told = b""
-        # What is read of a terminal that nobody has open fails.
-        while part := self.front_of(ours):
-            told += part
-        os.close(ours)
-        out = child.communicate()[0]
+        status, out, told = self.on_terminal(self.c17, late)
         place = rb"\rbddcheck: attempt 1, rank \d+ of \d+, \d+ nodes, \d+ requests, \d+ MB\x1b\[K"
-        right = (child.returncode, out) == (0, C17_EQUAL)
+        right = (status, out) == (0, C17_EQUAL)
         self.tally.check("a line on a terminal", right and re.fullmatch(rb"(?:(?:" + place + rb")+\r\x1b\[K)+", told), (out, told))
         seen = run(["script", "-qec", f"{self.program} --verbose {self.c17} {self.c17}", "/dev/null"]) if shutil.which("script") else None
         self.tally.check("no line of a short run on a terminal", seen is None or b"\x1b" not in seen.out, seen)
@@ -80,17 +72,22 @@ class Devices:
     def refused_on_terminal(self):
         """What helps against a fault stands on a terminal without --verbose."""
         bad = self.file("inverted", C17 + b"x = INV(1)\n")
+        first, second = b"bddcheck: first: line 14: unknown gate", b":14: the word of an inverter is NOT: x = INV(1)"
+        wanted = first + b"\r\nbddcheck: " + os.fsencode(bad) + second + b"\r\n"
+        self.check("what helps on a terminal", self.on_terminal(bad, self.c17), (2, b"", wanted))
+
+    def on_terminal(self, *files):
+        """The status, the report, and what is told on a terminal that is standard error."""
         ours, theirs = os.openpty()
-        child = subprocess.Popen([self.program, bad, self.c17], stdin=subprocess.DEVNULL, stdout=subprocess.PIPE, stderr=theirs)
+        child = subprocess.Popen([self.program, *files], stdin=subprocess.DEVNULL, stdout=subprocess.PIPE, stderr=theirs)
         os.close(theirs)
         told = b""
+        # What is read of a terminal that nobody has open fails.
         while part := self.front_of(ours):
             told += part
         os.close(ours)
         out = child.communicate()[0]
-        first, second = b"bddcheck: first: line 14: unknown gate", b":14: the word of an inverter is NOT: x = INV(1)"
-        wanted = first + b"\r\nbddcheck: " + os.fsencode(bad) + second + b"\r\n"
-        self.check("what helps on a terminal", (child.returncode, out, told), (2, b"", wanted))
+        return child.returncode, out, told
 
     @staticmethod
     def front_of(terminal):

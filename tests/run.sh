@@ -71,8 +71,8 @@ parts() {
     for name; do
         case $name in
         stored | examples | papers | objects | devices | signals) part "$name" python3 "tests/$name.py" "$program" ;;
-        edits | linked | joining | vcd) part "$name" python3 "tests/$name.py" ;;
-        refusals | fuzz | explained) part "$name" python3 "tests/$name.py" "$program" ${seed:+--seed "$seed"} ;;
+        edits | linked | joining) part "$name" python3 "tests/$name.py" ;;
+        refusals | fuzz | explained | vcd) part "$name" python3 "tests/$name.py" "$program" ${seed:+--seed "$seed"} ;;
         growths) part growths python3 tests/growths.py crates ;;
         second) second ;;
         flows | cluster) part "$name" "tests/$name.sh" "$program" ;;

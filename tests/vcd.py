@@ -1,19 +1,24 @@
 #!/usr/bin/env python3
 """Reads the VCD of a proved test by a reader of its own, and compares it with the values that the netlists' gates have. Then
-tools/vcd.py is tried, which writes that very text of the same netlists and a line of a report.
+tools/vcd.py is tried, which writes that very text of the same netlists and a line of a report; and then the program's --vcd, whose file
+has to be what tools/vcd.py makes of the report of the same run.
 
-usage: tests/vcd.py
+usage: tests/vcd.py PROGRAM [--seed N]
 
 The text, the netlists and the assignment are those of the test `values_as_vcd` in crates/netlist_tests/src/explanations.rt, which says
 that the crate writes this text.
 """
 from __future__ import annotations
 
+import argparse
 import ast
+import pathlib
+import random
 import re
 import sys
 
 import kit
+from explained import changed, random_net
 from kit import TOP, Tally
 
 SOURCE = TOP / "crates/netlist_tests/src/explanations.rt"
@@ -127,7 +132,73 @@ def written(tally: Tally, first: str, second: str, text: str) -> None:
         tally.same("tools/vcd.py, no netlist", seen, 2, b"", f"vcd: {bad}: no netlist\n".encode())
 
 
+# Words beside --vcd; the last may be refused where a netlist has an input more.
+WORDS = [
+    [], ["--order", "best"], ["--order", "depth"], ["--order", "cones"], ["--workers", "1"], ["--order", "declared", "--sizes"],
+    ["--assignment", "ones"], ["--format", "json"], ["--share", "1/2"], ["--match", "position"],
+]
+
+
+def by_script(words: list[str], files: list[pathlib.Path], report: bytes) -> bytes | None:
+    """What tools/vcd.py makes of a report; nothing where no pair differs."""
+    matching = words if "--match" in words else []
+    made = kit.run([TOP / "tools/vcd.py", *matching, *files], report)
+    if made.status not in (0, 1) or (made.status == 1 and made.err != b"vcd: no such pair differs\n"):
+        raise ValueError(str(made))
+    return made.out if made.status == 0 else None
+
+
+def compared(tally: Tally, program: str, rng: random.Random) -> None:
+    """The file of --vcd, against that script."""
+    made, untouched = 0, 0
+    with kit.folder() as place:
+        out = pathlib.Path(place) / "differs.vcd"
+        for turn in range(150):
+            first = random_net(rng)
+            second = changed(rng, first) if rng.random() < 0.8 else first
+            files = [kit.written(place, name, net.text().encode()) for name, net in (("first", first), ("second", second))]
+            words = rng.choice(WORDS)
+            before = b"what stood there before\n" * 1000 if rng.random() < 0.5 else None
+            out.unlink(missing_ok=True)
+            if before is not None:
+                out.write_bytes(before)
+            plain = kit.run([program, *words, *files])
+            seen = kit.run([program, "--vcd", out, *words, *files])
+            tally.same(f"the report beside a file, turn {turn}, {words}", seen, plain.status, plain.out, plain.err)
+            wanted = by_script(words, files, plain.out) if plain.status in (0, 1) else None
+            made, untouched = made + (wanted is not None), untouched + (wanted is None)
+            has = out.read_bytes() if out.exists() else None
+            tally.check(f"the file, turn {turn}, {words}", has == (before if wanted is None else wanted), has)
+    tally.check("many pairs differ, and some do not", made > 40 and untouched > 40, (made, untouched))
+
+
+def refused(tally: Tally, program: str) -> None:
+    """Files that cannot be written: the report stands, and then comes the fault."""
+    with kit.folder() as place:
+        files = [kit.written(place, "first", kit.C17), kit.written(place, "second", kit.C17B)]
+        said = b"bddcheck: vcd: cannot be written\n"
+        for path, helps in (
+            (f"{place}/none/differs.vcd", "no such file or folder"),
+            (f"{place}/first/differs.vcd", "a part of the path is no folder"),
+            (place, "the system refused it"),
+            ("/dev/full", "its device is full, or failed"),
+        ):
+            seen = kit.run([program, "--vcd", path, *files])
+            tally.same(f"--vcd {path}", seen, 3, kit.C17_DIFFERS, said)
+            seen = kit.run([program, "--vcd", path, "--verbose", "--order", "declared", *files])
+            tally.same(f"--vcd {path} --verbose", seen, 3, kit.C17_DIFFERS, said + f"bddcheck: {path}: {helps}\n".encode())
+            seen = kit.run([program, "--vcd", path, files[0], files[0]])
+            tally.same(f"--vcd {path}, equal", seen, 0, kit.C17_EQUAL, b"")
+        seen = kit.run([program, "--vcd", "-", *files], cwd=place)
+        tally.same("--vcd -", seen, 1, kit.C17_DIFFERS, b"")
+        tally.check("a file of the name -", (pathlib.Path(place) / "-").exists(), "there is none")
+
+
 def main() -> None:
+    parser = argparse.ArgumentParser()
+    parser.add_argument("program")
+    parser.add_argument("--seed", default="1")
+    given = parser.parse_args()
     tally = Tally("vcd")
     source = SOURCE.read_text(encoding="utf-8")
     body = source[source.index("fn values_as_vcd") :]
@@ -140,6 +211,8 @@ def main() -> None:
         tally.check(f"the values of the {scope} netlist", found.get(scope) == expected(bench), found.get(scope))
     tally.check("two scopes and no others", set(found) == {"first", "second"}, sorted(found))
     written(tally, *netlists, text)
+    compared(tally, given.program, random.Random(given.seed))
+    refused(tally, given.program)
     tally.end()
     sys.exit(tally.failed > 0)
 

@@ -54,7 +54,7 @@ def words():
     between, line = (LEFT + RIGHT) / 2, TOP + FIRST_WIDE * STEP - (STEP - HIGH) / 2
     yield text(LEFT, 24, "down: requests, each once")
     yield text(RIGHT, 24, "up: their diagrams")
-    yield text(LEFT, 46, "entries without a short answer or a held one", small)
+    yield text(LEFT, 46, "entries with no terminal case or held answer", small)
     yield text(RIGHT, 46, "an answer for each entry", small)
     yield text(between, middle(1), "the caller's thread,", small)
     yield text(between, middle(1) + 14, "by places (wave_engine)", small)

@@ -227,7 +227,11 @@ def symbol_of(function, symbols, crate):
             return home == [function.owner] * bool(function.owner)
         return len(home) == 1 and home[0].startswith(function.owner) and function.trait in home[0]
 
-    found = [symbol for symbol in symbols if fits(symbol.split("::"))]
+    def is_of_type(words):
+        """Whether this is a method of such a type: a check names it by its type's module, and it can stand in another."""
+        return words[0] == crate and words[-2:] == [function.owner, function.name] and not function.trait
+
+    found = [it for it in symbols if fits(it.split("::"))] or [it for it in symbols if is_of_type(it.split("::"))]
     return found[0] if len(found) == 1 else None
 
 

@@ -11,10 +11,10 @@ _bddcheck() {
     --limit | --only | --explain) COMPREPLY=() ;;
     --share) mapfile -t COMPREPLY < <(compgen -W '1/2 1/4 1/8 1/16' -- "$word") ;;
     --memory) mapfile -t COMPREPLY < <(compgen -W '1G 2G 4G 8G 16G' -- "$word") ;;
-    --order-file | --given) mapfile -t COMPREPLY < <(compgen -f -- "$word") ;;
+    --order-file | --given | --vcd) mapfile -t COMPREPLY < <(compgen -f -- "$word") ;;
     *)
         case $word in
-        -*) mapfile -t COMPREPLY < <(compgen -W '--match --order --order-file --extend --given --only --share --explain --workers --limit --memory --sizes --print-order --format --assignment --verbose --help --version' -- "$word") ;;
+        -*) mapfile -t COMPREPLY < <(compgen -W '--match --order --order-file --extend --given --only --share --explain --vcd --workers --limit --memory --sizes --print-order --format --assignment --verbose --help --version' -- "$word") ;;
         *) mapfile -t COMPREPLY < <(compgen -f -- "$word") ;;
         esac
         ;;

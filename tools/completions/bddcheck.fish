@@ -7,6 +7,7 @@ complete -c bddcheck -l given -r -F -d 'Compare only where the one output of a n
 complete -c bddcheck -l only -x -d 'Judge only the output and the register of this name, by their cones'
 complete -c bddcheck -l share -x -a '1/2 1/4 1/8 1/16' -d 'Judge only the pairs of one of several shares, by their cones'
 complete -c bddcheck -l explain -x -d 'Behind the report, list the gates by which this output, or NEXT and a register, differs'
+complete -c bddcheck -l vcd -r -F -d 'Write the values of the first pair that differs to this file'
 complete -c bddcheck -l workers -x -a '1 2 4 8 16' -d 'Threads, 1 to 16'
 complete -c bddcheck -l limit -x -d 'The most nodes of the diagrams'
 complete -c bddcheck -l memory -x -a '1G 2G 4G 8G 16G' -d 'The memory that auto and cones may take for nodes'

@@ -8,7 +8,7 @@ use Rattle.net_bench.specs.Labels.{IsFunctionOf}
 use Rattle.net_order.specs.Order.{Paired, first_level, second_level, name_of, names_of}
 use Rattle.dd_store.specs.declared.reference.Ref.{Ref}
 use Rattle.dd_store.specs.Nodes.{Nodes}
-use Rattle.report_text.specs.declared.outcome.Role.{Role}
+use Rattle.report_text.specs.declared.outcome.PairKind.{PairKind}
 use Rattle.report_text.specs.declared.outcome.Side.{Side}
 use Rattle.report_text.specs.declared.outcome.Side.TheVariants.{First, Second}
 use Rattle.check_report.specs.declared.telling.Asked.{Asked}
@@ -60,7 +60,7 @@ module _ (asked : Asked) (holds : List Bool → Bool) (a b : Circuit) (p : Paire
   all_added all i verdicts e le h = subst (λ us. HaveVerdicts asked holds a b p us verdicts) (take_all i all le ∙ e) h
 
   -- one more verdict, by the references of its subject
-  pub next_shown : (told : (List Bool → Bool) → List Bool → Bool) (S : Nodes) (all : List Subject) (i : ℕ) (role : Role) (name : List ℕ) (one two r q : Ref) (v : Verdict) (verdicts more : List Verdict) → S.levels ≡ length p.names → i < length all →
+  pub next_shown : (told : (List Bool → Bool) → List Bool → Bool) (S : Nodes) (all : List Subject) (i : ℕ) (role : PairKind) (name : List ℕ) (one two r q : Ref) (v : Verdict) (verdicts more : List Verdict) → S.levels ≡ length p.names → i < length all →
       role ≡ (subject_at all i).role → name ≡ name_of a (subject_at all i).named → one ≡ r → two ≡ q →
       DenotesWhere told holds a (first_level p) S (subject_at all i).first r → DenotesWhere told holds b (second_level p) S (subject_at all i).second q →
       HaveVerdicts asked holds a b p (take i all) verdicts → IsVerdictOf S.levels asked everywhere (compared_of told S role name one two) v → more ≡ verdicts ++ v ∷ [] → HaveVerdicts asked holds a b p (take (i + 1) all) more
@@ -102,7 +102,7 @@ whole asked a b given p of_pairs one two (holds, is, h) e f = record {
 
 -- ---- the verdicts of what has no partner
 
-pub lone_next : (c : Circuit) (side : Side) (role : Role) (signals : List ℕ) (i s : ℕ) (name : List ℕ) (old new whole : List Verdict) → i < length signals → s ≡ get_or signals i s → slice_get c.names s ≡ Some name →
+pub lone_next : (c : Circuit) (side : Side) (role : PairKind) (signals : List ℕ) (i s : ℕ) (name : List ℕ) (old new whole : List Verdict) → i < length signals → s ≡ get_or signals i s → slice_get c.names s ≡ Some name →
     old ++ map (Lone side role) (names_of c (drop i signals)) ≡ whole → new ≡ old ++ Lone side role name ∷ [] →
     new ++ map (Lone side role) (names_of c (drop (i + 1) signals)) ≡ whole
 lone_next c side role signals i s name old new whole lt item named done added =

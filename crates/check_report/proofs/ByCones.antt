@@ -1,5 +1,5 @@
 -- Pairs that are judged by their cones: what a comparison of cones says of the whole.
-use Rattle.std.proofs.Common.{◌≡◌, ap, sym, refl, subst, arith, ◌⊎◌, ℕ, suc, ◌<◌, ◌*◌, Bool, true, false, List, [], ◌∷◌, map, length, get_or, All, Option, Some, None, Result, Ok, min}
+use Rattle.std.proofs.Common.{◌≡◌, ap, sym, refl, subst, arith, ◌⊎◌, ℕ, suc, ◌<◌, ◌≤◌, ◌*◌, Bool, true, false, List, [], ◌∷◌, map, length, get_or, All, Option, Some, None, Result, Ok, min}
 use Rattle.std.specs.Prelude.{◌==◌, IfSome, cond, filter, zip, option_map, slice_index}
 use Rattle.std.specs.List.{AllZip}
 use Rattle.std.proofs.lemmas.List.Elements.{All-cons, All-filter, All-head, All-nil, All-tail}
@@ -24,27 +24,28 @@ use Rattle.check_report.specs.declared.subject.Subject.{Subject}
 use Rattle.check_report.specs.declared.task.Task.{Task}
 use Rattle.check_report.specs.Best.{order_of}
 use Rattle.check_report.specs.Conditions.{HoldsWhere, everywhere, output_of}
-use Rattle.check_report.specs.Cones.{AreCones, IsLeftWithin, IsTold, IsToldOf}
+use Rattle.check_report.specs.Cones.{AreCones, FitByCones, IsLeftWithin, IsTold, IsToldOf}
 use Rattle.check_report.specs.Cones.IsToldOf.{decided, undecided}
 use Rattle.std.specs.Borrow.{Bor}
 use Rattle.std.specs.Option.{option_copied}
 use Rattle.net_cone.specs.declared.cone.Cone.{Cone}
 use Rattle.check_report.specs.declared.picked.Picked.{Picked}
 use Rattle.check_report.specs.Coning.{IsKnown, circuit_in, circuit_of, left_of}
-use Rattle.check_report.specs.Limits.{Exceeds}
+use Rattle.check_report.specs.Limits.{Exceeds, FitsWithin}
 use Rattle.check_report.specs.Picking.{ArePicked, is_pair_of, of_share}
 use Rattle.check_report.specs.Picking.ArePicked.{all, named, shared}
 use Rattle.check_report.specs.Report.{AreVerdicts, Compared, subjects}
 use Rattle.check_report.specs.Spreading.{IsConePairing, IsOfNet, widened_verdict}
-use Rattle.check_report.specs.Trials.{IsPassed}
+use Rattle.check_report.specs.Trials.{IsDecidedWithin, IsPassed}
 use Rattle.check_report.specs.Widths.{IsTooWide}
 use Rattle.check_report.proofs.ConeVerdicts.{told_widened}
 
 -- ---- what a pair is told
 
--- what is told of a pair that is decided is told of it, whatever is left
-pub told_yes : (asked : Asked) (other : Subject → Type 0) (a b : Circuit) (given : Option Circuit) (p : Paired) (s : Subject) (v : Verdict) → IsTold asked (λ t. ⊥) a b given p s v → IsTold asked other a b given p s v
-told_yes asked other a b given p s v t = record {
+-- what is told of a pair that is decided is told of it, whatever is left, and where more nodes are allowed
+pub told_yes : (asked : Asked) (within more other : Subject → Type 0) (a b : Circuit) (given : Option Circuit) (p : Paired) (s : Subject) (v : Verdict) → (within s → more s) → IsTold asked within (λ t. ⊥) a b given p s v →
+    IsTold asked more other a b given p s v
+told_yes asked within more other a b given p s v wider t = record {
   holds = t.holds;
   condition = t.condition;
   compared = t.compared;
@@ -52,9 +53,29 @@ told_yes asked other a b given p s v t = record {
   verdict = by (length p.names) t.holds t.compared v t.verdict;
 }
   where
-    by : (n : ℕ) (holds : List Bool → Bool) (c : Compared) (v : Verdict) → IsToldOf n asked ⊥ holds c v → IsToldOf n asked (other s) holds c v
-    by n holds c v (decided is equal) = decided is equal
+    by : (n : ℕ) (holds : List Bool → Bool) (c : Compared) (v : Verdict) → IsToldOf n asked (within s) ⊥ holds c v → IsToldOf n asked (more s) (other s) holds c v
+    by n holds c v (decided few is equal) = decided (wider few) is equal
     by n holds c v (undecided never) = absurd never
+
+-- where fewer nodes are enough, so are more
+pub more_nodes : (budget limit : ℕ) (a b : Circuit) (given : Option Circuit) (p : Paired) (s : Subject) → budget ≤ limit → FitByCones budget a b given p s → FitByCones limit a b given p s
+more_nodes budget limit a b given p s le few = record {
+  first = few.first;
+  second = few.second;
+  condition = few.condition;
+  cones = few.cones;
+  candidate = few.candidate;
+  pairing = few.pairing;
+  paired = few.paired;
+  fit = record {
+    store = few.fit.store;
+    sound = few.fit.sound;
+    levels = few.fit.levels;
+    lean = few.fit.lean;
+    complete = few.fit.complete;
+    within = let low = few.fit.within in omega (arith, low, le);
+  };
+}
 
 some_holds : (given : Option Circuit) (p : Paired) → IfSome given IsOfNet → (holds : List Bool → Bool) × HoldsWhere given p holds
 some_holds None p is = (everywhere, refl)
@@ -63,9 +84,9 @@ some_holds (Some c) p is =
     (f, subst (λ (d : Circuit). IsFunctionOf d (slice_index p.given) (length p.names) (output_of c) f) is.is_circuit (some_function is.net is.sound (slice_index p.given) (length p.names) (output_of c)))
 
 -- a pair that is left is told as undecided
-pub told_left : (asked : Asked) (left : Subject → Type 0) (n m : Net) (given : Option Circuit) (p : Paired) (s : Subject) → IsNet n → IsNet m → IfSome given IsOfNet → left s →
-    IsTold asked left (circuit n) (circuit m) given p s (Undecided s.role (name_of (circuit n) s.named))
-told_left asked left n m given p s first second net is =
+pub told_left : (asked : Asked) (within left : Subject → Type 0) (n m : Net) (given : Option Circuit) (p : Paired) (s : Subject) → IsNet n → IsNet m → IfSome given IsOfNet → left s →
+    IsTold asked within left (circuit n) (circuit m) given p s (Undecided s.role (name_of (circuit n) s.named))
+told_left asked within left n m given p s first second net is =
     let c : Compared = record {
       role = s.role;
       name = name_of (circuit n) s.named;
@@ -110,15 +131,20 @@ module _ {H : Type 0} (task : Task H) (k m : Circuit) (w : Option Circuit) (by_n
         ((passed x).pairing, (passed x).paired, (passed x).cause);
   }
 
+  pub within_by_cones : (a b : Circuit) (c : Option Circuit) (p : Paired) (s : Subject) → AreCones a b c p s k m w → (budget : ℕ) → IsDecidedWithin task budget → FitByCones budget a b c p s
+  within_by_cones a b c p s cones budget few =
+      let h = as_cones (λ how a b g. IsPairing how a b g (order_of few.candidate) few.pairing × FitsWithin budget a b g few.pairing) (few.paired, few.fit) in
+      record { first = k; second = m; condition = w; cones = cones; candidate = few.candidate; pairing = few.pairing; paired = h.0; fit = h.1 }
+
 -- a verdict by cones, or none, over all variables
 pub known_by_cones : (which : Option Assignment) (a b : Circuit) (given : Option Circuit) (p : Paired) (s : Subject) (k m : Circuit) (w : Option Circuit) (places : List ℕ) (q : Paired) →
-    IsConePairing a b given p s k m w places q → (left : Subject → Type 0) (found told : Option Verdict) →
+    IsConePairing a b given p s k m w places q → (within left : Subject → Type 0) (found told : Option Verdict) →
     told ≡ option_map (widened_verdict s.role (name_of a s.named) (length p.names) places) found →
-    IfSome found (λ v. AreVerdicts (unsized which) k m w q (record { variables = q.names; verdicts = v ∷ [] })) → (found ≡ None → left s) →
-    IsKnown (IsTold (unsized which) (λ t. ⊥) a b given p) left s told
-known_by_cones which a b given p s k m w places q is left None told e are none = subst (IsKnown (IsTold (unsized which) (λ t. ⊥) a b given p) left s) (sym e) (none refl)
-known_by_cones which a b given p s k m w places q is left (Some v) told e are none =
-    subst (IsKnown (IsTold (unsized which) (λ t. ⊥) a b given p) left s) (sym e) (told_widened a b given p s k m w places q is which (λ t. ⊥) v are)
+    IfSome found (λ v. AreVerdicts (unsized which) k m w q (record { variables = q.names; verdicts = v ∷ [] })) → IfSome found (λ v. within s) → (found ≡ None → left s) →
+    IsKnown (IsTold (unsized which) within (λ t. ⊥) a b given p) left s told
+known_by_cones which a b given p s k m w places q is within left None told e are few none = subst (IsKnown (IsTold (unsized which) within (λ t. ⊥) a b given p) left s) (sym e) (none refl)
+known_by_cones which a b given p s k m w places q is within left (Some v) told e are few none =
+    subst (IsKnown (IsTold (unsized which) within (λ t. ⊥) a b given p) left s) (sym e) (told_widened a b given p s k m w places q is which within (λ t. ⊥) v few are)
 
 -- ---- turns
 

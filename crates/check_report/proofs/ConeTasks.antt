@@ -17,11 +17,11 @@ use Rattle.check_report.specs.declared.coning.Whole.{Whole}
 use Rattle.check_report.specs.declared.settings.Settings.{Settings}
 use Rattle.check_report.specs.declared.subject.Subject.{Subject}
 use Rattle.check_report.specs.declared.task.Task.{Task}
-use Rattle.check_report.specs.Coning.{AreConesOf, IsConeTask, IsJudgedIn, IsLeftIn, IsReady, IsWidened, circuit_of}
+use Rattle.check_report.specs.Coning.{AreConesOf, FitIn, IsConeTask, IsJudgedIn, IsLeftIn, IsReady, IsWidened, circuit_of}
 use Rattle.check_report.specs.Report.{AreVerdicts}
 use Rattle.check_report.specs.Spreading.{ArePlaces, IsConePairing}
-use Rattle.check_report.specs.Trials.{IsPairingIn, IsPassed}
-use Rattle.check_report.proofs.ByCones.{known_by_cones, left_by_cones, pairing_of_cones, verdicts_of_cones}
+use Rattle.check_report.specs.Trials.{IsDecidedWithin, IsPairingIn, IsPassed}
+use Rattle.check_report.proofs.ByCones.{known_by_cones, left_by_cones, pairing_of_cones, verdicts_of_cones, within_by_cones}
 use Rattle.check_report.proofs.ConeVerdicts.{one_verdict}
 
 abbrev asked : (sizes support : Bool) → Asked
@@ -78,12 +78,18 @@ module _ {H : Type 0} (whole : Whole H) (s : Subject) (cones : Cones) (task : Ta
     as_decided None h = tt
     as_decided (Some v) h = of_cones (record { variables = q.names; verdicts = v ∷ [] }) h
 
+    as_within : (budget : ℕ) (found : Option Verdict) → IfSome found (λ v. IsDecidedWithin task budget) → IfSome found (λ v. FitIn whole budget s)
+    as_within budget None h = tt
+    as_within budget (Some v) h =
+        within_by_cones task (circuit cones.first.net) (circuit cones.second.net) (circuit_of whole.given) by_name first_is second_is of.given (circuit whole.task.now.first.now) (circuit whole.task.now.second.now)
+        (condition whole.task.now.given) whole.pairing.now s are budget h
+
     -- and what it comes to is what the pair comes to
     pub judged_pair : (budget : ℕ) (bound : Option ℕ) (found told : Option Verdict) →
         IfSome found (λ v. AreVerdicts (asked_in task.settings.now) (circuit task.first.now) (circuit task.second.now) (condition task.given) q (record { variables = q.names; verdicts = v ∷ [] })) →
-        (found ≡ None → (c : Candidate) → IsPassed task budget bound c) → IsWidened whole s places found told → IsJudgedIn whole budget bound s told
-    judged_pair budget bound found told decided left widened =
+        IfSome found (λ v. IsDecidedWithin task budget) → (found ≡ None → (c : Candidate) → IsPassed task budget bound c) → IsWidened whole s places found told → IsJudgedIn whole budget bound s told
+    judged_pair budget bound found told decided few left widened =
         known_by_cones whole.task.now.settings.now.assignment (circuit whole.task.now.first.now) (circuit whole.task.now.second.now) (condition whole.task.now.given) whole.pairing.now s (circuit cones.first.net) (circuit cones.second.net) (circuit_of whole.given) places q
-        cone_pair (IsLeftIn whole budget bound) found told widened (as_decided found decided)
+        cone_pair (FitIn whole budget) (IsLeftIn whole budget bound) found told widened (as_decided found decided) (as_within budget found few)
         (λ e. left_by_cones task (circuit cones.first.net) (circuit cones.second.net) (circuit_of whole.given) by_name first_is second_is of.given (circuit whole.task.now.first.now) (circuit whole.task.now.second.now)
         (condition whole.task.now.given) whole.pairing.now s are budget bound (left e))

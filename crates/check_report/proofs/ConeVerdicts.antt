@@ -12,7 +12,7 @@ use Rattle.net_order.specs.Order.{HasLevels, Paired, all_names, both, given_side
 use Rattle.net_order.specs.Tables.{IsKnown}
 use Rattle.net_order.proofs.AllNames.{known_given, known_sides}
 use Rattle.net_order.proofs.InputLevels.{first_below, given_below, second_below}
-use Rattle.report_text.specs.declared.outcome.Role.{Role}
+use Rattle.report_text.specs.declared.outcome.PairKind.{PairKind}
 use Rattle.report_text.specs.declared.verdict.Verdict.{Verdict}
 use Rattle.report_text.specs.declared.verdict.Verdict.TheVariants.{Differs}
 use Rattle.report_text.specs.Lines.{Found}
@@ -35,7 +35,7 @@ use Rattle.check_report.proofs.Spread.{agree_where_picked, least_where_picked, p
 -- ---- verdicts
 
 -- two functions of what is picked, of this role and name
-abbrev pub picked_of : (places : List ℕ) → Role → (name : List ℕ) → Compared → Compared
+abbrev pub picked_of : (places : List ℕ) → PairKind → (name : List ℕ) → Compared → Compared
 picked_of places role name c = record { role = role; name = name; first = λ x. c.first (pick places x); second = λ x. c.second (pick places x) }
 
 -- places that rise are apart
@@ -58,7 +58,7 @@ support_widened false n places are f g shown is = ap (spread_marks n places) is
 support_widened true n places are f g shown is = (spread n places is.0, levels_spread n places (apart n places are) f g is.0 is.1, ap (spread_marks n places) is.2)
 
 -- a verdict over the places is one over all levels
-pub verdict_widened : (which : Option Assignment) (n : ℕ) (places : List ℕ) → ArePlaces n places → (holds : List Bool → Bool) (c : Compared) (role : Role) (name : List ℕ) (v : Verdict) →
+pub verdict_widened : (which : Option Assignment) (n : ℕ) (places : List ℕ) → ArePlaces n places → (holds : List Bool → Bool) (c : Compared) (role : PairKind) (name : List ℕ) (v : Verdict) →
     IsVerdictOf (length places) (unsized which) holds c v → IsVerdictOf n (unsized which) (λ x. holds (pick places x)) (picked_of places role name c) (widened_verdict role name n places v)
 verdict_widened which n places are holds c role name v (where_equal agree size) = where_equal ((agree_where_picked n places are holds c.first c.second).0 agree) refl
 verdict_widened which n places are holds c role name v (where_different {x = x} {shown = shown} least more) =
@@ -166,9 +166,9 @@ module _ (a b : Circuit) (given : Option Circuit) (p : Paired) (s : Subject) (k 
 
   -- ---- the verdict, over all variables
 
-  pub told_widened : (which : Option Assignment) (left : Subject → Type 0) (v : Verdict) → AreVerdicts (unsized which) k m w q (record { variables = q.names; verdicts = v ∷ [] }) →
-      IsTold (unsized which) left a b given p s (widened_verdict s.role (name_of a s.named) (length p.names) places v)
-  told_widened which left v are =
+  pub told_widened : (which : Option Assignment) (within left : Subject → Type 0) (v : Verdict) → within s → AreVerdicts (unsized which) k m w q (record { variables = q.names; verdicts = v ∷ [] }) →
+      IsTold (unsized which) within left a b given p s (widened_verdict s.role (name_of a s.named) (length p.names) places v)
+  told_widened which within left v few are =
       let n = length p.names in
       let fs : AllZip (AreFunctions k m q) (own_subject ∷ []) are.compared = subst (λ of. AllZip (AreFunctions k m q) of are.compared) one_compared are.functions in
       let one : IsOne which k m q own_subject are.holds v = one_of which k m q own_subject are.holds v are.compared are.of_pairs (lone_verdicts k m q) fs are.are_verdicts are.all in
@@ -186,14 +186,14 @@ module _ (a b : Circuit) (given : Option Circuit) (p : Paired) (s : Subject) (k 
           first = first_function one.compared.first one.functions.first;
           second = second_function one.compared.second one.functions.second;
         };
-        verdict = decided verdict (exact n (unsized which) holds compared (widened_verdict s.role (name_of a s.named) n places v) verdict);
+        verdict = decided few verdict (exact n (unsized which) holds compared (widened_verdict s.role (name_of a s.named) n places v) verdict);
       }
 
   -- so the last verdict of what a comparison finds is the one that is meant
-  pub told_last : (which : Option Assignment) (left : Subject → Type 0) (front : List Verdict) (v : Verdict) → AreVerdicts (unsized which) k m w q (record { variables = q.names; verdicts = front ++ v ∷ [] }) →
-      IsTold (unsized which) left a b given p s (widened_verdict s.role (name_of a s.named) (length p.names) places v)
-  told_last which left front v are =
+  pub told_last : (which : Option Assignment) (within left : Subject → Type 0) (front : List Verdict) (v : Verdict) → within s → AreVerdicts (unsized which) k m w q (record { variables = q.names; verdicts = front ++ v ∷ [] }) →
+      IsTold (unsized which) within left a b given p s (widened_verdict s.role (name_of a s.named) (length p.names) places v)
+  told_last which within left front v few are =
       let size : length (front ++ v ∷ []) ≡ length front + 1 = length-append front (v ∷ []) in
       let one : length (front ++ v ∷ []) ≡ 1 = one_verdict which (record { variables = q.names; verdicts = front ++ v ∷ [] }) are in
       let none : front ≡ [] = nil_from_length front (omega (arith, size, one)) in
-      told_widened which left v (subst (λ vs. AreVerdicts (unsized which) k m w q (record { variables = q.names; verdicts = vs ++ v ∷ [] })) none are)
+      told_widened which within left v few (subst (λ vs. AreVerdicts (unsized which) k m w q (record { variables = q.names; verdicts = vs ++ v ∷ [] })) none are)

@@ -154,7 +154,7 @@ module _ (n : ℕ) (Values : (List Bool → Bool) → Type 0) (S T : Nodes) (sou
       found v g h here (inr others) =
           let less = without h.reference (refs_of T) here in
           let fewer = less.fewer in
-          let short : length (refs_of S) ≤ length less.rest =
+          let terminal_case : length (refs_of S) ≤ length less.rest =
           pigeons (Twins n S T) (refs_of S) less.rest (distinct_all 0 S.shards)
           (λ x a. let o = others x a in (o.0, kept h.reference less.rest o.0 o.3 (less.others o.0 o.1), o.2)) own in
           absurd (omega arith)

@@ -33,7 +33,7 @@ pub found_later : {A : Type 0} (f : A → Bool) (xs : List A) (i : ℕ) (x : A) 
 found_later f xs i x lt here fails e =
     sym (ap (find f) (drop_more xs i x lt ∙ ap (λ z. z ∷ drop (i + 1) xs) (sym here)) ∙ ap (λ b. cond b (Some x) (find f (drop (i + 1) xs))) fails) ∙ e
 
-none_left : {A : Type 0} (xs : List A) (i : ℕ) → length xs ≤ i → drop i xs ≡ []
+pub none_left : {A : Type 0} (xs : List A) (i : ℕ) → length xs ≤ i → drop i xs ≡ []
 none_left [] zero h = refl
 none_left [] (suc i) h = refl
 none_left (x ∷ xs) zero h = absurd (omega (arith, h))

@@ -32,3 +32,4 @@ pub mod ConeTasks
 pub mod Picks
 pub mod Shares
 pub mod Explanations
+pub mod Differences

@@ -8,8 +8,8 @@ use Rattle.std.proofs.lemmas.List.Elements.{filter-append, filter_more}
 use Rattle.std.proofs.lemmas.List.Folds.{list_any_at}
 use Rattle.net_bench.specs.Circuit.{Circuit}
 use Rattle.net_order.specs.Order.{Paired, name_of, names_of}
-use Rattle.report_text.specs.declared.outcome.Role.{Role}
-use Rattle.report_text.specs.declared.outcome.Role.TheVariants.{Output, NextState}
+use Rattle.report_text.specs.declared.outcome.PairKind.{PairKind}
+use Rattle.report_text.specs.declared.outcome.PairKind.TheVariants.{Output, NextState}
 use Rattle.report_text.specs.declared.outcome.Share.{Share}
 use Rattle.report_text.specs.declared.outcome.Side.TheVariants.{First}
 use Rattle.report_text.specs.declared.verdict.Verdict.{Verdict}
@@ -87,7 +87,7 @@ module _ (k : ℕ) (ss : List Subject) (ks : List ℕ) (i : ℕ) (s : Subject) (
 
 -- ---- the lines of what has no partner
 
-lone_filtered : (c : Circuit) (names : List (List ℕ)) (role : Role) (ss : List ℕ) →
+lone_filtered : (c : Circuit) (names : List (List ℕ)) (role : PairKind) (ss : List ℕ) →
     filter (is_lone_of names) (map (Lone First role) (names_of c ss)) ≡ map (Lone First role) (names_of c (filter (is_one_of c names) ss))
 lone_filtered c names role [] = refl
 lone_filtered c names role (s ∷ ss) =

@@ -1,14 +1,17 @@
 -- Turns of pairs, and rounds of budgets.
-use Rattle.std.proofs.Common.{◌≡◌, ◌∙◌, ap, sym, refl, subst, arith, ℕ, zero, suc, ◌+◌, ◌<◌, ◌≤◌, ◌*◌, ◌^◌, List, [], ◌∷◌, ◌++◌, length, get_or, drop, All, Option, None, append_assoc, length-append}
+use Rattle.std.proofs.Common.{◌≡◌, ◌∙◌, ap, sym, refl, subst, arith, ℕ, zero, suc, ◌+◌, ◌<◌, ◌≤◌, ◌*◌, ◌^◌, List, [], ◌∷◌, ◌++◌, length, get_or, drop, All, Option, Some, None, append_assoc, length-append}
 use Rattle.std.specs.List.{AllZip}
 use Rattle.std.proofs.lemmas.List.{drop_more}
 use Rattle.report_text.specs.declared.verdict.Verdict.{Verdict}
-use Rattle.net_bench.specs.Circuit.{Circuit}
+use Rattle.net_bench.specs.Circuit.{Circuit, circuit}
+use Rattle.net_order.specs.Order.{condition}
 use Rattle.check_report.specs.declared.coning.Whole.{Whole}
 use Rattle.check_report.specs.declared.subject.Subject.{Subject}
 use Rattle.check_report.specs.declared.turns.Turn.{Turn}
 use Rattle.check_report.specs.Best.{IsBudget}
-use Rattle.check_report.specs.Coning.{IsKnown, IsLeftIn, IsRoundOf, IsToldIn, all_told, told_of}
+use Rattle.check_report.specs.Asking.{unsized}
+use Rattle.check_report.specs.Coning.{FitIn, IsJudgedIn, IsKnown, IsLeftIn, IsRoundOf, IsToldIn, all_told, left_of, told_of}
+use Rattle.check_report.proofs.ByCones.{more_nodes, told_yes}
 use Rattle.check_report.proofs.Budgets.{each_budget, tried_next}
 use Rattle.check_report.proofs.Filling.{filled_known}
 
@@ -48,32 +51,44 @@ turn_low done next all t e = omega (arith, ap length e, length-append (done ++ t
 
 -- ---- rounds
 
-module _ {H : Type 0} (whole : Whole H) (bound : Option ℕ) (ss : List Subject) where
+module _ {H : Type 0} (whole : Whole H) (limit : ℕ) (bound : Option ℕ) (ss : List Subject) where
+  -- what is told within fewer nodes is told within the limit
+  wider : (budget : ℕ) → budget ≤ limit → (ts : List Subject) (os : List (Option Verdict)) → AllZip (IsJudgedIn whole budget bound) ts os → AllZip (IsKnown (IsToldIn whole limit) (IsLeftIn whole budget bound)) ts os
+  wider budget le [] [] h = tt
+  wider budget le [] (o ∷ os) h = absurd h
+  wider budget le (t ∷ ts) [] h = absurd h
+  wider budget le (t ∷ ts) (None ∷ os) h = (h.0, wider budget le ts os h.1)
+  wider budget le (t ∷ ts) (Some v ∷ os) h = (
+    told_yes (unsized whole.task.now.settings.now.assignment) (FitIn whole budget) (FitIn whole limit) (λ s. ⊥) (circuit whole.task.now.first.now) (circuit whole.task.now.second.now) (condition whole.task.now.given) whole.pairing.now t v
+        (more_nodes budget limit (circuit whole.task.now.first.now) (circuit whole.task.now.second.now) (condition whole.task.now.given) whole.pairing.now t le) h.0,
+    wider budget le ts os h.1,
+  )
+
   -- before the first round
-  pub none_yet : (known : List (Option Verdict)) → length known ≡ length ss → All (λ o. o ≡ None) known → AllZip (IsKnown (IsToldIn whole) (λ s. (j : ℕ) → j < 0 → IsLeftIn whole (16384 * 16 ^ j) bound s)) ss known
+  pub none_yet : (known : List (Option Verdict)) → length known ≡ length ss → All (λ o. o ≡ None) known → AllZip (IsKnown (IsToldIn whole limit) (λ s. (j : ℕ) → j < 0 → IsLeftIn whole (16384 * 16 ^ j) bound s)) ss known
   none_yet known long none = each ss known (sym long) none
     where
-      each : (ts : List Subject) (os : List (Option Verdict)) → length ts ≡ length os → All (λ o. o ≡ None) os → AllZip (IsKnown (IsToldIn whole) (λ s. (j : ℕ) → j < 0 → IsLeftIn whole (16384 * 16 ^ j) bound s)) ts os
+      each : (ts : List Subject) (os : List (Option Verdict)) → length ts ≡ length os → All (λ o. o ≡ None) os → AllZip (IsKnown (IsToldIn whole limit) (λ s. (j : ℕ) → j < 0 → IsLeftIn whole (16384 * 16 ^ j) bound s)) ts os
       each [] [] e h = tt
       each [] (o ∷ os) e h = absurd (omega arith)
       each (t ∷ ts) [] e h = absurd (omega arith)
       each (t ∷ ts) (o ∷ os) e h = (
-        subst (IsKnown (IsToldIn whole) (λ s. (j : ℕ) → j < 0 → IsLeftIn whole (16384 * 16 ^ j) bound s) t) (sym (h 0 o (omega arith))) (λ j lt. absurd (omega (arith, lt))),
+        subst (IsKnown (IsToldIn whole limit) (λ s. (j : ℕ) → j < 0 → IsLeftIn whole (16384 * 16 ^ j) bound s) t) (sym (h 0 o (omega arith))) (λ j lt. absurd (omega (arith, lt))),
         each ts os (omega (arith, e)) (λ i d lt. h (suc i) d (omega (arith, lt))),
       )
 
   -- after one more
-  pub round_more : (k budget : ℕ) (known new : List (Option Verdict)) → budget ≡ 16384 * 16 ^ k → AllZip (IsKnown (IsToldIn whole) (λ s. (j : ℕ) → j < k → IsLeftIn whole (16384 * 16 ^ j) bound s)) ss known →
-      IsRoundOf whole budget bound ss known new → AllZip (IsKnown (IsToldIn whole) (λ s. (j : ℕ) → j < suc k → IsLeftIn whole (16384 * 16 ^ j) bound s)) ss new
-  round_more k budget known new is before r =
-      subst (AllZip (IsKnown (IsToldIn whole) (λ s. (j : ℕ) → j < suc k → IsLeftIn whole (16384 * 16 ^ j) bound s)) ss) (sym r.all)
-      (filled_known (IsToldIn whole) (λ s. (j : ℕ) → j < k → IsLeftIn whole (16384 * 16 ^ j) bound s) (IsLeftIn whole budget bound) (λ s. (j : ℕ) → j < suc k → IsLeftIn whole (16384 * 16 ^ j) bound s)
-      (λ s tried now. tried_next (λ n. IsLeftIn whole n bound s) k budget is tried now) ss known r.found before r.judged)
+  pub round_more : (k budget : ℕ) (known new : List (Option Verdict)) → budget ≡ 16384 * 16 ^ k → budget ≤ limit → AllZip (IsKnown (IsToldIn whole limit) (λ s. (j : ℕ) → j < k → IsLeftIn whole (16384 * 16 ^ j) bound s)) ss known →
+      IsRoundOf whole budget bound ss known new → AllZip (IsKnown (IsToldIn whole limit) (λ s. (j : ℕ) → j < suc k → IsLeftIn whole (16384 * 16 ^ j) bound s)) ss new
+  round_more k budget known new is le before r =
+      subst (AllZip (IsKnown (IsToldIn whole limit) (λ s. (j : ℕ) → j < suc k → IsLeftIn whole (16384 * 16 ^ j) bound s)) ss) (sym r.all)
+      (filled_known (IsToldIn whole limit) (λ s. (j : ℕ) → j < k → IsLeftIn whole (16384 * 16 ^ j) bound s) (IsLeftIn whole budget bound) (λ s. (j : ℕ) → j < suc k → IsLeftIn whole (16384 * 16 ^ j) bound s)
+      (λ s tried now. tried_next (λ n. IsLeftIn whole n bound s) k budget is tried now) ss known r.found before (wider budget le (left_of ss known) r.found r.judged))
 
   -- after the last
-  pub round_last : (limit k : ℕ) (known new : List (Option Verdict)) → limit ≤ 16384 * 16 ^ k → AllZip (IsKnown (IsToldIn whole) (λ s. (j : ℕ) → j < k → IsLeftIn whole (16384 * 16 ^ j) bound s)) ss known →
-      IsRoundOf whole limit bound ss known new → AllZip (IsKnown (IsToldIn whole) (λ s. (budget : ℕ) → IsBudget limit budget → IsLeftIn whole budget bound s)) ss new
-  round_last limit k known new most before r =
-      subst (AllZip (IsKnown (IsToldIn whole) (λ s. (budget : ℕ) → IsBudget limit budget → IsLeftIn whole budget bound s)) ss) (sym r.all)
-      (filled_known (IsToldIn whole) (λ s. (j : ℕ) → j < k → IsLeftIn whole (16384 * 16 ^ j) bound s) (IsLeftIn whole limit bound) (λ s. (budget : ℕ) → IsBudget limit budget → IsLeftIn whole budget bound s)
-      (λ s tried now budget is. each_budget (λ n. IsLeftIn whole n bound s) limit k tried most now budget is) ss known r.found before r.judged)
+  pub round_last : (k : ℕ) (known new : List (Option Verdict)) → limit ≤ 16384 * 16 ^ k → AllZip (IsKnown (IsToldIn whole limit) (λ s. (j : ℕ) → j < k → IsLeftIn whole (16384 * 16 ^ j) bound s)) ss known →
+      IsRoundOf whole limit bound ss known new → AllZip (IsKnown (IsToldIn whole limit) (λ s. (budget : ℕ) → IsBudget limit budget → IsLeftIn whole budget bound s)) ss new
+  round_last k known new most before r =
+      subst (AllZip (IsKnown (IsToldIn whole limit) (λ s. (budget : ℕ) → IsBudget limit budget → IsLeftIn whole budget bound s)) ss) (sym r.all)
+      (filled_known (IsToldIn whole limit) (λ s. (j : ℕ) → j < k → IsLeftIn whole (16384 * 16 ^ j) bound s) (IsLeftIn whole limit bound) (λ s. (budget : ℕ) → IsBudget limit budget → IsLeftIn whole budget bound s)
+      (λ s tried now budget is. each_budget (λ n. IsLeftIn whole n bound s) limit k tried most now budget is) ss known r.found before (wider limit (omega arith) (left_of ss known) r.found r.judged))

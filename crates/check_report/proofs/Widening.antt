@@ -1,4 +1,4 @@
--- Waves that reach more requests than the gate allows.
+-- Waves that reach more requests than the monitor allows.
 use Rattle.std.proofs.Common.{◌≡◌, ◌∙◌, inl, inr, ap, sym, subst, ℕ, length, List, Option, Some, None}
 use Rattle.std.specs.Prelude.{IsSomeAnd}
 use Rattle.dd_store.specs.declared.reference.Ref.{Ref}

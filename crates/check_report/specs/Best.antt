@@ -73,7 +73,7 @@ abbrev pub whole_limit : (limit : ℕ) → ℕ
 whole_limit limit = min 4194304 limit
 
 -- An attempt in this order within so many nodes was given up: a comparison in it needs more, or one wave of it reaches more requests than
--- eight for each of them, or than the gate's bound where that is less.
+-- eight for each of them, or than the monitor's bound where that is less.
 abbrev pub IsGivenUpWithin : Told → Match → (budget : ℕ) → (bound : Option ℕ) → Order → Type 0
 IsGivenUpWithin told how budget bound order = AreBeyond told how order budget ⊎ AreTooWide told how order (min (budget * 8) (most_of bound))
 

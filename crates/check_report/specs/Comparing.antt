@@ -10,8 +10,8 @@ use Rattle.dd_store.specs.Functions.{Agree}
 use Rattle.dd_store.specs.Nodes.{Nodes, den}
 use Rattle.dd_store.specs.View.{Has}
 use Rattle.gate_plan.specs.Building.{References, AreDiagrams, reference_of}
-use Rattle.report_text.specs.declared.outcome.Role.{Role}
-use Rattle.report_text.specs.declared.outcome.Role.TheVariants.{Output}
+use Rattle.report_text.specs.declared.outcome.PairKind.{PairKind}
+use Rattle.report_text.specs.declared.outcome.PairKind.TheVariants.{Output}
 use Rattle.check_report.specs.declared.subject.Subject.{Subject}
 use Rattle.check_report.specs.declared.telling.Asked.{Asked}
 use Rattle.check_report.specs.declared.telling.Telling.{Telling}
@@ -97,5 +97,5 @@ abbrev pub HaveAllVerdicts : Asked → Circuit → Circuit → Option Circuit �
 HaveAllVerdicts asked a b given p verdicts = (holds : List Bool → Bool) × HoldsWhere given p holds × HaveVerdicts asked holds a b p (subjects a b p) verdicts
 
 -- two functions of this role and name, whose diagrams these are, as they are told
-abbrev pub compared_of : (told : (List Bool → Bool) → List Bool → Bool) → Nodes → Role → List ℕ → Ref → Ref → Compared
+abbrev pub compared_of : (told : (List Bool → Bool) → List Bool → Bool) → Nodes → PairKind → List ℕ → Ref → Ref → Compared
 compared_of told S role name first second = record { role = role; name = name; first = told (den S first); second = told (den S second) }

@@ -13,7 +13,7 @@ use Rattle.check_report.specs.declared.choice.Candidate.{Candidate}
 use Rattle.check_report.specs.declared.subject.Subject.{Subject}
 use Rattle.check_report.specs.Best.{IsBudget, order_of}
 use Rattle.check_report.specs.Conditions.{AgreeWhere, HoldsWhere, output_of}
-use Rattle.check_report.specs.Limits.{Exceeds}
+use Rattle.check_report.specs.Limits.{Exceeds, FitsWithin}
 use Rattle.check_report.specs.declared.telling.Asked.{Asked}
 use Rattle.check_report.specs.Report.{AreFunctions, CallsEqual, Compared, IsVerdictOf}
 use Rattle.check_report.specs.Widths.{IsTooWide}
@@ -56,7 +56,7 @@ abbrev pub cone_limit : (limit : ℕ) → ℕ
 cone_limit limit = max 1 (limit / 4)
 
 -- Within so many nodes a pair is not decided by its cones: in each candidate's order of their variables an attempt was given up, as they
--- need more, or one wave reaches more requests than eight for each of these nodes, or than the gate's bound where that is less.
+-- need more, or one wave reaches more requests than eight for each of these nodes, or than the monitor's bound where that is less.
 pub record IsLeftWithin (budget : ℕ) (bound : Option ℕ) (a b : Circuit) (given : Option Circuit) (p : Paired) (s : Subject) : Type 0 where
   pub first : Circuit
   pub second : Circuit
@@ -69,26 +69,37 @@ pub record IsLeftWithin (budget : ℕ) (bound : Option ℕ) (a b : Circuit) (giv
 abbrev pub IsLeft : (limit : ℕ) → (bound : Option ℕ) → Circuit → Circuit → Option Circuit → Paired → Subject → Type 0
 IsLeft limit bound a b given p s = (budget : ℕ) → IsBudget (cone_limit limit) budget → IsLeftWithin budget bound a b given p s
 
+-- The cones of a pair need so many nodes at most, in some candidate's order of their variables.
+pub record FitByCones (limit : ℕ) (a b : Circuit) (given : Option Circuit) (p : Paired) (s : Subject) : Type 0 where
+  pub first : Circuit
+  pub second : Circuit
+  pub condition : Option Circuit
+  pub cones : AreCones a b given p s first second condition
+  pub candidate : Candidate
+  pub pairing : Paired
+  pub paired : IsPairing Name first second condition (order_of candidate) pairing
+  pub fit : FitsWithin limit first second condition pairing
+
 -- ---- verdicts
 
--- The verdict of a pair over the variables of the pairing: that of its functions where the condition holds, or Undecided where this says
--- that no attempt decides it.
-pub data IsToldOf (n : ℕ) (asked : Asked) (left : Type 0) (holds : List Bool → Bool) (c : Compared) : Verdict → Type 0 where
-  decided : {v : Verdict} → IsVerdictOf n asked holds c v → (CallsEqual v ↔ AgreeWhere n holds c.first c.second) → IsToldOf n asked left holds c v
-  undecided : left → IsToldOf n asked left holds c (Undecided c.role c.name)
+-- The verdict of a pair over the variables of the pairing: that of its functions where the condition holds, where this says that its cones
+-- are within their limit, or Undecided where that says that no attempt decides it.
+pub data IsToldOf (n : ℕ) (asked : Asked) (within left : Type 0) (holds : List Bool → Bool) (c : Compared) : Verdict → Type 0 where
+  decided : {v : Verdict} → within → IsVerdictOf n asked holds c v → (CallsEqual v ↔ AgreeWhere n holds c.first c.second) → IsToldOf n asked within left holds c v
+  undecided : left → IsToldOf n asked within left holds c (Undecided c.role c.name)
 
 -- The same of the pair that is meant.
-pub record IsTold (asked : Asked) (left : Subject → Type 0) (a b : Circuit) (given : Option Circuit) (p : Paired) (s : Subject) (v : Verdict) : Type 0 where
+pub record IsTold (asked : Asked) (within left : Subject → Type 0) (a b : Circuit) (given : Option Circuit) (p : Paired) (s : Subject) (v : Verdict) : Type 0 where
   pub holds : List Bool → Bool
   pub condition : HoldsWhere given p holds
   pub compared : Compared
   pub functions : AreFunctions a b p s compared
-  pub verdict : IsToldOf (length p.names) asked (left s) holds compared v
+  pub verdict : IsToldOf (length p.names) asked (within s) (left s) holds compared v
 
 -- What a comparison by cones finds: a verdict for each pair that is picked, then these lines of what has no partner. The variables stand by
 -- level.
-pub record AreTold (asked : Asked) (left : Subject → Type 0) (a b : Circuit) (given : Option Circuit) (p : Paired) (pairs : List Subject) (lone : List Verdict) (found : Found) : Type 0 where
+pub record AreTold (asked : Asked) (within left : Subject → Type 0) (a b : Circuit) (given : Option Circuit) (p : Paired) (pairs : List Subject) (lone : List Verdict) (found : Found) : Type 0 where
   pub variables : found.variables ≡ p.names
   pub of_pairs : List Verdict
-  pub told : AllZip (IsTold asked left a b given p) pairs of_pairs
+  pub told : AllZip (IsTold asked within left a b given p) pairs of_pairs
   pub all : found.verdicts ≡ of_pairs ++ lone

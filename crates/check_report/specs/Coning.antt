@@ -17,15 +17,15 @@ use Rattle.check_report.specs.declared.coning.Cones.{Cones}
 use Rattle.check_report.specs.declared.coning.Whole.{Whole}
 use Rattle.check_report.specs.declared.fault.CheckFault.{CheckFault}
 use Rattle.check_report.specs.declared.fault.CheckFault.TheVariants.{Only}
-use Rattle.check_report.specs.declared.naming.Part.{Part}
-use Rattle.check_report.specs.declared.naming.Part.TheVariants.{First, Second, Given}
+use Rattle.check_report.specs.declared.naming.Whose.{Whose}
+use Rattle.check_report.specs.declared.naming.Whose.TheVariants.{First, Second, Given}
 use Rattle.check_report.specs.declared.turns.Turn.{Turn}
 use Rattle.check_report.specs.declared.subject.Subject.{Subject}
 use Rattle.check_report.specs.declared.task.Task.{Task}
 use Rattle.check_report.specs.Asking.{unsized}
 use Rattle.check_report.specs.Check.{IsLate}
 use Rattle.check_report.specs.Comparing.{IsInside}
-use Rattle.check_report.specs.Cones.{AreCones, AreNamed, AreTold, IsConditionCone, IsLeft, IsLeftWithin, IsTold}
+use Rattle.check_report.specs.Cones.{AreCones, AreNamed, AreTold, FitByCones, IsConditionCone, IsLeft, IsLeftWithin, IsTold, cone_limit}
 use Rattle.check_report.specs.Picking.{ArePicked}
 use Rattle.check_report.specs.Spreading.{IsOfNet, widened_verdict}
 use Rattle.check_report.specs.Trials.{EndsAtOnce, IsPairingIn}
@@ -33,7 +33,7 @@ use Rattle.check_report.specs.Trials.{EndsAtOnce, IsPairingIn}
 -- ---- names
 
 -- the levels of a netlist's variables in a pairing, by signal
-abbrev pub levels_in : Part → Paired → List ℕ
+abbrev pub levels_in : Whose → Paired → List ℕ
 levels_in First p = p.first
 levels_in Second p = p.second
 levels_in Given p = p.given
@@ -86,9 +86,13 @@ pub record IsConeTask {H : Type 0} (whole : Whole H) (cones : Cones) (task : Tas
 
 -- ---- verdicts
 
--- the pair is decided, and this is its verdict
-abbrev pub IsToldIn : {H : Type 0} → Whole H → Subject → Verdict → Type 0
-IsToldIn whole s v = IsTold (unsized whole.task.now.settings.now.assignment) (λ t. ⊥) (circuit whole.task.now.first.now) (circuit whole.task.now.second.now) (condition whole.task.now.given) whole.pairing.now s v
+-- the cones of the pair need so many nodes at most
+abbrev pub FitIn : {H : Type 0} → Whole H → (budget : ℕ) → Subject → Type 0
+FitIn whole budget s = FitByCones budget (circuit whole.task.now.first.now) (circuit whole.task.now.second.now) (condition whole.task.now.given) whole.pairing.now s
+
+-- the pair is decided within so many nodes, and this is its verdict
+abbrev pub IsToldIn : {H : Type 0} → Whole H → (budget : ℕ) → Subject → Verdict → Type 0
+IsToldIn whole budget s v = IsTold (unsized whole.task.now.settings.now.assignment) (FitIn whole budget) (λ t. ⊥) (circuit whole.task.now.first.now) (circuit whole.task.now.second.now) (condition whole.task.now.given) whole.pairing.now s v
 
 -- the pair is left within so many nodes
 abbrev pub IsLeftIn : {H : Type 0} → Whole H → (budget : ℕ) → (bound : Option ℕ) → Subject → Type 0
@@ -106,7 +110,7 @@ IsWidened whole s places found told =
 
 -- what the attempts within so many nodes came to for a pair
 abbrev pub IsJudgedIn : {H : Type 0} → Whole H → (budget : ℕ) → (bound : Option ℕ) → Subject → Option Verdict → Type 0
-IsJudgedIn whole budget bound s o = IsKnown (IsToldIn whole) (IsLeftIn whole budget bound) s o
+IsJudgedIn whole budget bound s o = IsKnown (IsToldIn whole budget) (IsLeftIn whole budget bound) s o
 
 -- a fault of one pair: nothing was given up, and no name was looked for
 abbrev pub EndsPairs : CheckFault → Type 0
@@ -164,7 +168,7 @@ IsLeftOut whole bound s =
 -- the same, and its verdict
 abbrev pub IsToldOut : {H : Type 0} → Whole H → (bound : Option ℕ) → Subject → Verdict → Type 0
 IsToldOut whole bound s v =
-    IsTold (unsized whole.task.now.settings.now.assignment) (IsLeftOut whole bound) (circuit whole.task.now.first.now) (circuit whole.task.now.second.now) (condition whole.task.now.given) whole.pairing.now s v
+    IsTold (unsized whole.task.now.settings.now.assignment) (FitIn whole (cone_limit whole.task.now.settings.now.limit)) (IsLeftOut whole bound) (circuit whole.task.now.first.now) (circuit whole.task.now.second.now) (condition whole.task.now.given) whole.pairing.now s v
 
 -- the verdict of a pair: Undecided, where there is none
 abbrev pub told_of : Circuit → Subject → Option Verdict → Verdict
@@ -182,7 +186,8 @@ pub record IsToldByCones {H : Type 0} (task : Task H) (bound : Option ℕ) (p : 
   pub pairs : List Subject
   pub lone : List Verdict
   pub picked : ArePicked (circuit task.first.now) (circuit task.second.now) p task.settings.now.picked pairs lone
-  pub verdicts : AreTold (unsized task.settings.now.assignment) (IsLeft task.settings.now.limit bound (circuit task.first.now) (circuit task.second.now) (condition task.given) p)
+  pub verdicts : AreTold (unsized task.settings.now.assignment) (FitByCones (cone_limit task.settings.now.limit) (circuit task.first.now) (circuit task.second.now) (condition task.given) p)
+      (IsLeft task.settings.now.limit bound (circuit task.first.now) (circuit task.second.now) (condition task.given) p)
       (circuit task.first.now) (circuit task.second.now) (condition task.given) p pairs lone found
 
 -- a fault of a comparison by cones: a name that is picked is unknown, or what ends the judging of pairs

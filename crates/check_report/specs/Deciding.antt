@@ -18,7 +18,7 @@ use Rattle.check_report.specs.declared.subject.Subject.{Subject}
 use Rattle.check_report.specs.Asking.{asked_in, unsized}
 use Rattle.check_report.specs.Best.{IsBudget, IsChosen, IsGivenUpWithin, order_of, told_kind, whole_limit}
 use Rattle.check_report.specs.Check.{ArePaired, Gives, IsJudged}
-use Rattle.check_report.specs.Cones.{AreTold, IsLeft}
+use Rattle.check_report.specs.Cones.{AreTold, FitByCones, IsLeft, cone_limit}
 use Rattle.check_report.specs.Devices.{Told}
 use Rattle.check_report.specs.Explaining.{IsBehind}
 use Rattle.check_report.specs.Picking.{ArePicked, HasUnknown, share_of}
@@ -33,7 +33,7 @@ pub record IsJudgedByCones (told : Told) (s : Settings) (bound : Option ℕ) (fo
   pub pairs : List Subject
   pub lone : List Verdict
   pub picked : ArePicked a b p s.picked pairs lone
-  pub verdicts : AreTold (unsized s.assignment) (IsLeft s.limit bound a b c p) a b c p pairs lone found
+  pub verdicts : AreTold (unsized s.assignment) (FitByCones (cone_limit s.limit) a b c p) (IsLeft s.limit bound a b c p) a b c p pairs lone found
 
 -- Cones may be taken: they are asked for, or each attempt of the whole was given up.
 abbrev pub HasCause : Told → Settings → (bound : Option ℕ) → Choice → Type 0

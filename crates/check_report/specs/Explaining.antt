@@ -6,8 +6,8 @@ use Rattle.net_explain.specs.Text.{explanation_text}
 use Rattle.net_order.specs.declared.order.Order.{Order}
 use Rattle.net_order.specs.declared.order.Order.TheVariants as orders
 use Rattle.net_order.specs.Order.{Paired, name_of, registers_of}
-use Rattle.report_text.specs.declared.outcome.Role.{Role}
-use Rattle.report_text.specs.declared.outcome.Role.TheVariants.{Output, NextState}
+use Rattle.report_text.specs.declared.outcome.PairKind.{PairKind}
+use Rattle.report_text.specs.declared.outcome.PairKind.TheVariants.{Output, NextState}
 use Rattle.report_text.specs.declared.verdict.Verdict.{Verdict}
 use Rattle.report_text.specs.declared.verdict.Verdict.TheVariants.{Equal, Differs, Lone, Undecided}
 use Rattle.report_text.specs.Lines.{Found, subject_text}
@@ -28,18 +28,18 @@ use Rattle.check_report.specs.Report.{subjects}
 -- ---- what is asked for
 
 -- two roles are one
-abbrev pub is_same_role : Role → Role → Bool
+abbrev pub is_same_role : PairKind → PairKind → Bool
 is_same_role Output Output = true
 is_same_role Output NextState = false
 is_same_role NextState Output = false
 is_same_role NextState NextState = true
 
 -- this role and this name are asked for
-abbrev pub is_target : Target → Role → List ℕ → Bool
+abbrev pub is_target : Target → PairKind → List ℕ → Bool
 is_target t role name = is_same_role t.role role && bytes_eq t.name name
 
 -- the signals of a netlist that have this role
-abbrev pub signals_of : Circuit → Role → List ℕ
+abbrev pub signals_of : Circuit → PairKind → List ℕ
 signals_of a Output = a.outputs
 signals_of a NextState = registers_of a
 

@@ -15,6 +15,7 @@ pub mod Hands
 pub mod Picking
 pub mod Explaining
 pub mod Deciding
+pub mod Dumping
 pub mod Texts
 pub mod Listing
 pub mod Spreading

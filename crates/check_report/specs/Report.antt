@@ -6,8 +6,8 @@ use Rattle.net_bench.specs.Labels.{IsFunctionOf}
 use Rattle.net_order.specs.Order.{Paired, gate_operands, name_of, names_of}
 use Rattle.dd_store.specs.Size.{HasSize}
 use Rattle.report_text.specs.declared.outcome.Outcome.{Outcome}
-use Rattle.report_text.specs.declared.outcome.Role.{Role}
-use Rattle.report_text.specs.declared.outcome.Role.TheVariants.{Output, NextState}
+use Rattle.report_text.specs.declared.outcome.PairKind.{PairKind}
+use Rattle.report_text.specs.declared.outcome.PairKind.TheVariants.{Output, NextState}
 use Rattle.report_text.specs.declared.outcome.Side.{Side}
 use Rattle.report_text.specs.declared.outcome.Side.TheVariants.{First, Second}
 use Rattle.check_report.specs.declared.subject.Subject.{Subject}
@@ -37,7 +37,7 @@ subjects a b p = map output_subject p.outputs.pairs ++ map (next_subject a b) p.
 
 -- What is compared as its verdict tells it: as what, by which name, and the two functions.
 pub record Compared : Type 0 where
-  pub role : Role
+  pub role : PairKind
   pub name : List ℕ
   pub first : List Bool → Bool
   pub second : List Bool → Bool

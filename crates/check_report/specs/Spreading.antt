@@ -6,7 +6,7 @@ use Rattle.net_order.specs.declared.order.Match.TheVariants.{Name}
 use Rattle.net_order.specs.declared.order.Order.{Order}
 use Rattle.net_order.specs.Order.{Paired, IsPairing}
 use Rattle.gate_plan.specs.Building.{IsPaired}
-use Rattle.report_text.specs.declared.outcome.Role.{Role}
+use Rattle.report_text.specs.declared.outcome.PairKind.{PairKind}
 use Rattle.report_text.specs.declared.verdict.Verdict.{Verdict}
 use Rattle.report_text.specs.declared.verdict.Verdict.TheVariants.{Equal, Differs, Lone, Undecided}
 use Rattle.check_report.specs.declared.subject.Subject.{Subject}
@@ -35,7 +35,7 @@ spread_marks n places None = None
 spread_marks n places (Some marks) = Some (spread n places marks)
 
 -- A verdict over the variables at the places as the verdict of this role and name over all n of them. Sizes are not told.
-abbrev pub widened_verdict : Role → (name : List ℕ) → (n : ℕ) → (places : List ℕ) → Verdict → Verdict
+abbrev pub widened_verdict : PairKind → (name : List ℕ) → (n : ℕ) → (places : List ℕ) → Verdict → Verdict
 widened_verdict role name n places (Equal own_role own_name size) = Equal role name None
 widened_verdict role name n places (Differs own_role own_name x first second extras) = Differs role name (spread n places x) first second (record { support = spread_marks n places extras.support; sizes = None })
 widened_verdict role name n places (Lone side own_role own_name) = Lone side role name

@@ -68,11 +68,18 @@ pub record IsDecided {H : Type 0} (task : Task H) (declared : Option (Bor Paired
   pub verdicts_of : AreVerdicts (asked_in task.settings.now) (circuit task.first.now) (circuit task.second.now) (condition task.given) (told_in declared t.pairing)
       (record { variables = (told_in declared t.pairing).names; verdicts = verdicts })
 
+-- In a candidate's order no more nodes are needed than so many.
+pub record IsDecidedWithin {H : Type 0} (task : Task H) (budget : ℕ) : Type 0 where
+  pub candidate : Candidate
+  pub pairing : Paired
+  pub paired : IsPairingIn task (order_of candidate) pairing
+  pub fit : FitsWithin budget (circuit task.first.now) (circuit task.second.now) (condition task.given) pairing
+
 -- the nodes that a pairing needs are more
 abbrev pub NeedsMore : {H : Type 0} → Task H → (budget : ℕ) → Paired → Type 0
 NeedsMore task budget p = Exceeds budget (circuit task.first.now) (circuit task.second.now) (condition task.given) p
 
--- one wave of it reaches more requests than eight for each node of the budget, or than the gate's bound where that is less
+-- one wave of it reaches more requests than eight for each node of the budget, or than the monitor's bound where that is less
 abbrev pub AsksMore : {H : Type 0} → Task H → (budget : ℕ) → (bound : Option ℕ) → Paired → Type 0
 AsksMore task budget bound p = IsTooWide (min (budget * 8) (most_of bound)) (circuit task.first.now) (circuit task.second.now) (condition task.given) p
 

@@ -1,5 +1,5 @@
 //! The attempts of a comparison: an order, and the nodes within which it is to stay.
-ghost use Rattle.std.specs.Prelude.{◌≡◌, ◌≢◌, ◌≤◌, ◌<◌, ◌-◌, ◌^◌, ◌*◌, ◌⊎◌, ℕ, [], true, false, All, Option, Some, IfOk, IfErr, IsSomeAnd, OnOk, Err};
+ghost use Rattle.std.specs.Prelude.{◌≡◌, ◌≢◌, ◌≤◌, ◌<◌, ◌-◌, ◌^◌, ◌*◌, ℕ, [], All, Option, Some, IfOk, IfErr, IsSomeAnd, OnOk, Err};
 ghost use Rattle.expand_work.specs.Bounds.{most_of};
 ghost use Rattle.net_bench.specs.Circuit.{circuit};
 ghost use Rattle.net_order.specs.declared.order.Order.{Order as OrderValue};
@@ -16,11 +16,12 @@ ghost use Rattle.check_report.specs.Widths.{IsTooWide};
 
 use crate::bounded::Bounded;
 use crate::checking::{compare, compare_as_declared};
-use crate::choice::{Candidate, Choice};
+use crate::choice::Candidate;
+use crate::ending::{cause_of, end_of, fault_of, tell};
 use crate::fault::CheckFault;
 use crate::task::Task;
 use crate::trials::{Trial, is_tried, keep, paired, put_furthest_first};
-use expand_work::{AttemptEnd, Gate, WaveFault};
+use expand_work::{AttemptEnd, Monitor, WaveFault};
 use net_order::pairing::Pairing;
 use report_text::Verdict;
 use std::sync::Wait;
@@ -70,12 +71,12 @@ pub enum Round {
 }
 
 /// The verdicts of a comparison by this pairing, told over its variables, or over those of a pairing that is given.
-fn verdicts_by<H: Threads + Wait + Sync, G: Gate>(
+fn verdicts_by<H: Threads + Wait + Sync, G: Monitor>(
     task: &Task<'_, H>,
     declared: Option<&Pairing>,
     pairing: &Pairing,
     limit: u64,
-    gate: &G,
+    monitor: &G,
 ) -> Result<Vec<Verdict>, CheckFault>
     requires small { limit < 2 ^ 32 }
     requires telling { IsTelling task.now declared }
@@ -85,75 +86,44 @@ fn verdicts_by<H: Threads + Wait + Sync, G: Gate>(
     ensures err { IfErr result IsLate }
     ensures within { OnOk result (FitsWithin limit (circuit task.now.first.now) (circuit task.now.second.now) (condition task.now.given) pairing.now) }
     ensures full { result ≡ Err (CheckFault.Wave WaveFault.Full) → Exceeds limit (circuit task.now.first.now) (circuit task.now.second.now) (condition task.now.given) pairing.now }
-    ensures past { result ≡ Err (CheckFault.Wave WaveFault.TooManyRequests) → IsSomeAnd (G.bound gate.now) (λ n. IsTooWide n (circuit task.now.first.now) (circuit task.now.second.now) (condition task.now.given) pairing.now) }
-    ensures alone { most_of (G.bound gate.now) < 2 ^ 64 - 1 → result ≢ Err (CheckFault.Wave WaveFault.NoWorker) }
+    ensures past { result ≡ Err (CheckFault.Wave WaveFault.TooManyRequests) → IsSomeAnd (G.bound monitor.now) (λ n. IsTooWide n (circuit task.now.first.now) (circuit task.now.second.now) (condition task.now.given) pairing.now) }
+    ensures alone { most_of (G.bound monitor.now) < 2 ^ 64 - 1 → result ≢ Err (CheckFault.Wave WaveFault.NoWorker) }
 {
     match declared {
-        Some(declared) => compare_as_declared(task, pairing, declared, limit, gate),
-        None => compare(task, pairing, limit, gate),
+        Some(declared) => compare_as_declared(task, pairing, declared, limit, monitor),
+        None => compare(task, pairing, limit, monitor),
     }
 }
 
-/// Whether an attempt with this fault is given up for its nodes, or for a wave's requests. Any other fault ends the search.
-fn cause_of(fault: CheckFault) -> Result<bool, CheckFault>
-    ensures full { IfOk result (λ full. full ≡ true → fault ≡ CheckFault.Wave WaveFault.Full) }
-    ensures wide { IfOk result (λ full. full ≡ false → fault ≡ CheckFault.Wave WaveFault.TooManyRequests) }
-    ensures same { IfErr result (λ f. f ≡ fault) }
-    ensures other { IfErr result (λ f. (f ≢ CheckFault.Wave WaveFault.Full) × (f ≢ CheckFault.Wave WaveFault.TooManyRequests)) }
-{
-    match fault {
-        CheckFault::Wave(WaveFault::Full) => Ok(true),
-        CheckFault::Wave(WaveFault::TooManyRequests) => Ok(false),
-        _ => Err(fault),
-    }
-}
-
-/// How an attempt that was given up has ended, for its nodes or not.
-fn end_of(order: Candidate, full: bool) -> AttemptEnd {
-    let order = order.name();
-    if full {
-        AttemptEnd::MoreNodes { order }
-    } else {
-        AttemptEnd::TooManyRequests { order }
-    }
-}
-
-/// Tells the gate how an attempt of the whole has ended. Of the attempts of pairs by their cones each round is told.
-fn tell<H, G: Gate>(task: &Task<'_, H>, budget: u64, end: AttemptEnd, gate: &G) {
-    if !matches!(task.settings.order, Choice::Cones) {
-        gate.at_attempt(budget, end);
-    }
-}
-
-/// Compares in the order of a trial within so many nodes, and tells the gate how that has ended.
-fn attempt<H: Threads + Wait + Sync, G: Gate>(
+/// Compares in the order of a trial within so many nodes, and tells the monitor how that has ended.
+fn attempt<H: Threads + Wait + Sync, G: Monitor>(
     task: &Task<'_, H>,
     declared: Option<&Pairing>,
     trial: &Trial,
     budget: u64,
-    gate: &G,
+    monitor: &G,
 ) -> Result<Ended, CheckFault>
     requires small { budget < 2 ^ 32 }
     requires telling { IsTelling task.now declared }
     requires trial { IsTrial task.now trial.now }
-    ensures ended { IfOk result (IsEnded task.now declared.entry budget (G.bound gate.now) trial.now) }
+    ensures ended { IfOk result (IsEnded task.now declared.entry budget (G.bound monitor.now) trial.now) }
     ensures fault { OfTask task.now (λ told s. IfErr result (λ fault. (c : CandidateValue) × IsCheckFault told ⊥ ⊥ ⊥ s.matching (order_of c) fault)) }
     ensures ends { IfErr result EndsAtOnce }
 {
     let bounded = Bounded {
-        gate,
+        monitor,
         most: (budget * REQUESTS) as usize,
         reached: &trial.reached,
     };
     match verdicts_by(task, declared, &trial.pairing, budget, &bounded) {
         Ok(verdicts) => {
             let order = trial.candidate.name();
-            tell(task, budget, AttemptEnd::Decided { order }, gate);
+            tell(task, budget, AttemptEnd::Decided { order }, monitor);
             Ok(Ended::Decided(verdicts))
         }
         Err(fault) => match cause_of(fault) {
             Ok(full) => {
-                tell(task, budget, end_of(trial.candidate, full), gate);
+                tell(task, budget, end_of(trial.candidate, full), monitor);
                 Ok(Ended::GivenUp { full })
             }
             Err(fault) => Err(fault),
@@ -162,18 +132,18 @@ fn attempt<H: Threads + Wait + Sync, G: Gate>(
 }
 
 /// The first attempt in the order of a candidate. One that is the order of a trial before is that trial's.
-fn try_candidate<H: Threads + Wait + Sync, G: Gate>(
+fn try_candidate<H: Threads + Wait + Sync, G: Monitor>(
     task: &Task<'_, H>,
     declared: Option<&Pairing>,
     candidate: Candidate,
     trials: &mut Vec<Trial>,
     budget: u64,
-    gate: &G,
+    monitor: &G,
 ) -> Result<Round, CheckFault>
     requires small { budget < 2 ^ 32 }
     requires telling { IsTelling task.now declared }
     requires own { All (IsTrial task.now) trials.old.items }
-    ensures turn { IfOk result (IsTurn task.now declared.entry budget (G.bound gate.now) candidate trials.old.items trials.new.items) }
+    ensures turn { IfOk result (IsTurn task.now declared.entry budget (G.bound monitor.now) candidate trials.old.items trials.new.items) }
     ensures fault { OfTask task.now (λ told s. IfErr result (λ fault. (c : CandidateValue) × IsCheckFault told ⊥ ⊥ ⊥ s.matching (order_of c) fault)) }
     ensures ends { IfErr result EndsAtOnce }
 {
@@ -186,7 +156,7 @@ fn try_candidate<H: Threads + Wait + Sync, G: Gate>(
         pairing,
         reached: AtomicU32::new(0),
     };
-    let full = match attempt(task, declared, &trial, budget, gate)? {
+    let full = match attempt(task, declared, &trial, budget, monitor)? {
         Ended::Decided(verdicts) => {
             return Ok(Round::Decided(Decided {
                 trial,
@@ -203,24 +173,24 @@ fn try_candidate<H: Threads + Wait + Sync, G: Gate>(
 }
 
 /// Tries the candidates in turn within the first budget, and keeps a trial of each order that was given up.
-pub fn try_first<H: Threads + Wait + Sync, G: Gate>(
+pub fn try_first<H: Threads + Wait + Sync, G: Monitor>(
     task: &Task<'_, H>,
     declared: Option<&Pairing>,
     trials: &mut Vec<Trial>,
     budget: u64,
-    gate: &G,
+    monitor: &G,
 ) -> Result<Round, CheckFault>
     requires small { budget < 2 ^ 32 }
     requires telling { IsTelling task.now declared }
     requires none { trials.old.items ≡ [] }
-    ensures round { IfOk result (IsRound task.now declared.entry budget (G.bound gate.now) trials.new.items) }
-    ensures first { IfOk result (IsFirstRound task.now budget (G.bound gate.now)) }
+    ensures round { IfOk result (IsRound task.now declared.entry budget (G.bound monitor.now) trials.new.items) }
+    ensures first { IfOk result (IsFirstRound task.now budget (G.bound monitor.now)) }
     ensures fault { OfTask task.now (λ told s. IfErr result (λ fault. (c : CandidateValue) × IsCheckFault told ⊥ ⊥ ⊥ s.matching (order_of c) fault)) }
     ensures ends { IfErr result EndsAtOnce }
 {
     let mut all_full = true;
     for candidate in CANDIDATES {
-        match try_candidate(task, declared, candidate, trials, budget, gate)? {
+        match try_candidate(task, declared, candidate, trials, budget, monitor)? {
             Round::Decided(decided) => return Ok(Round::Decided(decided)),
             Round::GivenUp { full } => all_full &= full,
         }
@@ -229,24 +199,24 @@ pub fn try_first<H: Threads + Wait + Sync, G: Gate>(
 }
 
 /// Tries the orders again within a larger budget, those first that came furthest.
-fn try_again<H: Threads + Wait + Sync, G: Gate>(
+fn try_again<H: Threads + Wait + Sync, G: Monitor>(
     task: &Task<'_, H>,
     declared: Option<&Pairing>,
     trials: &mut Vec<Trial>,
     budget: u64,
-    gate: &G,
+    monitor: &G,
 ) -> Result<Round, CheckFault>
     requires small { budget < 2 ^ 32 }
     requires telling { IsTelling task.now declared }
     requires trials { AreTrials task.now trials.old.items }
-    ensures round { IfOk result (IsRound task.now declared.entry budget (G.bound gate.now) trials.new.items) }
+    ensures round { IfOk result (IsRound task.now declared.entry budget (G.bound monitor.now) trials.new.items) }
     ensures fault { OfTask task.now (λ told s. IfErr result (λ fault. (c : CandidateValue) × IsCheckFault told ⊥ ⊥ ⊥ s.matching (order_of c) fault)) }
     ensures ends { IfErr result EndsAtOnce }
 {
     put_furthest_first(trials);
     let mut all_full = true;
     for place in 0..trials.len() {
-        match attempt(task, declared, &trials[place], budget, gate)? {
+        match attempt(task, declared, &trials[place], budget, monitor)? {
             Ended::Decided(verdicts) => {
                 let trial = trials.remove(place);
                 return Ok(Round::Decided(Decided {
@@ -261,49 +231,36 @@ fn try_again<H: Threads + Wait + Sync, G: Gate>(
     Ok(Round::GivenUp { full: all_full })
 }
 
-/// The fault of a search whose attempts within the limit were all given up, each for its nodes or not.
-fn fault_of(full: bool) -> CheckFault
-    ensures which { (result ≡ CheckFault.Wave WaveFault.Full) ⊎ (result ≡ CheckFault.GivenUp) }
-    ensures full { result ≡ CheckFault.Wave WaveFault.Full → full ≡ true }
-    ensures ends { EndsSearch result }
-{
-    if full {
-        CheckFault::Wave(WaveFault::Full)
-    } else {
-        CheckFault::GivenUp
-    }
-}
-
 /// Goes on within the budgets behind the first one, up to the limit.
-fn find_later<H: Threads + Wait + Sync, G: Gate>(
+fn find_later<H: Threads + Wait + Sync, G: Monitor>(
     task: &Task<'_, H>,
     declared: Option<&Pairing>,
     mut trials: Vec<Trial>,
     limit: u64,
-    gate: &G,
+    monitor: &G,
 ) -> Result<Decided, CheckFault>
     requires small { limit < 2 ^ 32 }
     requires telling { IsTelling task.now declared }
     requires trials { AreTrials task.now trials.items }
     requires more { FIRST_BUDGET < limit }
-    requires first { (c : CandidateValue) → IsPassed task.now FIRST_BUDGET (G.bound gate.now) c }
+    requires first { (c : CandidateValue) → IsPassed task.now FIRST_BUDGET (G.bound monitor.now) c }
     ensures decided { IfOk result (λ d. IsDecided task.now declared.entry d.budget d.trial d.verdicts.items) }
     ensures budget { IfOk result (λ d. IsBudget limit d.budget) }
-    ensures passed { IfOk result (λ d. ArePassedBefore task.now limit (G.bound gate.now) (record { order = d.trial.candidate; budget = d.budget })) }
+    ensures passed { IfOk result (λ d. ArePassedBefore task.now limit (G.bound monitor.now) (record { order = d.trial.candidate; budget = d.budget })) }
     ensures full { result ≡ Err (CheckFault.Wave WaveFault.Full) → (c : CandidateValue) → IsFull task.now limit c }
-    ensures given_up { IfErr result (λ fault. IsGivingUp fault → AreAllPassed task.now limit (G.bound gate.now)) }
+    ensures given_up { IfErr result (λ fault. IsGivingUp fault → AreAllPassed task.now limit (G.bound monitor.now)) }
     ensures fault { OfTask task.now (λ told s. IfErr result (λ fault. (c : CandidateValue) × IsCheckFault told ⊥ ⊥ ⊥ s.matching (order_of c) fault)) }
     ensures ends { IfErr result EndsSearch }
 {
     let mut budget = FIRST_BUDGET * GROWTH;
     while budget < limit {
-        match try_again(task, declared, &mut trials, budget, gate)? {
+        match try_again(task, declared, &mut trials, budget, monitor)? {
             Round::Decided(decided) => return Ok(decided),
             Round::GivenUp { .. } => {}
         }
         budget *= GROWTH;
     }
-    match try_again(task, declared, &mut trials, limit, gate)? {
+    match try_again(task, declared, &mut trials, limit, monitor)? {
         Round::Decided(decided) => Ok(decided),
         Round::GivenUp { full } => Err(fault_of(full)),
     }
@@ -311,27 +268,27 @@ fn find_later<H: Threads + Wait + Sync, G: Gate>(
 
 /// Tries the candidates within budgets that grow up to the limit. The verdicts are told over the variables of the order that decides, or
 /// over those of a pairing that is given.
-pub fn find_attempt<H: Threads + Wait + Sync, G: Gate>(
+pub fn find_attempt<H: Threads + Wait + Sync, G: Monitor>(
     task: &Task<'_, H>,
     declared: Option<&Pairing>,
     limit: u64,
-    gate: &G,
+    monitor: &G,
 ) -> Result<Decided, CheckFault>
     requires small { limit < 2 ^ 32 }
     requires telling { IsTelling task.now declared }
     ensures decided { IfOk result (λ d. IsDecided task.now declared.entry d.budget d.trial d.verdicts.items) }
     ensures budget { IfOk result (λ d. IsBudget limit d.budget) }
-    ensures passed { IfOk result (λ d. ArePassedBefore task.now limit (G.bound gate.now) (record { order = d.trial.candidate; budget = d.budget })) }
+    ensures passed { IfOk result (λ d. ArePassedBefore task.now limit (G.bound monitor.now) (record { order = d.trial.candidate; budget = d.budget })) }
     ensures full { result ≡ Err (CheckFault.Wave WaveFault.Full) → (c : CandidateValue) → IsFull task.now limit c }
-    ensures given_up { IfErr result (λ fault. IsGivingUp fault → AreAllPassed task.now limit (G.bound gate.now)) }
+    ensures given_up { IfErr result (λ fault. IsGivingUp fault → AreAllPassed task.now limit (G.bound monitor.now)) }
     ensures fault { OfTask task.now (λ told s. IfErr result (λ fault. (c : CandidateValue) × IsCheckFault told ⊥ ⊥ ⊥ s.matching (order_of c) fault)) }
     ensures ends { IfErr result EndsSearch }
 {
     let mut trials = Vec::new(task.alloc);
     let budget = FIRST_BUDGET.min(limit);
-    match try_first(task, declared, &mut trials, budget, gate)? {
+    match try_first(task, declared, &mut trials, budget, monitor)? {
         Round::Decided(decided) => Ok(decided),
         Round::GivenUp { full } if limit <= FIRST_BUDGET => Err(fault_of(full)),
-        Round::GivenUp { .. } => find_later(task, declared, trials, limit, gate),
+        Round::GivenUp { .. } => find_later(task, declared, trials, limit, monitor),
     }
 }

@@ -1,46 +1,46 @@
-//! The gate of one attempt.
+//! The monitor of one attempt.
 ghost use Rattle.std.specs.Prelude.{min, Some};
 ghost use Rattle.expand_work.specs.Bounds.{most_of};
 
 use dd_store::Watch;
-use expand_work::Gate;
+use expand_work::Monitor;
 use std::sync::atomic::{AtomicU32, Ordering};
 
-/// A gate that bounds the requests of a wave as well, and keeps the number of the rank that was told last.
+/// A monitor that bounds the requests of a wave as well, and keeps the number of the rank that was told last.
 #[derive(Drop)]
 pub struct Bounded<'a, G> {
-    pub gate: &'a G,
+    pub monitor: &'a G,
     pub most: usize,
     pub reached: &'a AtomicU32,
 }
 
-impl<'a, G: Gate> Watch for Bounded<'a, G> {
+impl<'a, G: Monitor> Watch for Bounded<'a, G> {
     fn at_shard(&self, shard: u8, level: u16) {
-        self.gate.at_shard(shard, level);
+        self.monitor.at_shard(shard, level);
     }
 }
 
-impl<'a, G: Gate> Gate for Bounded<'a, G> {
-    ghost bound = { λ b. Some (min b.most (most_of (G.bound b.gate.now))) };
+impl<'a, G: Monitor> Monitor for Bounded<'a, G> {
+    ghost bound = { λ b. Some (min b.most (most_of (G.bound b.monitor.now))) };
 
     fn at_level(&self, worker: u32, level: u16) {
-        self.gate.at_level(worker, level);
+        self.monitor.at_level(worker, level);
     }
 
     fn most_alone(&self, workers: u32, expected: usize) -> usize {
-        self.gate.most_alone(workers, expected)
+        self.monitor.most_alone(workers, expected)
     }
 
     fn most_requests(&self) -> usize {
-        self.most.min(self.gate.most_requests())
+        self.most.min(self.monitor.most_requests())
     }
 
     fn at_rank(&self, rank: u32, ranks: u32, nodes: u64) {
         self.reached.store(rank, Ordering::SeqCst);
-        self.gate.at_rank(rank, ranks, nodes);
+        self.monitor.at_rank(rank, ranks, nodes);
     }
 
     fn at_requests(&self, requests: usize) {
-        self.gate.at_requests(requests);
+        self.monitor.at_requests(requests);
     }
 }

@@ -19,7 +19,7 @@ use crate::fault::CheckFault;
 use crate::task::Task;
 use crate::telling::{Telling, asked_in, asks_support};
 use dd_store::Store;
-use expand_work::{Crew, Gate, WaveFault, Workers};
+use expand_work::{Crew, Monitor, WaveFault, Workers};
 use gate_plan::{Circuits, build};
 use net_order::pairing::Pairing;
 use report_text::Verdict;
@@ -27,11 +27,11 @@ use std::sync::Wait;
 use std::thread::Threads;
 
 /// What is shown of two netlists that are paired, in a store of its own, within so many nodes.
-fn built_within<H: Threads + Wait + Sync, G: Gate>(
+fn built_within<H: Threads + Wait + Sync, G: Monitor>(
     task: &Task<'_, H>,
     pairing: &Pairing,
     limit: u64,
-    gate: &G,
+    monitor: &G,
 ) -> Result<(Store, Shown), CheckFault>
     requires paired { IsPaired (circuit task.now.first.now) (circuit task.now.second.now) (condition task.now.given) pairing.now }
     requires small { limit < 2 ^ 32 }
@@ -39,8 +39,8 @@ fn built_within<H: Threads + Wait + Sync, G: Gate>(
     ensures err { IfErr result IsLate }
     ensures within { OnOk result (FitsWithin limit (circuit task.now.first.now) (circuit task.now.second.now) (condition task.now.given) pairing.now) }
     ensures full { result ≡ Err (CheckFault.Wave WaveFault.Full) → Exceeds limit (circuit task.now.first.now) (circuit task.now.second.now) (condition task.now.given) pairing.now }
-    ensures past { result ≡ Err (CheckFault.Wave WaveFault.TooManyRequests) → IsSomeAnd (G.bound gate.now) (λ n. IsTooWide n (circuit task.now.first.now) (circuit task.now.second.now) (condition task.now.given) pairing.now) }
-    ensures alone { most_of (G.bound gate.now) < 2 ^ 64 - 1 → result ≢ Err (CheckFault.Wave WaveFault.NoWorker) }
+    ensures past { result ≡ Err (CheckFault.Wave WaveFault.TooManyRequests) → IsSomeAnd (G.bound monitor.now) (λ n. IsTooWide n (circuit task.now.first.now) (circuit task.now.second.now) (condition task.now.given) pairing.now) }
+    ensures alone { most_of (G.bound monitor.now) < 2 ^ 64 - 1 → result ≢ Err (CheckFault.Wave WaveFault.NoWorker) }
 {
     let _ = task.first.inputs();
     let _ = task.second.inputs();
@@ -52,7 +52,7 @@ fn built_within<H: Threads + Wait + Sync, G: Gate>(
         rt: task.rt,
         alloc: task.alloc,
         workers: Workers::new(task.settings.workers),
-        gate,
+        monitor,
     };
     let circuits = Circuits {
         first: task.first,
@@ -103,11 +103,11 @@ fn verdicts_in<H>(
 }
 
 /// What a comparison of two netlists that are paired finds, within so many nodes.
-pub fn compare<H: Threads + Wait + Sync, G: Gate>(
+pub fn compare<H: Threads + Wait + Sync, G: Monitor>(
     task: &Task<'_, H>,
     pairing: &Pairing,
     limit: u64,
-    gate: &G,
+    monitor: &G,
 ) -> Result<Vec<Verdict>, CheckFault>
     requires paired { IsPaired (circuit task.now.first.now) (circuit task.now.second.now) (condition task.now.given) pairing.now }
     requires small { limit < 2 ^ 32 }
@@ -115,22 +115,22 @@ pub fn compare<H: Threads + Wait + Sync, G: Gate>(
     ensures err { IfErr result IsLate }
     ensures within { OnOk result (FitsWithin limit (circuit task.now.first.now) (circuit task.now.second.now) (condition task.now.given) pairing.now) }
     ensures full { result ≡ Err (CheckFault.Wave WaveFault.Full) → Exceeds limit (circuit task.now.first.now) (circuit task.now.second.now) (condition task.now.given) pairing.now }
-    ensures past { result ≡ Err (CheckFault.Wave WaveFault.TooManyRequests) → IsSomeAnd (G.bound gate.now) (λ n. IsTooWide n (circuit task.now.first.now) (circuit task.now.second.now) (condition task.now.given) pairing.now) }
-    ensures alone { most_of (G.bound gate.now) < 2 ^ 64 - 1 → result ≢ Err (CheckFault.Wave WaveFault.NoWorker) }
+    ensures past { result ≡ Err (CheckFault.Wave WaveFault.TooManyRequests) → IsSomeAnd (G.bound monitor.now) (λ n. IsTooWide n (circuit task.now.first.now) (circuit task.now.second.now) (condition task.now.given) pairing.now) }
+    ensures alone { most_of (G.bound monitor.now) < 2 ^ 64 - 1 → result ≢ Err (CheckFault.Wave WaveFault.NoWorker) }
 {
-    let (store, shown) = built_within(task, pairing, limit, gate)?;
+    let (store, shown) = built_within(task, pairing, limit, monitor)?;
     let asked = asked_in(task.settings);
     verdicts_in(task, pairing, Telling::ByLevel { asked }, &store, &shown)
 }
 
 /// What a comparison of two netlists finds, within so many nodes, told over the variables of another pairing of them than that by which
 /// the diagrams are built.
-pub fn compare_as_declared<H: Threads + Wait + Sync, G: Gate>(
+pub fn compare_as_declared<H: Threads + Wait + Sync, G: Monitor>(
     task: &Task<'_, H>,
     pairing: &Pairing,
     declared: &Pairing,
     limit: u64,
-    gate: &G,
+    monitor: &G,
 ) -> Result<Vec<Verdict>, CheckFault>
     requires paired { ArePairings task.now.settings.now.matching (circuit task.now.first.now) (circuit task.now.second.now) (condition task.now.given) pairing.now declared.now }
     requires no_sizes { task.now.settings.now.sizes ≡ false }
@@ -139,10 +139,10 @@ pub fn compare_as_declared<H: Threads + Wait + Sync, G: Gate>(
     ensures err { IfErr result IsLate }
     ensures within { OnOk result (FitsWithin limit (circuit task.now.first.now) (circuit task.now.second.now) (condition task.now.given) pairing.now) }
     ensures full { result ≡ Err (CheckFault.Wave WaveFault.Full) → Exceeds limit (circuit task.now.first.now) (circuit task.now.second.now) (condition task.now.given) pairing.now }
-    ensures past { result ≡ Err (CheckFault.Wave WaveFault.TooManyRequests) → IsSomeAnd (G.bound gate.now) (λ n. IsTooWide n (circuit task.now.first.now) (circuit task.now.second.now) (condition task.now.given) pairing.now) }
-    ensures alone { most_of (G.bound gate.now) < 2 ^ 64 - 1 → result ≢ Err (CheckFault.Wave WaveFault.NoWorker) }
+    ensures past { result ≡ Err (CheckFault.Wave WaveFault.TooManyRequests) → IsSomeAnd (G.bound monitor.now) (λ n. IsTooWide n (circuit task.now.first.now) (circuit task.now.second.now) (condition task.now.given) pairing.now) }
+    ensures alone { most_of (G.bound monitor.now) < 2 ^ 64 - 1 → result ≢ Err (CheckFault.Wave WaveFault.NoWorker) }
 {
-    let (store, shown) = built_within(task, pairing, limit, gate)?;
+    let (store, shown) = built_within(task, pairing, limit, monitor)?;
     let Ok(order) = arrangement(task.alloc, pairing, declared) else {
         return Err(CheckFault::OutOfMemory);
     };

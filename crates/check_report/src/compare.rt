@@ -1,25 +1,23 @@
 //! The comparison of two netlists whose diagrams stand in one store: a verdict for each line of the report.
-ghost use Rattle.std.specs.Prelude.{◌≡◌, ◌++◌, ◌+◌, ◌<◌, false, length, map, All, OnOk, IfOk};
+ghost use Rattle.std.specs.Prelude.{◌≡◌, ◌+◌, ◌<◌, false, length, All, IfOk};
 ghost use Rattle.counter_walk.specs.Arranged.{IsOrder, by_declared};
-ghost use Rattle.counter_walk.specs.Support.{AreLevelsOf};
 ghost use Rattle.net_bench.specs.Circuit.{circuit};
-ghost use Rattle.net_order.specs.Order.{condition, name_of, names_of};
-ghost use Rattle.dd_store.specs.Nodes.{den};
+ghost use Rattle.net_order.specs.Order.{condition, name_of};
 ghost use Rattle.dd_store.specs.View.{Has};
 ghost use Rattle.gate_plan.specs.Building.{reference_of};
 ghost use Rattle.check_report.specs.Conditions.{everywhere};
-ghost use Rattle.check_report.specs.Report.{IsSizeShown, IsSupportShown, AreExtrasShown, AreSizesShown, IsVerdictOf, AreVerdicts, lone_side};
+ghost use Rattle.check_report.specs.Report.{IsVerdictOf, AreVerdicts};
 ghost use Rattle.check_report.specs.Comparing.{AreCompared, AreSignals, HaveAllVerdicts, IsTelling, as_built, as_told, compared_of, subject_at, asked_of};
 
-use crate::spreading::spread_bits;
+use crate::extras::{Diagrams, arranged_extras, extras_of, size_of};
+use crate::lone::{add_first_lone, add_second_lone};
 use crate::subject::Subject;
 use crate::telling::{Asked, Telling};
-use counter_walk::{by_level, least_declared, least_difference, support_of, value};
+use counter_walk::{by_level, least_declared, least_difference, value};
 use dd_store::{Ref, Store};
-use net_bench::netlist::Signal;
 use net_bench::reader::Netlist;
 use net_order::pairing::Pairing;
-use report_text::{Bits, Extras, Name, Role, Side, Verdict};
+use report_text::{Bits, Name, Verdict};
 use std::alloc::{AllocError, Global};
 
 /// Two netlists, how they are paired, what is compared of them, the diagrams of this, the first netlist's of each and then the second's,
@@ -34,143 +32,6 @@ pub struct Comparison<'a> {
     pub subjects: &'a [Subject],
     pub references: &'a [Ref],
     pub telling: Telling<'a>,
-}
-
-/// What a verdict speaks of, and the two diagrams that it compares.
-#[derive(Clone, Copy, Drop)]
-struct Diagrams<'a> {
-    role: Role,
-    name: &'a [u8],
-    first: Ref,
-    second: Ref,
-}
-
-/// The size of a diagram, where it is asked for.
-fn size_of(store: &Store, reference: Ref, asked: bool) -> Result<Option<u64>, AllocError>
-    requires { Has store.now reference }
-    ensures { IfOk result (λ shown. IsSizeShown asked store.now.levels (den store.now reference) shown) }
-{
-    if asked {
-        let size = store.size(reference)?;
-        Ok(Some(size))
-    } else {
-        Ok(None)
-    }
-}
-
-/// The sizes of two diagrams, where they are asked for.
-fn sizes_of(
-    store: &Store,
-    first: Ref,
-    second: Ref,
-    asked: bool,
-) -> Result<Option<(u64, u64)>, AllocError>
-    requires first_known { Has store.now first }
-    requires second_known { Has store.now second }
-    ensures { IfOk result (λ shown. AreSizesShown asked store.now.levels (den store.now first) (den store.now second) shown) }
-{
-    if asked {
-        let one = store.size(first)?;
-        let two = store.size(second)?;
-        Ok(Some((one, two)))
-    } else {
-        Ok(None)
-    }
-}
-
-/// The variables on which one of two diagrams depends, by level, where they are asked for.
-fn support_in(
-    alloc: Global,
-    store: &Store,
-    first: Ref,
-    second: Ref,
-    asked: bool,
-) -> Result<Option<Bits>, AllocError>
-    requires first_known { Has store.now first }
-    requires second_known { Has store.now second }
-    ensures { IfOk result (λ shown. IsSupportShown asked store.now.levels (den store.now first) (den store.now second) shown) }
-{
-    if asked {
-        let levels = support_of(alloc, store, first, second)?;
-        Ok(Some(Bits::of(levels)))
-    } else {
-        Ok(None)
-    }
-}
-
-/// What is told of two diagrams besides.
-fn extras_of(
-    alloc: Global,
-    store: &Store,
-    first: Ref,
-    second: Ref,
-    asked: Asked,
-) -> Result<Extras, AllocError>
-    requires first_known { Has store.now first }
-    requires second_known { Has store.now second }
-    ensures { IfOk result (AreExtrasShown asked store.now.levels (den store.now first) (den store.now second)) }
-{
-    let sizes = sizes_of(store, first, second, asked.sizes)?;
-    let support = support_in(alloc, store, first, second, asked.support)?;
-    Ok(Extras { support, sizes })
-}
-
-/// The variables on which one of two diagrams depends, in another order.
-fn arranged_support(
-    alloc: Global,
-    store: &Store,
-    of: &Diagrams<'_>,
-    order: &[u16],
-) -> Result<Bits, AllocError>
-    requires first_known { Has store.now of.now.first }
-    requires second_known { Has store.now of.now.second }
-    requires order { IsOrder store.now.levels order.now }
-    ensures { IfOk result (AreLevelsOf store.now.levels (by_declared order.now (den store.now of.now.first)) (by_declared order.now (den store.now of.now.second))) }
-{
-    let levels = support_of(alloc, store, of.first, of.second)?;
-    let declared = spread_bits(alloc, levels.as_slice(), order.len(), order)?;
-    Ok(Bits::of(declared))
-}
-
-/// The same where they are asked for.
-fn arranged_support_in(
-    alloc: Global,
-    store: &Store,
-    of: &Diagrams<'_>,
-    order: &[u16],
-    asked: bool,
-) -> Result<Option<Bits>, AllocError>
-    requires first_known { Has store.now of.now.first }
-    requires second_known { Has store.now of.now.second }
-    requires order { IsOrder store.now.levels order.now }
-    ensures { IfOk result (λ shown. IsSupportShown asked store.now.levels (by_declared order.now (den store.now of.now.first)) (by_declared order.now (den store.now of.now.second)) shown) }
-{
-    if asked {
-        let support = arranged_support(alloc, store, of, order)?;
-        Ok(Some(support))
-    } else {
-        Ok(None)
-    }
-}
-
-/// What is told of two diagrams besides, in another order of the variables, without sizes.
-fn arranged_extras(
-    alloc: Global,
-    store: &Store,
-    of: &Diagrams<'_>,
-    order: &[u16],
-    asked: bool,
-) -> Result<Extras, AllocError>
-    requires first_known { Has store.now of.now.first }
-    requires second_known { Has store.now of.now.second }
-    requires order { IsOrder store.now.levels order.now }
-    ensures { IfOk result (AreExtrasShown (record { sizes = false; support = asked }) store.now.levels (by_declared order.now (den store.now of.now.first)) (by_declared order.now (den store.now of.now.second))) }
-{
-    let support = arranged_support_in(alloc, store, of, order, asked)?;
-    Ok(Extras {
-        support,
-        sizes: None,
-    })
 }
 
 /// The verdict of two functions, over the variables by level.
@@ -301,73 +162,6 @@ fn verdicts_of_pairs(alloc: Global, of: &Comparison<'_>) -> Result<Vec<Verdict>,
         verdicts.push(verdict)?;
     }
     Ok(verdicts)
-}
-
-/// Puts the verdicts of signals of one netlist that have no partner at the end.
-pub fn add_lone(
-    alloc: Global,
-    verdicts: &mut Vec<Verdict>,
-    side: Side,
-    role: Role,
-    net: &Netlist,
-    signals: &[Signal],
-) -> Result<(), AllocError>
-    requires { All (λ s. s < length net.now.names) signals.now }
-    ensures { OnOk result (verdicts.new.items ≡ verdicts.old.items ++ map (Verdict.Lone side role) (names_of (circuit net.now) signals.now)) }
-{
-    for signal in signals {
-        let name = Name::copied(alloc, net.name(*signal))?;
-        verdicts.push(Verdict::Lone { side, role, name })?;
-    }
-    Ok(())
-}
-
-/// Puts the verdicts of the first netlist's outputs that have no partner at the end, then of its registers.
-pub fn add_first_lone(
-    alloc: Global,
-    verdicts: &mut Vec<Verdict>,
-    net: &Netlist,
-    pairing: &Pairing,
-) -> Result<(), AllocError>
-    requires outputs { All (λ s. s < length net.now.names) pairing.now.outputs.only_first }
-    requires registers { All (λ s. s < length net.now.names) pairing.now.registers.only_first }
-    ensures { OnOk result (verdicts.new.items ≡ verdicts.old.items ++ lone_side Side.First (circuit net.now) pairing.now.outputs.only_first pairing.now.registers.only_first) }
-{
-    let outputs = pairing.only_first();
-    let registers = pairing.only_first_next();
-    add_lone(alloc, verdicts, Side::First, Role::Output, net, outputs)?;
-    add_lone(
-        alloc,
-        verdicts,
-        Side::First,
-        Role::NextState,
-        net,
-        registers,
-    )
-}
-
-/// Puts the verdicts of the second netlist's outputs that have no partner at the end, then of its registers.
-pub fn add_second_lone(
-    alloc: Global,
-    verdicts: &mut Vec<Verdict>,
-    net: &Netlist,
-    pairing: &Pairing,
-) -> Result<(), AllocError>
-    requires outputs { All (λ s. s < length net.now.names) pairing.now.outputs.only_second }
-    requires registers { All (λ s. s < length net.now.names) pairing.now.registers.only_second }
-    ensures { OnOk result (verdicts.new.items ≡ verdicts.old.items ++ lone_side Side.Second (circuit net.now) pairing.now.outputs.only_second pairing.now.registers.only_second) }
-{
-    let outputs = pairing.only_second();
-    let registers = pairing.only_second_next();
-    add_lone(alloc, verdicts, Side::Second, Role::Output, net, outputs)?;
-    add_lone(
-        alloc,
-        verdicts,
-        Side::Second,
-        Role::NextState,
-        net,
-        registers,
-    )
 }
 
 /// What a comparison finds, in the order of the report.

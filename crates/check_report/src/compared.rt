@@ -17,12 +17,12 @@ use crate::fault::CheckFault;
 use crate::subject::Subject;
 use crate::task::Task;
 use dd_store::{Ref, Store};
-use expand_work::{Crew, Gate, WaveFault};
+use expand_work::{Crew, Monitor, WaveFault};
 use gate_plan::{Built, conjoin};
 use net_bench::netlist::Signal;
 use net_bench::reader::Netlist;
 use net_order::pairing::Pairing;
-use report_text::Role;
+use report_text::PairKind;
 use std::alloc::{AllocError, Global};
 use std::sync::Wait;
 use std::thread::Threads;
@@ -55,7 +55,7 @@ fn add_outputs(pairing: &Pairing, subjects: &mut Vec<Subject>) -> Result<(), All
     for i in 0..pairs.len() {
         let (first, second) = pairs[i];
         subjects.push(Subject {
-            role: Role::Output,
+            role: PairKind::Output,
             named: first,
             first,
             second,
@@ -77,7 +77,7 @@ fn add_next_states(
     for i in 0..pairs.len() {
         let (first, second) = pairs[i];
         subjects.push(Subject {
-            role: Role::NextState,
+            role: PairKind::NextState,
             named: first,
             first: next_state(one, first),
             second: next_state(two, second),
@@ -145,7 +145,7 @@ fn references_of(alloc: Global, built: &Built, subjects: &[Subject]) -> Result<V
 
 /// What is compared, and its diagrams where the condition holds, which one wave makes of those that are built. Without a condition they
 /// are those.
-pub fn shown_of<H: Threads + Wait + Sync, G: Gate>(
+pub fn shown_of<H: Threads + Wait + Sync, G: Monitor>(
     task: &Task<'_, H>,
     store: &mut Store,
     built: &Built,
@@ -160,8 +160,8 @@ pub fn shown_of<H: Threads + Wait + Sync, G: Gate>(
         OnOk result (HasAll (circuit task.now.first.now) (circuit task.now.second.now) (condition task.now.given) pairing.now store.new) }
     ensures full { HasNeed (circuit task.now.first.now) (circuit task.now.second.now) (condition task.now.given) pairing.now store.old →
         result ≡ Err (CheckFault.Wave WaveFault.Full) → IsOver (circuit task.now.first.now) (circuit task.now.second.now) (condition task.now.given) pairing.now store.new }
-    ensures past { result ≡ Err (CheckFault.Wave WaveFault.TooManyRequests) → IsSomeAnd (G.bound crew.now.gate.now) (λ n. IsSomeAnd (condition task.now.given) (λ c. IsWideWhere n (circuit task.now.first.now) (circuit task.now.second.now) c pairing.now)) }
-    ensures alone { most_of (G.bound crew.now.gate.now) < 2 ^ 64 - 1 → result ≢ Err (CheckFault.Wave WaveFault.NoWorker) }
+    ensures past { result ≡ Err (CheckFault.Wave WaveFault.TooManyRequests) → IsSomeAnd (G.bound crew.now.monitor.now) (λ n. IsSomeAnd (condition task.now.given) (λ c. IsWideWhere n (circuit task.now.first.now) (circuit task.now.second.now) c pairing.now)) }
+    ensures alone { most_of (G.bound crew.now.monitor.now) < 2 ^ 64 - 1 → result ≢ Err (CheckFault.Wave WaveFault.NoWorker) }
     ensures err { IfErr result IsLate }
 {
     let _ = store.levels();

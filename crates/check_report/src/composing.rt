@@ -1,11 +1,12 @@
-//! The report of two netlists that were read, with what explains pairs behind it.
+//! The report of two netlists that were read, with what explains pairs behind it, and the VCD of the first pair that differs.
 ghost use Rattle.std.specs.Prelude.{◌≡◌, ◌≢◌, ◌++◌, ◌<◌, ◌-◌, ◌^◌, ℕ, List, IfOk, IfErr, IfSome, IsSomeAnd, Err, is_some};
 ghost use Rattle.expand_work.specs.Bounds.{most_of};
 ghost use Rattle.net_bench.specs.Circuit.{circuit};
 ghost use Rattle.net_order.specs.declared.order.Order.{Order as OrderValue};
 ghost use Rattle.check_report.specs.Best.{AreGivenUp, AreTried, IsAllowed, IsGivenUpWithin, MayGoByCones, NamesOrder, last_budget, told_kind};
 ghost use Rattle.check_report.specs.Check.{AreAccepted, IsCheckFault};
-ghost use Rattle.check_report.specs.Deciding.{IsReportBy, IsUnknown};
+ghost use Rattle.check_report.specs.Deciding.{IsUnknown};
+ghost use Rattle.check_report.specs.Dumping.{IsReportWithVcd, bytes_in};
 ghost use Rattle.check_report.specs.Explaining.{AreTargetsIn, IsBehind, IsReportFault, told_order};
 ghost use Rattle.check_report.specs.Limits.{AreBeyond};
 ghost use Rattle.check_report.specs.Picking.{share_of};
@@ -16,14 +17,23 @@ ghost use Rattle.report_text.specs.Json.{form_text};
 
 use crate::choice::Attempt;
 use crate::deciding::decide;
+use crate::dumping::dump;
 use crate::explaining::{are_known, behind};
 use crate::fault::CheckFault;
 use crate::report::text_of;
 use crate::task::Task;
-use expand_work::{Gate, WaveFault};
+use expand_work::{Monitor, WaveFault};
 use report_text::{Outcome, Verdicts};
 use std::sync::Wait;
 use std::thread::Threads;
+
+/// What is told of a comparison.
+#[derive(Drop)]
+pub(crate) struct Texts {
+    pub(crate) report: Vec<u8>,
+    /// The values of the first pair that differs, where they are asked for and one does.
+    pub(crate) vcd: Option<Vec<u8>>,
+}
 
 /// The bytes of a report, and behind them what explains the pairs that are asked for.
 fn whole_text<H>(
@@ -53,37 +63,41 @@ fn whole_text<H>(
     }
 }
 
-/// The report of a task with its counts, and the attempt that it comes from. What is to be explained is looked for before anything is
-/// compared.
-pub(crate) fn task_report<H: Threads + Wait + Sync, G: Gate>(
+/// The report of a task with its VCD and its counts, and the attempt that it comes from. What is to be explained is looked for before
+/// anything is compared.
+pub(crate) fn task_report<H: Threads + Wait + Sync, G: Monitor>(
     task: &Task<'_, H>,
-    gate: &G,
-) -> Result<(Vec<u8>, Outcome, Option<Attempt>), CheckFault>
-    ensures report { OfTask task.now (λ told s. IfOk result (λ r. IsReportBy told s (G.bound gate.now) r.2 r.1 r.0.items)) }
+    monitor: &G,
+) -> Result<(Texts, Outcome, Option<Attempt>), CheckFault>
+    ensures report { OfTask task.now (λ told s. IfOk result (λ r. IsReportWithVcd told s (G.bound monitor.now) r.2 r.1 r.0.report.items (bytes_in r.0.vcd))) }
     ensures full { OfTask task.now (λ told s.
         result ≡ Err (CheckFault.Wave WaveFault.Full) → (order : OrderValue) → IsAllowed s.order order → AreBeyond told s.matching order s.limit) }
     ensures given_up { OfTask task.now (λ told s.
-        result ≡ Err CheckFault.GivenUp → AreTried s.order × ((order : OrderValue) → IsAllowed s.order order → IsGivenUpWithin told s.matching s.limit (G.bound gate.now) order)) }
+        result ≡ Err CheckFault.GivenUp → AreTried s.order × ((order : OrderValue) → IsAllowed s.order order → IsGivenUpWithin told s.matching s.limit (G.bound monitor.now) order)) }
     ensures by_cones { MayGoByCones task.now.settings.now.order → (result ≢ Err (CheckFault.Wave WaveFault.Full)) × (result ≢ Err CheckFault.GivenUp) }
     ensures only { OfTask task.now (λ told s. result ≡ Err CheckFault.Only → IsUnknown told s.picked) }
     ensures fault { OfTask task.now (λ told s. IfErr result (IsReportFault told ⊥ ⊥ ⊥ s)) }
     ensures unwritten { result ≢ Err CheckFault.Write }
     ensures past { OfTask task.now (λ told s.
-        result ≡ Err (CheckFault.Wave WaveFault.TooManyRequests) → (o : OrderValue) × IsAllowed s.order o × IsSomeAnd (G.bound gate.now) (AreTooWide told s.matching o)) }
+        result ≡ Err (CheckFault.Wave WaveFault.TooManyRequests) → (o : OrderValue) × IsAllowed s.order o × IsSomeAnd (G.bound monitor.now) (AreTooWide told s.matching o)) }
     ensures passed { OfTask task.now (λ told s.
-        IfOk result (λ r. IfSome r.2 (AreGivenUp told s.matching (last_budget s.order s.limit) (G.bound gate.now)))) }
-    ensures alone { most_of (G.bound gate.now) < 2 ^ 64 - 1 → result ≢ Err (CheckFault.Wave WaveFault.NoWorker) }
+        IfOk result (λ r. IfSome r.2 (AreGivenUp told s.matching (last_budget s.order s.limit) (G.bound monitor.now)))) }
+    ensures alone { most_of (G.bound monitor.now) < 2 ^ 64 - 1 → result ≢ Err (CheckFault.Wave WaveFault.NoWorker) }
     ensures hired { result ≡ Err (CheckFault.Wave WaveFault.NoWorker) → NamesOrder task.now.settings.now.order }
 {
     if !are_known(task.first, task.settings.explain.as_slice()) {
         return Err(CheckFault::Explain);
     }
-    let (verdicts, tried) = match decide(task, gate) {
+    let (verdicts, tried) = match decide(task, monitor) {
         Ok((verdicts, tried)) => (verdicts, tried),
         Err(fault) => return Err(fault),
     };
-    match whole_text(task, tried, &verdicts) {
-        Ok(text) => Ok((text, verdicts.outcome(), tried)),
+    let report = match whole_text(task, tried, &verdicts) {
+        Ok(report) => report,
+        Err(fault) => return Err(fault),
+    };
+    match dump(task, tried, &verdicts) {
+        Ok(vcd) => Ok((Texts { report, vcd }, verdicts.outcome(), tried)),
         Err(fault) => Err(fault),
     }
 }

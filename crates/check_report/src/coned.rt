@@ -7,7 +7,7 @@ ghost use Rattle.net_order.specs.declared.order.Order.TheVariants.{Declared};
 ghost use Rattle.net_order.specs.Order.{condition};
 ghost use Rattle.check_report.specs.Asking.{unsized};
 ghost use Rattle.check_report.specs.Comparing.{IsInside};
-ghost use Rattle.check_report.specs.Cones.{IsConditionCone, IsLeft, IsTold};
+ghost use Rattle.check_report.specs.Cones.{FitByCones, IsConditionCone, IsLeft, IsTold, cone_limit};
 ghost use Rattle.check_report.specs.Coning.{EndsCones, EndsPairs, IsOf, IsReady, IsToldByCones, IsToldOut, all_told, circuit_in, told_of};
 ghost use Rattle.check_report.specs.Picking.{HasUnknown};
 ghost use Rattle.check_report.specs.Spreading.{IsOfNet};
@@ -16,14 +16,14 @@ ghost use Rattle.check_report.specs.Trials.{IsPairingIn};
 use crate::choice::Choice;
 use crate::coning::Whole;
 use crate::fault::CheckFault;
-use crate::naming::{Part, names_in};
+use crate::naming::{Whose, names_in};
 use crate::picked::Picked;
-use crate::picking::{Picks, picks_of};
+use crate::picking::{Selection, picks_of};
 use crate::settings::Settings;
 use crate::subject::Subject;
 use crate::task::Task;
 use crate::turns::judge_all;
-use expand_work::Gate;
+use expand_work::Monitor;
 use net_bench::reader::Netlist;
 use net_cone::{Cone, cone_of, gate_signals};
 use net_order::order::Match;
@@ -49,6 +49,7 @@ fn alone(alloc: Global, settings: &Settings) -> Settings
         json: false,
         explain: Vec::new(alloc),
         assignment: settings.assignment,
+        vcd: false,
     }
 }
 
@@ -63,7 +64,7 @@ fn given_cone<H>(task: &Task<'_, H>, pairing: &Pairing) -> Result<Option<Cone>, 
     let Some(given) = task.given else {
         return Ok(None);
     };
-    let names = names_in(task.alloc, given, pairing, Part::Given)?;
+    let names = names_in(task.alloc, given, pairing, Whose::Given)?;
     let gates = gate_signals(task.alloc, given)?;
     let root = given.outputs()[0];
     let cone = cone_of(task.alloc, given, root, names.as_slice(), gates.as_slice())?;
@@ -111,20 +112,20 @@ fn told_all(
 }
 
 /// The verdicts of these pairs by their cones.
-fn judged<H: Threads + Wait + Sync, G: Gate>(
+fn judged<H: Threads + Wait + Sync, G: Monitor>(
     whole: &Whole<'_, H>,
     subjects: &[Subject],
-    gate: &G,
+    monitor: &G,
 ) -> Result<Vec<Verdict>, CheckFault>
     requires ready { IsReady whole.now }
     requires inside { All (IsOf whole.now) subjects.now }
-    ensures told { IfOk result (λ v. AllZip (IsToldOut whole.now (G.bound gate.now)) subjects.now v.items) }
+    ensures told { IfOk result (λ v. AllZip (IsToldOut whole.now (G.bound monitor.now)) subjects.now v.items) }
     ensures ends { IfErr result EndsPairs }
 {
     let task = whole.task;
     let _ = task.first.inputs();
     let _ = task.second.inputs();
-    let known = judge_all(whole, subjects, gate)?;
+    let known = judge_all(whole, subjects, monitor)?;
     match told_all(task.alloc, task.first, subjects, known) {
         Ok(verdicts) => Ok(verdicts),
         Err(_) => Err(CheckFault::OutOfMemory),
@@ -140,24 +141,24 @@ fn and_lone(mut verdicts: Vec<Verdict>, mut lone: Vec<Verdict>) -> Result<Vec<Ve
 }
 
 /// What is told of these pairs by their cones.
-fn judge_picks<H: Threads + Wait + Sync, G: Gate>(
+fn judge_picks<H: Threads + Wait + Sync, G: Monitor>(
     task: &Task<'_, H>,
     pairing: &Pairing,
     subjects: &[Subject],
-    gate: &G,
+    monitor: &G,
 ) -> Result<Vec<Verdict>, CheckFault>
     requires pairing { IsPairingIn task.now Declared pairing.now }
     requires inside { All (IsInside (circuit task.now.first.now) (circuit task.now.second.now)) subjects.now }
-    ensures told { IfOk result (λ v. AllZip (IsTold (unsized task.now.settings.now.assignment) (IsLeft task.now.settings.now.limit (G.bound gate.now) (circuit task.now.first.now) (circuit task.now.second.now) (condition task.now.given) pairing.now)
+    ensures told { IfOk result (λ v. AllZip (IsTold (unsized task.now.settings.now.assignment) (FitByCones (cone_limit task.now.settings.now.limit) (circuit task.now.first.now) (circuit task.now.second.now) (condition task.now.given) pairing.now) (IsLeft task.now.settings.now.limit (G.bound monitor.now) (circuit task.now.first.now) (circuit task.now.second.now) (condition task.now.given) pairing.now)
         (circuit task.now.first.now) (circuit task.now.second.now) (condition task.now.given) pairing.now) subjects.now v.items) }
     ensures ends { IfErr result EndsPairs }
 {
     let _ = task.first.inputs();
     let _ = task.second.inputs();
-    let Ok(first) = names_in(task.alloc, task.first, pairing, Part::First) else {
+    let Ok(first) = names_in(task.alloc, task.first, pairing, Whose::First) else {
         return Err(CheckFault::OutOfMemory);
     };
-    let Ok(second) = names_in(task.alloc, task.second, pairing, Part::Second) else {
+    let Ok(second) = names_in(task.alloc, task.second, pairing, Whose::Second) else {
         return Err(CheckFault::OutOfMemory);
     };
     let Ok(first_gates) = gate_signals(task.alloc, task.first) else {
@@ -180,24 +181,24 @@ fn judge_picks<H: Threads + Wait + Sync, G: Gate>(
         given: given.as_ref(),
         settings: &settings,
     };
-    judged(&whole, subjects, gate)
+    judged(&whole, subjects, monitor)
 }
 
 /// Judges each pair that is picked by its cones, and tells what is found over the variables of the pairing in declared order.
-pub fn by_cones<H: Threads + Wait + Sync, G: Gate>(
+pub fn by_cones<H: Threads + Wait + Sync, G: Monitor>(
     task: &Task<'_, H>,
     pairing: Pairing,
-    gate: &G,
+    monitor: &G,
 ) -> Result<Verdicts, CheckFault>
     requires { IsPairingIn task.now Declared pairing }
-    ensures told { IfOk result (IsToldByCones task.now (G.bound gate.now) pairing) }
+    ensures told { IfOk result (IsToldByCones task.now (G.bound monitor.now) pairing) }
     ensures unknown { result ≡ Err CheckFault.Only → HasUnknown (circuit task.now.first.now) task.now.settings.now.picked }
     ensures ends { IfErr result EndsCones }
 {
     let _ = task.first.inputs();
     let _ = task.second.inputs();
-    let Picks { subjects, lone } = picks_of(task, &pairing)?;
-    let verdicts = judge_picks(task, &pairing, subjects.as_slice(), gate)?;
+    let Selection { subjects, lone } = picks_of(task, &pairing)?;
+    let verdicts = judge_picks(task, &pairing, subjects.as_slice(), monitor)?;
     match and_lone(verdicts, lone) {
         Ok(verdicts) => Ok(Verdicts::of(pairing, verdicts)),
         Err(_) => Err(CheckFault::OutOfMemory),

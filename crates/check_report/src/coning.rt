@@ -9,7 +9,7 @@ ghost use Rattle.check_report.specs.Spreading.{ArePlaces};
 ghost use Rattle.check_report.specs.Trials.{EndsAtOnce, IsPairingIn};
 
 use crate::fault::CheckFault;
-use crate::naming::{Part, level_in};
+use crate::naming::{Whose, level_in};
 use crate::settings::Settings;
 use crate::subject::Subject;
 use crate::task::Task;
@@ -65,7 +65,7 @@ pub fn cones_of<H>(whole: &Whole<'_, H>, subject: &Subject) -> Result<Cones, All
 }
 
 /// Marks the levels of the variables that a cone has.
-fn mark(marks: &mut [bool], pairing: &Pairing, part: Part, cone: &Cone) {
+fn mark(marks: &mut [bool], pairing: &Pairing, part: Whose, cone: &Cone) {
     for (source, _) in cone.sources().iter().zip(cone.net.inputs()) {
         let level = level_in(pairing, part, *source) as usize;
         if level < marks.len() {
@@ -96,10 +96,10 @@ pub fn places_of<H>(whole: &Whole<'_, H>, cones: &Cones) -> Result<Vec<u16>, All
 {
     let pairing = whole.pairing;
     let mut marks = Vec::from_elem(whole.task.alloc, false, pairing.names().len())?;
-    mark(marks.as_mut_slice(), pairing, Part::First, &cones.first);
-    mark(marks.as_mut_slice(), pairing, Part::Second, &cones.second);
+    mark(marks.as_mut_slice(), pairing, Whose::First, &cones.first);
+    mark(marks.as_mut_slice(), pairing, Whose::Second, &cones.second);
     if let Some(given) = whole.given {
-        mark(marks.as_mut_slice(), pairing, Part::Given, given);
+        mark(marks.as_mut_slice(), pairing, Whose::Given, given);
     }
     marked(whole.task.alloc, marks.as_slice())
 }

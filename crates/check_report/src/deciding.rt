@@ -23,7 +23,7 @@ use crate::coned::by_cones;
 use crate::fault::CheckFault;
 use crate::task::Task;
 use crate::trials::{Trial, paired};
-use expand_work::{Gate, WaveFault};
+use expand_work::{Monitor, WaveFault};
 use net_order::order::Order;
 use net_order::pairing::Pairing;
 use report_text::Verdicts;
@@ -34,10 +34,10 @@ use std::thread::Threads;
 const WHOLE_LIMIT: u64 = 4_194_304;
 
 /// Compares two netlists in this order.
-fn by_order<H: Threads + Wait + Sync, G: Gate>(
+fn by_order<H: Threads + Wait + Sync, G: Monitor>(
     task: &Task<'_, H>,
     order: &Order,
-    gate: &G,
+    monitor: &G,
 ) -> Result<(Verdicts, Option<Attempt>), CheckFault>
     ensures chosen { OfTask task.now (λ told s.
         IfOk result (λ r. (o : OrderValue) × IsJudged told s.matching o (asked_in s) r.0
@@ -50,22 +50,22 @@ fn by_order<H: Threads + Wait + Sync, G: Gate>(
     ensures unwritten { result ≢ Err CheckFault.Write }
     ensures others { result ≢ Err CheckFault.Only }
     ensures past { OfTask task.now (λ told s.
-        result ≡ Err (CheckFault.Wave WaveFault.TooManyRequests) → (o : OrderValue) × IsAllowed (Choice.One order.now) o × IsSomeAnd (G.bound gate.now) (AreTooWide told s.matching o)) }
+        result ≡ Err (CheckFault.Wave WaveFault.TooManyRequests) → (o : OrderValue) × IsAllowed (Choice.One order.now) o × IsSomeAnd (G.bound monitor.now) (AreTooWide told s.matching o)) }
     ensures untried { IfOk result (λ r. r.1 ≡ None) }
-    ensures alone { most_of (G.bound gate.now) < 2 ^ 64 - 1 → result ≢ Err (CheckFault.Wave WaveFault.NoWorker) }
+    ensures alone { most_of (G.bound monitor.now) < 2 ^ 64 - 1 → result ≢ Err (CheckFault.Wave WaveFault.NoWorker) }
     ensures names { IfOk result (λ r. r.0.variables ≡ ordered_names task.now order.now) }
 {
     let pairing = paired(task, order)?;
-    match compare(task, &pairing, task.settings.limit, gate) {
+    match compare(task, &pairing, task.settings.limit, monitor) {
         Ok(verdicts) => Ok((Verdicts::of(pairing, verdicts), None)),
         Err(fault) => Err(fault),
     }
 }
 
 /// Compares two netlists in the first of the candidates' orders that stays within a budget.
-pub fn find_best<H: Threads + Wait + Sync, G: Gate>(
+pub fn find_best<H: Threads + Wait + Sync, G: Monitor>(
     task: &Task<'_, H>,
-    gate: &G,
+    monitor: &G,
 ) -> Result<(Verdicts, Attempt), CheckFault>
     ensures judged { OfTask task.now (λ told s. IfOk result (λ r. IsJudged told s.matching (order_of r.1.order) (asked_in s) r.0)) }
     ensures chosen { OfTask task.now (λ told s.
@@ -73,17 +73,17 @@ pub fn find_best<H: Threads + Wait + Sync, G: Gate>(
     ensures full { OfTask task.now (λ told s.
         result ≡ Err (CheckFault.Wave WaveFault.Full) → (c : CandidateValue) → AreBeyond told s.matching (order_of c) s.limit) }
     ensures given_up { OfTask task.now (λ told s.
-        result ≡ Err CheckFault.GivenUp → (c : CandidateValue) → IsGivenUpWithin told s.matching s.limit (G.bound gate.now) (order_of c)) }
+        result ≡ Err CheckFault.GivenUp → (c : CandidateValue) → IsGivenUpWithin told s.matching s.limit (G.bound monitor.now) (order_of c)) }
     ensures fault { OfTask task.now (λ told s.
         IfErr result (λ fault. (c : CandidateValue) × IsCheckFault told ⊥ ⊥ ⊥ s.matching (order_of c) fault)) }
     ensures unwritten { result ≢ Err CheckFault.Write }
     ensures others { result ≢ Err CheckFault.Only }
     ensures unbounded { result ≢ Err (CheckFault.Wave WaveFault.TooManyRequests) }
-    ensures passed { OfTask task.now (λ told s. IfOk result (λ r. AreGivenUp told s.matching s.limit (G.bound gate.now) r.1)) }
+    ensures passed { OfTask task.now (λ told s. IfOk result (λ r. AreGivenUp told s.matching s.limit (G.bound monitor.now) r.1)) }
     ensures alone { result ≢ Err (CheckFault.Wave WaveFault.NoWorker) }
     ensures names { IfOk result (λ r. r.0.variables ≡ ordered_names task.now (order_of r.1.order)) }
 {
-    match find_attempt(task, None, task.settings.limit, gate) {
+    match find_attempt(task, None, task.settings.limit, monitor) {
         Ok(decided) => {
             let Decided {
                 trial,
@@ -103,20 +103,20 @@ pub fn find_best<H: Threads + Wait + Sync, G: Gate>(
 }
 
 /// Compares each pair that is picked by its cones, over the variables as they are declared.
-fn by_cones_in<H: Threads + Wait + Sync, G: Gate>(
+fn by_cones_in<H: Threads + Wait + Sync, G: Monitor>(
     task: &Task<'_, H>,
     declared: Pairing,
-    gate: &G,
+    monitor: &G,
 ) -> Result<(Verdicts, Option<Attempt>), CheckFault>
     requires pairing { IsPairingIn task.now orders.Declared declared }
-    ensures found { OfTask task.now (λ told s. HasCause told s (G.bound gate.now) s.order → IfOk result (λ r. IsFoundBy told s (G.bound gate.now) r.0 r.1)) }
+    ensures found { OfTask task.now (λ told s. HasCause told s (G.bound monitor.now) s.order → IfOk result (λ r. IsFoundBy told s (G.bound monitor.now) r.0 r.1)) }
     ensures fault { OfTask task.now (λ told s. IfErr result (IsCheckFault told ⊥ ⊥ ⊥ s.matching orders.Declared)) }
     ensures only { OfTask task.now (λ told s. result ≡ Err CheckFault.Only → IsUnknown told s.picked) }
     ensures ends { IfErr result EndsAuto }
     ensures untried { IfOk result (λ r. r.1 ≡ None) }
     ensures names { IfOk result (λ r. r.0.variables ≡ ordered_names task.now orders.Declared) }
 {
-    match by_cones(task, declared, gate) {
+    match by_cones(task, declared, monitor) {
         Ok(verdicts) => Ok((verdicts, None)),
         Err(fault) => Err(fault),
     }
@@ -134,22 +134,22 @@ fn is_giving_up(fault: CheckFault) -> bool
 
 /// Compares two netlists within small budgets as `find_best` does, and where each attempt was given up, each pair by its cones. The
 /// verdicts are told in declared order.
-fn by_auto<H: Threads + Wait + Sync, G: Gate>(
+fn by_auto<H: Threads + Wait + Sync, G: Monitor>(
     task: &Task<'_, H>,
-    gate: &G,
+    monitor: &G,
 ) -> Result<(Verdicts, Option<Attempt>), CheckFault>
     requires auto { task.now.settings.now.order ≡ ChoiceValue.Auto }
-    ensures found { OfTask task.now (λ told s. IfOk result (λ r. IsFoundBy told s (G.bound gate.now) r.0 r.1)) }
+    ensures found { OfTask task.now (λ told s. IfOk result (λ r. IsFoundBy told s (G.bound monitor.now) r.0 r.1)) }
     ensures fault { OfTask task.now (λ told s.
         IfErr result (λ fault. (o : OrderValue) × IsAllowed Choice.Auto o × IsCheckFault told ⊥ ⊥ ⊥ s.matching o fault)) }
     ensures only { OfTask task.now (λ told s. result ≡ Err CheckFault.Only → IsUnknown told s.picked) }
     ensures ends { IfErr result EndsAuto }
-    ensures passed { OfTask task.now (λ told s. IfOk result (λ r. IfSome r.1 (AreGivenUp told s.matching (whole_limit s.limit) (G.bound gate.now)))) }
+    ensures passed { OfTask task.now (λ told s. IfOk result (λ r. IfSome r.1 (AreGivenUp told s.matching (whole_limit s.limit) (G.bound monitor.now)))) }
     ensures names { IfOk result (λ r. r.0.variables ≡ ordered_names task.now orders.Declared) }
 {
     let declared = paired(task, &Order::Declared)?;
     let limit = WHOLE_LIMIT.min(task.settings.limit);
-    let fault = match find_attempt(task, Some(&declared), limit, gate) {
+    let fault = match find_attempt(task, Some(&declared), limit, monitor) {
         Ok(decided) => {
             let attempt = Attempt {
                 order: decided.trial.candidate,
@@ -161,18 +161,18 @@ fn by_auto<H: Threads + Wait + Sync, G: Gate>(
         Err(fault) => fault,
     };
     if is_giving_up(fault) {
-        return by_cones_in(task, declared, gate);
+        return by_cones_in(task, declared, monitor);
     }
     Err(fault)
 }
 
 /// Compares each pair that is picked by its cones.
-fn by_each<H: Threads + Wait + Sync, G: Gate>(
+fn by_each<H: Threads + Wait + Sync, G: Monitor>(
     task: &Task<'_, H>,
-    gate: &G,
+    monitor: &G,
 ) -> Result<(Verdicts, Option<Attempt>), CheckFault>
     requires cones { task.now.settings.now.order ≡ ChoiceValue.Cones }
-    ensures found { OfTask task.now (λ told s. IfOk result (λ r. IsFoundBy told s (G.bound gate.now) r.0 r.1)) }
+    ensures found { OfTask task.now (λ told s. IfOk result (λ r. IsFoundBy told s (G.bound monitor.now) r.0 r.1)) }
     ensures fault { OfTask task.now (λ told s. IfErr result (IsCheckFault told ⊥ ⊥ ⊥ s.matching orders.Declared)) }
     ensures only { OfTask task.now (λ told s. result ≡ Err CheckFault.Only → IsUnknown told s.picked) }
     ensures ends { IfErr result EndsAuto }
@@ -180,15 +180,15 @@ fn by_each<H: Threads + Wait + Sync, G: Gate>(
     ensures names { IfOk result (λ r. r.0.variables ≡ ordered_names task.now orders.Declared) }
 {
     match paired(task, &Order::Declared) {
-        Ok(declared) => by_cones_in(task, declared, gate),
+        Ok(declared) => by_cones_in(task, declared, monitor),
         Err(fault) => Err(fault),
     }
 }
 
 /// Compares two netlists in the best order.
-fn by_best<H: Threads + Wait + Sync, G: Gate>(
+fn by_best<H: Threads + Wait + Sync, G: Monitor>(
     task: &Task<'_, H>,
-    gate: &G,
+    monitor: &G,
 ) -> Result<(Verdicts, Option<Attempt>), CheckFault>
     ensures chosen { OfTask task.now (λ told s.
         IfOk result (λ r. (o : OrderValue) × IsJudged told s.matching o (asked_in s) r.0
@@ -196,49 +196,49 @@ fn by_best<H: Threads + Wait + Sync, G: Gate>(
     ensures full { OfTask task.now (λ told s.
         result ≡ Err (CheckFault.Wave WaveFault.Full) → (o : OrderValue) → IsAllowed Choice.Best o → AreBeyond told s.matching o s.limit) }
     ensures given_up { OfTask task.now (λ told s.
-        result ≡ Err CheckFault.GivenUp → (o : OrderValue) → IsAllowed Choice.Best o → IsGivenUpWithin told s.matching s.limit (G.bound gate.now) o) }
+        result ≡ Err CheckFault.GivenUp → (o : OrderValue) → IsAllowed Choice.Best o → IsGivenUpWithin told s.matching s.limit (G.bound monitor.now) o) }
     ensures fault { OfTask task.now (λ told s.
         IfErr result (λ fault. (o : OrderValue) × IsAllowed Choice.Best o × IsCheckFault told ⊥ ⊥ ⊥ s.matching o fault)) }
     ensures unwritten { result ≢ Err CheckFault.Write }
     ensures others { result ≢ Err CheckFault.Only }
     ensures unbounded { result ≢ Err (CheckFault.Wave WaveFault.TooManyRequests) }
-    ensures passed { OfTask task.now (λ told s. IfOk result (λ r. IfSome r.1 (AreGivenUp told s.matching s.limit (G.bound gate.now)))) }
+    ensures passed { OfTask task.now (λ told s. IfOk result (λ r. IfSome r.1 (AreGivenUp told s.matching s.limit (G.bound monitor.now)))) }
     ensures alone { result ≢ Err (CheckFault.Wave WaveFault.NoWorker) }
     ensures names { IfOk result (λ r. r.0.variables ≡ ordered_names task.now (told_order Choice.Best r.1)) }
 {
-    match find_best(task, gate) {
+    match find_best(task, monitor) {
         Ok((verdicts, found)) => Ok((verdicts, Some(found))),
         Err(fault) => Err(fault),
     }
 }
 
 /// Compares two netlists in the order that is asked for, or in one that is found; then says which attempt it was.
-pub fn decide<H: Threads + Wait + Sync, G: Gate>(
+pub fn decide<H: Threads + Wait + Sync, G: Monitor>(
     task: &Task<'_, H>,
-    gate: &G,
+    monitor: &G,
 ) -> Result<(Verdicts, Option<Attempt>), CheckFault>
-    ensures found { OfTask task.now (λ told s. IfOk result (λ r. IsFoundBy told s (G.bound gate.now) r.0 r.1)) }
+    ensures found { OfTask task.now (λ told s. IfOk result (λ r. IsFoundBy told s (G.bound monitor.now) r.0 r.1)) }
     ensures full { OfTask task.now (λ told s.
         result ≡ Err (CheckFault.Wave WaveFault.Full) → (order : OrderValue) → IsAllowed s.order order → AreBeyond told s.matching order s.limit) }
     ensures given_up { OfTask task.now (λ told s.
-        result ≡ Err CheckFault.GivenUp → AreTried s.order × ((order : OrderValue) → IsAllowed s.order order → IsGivenUpWithin told s.matching s.limit (G.bound gate.now) order)) }
+        result ≡ Err CheckFault.GivenUp → AreTried s.order × ((order : OrderValue) → IsAllowed s.order order → IsGivenUpWithin told s.matching s.limit (G.bound monitor.now) order)) }
     ensures by_cones { MayGoByCones task.now.settings.now.order → (result ≢ Err (CheckFault.Wave WaveFault.Full)) × (result ≢ Err CheckFault.GivenUp) }
     ensures only { OfTask task.now (λ told s. result ≡ Err CheckFault.Only → IsUnknown told s.picked) }
     ensures fault { OfTask task.now (λ told s.
         IfErr result (λ fault. (order : OrderValue) × IsAllowed s.order order × IsCheckFault told ⊥ ⊥ ⊥ s.matching order fault)) }
     ensures unwritten { result ≢ Err CheckFault.Write }
     ensures past { OfTask task.now (λ told s.
-        result ≡ Err (CheckFault.Wave WaveFault.TooManyRequests) → (o : OrderValue) × IsAllowed s.order o × IsSomeAnd (G.bound gate.now) (AreTooWide told s.matching o)) }
+        result ≡ Err (CheckFault.Wave WaveFault.TooManyRequests) → (o : OrderValue) × IsAllowed s.order o × IsSomeAnd (G.bound monitor.now) (AreTooWide told s.matching o)) }
     ensures passed { OfTask task.now (λ told s.
-        IfOk result (λ r. IfSome r.1 (AreGivenUp told s.matching (last_budget s.order s.limit) (G.bound gate.now)))) }
-    ensures alone { most_of (G.bound gate.now) < 2 ^ 64 - 1 → result ≢ Err (CheckFault.Wave WaveFault.NoWorker) }
+        IfOk result (λ r. IfSome r.1 (AreGivenUp told s.matching (last_budget s.order s.limit) (G.bound monitor.now)))) }
+    ensures alone { most_of (G.bound monitor.now) < 2 ^ 64 - 1 → result ≢ Err (CheckFault.Wave WaveFault.NoWorker) }
     ensures hired { result ≡ Err (CheckFault.Wave WaveFault.NoWorker) → NamesOrder task.now.settings.now.order }
     ensures names { IfOk result (λ r. r.0.variables ≡ ordered_names task.now (told_order task.now.settings.now.order r.1)) }
 {
     match &task.settings.order {
-        Choice::One(order) => by_order(task, order, gate),
-        Choice::Best => by_best(task, gate),
-        Choice::Auto => by_auto(task, gate),
-        Choice::Cones => by_each(task, gate),
+        Choice::One(order) => by_order(task, order, monitor),
+        Choice::Best => by_best(task, monitor),
+        Choice::Auto => by_auto(task, monitor),
+        Choice::Cones => by_each(task, monitor),
     }
 }

@@ -27,23 +27,23 @@ use net_bench::reader::Netlist;
 use net_explain::{explain, explanation_of};
 use net_order::order::Order;
 use net_order::pairing::Pairing;
-use report_text::{Role, Verdict, Verdicts};
+use report_text::{PairKind, Verdict, Verdicts};
 use std::alloc::{AllocError, Global};
 
 /// Whether two roles are one.
-fn is_same_role(role: Role, other: Role) -> bool
+fn is_same_role(role: PairKind, other: PairKind) -> bool
     ensures { result ≡ is_same_role role other }
 {
     match (role, other) {
-        (Role::Output, Role::Output) => true,
-        (Role::Output, Role::NextState) => false,
-        (Role::NextState, Role::Output) => false,
-        (Role::NextState, Role::NextState) => true,
+        (PairKind::Output, PairKind::Output) => true,
+        (PairKind::Output, PairKind::NextState) => false,
+        (PairKind::NextState, PairKind::Output) => false,
+        (PairKind::NextState, PairKind::NextState) => true,
     }
 }
 
 /// Whether this role and this name are asked for.
-fn is_target(target: &Target, role: Role, name: &[u8]) -> bool
+fn is_target(target: &Target, role: PairKind, name: &[u8]) -> bool
     ensures { result ≡ is_target target.now role name.now }
 {
     is_same_role(target.role, role) && is_same(target.name.as_slice(), name)
@@ -55,8 +55,8 @@ fn is_known(net: &Netlist, target: &Target) -> bool
 {
     let name = target.name.as_slice();
     match target.role {
-        Role::Output => has_name(net, net.outputs(), name),
-        Role::NextState => has_name(net, registers_of(net), name),
+        PairKind::Output => has_name(net, net.outputs(), name),
+        PairKind::NextState => has_name(net, registers_of(net), name),
     }
 }
 
@@ -78,8 +78,8 @@ fn add_subject(text: &mut Vec<u8>, target: &Target) -> Result<(), AllocError>
     ensures { OnOk result (text.new.items ≡ text.old.items ++ subject_text target.now.role target.now.name) }
 {
     match target.role {
-        Role::Output => {}
-        Role::NextState => text.extend_from_slice(b"NEXT ")?,
+        PairKind::Output => {}
+        PairKind::NextState => text.extend_from_slice(b"NEXT ")?,
     }
     text.extend_from_slice(target.name.as_slice())?;
     Ok(())
@@ -231,7 +231,7 @@ fn best_order(tried: Option<Attempt>) -> Order
 }
 
 /// The pairing over whose variables the report of an attempt is told.
-fn told_pairing<H>(task: &Task<'_, H>, tried: Option<Attempt>) -> Result<Pairing, CheckFault>
+pub(crate) fn told_pairing<H>(task: &Task<'_, H>, tried: Option<Attempt>) -> Result<Pairing, CheckFault>
     ensures paired { IfOk result (IsPairingIn task.now (told_order task.now.settings.now.order tried)) }
     ensures fault { OfTask task.now (λ told s. IfErr result (IsCheckFault told ⊥ ⊥ ⊥ s.matching (told_order s.order tried))) }
     ensures refused { IfErr result (λ fault. (f : OrderFaultValue) × (fault ≡ CheckFault.Order f)) }

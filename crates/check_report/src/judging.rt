@@ -10,17 +10,18 @@ ghost use Rattle.check_report.specs.Best.{AreGivenUp, AreTried, IsAllowed, IsGiv
 ghost use Rattle.check_report.specs.Check.{IsCheckFault};
 ghost use Rattle.check_report.specs.Deciding.{IsFoundBy, IsReportBy, IsUnknown};
 ghost use Rattle.check_report.specs.Devices.{HasFailedIn, told_by, told_of};
+ghost use Rattle.check_report.specs.Dumping.{Bytes, IsReportWithVcd, bytes_in};
 ghost use Rattle.check_report.specs.Explaining.{IsReportFault};
 ghost use Rattle.check_report.specs.Limits.{AreBeyond};
 ghost use Rattle.check_report.specs.Widths.{AreTooWide};
 
 use crate::choice::Attempt;
-use crate::composing::task_report;
+use crate::composing::{Texts, task_report};
 use crate::deciding::decide;
 use crate::fault::CheckFault;
 use crate::reading::{Netlists, read_netlists};
 use crate::task::{Context, Task};
-use expand_work::{Gate, WaveFault};
+use expand_work::{Monitor, WaveFault};
 use net_bench::device::{Sink, Source};
 use report_text::{Outcome, Verdicts, write_whole};
 use std::sync::Wait;
@@ -29,7 +30,7 @@ use std::thread::Threads;
 /// Reads two netlists, and a condition where there is one, and compares their outputs and the next states of their registers where it
 /// holds, in the order that is asked for, or in the best; then it says which attempt that was. The gates' diagrams are built by as many
 /// threads as the settings have workers. The answer is never `CheckFault::Write`.
-pub fn judge<H: Threads + Wait + Sync, R1: Source, R2: Source, R3: Source, G: Gate>(
+pub fn judge<H: Threads + Wait + Sync, R1: Source, R2: Source, R3: Source, G: Monitor>(
     context: &Context<'_, H, G>,
     first: &mut R1,
     second: &mut R2,
@@ -41,11 +42,11 @@ pub fn judge<H: Threads + Wait + Sync, R1: Source, R2: Source, R3: Source, G: Ga
     // of its cones was given up.
     ensures verdicts { let told = told_of (R1.remaining first.old) (R2.remaining second.old) (told_by R3.remaining given.old) in
         let s = context.now.settings.now in
-        IfOk result (λ r. IsFoundBy told s (G.bound context.now.gate.now) r.0 r.1) }
+        IfOk result (λ r. IsFoundBy told s (G.bound context.now.monitor.now) r.0 r.1) }
     // Each attempt within a smaller budget than that of the one that is told was given up, and within the first budget each before it.
     ensures passed { let told = told_of (R1.remaining first.old) (R2.remaining second.old) (told_by R3.remaining given.old) in
         let s = context.now.settings.now in
-        IfOk result (λ r. IfSome r.1 (AreGivenUp told s.matching (last_budget s.order s.limit) (G.bound context.now.gate.now))) }
+        IfOk result (λ r. IfSome r.1 (AreGivenUp told s.matching (last_budget s.order s.limit) (G.bound context.now.monitor.now))) }
     // Full comes only where they are not within the limit, in each order that the settings allow.
     ensures full { let told = told_of (R1.remaining first.old) (R2.remaining second.old) (told_by R3.remaining given.old) in
         let s = context.now.settings.now in
@@ -53,17 +54,17 @@ pub fn judge<H: Threads + Wait + Sync, R1: Source, R2: Source, R3: Source, G: Ga
     // GivenUp comes only where orders are tried, and no cones, and each attempt within the limit was given up.
     ensures given_up { let told = told_of (R1.remaining first.old) (R2.remaining second.old) (told_by R3.remaining given.old) in
         let s = context.now.settings.now in
-        result ≡ Err CheckFault.GivenUp → AreTried s.order × ((order : OrderValue) → IsAllowed s.order order → IsGivenUpWithin told s.matching s.limit (G.bound context.now.gate.now) order) }
+        result ≡ Err CheckFault.GivenUp → AreTried s.order × ((order : OrderValue) → IsAllowed s.order order → IsGivenUpWithin told s.matching s.limit (G.bound context.now.monitor.now) order) }
     // Where pairs may be judged by their cones, no nodes and no requests are wanted.
     ensures by_cones { MayGoByCones context.now.settings.now.order → (result ≢ Err (CheckFault.Wave WaveFault.Full)) × (result ≢ Err CheckFault.GivenUp) }
     // A name that is picked is refused only where the first netlist has no such output or register.
     ensures only { result ≡ Err CheckFault.Only → IsUnknown (told_of (R1.remaining first.old) (R2.remaining second.old) (told_by R3.remaining given.old)) context.now.settings.now.picked }
-    // TooManyRequests comes only where one wave reaches more than the gate allows, in an order that the settings allow.
+    // TooManyRequests comes only where one wave reaches more than the monitor allows, in an order that the settings allow.
     ensures past { let told = told_of (R1.remaining first.old) (R2.remaining second.old) (told_by R3.remaining given.old) in
         let s = context.now.settings.now in
-        result ≡ Err (CheckFault.Wave WaveFault.TooManyRequests) → (order : OrderValue) × IsAllowed s.order order × IsSomeAnd (G.bound context.now.gate.now) (AreTooWide told s.matching order) }
-    // No worker is wanted where the gate sets a bound, nor where an order is sought or cones may be taken, whatever the gate.
-    ensures alone { most_of (G.bound context.now.gate.now) < 2 ^ 64 - 1 → result ≢ Err (CheckFault.Wave WaveFault.NoWorker) }
+        result ≡ Err (CheckFault.Wave WaveFault.TooManyRequests) → (order : OrderValue) × IsAllowed s.order order × IsSomeAnd (G.bound context.now.monitor.now) (AreTooWide told s.matching order) }
+    // No worker is wanted where the monitor sets a bound, nor where an order is sought or cones may be taken, whatever the monitor.
+    ensures alone { most_of (G.bound context.now.monitor.now) < 2 ^ 64 - 1 → result ≢ Err (CheckFault.Wave WaveFault.NoWorker) }
     ensures hired { result ≡ Err (CheckFault.Wave WaveFault.NoWorker) → NamesOrder context.now.settings.now.order }
     // A fault has its cause, and what comes before it was accepted.
     ensures fault { let told = told_of (R1.remaining first.old) (R2.remaining second.old) (told_by R3.remaining given.old) in
@@ -87,36 +88,36 @@ pub fn judge<H: Threads + Wait + Sync, R1: Source, R2: Source, R3: Source, G: Ga
         given: condition,
         settings: context.settings,
     };
-    decide(&task, context.gate)
+    decide(&task, context.monitor)
 }
 
-/// The report of what is read, with its counts, and the attempt that it comes from.
-fn reported<H: Threads + Wait + Sync, R1: Source, R2: Source, R3: Source, G: Gate>(
+/// The report of what is read, with its VCD and its counts, and the attempt that it comes from.
+fn reported<H: Threads + Wait + Sync, R1: Source, R2: Source, R3: Source, G: Monitor>(
     context: &Context<'_, H, G>,
     first: &mut R1,
     second: &mut R2,
     given: &mut Option<R3>,
-) -> Result<(Vec<u8>, Outcome, Option<Attempt>), CheckFault>
+) -> Result<(Texts, Outcome, Option<Attempt>), CheckFault>
     ensures report { let told = told_of (R1.remaining first.old) (R2.remaining second.old) (told_by R3.remaining given.old) in
         let s = context.now.settings.now in
-        IfOk result (λ r. IsReportBy told s (G.bound context.now.gate.now) r.2 r.1 r.0.items) }
+        IfOk result (λ r. IsReportWithVcd told s (G.bound context.now.monitor.now) r.2 r.1 r.0.report.items (bytes_in r.0.vcd)) }
     ensures passed { let told = told_of (R1.remaining first.old) (R2.remaining second.old) (told_by R3.remaining given.old) in
         let s = context.now.settings.now in
-        IfOk result (λ r. IfSome r.2 (AreGivenUp told s.matching (last_budget s.order s.limit) (G.bound context.now.gate.now))) }
+        IfOk result (λ r. IfSome r.2 (AreGivenUp told s.matching (last_budget s.order s.limit) (G.bound context.now.monitor.now))) }
     ensures full { let told = told_of (R1.remaining first.old) (R2.remaining second.old) (told_by R3.remaining given.old) in
         let s = context.now.settings.now in
         result ≡ Err (CheckFault.Wave WaveFault.Full) → (order : OrderValue) → IsAllowed s.order order → AreBeyond told s.matching order s.limit }
     ensures given_up { let told = told_of (R1.remaining first.old) (R2.remaining second.old) (told_by R3.remaining given.old) in
         let s = context.now.settings.now in
-        result ≡ Err CheckFault.GivenUp → AreTried s.order × ((order : OrderValue) → IsAllowed s.order order → IsGivenUpWithin told s.matching s.limit (G.bound context.now.gate.now) order) }
+        result ≡ Err CheckFault.GivenUp → AreTried s.order × ((order : OrderValue) → IsAllowed s.order order → IsGivenUpWithin told s.matching s.limit (G.bound context.now.monitor.now) order) }
     // Where pairs may be judged by their cones, no nodes and no requests are wanted.
     ensures by_cones { MayGoByCones context.now.settings.now.order → (result ≢ Err (CheckFault.Wave WaveFault.Full)) × (result ≢ Err CheckFault.GivenUp) }
     // A name that is picked is refused only where the first netlist has no such output or register.
     ensures only { result ≡ Err CheckFault.Only → IsUnknown (told_of (R1.remaining first.old) (R2.remaining second.old) (told_by R3.remaining given.old)) context.now.settings.now.picked }
     ensures past { let told = told_of (R1.remaining first.old) (R2.remaining second.old) (told_by R3.remaining given.old) in
         let s = context.now.settings.now in
-        result ≡ Err (CheckFault.Wave WaveFault.TooManyRequests) → (order : OrderValue) × IsAllowed s.order order × IsSomeAnd (G.bound context.now.gate.now) (AreTooWide told s.matching order) }
-    ensures alone { most_of (G.bound context.now.gate.now) < 2 ^ 64 - 1 → result ≢ Err (CheckFault.Wave WaveFault.NoWorker) }
+        result ≡ Err (CheckFault.Wave WaveFault.TooManyRequests) → (order : OrderValue) × IsAllowed s.order order × IsSomeAnd (G.bound context.now.monitor.now) (AreTooWide told s.matching order) }
+    ensures alone { most_of (G.bound context.now.monitor.now) < 2 ^ 64 - 1 → result ≢ Err (CheckFault.Wave WaveFault.NoWorker) }
     ensures hired { result ≡ Err (CheckFault.Wave WaveFault.NoWorker) → NamesOrder context.now.settings.now.order }
     ensures fault { let told = told_of (R1.remaining first.old) (R2.remaining second.old) (told_by R3.remaining given.old) in
         let s = context.now.settings.now in
@@ -139,29 +140,35 @@ fn reported<H: Threads + Wait + Sync, R1: Source, R2: Source, R3: Source, G: Gat
         given: conditional,
         settings: context.settings,
     };
-    task_report(&task, context.gate)
+    task_report(&task, context.monitor)
 }
 
 /// Compares two netlists as `judge` does, and writes the report, with what explains the pairs that are asked for behind it. Nothing is
-/// written before the whole report stands.
-pub fn check<H: Threads + Wait + Sync, R1: Source, R2: Source, R3: Source, G: Gate, W: Sink>(
+/// written before the whole report stands. Where that is asked for, the values of the first pair that differs are answered beside it, as a
+/// VCD.
+pub fn check<H: Threads + Wait + Sync, R1: Source, R2: Source, R3: Source, G: Monitor, W: Sink>(
     context: &Context<'_, H, G>,
     first: &mut R1,
     second: &mut R2,
     given: &mut Option<R3>,
     out: &mut W,
-) -> Result<(Outcome, Option<Attempt>), CheckFault>
+) -> Result<(Outcome, Option<Attempt>, Option<Vec<u8>>), CheckFault>
     // What was written is the report of what was read, in an order that the settings allow, or of each pair by its cones, and nothing
     // else. In it two outputs, or the next states of two registers, are called equal exactly where their functions agree wherever the
     // condition holds. The nodes that are needed in this order are within the limit, and within the budget of the attempt. A pair is
     // undecided only where each attempt of its cones was given up.
     ensures report { let told = told_of (R1.remaining first.old) (R2.remaining second.old) (told_by R3.remaining given.old) in
         let s = context.now.settings.now in
-        IfOk result (λ r. (bytes : List ℕ) × IsReportBy told s (G.bound context.now.gate.now) r.1 r.0 bytes × Appends (W.contents out.old) (W.contents out.new) bytes) }
+        IfOk result (λ r. (bytes : List ℕ) × IsReportBy told s (G.bound context.now.monitor.now) r.1 r.0 bytes × Appends (W.contents out.old) (W.contents out.new) bytes) }
+    // The VCD is that of the first pair that differs in this very report, at its assignment; there is none where none is asked for, or none
+    // differs.
+    ensures vcd { let told = told_of (R1.remaining first.old) (R2.remaining second.old) (told_by R3.remaining given.old) in
+        let s = context.now.settings.now in
+        IfOk result (λ r. (bytes : List ℕ) × IsReportWithVcd told s (G.bound context.now.monitor.now) r.1 r.0 bytes (bytes_in r.2) × Appends (W.contents out.old) (W.contents out.new) bytes) }
     // Each attempt within a smaller budget than that of the one that is told was given up, and within the first budget each before it.
     ensures passed { let told = told_of (R1.remaining first.old) (R2.remaining second.old) (told_by R3.remaining given.old) in
         let s = context.now.settings.now in
-        IfOk result (λ r. IfSome r.1 (AreGivenUp told s.matching (last_budget s.order s.limit) (G.bound context.now.gate.now))) }
+        IfOk result (λ r. IfSome r.1 (AreGivenUp told s.matching (last_budget s.order s.limit) (G.bound context.now.monitor.now))) }
     // Full comes only where they are not within the limit, in each order that the settings allow.
     ensures full { let told = told_of (R1.remaining first.old) (R2.remaining second.old) (told_by R3.remaining given.old) in
         let s = context.now.settings.now in
@@ -169,17 +176,17 @@ pub fn check<H: Threads + Wait + Sync, R1: Source, R2: Source, R3: Source, G: Ga
     // GivenUp comes only where orders are tried, and no cones, and each attempt within the limit was given up.
     ensures given_up { let told = told_of (R1.remaining first.old) (R2.remaining second.old) (told_by R3.remaining given.old) in
         let s = context.now.settings.now in
-        result ≡ Err CheckFault.GivenUp → AreTried s.order × ((order : OrderValue) → IsAllowed s.order order → IsGivenUpWithin told s.matching s.limit (G.bound context.now.gate.now) order) }
+        result ≡ Err CheckFault.GivenUp → AreTried s.order × ((order : OrderValue) → IsAllowed s.order order → IsGivenUpWithin told s.matching s.limit (G.bound context.now.monitor.now) order) }
     // Where pairs may be judged by their cones, no nodes and no requests are wanted.
     ensures by_cones { MayGoByCones context.now.settings.now.order → (result ≢ Err (CheckFault.Wave WaveFault.Full)) × (result ≢ Err CheckFault.GivenUp) }
     // A name that is picked is refused only where the first netlist has no such output or register.
     ensures only { result ≡ Err CheckFault.Only → IsUnknown (told_of (R1.remaining first.old) (R2.remaining second.old) (told_by R3.remaining given.old)) context.now.settings.now.picked }
-    // TooManyRequests comes only where one wave reaches more than the gate allows, in an order that the settings allow.
+    // TooManyRequests comes only where one wave reaches more than the monitor allows, in an order that the settings allow.
     ensures past { let told = told_of (R1.remaining first.old) (R2.remaining second.old) (told_by R3.remaining given.old) in
         let s = context.now.settings.now in
-        result ≡ Err (CheckFault.Wave WaveFault.TooManyRequests) → (order : OrderValue) × IsAllowed s.order order × IsSomeAnd (G.bound context.now.gate.now) (AreTooWide told s.matching order) }
-    // No worker is wanted where the gate sets a bound, nor where an order is sought or cones may be taken, whatever the gate.
-    ensures alone { most_of (G.bound context.now.gate.now) < 2 ^ 64 - 1 → result ≢ Err (CheckFault.Wave WaveFault.NoWorker) }
+        result ≡ Err (CheckFault.Wave WaveFault.TooManyRequests) → (order : OrderValue) × IsAllowed s.order order × IsSomeAnd (G.bound context.now.monitor.now) (AreTooWide told s.matching order) }
+    // No worker is wanted where the monitor sets a bound, nor where an order is sought or cones may be taken, whatever the monitor.
+    ensures alone { most_of (G.bound context.now.monitor.now) < 2 ^ 64 - 1 → result ≢ Err (CheckFault.Wave WaveFault.NoWorker) }
     ensures hired { result ≡ Err (CheckFault.Wave WaveFault.NoWorker) → NamesOrder context.now.settings.now.order }
     // A fault has its cause, and what comes before it was accepted. What is to be explained is refused only where the first netlist has no
     // such output or register.
@@ -189,8 +196,8 @@ pub fn check<H: Threads + Wait + Sync, R1: Source, R2: Source, R3: Source, G: Ga
     // Where the writing failed, a front part of the report was written, and the device has failed or taken nothing of the rest.
     ensures unwritten { let told = told_of (R1.remaining first.old) (R2.remaining second.old) (told_by R3.remaining given.old) in
         let s = context.now.settings.now in
-        result ≡ Err CheckFault.Write → (o : Outcome) × (tried : Option AttemptValue) × (bytes : List ℕ)
-        × IsReportBy told s (G.bound context.now.gate.now) tried o bytes
+        result ≡ Err CheckFault.Write → (o : Outcome) × (tried : Option AttemptValue) × (bytes : List ℕ) × (vcd : Option Bytes)
+        × IsReportWithVcd told s (G.bound context.now.monitor.now) tried o bytes (bytes_in vcd)
         × AppendsFront (W.contents out.old) (W.contents out.new) (W.has_failed out.new) (W.has_stopped out.new) bytes }
     // At any other fault nothing was written.
     ensures untouched { OnErr result (result ≢ Err CheckFault.Write → out.new ≡ out.old) }
@@ -198,9 +205,10 @@ pub fn check<H: Threads + Wait + Sync, R1: Source, R2: Source, R3: Source, G: Ga
     ensures written { OnOk result ((W.has_failed out.new ≡ W.has_failed out.old) × (W.has_stopped out.new ≡ W.has_stopped out.old)) }
     ensures origins { (R1.origin first.new ≡ R1.origin first.old) × (R2.origin second.new ≡ R2.origin second.old) × (told_by R3.origin given.new ≡ told_by R3.origin given.old) }
 {
-    let (text, outcome, tried) = reported(context, first, second, given)?;
-    match write_whole(out, text.as_slice()) {
-        Ok(()) => Ok((outcome, tried)),
+    let (texts, outcome, tried) = reported(context, first, second, given)?;
+    let Texts { report, vcd } = texts;
+    match write_whole(out, report.as_slice()) {
+        Ok(()) => Ok((outcome, tried, vcd)),
         Err(_) => Err(CheckFault::Write),
     }
 }

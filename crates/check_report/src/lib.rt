@@ -27,12 +27,17 @@ mod composing;
 mod coned;
 mod coning;
 mod deciding;
+mod dumping;
+mod ending;
 mod explaining;
+mod extras;
 mod fault;
 mod hands;
 mod judging;
+mod known;
 pub mod laws;
 mod listing;
+mod lone;
 mod naming;
 mod pairs;
 mod picked;
@@ -55,7 +60,7 @@ pub use judging::{check, judge};
 pub use listing::print_order;
 pub use picked::Picked;
 pub use report_text::{
-    Assignment, Bits, Heading, Name, Outcome, Role, Share, Side, Verdict, Verdicts, json_of,
+    Assignment, Bits, Heading, Name, Outcome, PairKind, Share, Side, Verdict, Verdicts, json_of,
     report_of, write_whole,
 };
 pub use settings::Settings;

@@ -19,7 +19,7 @@ use crate::deciding::find_best;
 use crate::fault::CheckFault;
 use crate::reading::{Netlists, read_netlists};
 use crate::task::{Context, Task};
-use expand_work::Gate;
+use expand_work::Monitor;
 use net_bench::device::{Sink, Source};
 use net_order::names::Names;
 use net_order::order::Order;
@@ -127,9 +127,9 @@ fn cones_text<H>(task: &Task<'_, H>) -> Result<(Vec<u8>, Option<Attempt>), Check
 }
 
 /// The order file of the variables of two netlists, in the best order.
-fn best_text<H: Threads + Wait + Sync, G: Gate>(
+fn best_text<H: Threads + Wait + Sync, G: Monitor>(
     task: &Task<'_, H>,
-    gate: &G,
+    monitor: &G,
 ) -> Result<(Vec<u8>, Option<Attempt>), CheckFault>
     ensures text { OfTask task.now (λ told s.
         IfOk result (λ r. (o : OrderValue) × IsOrderPrinted told s.matching o r.0.items
@@ -137,16 +137,16 @@ fn best_text<H: Threads + Wait + Sync, G: Gate>(
     ensures full { OfTask task.now (λ told s.
         result ≡ Err (CheckFault.Wave Full) → (o : OrderValue) → IsAllowed Choice.Best o → AreBeyond told s.matching o s.limit) }
     ensures given_up { OfTask task.now (λ told s.
-        result ≡ Err CheckFault.GivenUp → (o : OrderValue) → IsAllowed Choice.Best o → IsGivenUpWithin told s.matching s.limit (G.bound gate.now) o) }
+        result ≡ Err CheckFault.GivenUp → (o : OrderValue) → IsAllowed Choice.Best o → IsGivenUpWithin told s.matching s.limit (G.bound monitor.now) o) }
     ensures fault { OfTask task.now (λ told s.
         IfErr result (λ fault. (o : OrderValue) × IsAllowed Choice.Best o × IsCheckFault told ⊥ ⊥ ⊥ s.matching o fault)) }
     ensures unwritten { result ≢ Err CheckFault.Write }
     ensures unbounded { result ≢ Err (CheckFault.Wave TooManyRequests) }
-    ensures passed { OfTask task.now (λ told s. IfOk result (λ r. IfSome r.1 (AreGivenUp told s.matching s.limit (G.bound gate.now)))) }
+    ensures passed { OfTask task.now (λ told s. IfOk result (λ r. IfSome r.1 (AreGivenUp told s.matching s.limit (G.bound monitor.now)))) }
     ensures alone { result ≢ Err (CheckFault.Wave NoWorker) }
     ensures others { result ≢ Err CheckFault.Only }
 {
-    match find_best(task, gate) {
+    match find_best(task, monitor) {
         Ok((verdicts, found)) => match text_of(task.alloc, verdicts.variables()) {
             Ok(text) => Ok((text, Some(found))),
             Err(fault) => Err(fault),
@@ -156,9 +156,9 @@ fn best_text<H: Threads + Wait + Sync, G: Gate>(
 }
 
 /// The order file of the variables of two netlists, in the order that is asked for, in the best, or in declared order.
-fn text_for<H: Threads + Wait + Sync, G: Gate>(
+fn text_for<H: Threads + Wait + Sync, G: Monitor>(
     task: &Task<'_, H>,
-    gate: &G,
+    monitor: &G,
 ) -> Result<(Vec<u8>, Option<Attempt>), CheckFault>
     ensures text { OfTask task.now (λ told s.
         IfOk result (λ r. (order : OrderValue) × IsOrderPrinted told s.matching order r.0.items
@@ -166,27 +166,27 @@ fn text_for<H: Threads + Wait + Sync, G: Gate>(
     ensures full { OfTask task.now (λ told s.
         result ≡ Err (CheckFault.Wave Full) → (order : OrderValue) → IsAllowed s.order order → AreBeyond told s.matching order s.limit) }
     ensures given_up { OfTask task.now (λ told s.
-        result ≡ Err CheckFault.GivenUp → AreTried s.order × ((order : OrderValue) → IsAllowed s.order order → IsGivenUpWithin told s.matching s.limit (G.bound gate.now) order)) }
+        result ≡ Err CheckFault.GivenUp → AreTried s.order × ((order : OrderValue) → IsAllowed s.order order → IsGivenUpWithin told s.matching s.limit (G.bound monitor.now) order)) }
     ensures by_cones { MayGoByCones task.now.settings.now.order → (result ≢ Err (CheckFault.Wave Full)) × (result ≢ Err CheckFault.GivenUp) }
     ensures fault { OfTask task.now (λ told s.
         IfErr result (λ fault. (order : OrderValue) × IsAllowed s.order order × IsCheckFault told ⊥ ⊥ ⊥ s.matching order fault)) }
     ensures unwritten { result ≢ Err CheckFault.Write }
     ensures unbounded { result ≢ Err (CheckFault.Wave TooManyRequests) }
     ensures passed { OfTask task.now (λ told s.
-        IfOk result (λ r. IfSome r.1 (AreGivenUp told s.matching (last_budget s.order s.limit) (G.bound gate.now)))) }
+        IfOk result (λ r. IfSome r.1 (AreGivenUp told s.matching (last_budget s.order s.limit) (G.bound monitor.now)))) }
     ensures alone { result ≢ Err (CheckFault.Wave NoWorker) }
     ensures others { result ≢ Err CheckFault.Only }
 {
     match &task.settings.order {
         Choice::One(order) => given_text(task, order),
-        Choice::Best => best_text(task, gate),
+        Choice::Best => best_text(task, monitor),
         Choice::Auto => auto_text(task),
         Choice::Cones => cones_text(task),
     }
 }
 
 /// The order file of the variables of what is read, in the order that is asked for, or in the best.
-fn listed<H: Threads + Wait + Sync, R1: Source, R2: Source, R3: Source, G: Gate>(
+fn listed<H: Threads + Wait + Sync, R1: Source, R2: Source, R3: Source, G: Monitor>(
     context: &Context<'_, H, G>,
     first: &mut R1,
     second: &mut R2,
@@ -197,13 +197,13 @@ fn listed<H: Threads + Wait + Sync, R1: Source, R2: Source, R3: Source, G: Gate>
         IfOk result (λ r. (order : OrderValue) × IsOrderPrinted told s.matching order r.0.items × IsFound told s.matching s.order s.limit r.1 order) }
     ensures passed { let told = told_of (R1.remaining first.old) (R2.remaining second.old) (told_by R3.remaining given.old) in
         let s = context.now.settings.now in
-        IfOk result (λ r. IfSome r.1 (AreGivenUp told s.matching (last_budget s.order s.limit) (G.bound context.now.gate.now))) }
+        IfOk result (λ r. IfSome r.1 (AreGivenUp told s.matching (last_budget s.order s.limit) (G.bound context.now.monitor.now))) }
     ensures full { let told = told_of (R1.remaining first.old) (R2.remaining second.old) (told_by R3.remaining given.old) in
         let s = context.now.settings.now in
         result ≡ Err (CheckFault.Wave Full) → (order : OrderValue) → IsAllowed s.order order → AreBeyond told s.matching order s.limit }
     ensures given_up { let told = told_of (R1.remaining first.old) (R2.remaining second.old) (told_by R3.remaining given.old) in
         let s = context.now.settings.now in
-        result ≡ Err CheckFault.GivenUp → AreTried s.order × ((order : OrderValue) → IsAllowed s.order order → IsGivenUpWithin told s.matching s.limit (G.bound context.now.gate.now) order) }
+        result ≡ Err CheckFault.GivenUp → AreTried s.order × ((order : OrderValue) → IsAllowed s.order order → IsGivenUpWithin told s.matching s.limit (G.bound context.now.monitor.now) order) }
     ensures by_cones { MayGoByCones context.now.settings.now.order → (result ≢ Err (CheckFault.Wave Full)) × (result ≢ Err CheckFault.GivenUp) }
     ensures unbounded { result ≢ Err (CheckFault.Wave TooManyRequests) }
     ensures alone { result ≢ Err (CheckFault.Wave NoWorker) }
@@ -232,12 +232,19 @@ fn listed<H: Threads + Wait + Sync, R1: Source, R2: Source, R3: Source, G: Gate>
         given: condition,
         settings: context.settings,
     };
-    text_for(&task, context.gate)
+    text_for(&task, context.monitor)
 }
 
 /// Reads two netlists, and a condition where there is one, and writes the names of their variables in level order, one a line, as an
 /// order file has them. Nothing is compared, and nothing built unless the best order is to be found.
-pub fn print_order<H: Threads + Wait + Sync, R1: Source, R2: Source, R3: Source, G: Gate, W: Sink>(
+pub fn print_order<
+    H: Threads + Wait + Sync,
+    R1: Source,
+    R2: Source,
+    R3: Source,
+    G: Monitor,
+    W: Sink,
+>(
     context: &Context<'_, H, G>,
     first: &mut R1,
     second: &mut R2,
@@ -252,7 +259,7 @@ pub fn print_order<H: Threads + Wait + Sync, R1: Source, R2: Source, R3: Source,
     // Each attempt within a smaller budget than that of the one that is told was given up, and within the first budget each before it.
     ensures passed { let told = told_of (R1.remaining first.old) (R2.remaining second.old) (told_by R3.remaining given.old) in
         let s = context.now.settings.now in
-        IfOk result (λ tried. IfSome tried (AreGivenUp told s.matching (last_budget s.order s.limit) (G.bound context.now.gate.now))) }
+        IfOk result (λ tried. IfSome tried (AreGivenUp told s.matching (last_budget s.order s.limit) (G.bound context.now.monitor.now))) }
     // Full comes only where the nodes that the netlists need are not within the limit, in each order that the settings allow.
     ensures full { let told = told_of (R1.remaining first.old) (R2.remaining second.old) (told_by R3.remaining given.old) in
         let s = context.now.settings.now in
@@ -260,7 +267,7 @@ pub fn print_order<H: Threads + Wait + Sync, R1: Source, R2: Source, R3: Source,
     // GivenUp comes only where orders are tried and each attempt within the limit was given up, by declared order in place of Full.
     ensures given_up { let told = told_of (R1.remaining first.old) (R2.remaining second.old) (told_by R3.remaining given.old) in
         let s = context.now.settings.now in
-        result ≡ Err CheckFault.GivenUp → AreTried s.order × ((order : OrderValue) → IsAllowed s.order order → IsGivenUpWithin told s.matching s.limit (G.bound context.now.gate.now) order) }
+        result ≡ Err CheckFault.GivenUp → AreTried s.order × ((order : OrderValue) → IsAllowed s.order order → IsGivenUpWithin told s.matching s.limit (G.bound context.now.monitor.now) order) }
     ensures by_cones { MayGoByCones context.now.settings.now.order → (result ≢ Err (CheckFault.Wave Full)) × (result ≢ Err CheckFault.GivenUp) }
     // Waves are those of attempts alone, and no pairs are picked.
     ensures unbounded { result ≢ Err (CheckFault.Wave TooManyRequests) }

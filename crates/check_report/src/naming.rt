@@ -11,20 +11,20 @@ use std::alloc::{AllocError, Global};
 
 /// One of the netlists of a comparison.
 #[derive(Clone, Copy, Drop)]
-pub enum Part {
+pub enum Whose {
     First,
     Second,
     Given,
 }
 
 /// The level of a variable of this netlist.
-pub fn level_in(pairing: &Pairing, part: Part, variable: Signal) -> u32
+pub fn level_in(pairing: &Pairing, part: Whose, variable: Signal) -> u32
     ensures { result ≡ slice_index (levels_in part pairing.now) variable }
 {
     match part {
-        Part::First => pairing.first_level(variable),
-        Part::Second => pairing.second_level(variable),
-        Part::Given => pairing.given_level(variable),
+        Whose::First => pairing.first_level(variable),
+        Whose::Second => pairing.second_level(variable),
+        Whose::Given => pairing.given_level(variable),
     }
 }
 
@@ -44,7 +44,7 @@ pub fn names_in(
     alloc: Global,
     net: &Netlist,
     pairing: &Pairing,
-    part: Part,
+    part: Whose,
 ) -> Result<Vec<Vec<u8>>, AllocError>
     requires { All (λ s. slice_index (levels_in part pairing.now) s < length pairing.now.names) (variables_of (circuit net.now)) }
     ensures { IfOk result (λ names. AreNamed (circuit net.now) (levels_in part pairing.now) pairing.now (texts names.items)) }

@@ -8,7 +8,7 @@ ghost use Rattle.check_report.specs.declared.choice.Candidate.{Candidate as Cand
 ghost use Rattle.check_report.specs.Asking.{asked_in};
 ghost use Rattle.check_report.specs.Coning.{AreConesOf, EndsPairs, IsConeTask, IsEndedIn, IsOf, IsReady, IsWidened};
 ghost use Rattle.check_report.specs.Report.{AreVerdicts};
-ghost use Rattle.check_report.specs.Trials.{EndsAtOnce, IsPairingIn, IsPassed};
+ghost use Rattle.check_report.specs.Trials.{EndsAtOnce, IsDecidedWithin, IsPairingIn, IsPassed};
 
 use crate::attempts::{Decided, Round, try_first};
 use crate::coning::{Cones, Whole, as_late, cone_pairing, cones_of, places_of, task_of};
@@ -16,7 +16,7 @@ use crate::fault::CheckFault;
 use crate::spreading::widened;
 use crate::subject::Subject;
 use crate::task::Task;
-use expand_work::Gate;
+use expand_work::Monitor;
 use net_order::pairing::Pairing;
 use report_text::Verdict;
 use std::alloc::AllocError;
@@ -33,11 +33,11 @@ fn only_one(verdicts: Vec<Verdict>) -> Verdict
 }
 
 /// The verdict of a pair of cones over the variables of their pairing, or none where each attempt within so many nodes was given up.
-fn try_cones<H: Threads + Wait + Sync, G: Gate>(
+fn try_cones<H: Threads + Wait + Sync, G: Monitor>(
     task: &Task<'_, H>,
     pairing: &Pairing,
     budget: u64,
-    gate: &G,
+    monitor: &G,
 ) -> Result<Option<Verdict>, CheckFault>
     requires small { budget < 2 ^ 32 }
     requires paired { (order : OrderValue) × IsPairingIn task.now order pairing.now }
@@ -45,11 +45,12 @@ fn try_cones<H: Threads + Wait + Sync, G: Gate>(
     requires one { (found : Found) → AreVerdicts (asked_in task.now.settings.now) (circuit task.now.first.now) (circuit task.now.second.now) (condition task.now.given) pairing.now found → length found.verdicts ≡ 1 }
     ensures decided { IfOk result (λ o. IfSome o (λ v. AreVerdicts (asked_in task.now.settings.now) (circuit task.now.first.now) (circuit task.now.second.now) (condition task.now.given) pairing.now
         (record { variables = pairing.now.names; verdicts = v ∷ [] }))) }
-    ensures left { result ≡ Ok None → (c : CandidateValue) → IsPassed task.now budget (G.bound gate.now) c }
+    ensures within { IfOk result (λ o. IfSome o (λ _. IsDecidedWithin task.now budget)) }
+    ensures left { result ≡ Ok None → (c : CandidateValue) → IsPassed task.now budget (G.bound monitor.now) c }
     ensures ends { IfErr result EndsAtOnce }
 {
     let mut trials = Vec::new(task.alloc);
-    match try_first(task, Some(pairing), &mut trials, budget, gate)? {
+    match try_first(task, Some(pairing), &mut trials, budget, monitor)? {
         Round::Decided(decided) => {
             let Decided { verdicts, .. } = decided;
             Ok(Some(only_one(verdicts)))
@@ -86,18 +87,18 @@ fn told_over<H>(
 }
 
 /// Judges a pair by its cones.
-fn judge_cones<H: Threads + Wait + Sync, G: Gate>(
+fn judge_cones<H: Threads + Wait + Sync, G: Monitor>(
     whole: &Whole<'_, H>,
     subject: &Subject,
     cones: &Cones,
     budget: u64,
-    gate: &G,
+    monitor: &G,
 ) -> Result<Option<Verdict>, CheckFault>
     requires small { budget < 2 ^ 32 }
     requires ready { IsReady whole.now }
     requires inside { IsOf whole.now subject.now }
     requires cones { AreConesOf whole.now subject.now cones.now }
-    ensures { IsEndedIn whole.now budget (G.bound gate.now) subject.now result }
+    ensures { IsEndedIn whole.now budget (G.bound monitor.now) subject.now result }
 {
     let _ = whole.task.first.inputs();
     let _ = whole.task.second.inputs();
@@ -106,7 +107,7 @@ fn judge_cones<H: Threads + Wait + Sync, G: Gate>(
     };
     let task = task_of(whole, cones);
     let pairing = cone_pairing(&task, whole.pairing.names(), places.as_slice())?;
-    let found = match try_cones(&task, &pairing, budget, gate) {
+    let found = match try_cones(&task, &pairing, budget, monitor) {
         Ok(found) => found,
         Err(fault) => return Err(as_late(fault)),
     };
@@ -118,19 +119,19 @@ fn judge_cones<H: Threads + Wait + Sync, G: Gate>(
 
 /// The verdict of a pair by its cones over all variables, or none where each attempt within so many nodes was given up. All that it takes
 /// is given back.
-pub fn judge_pair<H: Threads + Wait + Sync, G: Gate>(
+pub fn judge_pair<H: Threads + Wait + Sync, G: Monitor>(
     whole: &Whole<'_, H>,
     subject: &Subject,
     budget: u64,
-    gate: &G,
+    monitor: &G,
 ) -> Result<Option<Verdict>, CheckFault>
     requires small { budget < 2 ^ 32 }
     requires ready { IsReady whole.now }
     requires inside { IsOf whole.now subject.now }
-    ensures { IsEndedIn whole.now budget (G.bound gate.now) subject.now result }
+    ensures { IsEndedIn whole.now budget (G.bound monitor.now) subject.now result }
 {
     match cones_of(whole, subject) {
-        Ok(cones) => judge_cones(whole, subject, &cones, budget, gate),
+        Ok(cones) => judge_cones(whole, subject, &cones, budget, monitor),
         Err(_) => Err(CheckFault::OutOfMemory),
     }
 }

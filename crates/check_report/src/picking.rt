@@ -7,9 +7,9 @@ ghost use Rattle.check_report.specs.Comparing.{AreSignals};
 ghost use Rattle.check_report.specs.Picking.{ArePicked, HasUnknown, IsNamedIn, is_among, is_lone_of, is_one_of, is_pair_of, of_share};
 ghost use Rattle.check_report.specs.Report.{lone_side, lone_verdicts, subjects};
 
-use crate::compare::{add_first_lone, add_lone, add_second_lone};
 use crate::compared::subjects_of;
 use crate::fault::CheckFault;
+use crate::lone::{add_first_lone, add_lone, add_second_lone};
 use crate::picked::Picked;
 use crate::sharing::shares_of;
 use crate::subject::Subject;
@@ -18,12 +18,12 @@ use crate::trials::is_same;
 use net_bench::netlist::Signal;
 use net_bench::reader::Netlist;
 use net_order::pairing::Pairing;
-use report_text::{Name, Role, Share, Side, Verdict};
+use report_text::{Name, PairKind, Share, Side, Verdict};
 use std::alloc::{AllocError, Global};
 
 /// What is compared, in the order of the report, and the lines of what has no partner.
 #[derive(Drop)]
-pub struct Picks {
+pub struct Selection {
     pub subjects: Vec<Subject>,
     pub lone: Vec<Verdict>,
 }
@@ -139,7 +139,7 @@ fn named_lone(
         alloc,
         &mut lone,
         Side::First,
-        Role::Output,
+        PairKind::Output,
         net,
         outputs.as_slice(),
     )?;
@@ -147,7 +147,7 @@ fn named_lone(
         alloc,
         &mut lone,
         Side::First,
-        Role::NextState,
+        PairKind::NextState,
         net,
         registers.as_slice(),
     )?;
@@ -214,7 +214,7 @@ fn shared<H>(
     pairing: &Pairing,
     pairs: Vec<Subject>,
     share: Share,
-) -> Result<Picks, AllocError>
+) -> Result<Selection, AllocError>
     requires signals { AreSignals (circuit task.now.first.now) (circuit task.now.second.now) pairing.now }
     requires all { pairs.items ≡ subjects (circuit task.now.first.now) (circuit task.now.second.now) pairing.now }
     ensures { IfOk result (λ r. ArePicked (circuit task.now.first.now) (circuit task.now.second.now) pairing.now (InShare share) r.subjects.items r.lone.items) }
@@ -223,7 +223,7 @@ fn shared<H>(
     let shares = shares_of(alloc, task.first, task.second, pairs.as_slice(), share.of)?;
     let subjects = pairs_in(alloc, share.number, shares.as_slice(), pairs.as_slice())?;
     let lone = lone_in(alloc, task.first, task.second, pairing, share.number)?;
-    Ok(Picks { subjects, lone })
+    Ok(Selection { subjects, lone })
 }
 
 /// The pairs of these names, and the first netlist's outputs and registers of these names that have no partner.
@@ -232,7 +232,7 @@ fn named<H>(
     pairing: &Pairing,
     pairs: Vec<Subject>,
     names: &Vec<Name>,
-) -> Result<Picks, AllocError>
+) -> Result<Selection, AllocError>
     requires signals { AreSignals (circuit task.now.first.now) (circuit task.now.second.now) pairing.now }
     requires all { pairs.items ≡ subjects (circuit task.now.first.now) (circuit task.now.second.now) pairing.now }
     requires named { (n : List ℕ) → Contains names.now.items n → IsNamedIn (circuit task.now.first.now) n }
@@ -240,24 +240,28 @@ fn named<H>(
 {
     let subjects = named_subjects(task.alloc, task.first, names.as_slice(), pairs.as_slice())?;
     let lone = named_lone(task.alloc, task.first, names.as_slice(), pairing)?;
-    Ok(Picks { subjects, lone })
+    Ok(Selection { subjects, lone })
 }
 
 /// All pairs, and all that has no partner.
-fn whole<H>(task: &Task<'_, H>, pairing: &Pairing, pairs: Vec<Subject>) -> Result<Picks, AllocError>
+fn whole<H>(
+    task: &Task<'_, H>,
+    pairing: &Pairing,
+    pairs: Vec<Subject>,
+) -> Result<Selection, AllocError>
     requires signals { AreSignals (circuit task.now.first.now) (circuit task.now.second.now) pairing.now }
     requires all { pairs.items ≡ subjects (circuit task.now.first.now) (circuit task.now.second.now) pairing.now }
     ensures { IfOk result (λ r. ArePicked (circuit task.now.first.now) (circuit task.now.second.now) pairing.now AllPairs r.subjects.items r.lone.items) }
 {
     let lone = all_lone(task.alloc, task.first, task.second, pairing)?;
-    Ok(Picks {
+    Ok(Selection {
         subjects: pairs,
         lone,
     })
 }
 
 /// Want of memory as a fault of a comparison.
-fn told(picks: Result<Picks, AllocError>) -> Result<Picks, CheckFault>
+fn told(picks: Result<Selection, AllocError>) -> Result<Selection, CheckFault>
     ensures ok { IfOk result (λ r. picks ≡ Ok r) }
     ensures err { IfErr result (λ fault. fault ≡ CheckFault.OutOfMemory) }
 {
@@ -268,7 +272,7 @@ fn told(picks: Result<Picks, AllocError>) -> Result<Picks, CheckFault>
 }
 
 /// What is picked of a task's pairs and of what has no partner. A name that the first netlist does not have is a fault.
-pub fn picks_of<H>(task: &Task<'_, H>, pairing: &Pairing) -> Result<Picks, CheckFault>
+pub fn picks_of<H>(task: &Task<'_, H>, pairing: &Pairing) -> Result<Selection, CheckFault>
     requires { AreSignals (circuit task.now.first.now) (circuit task.now.second.now) pairing.now }
     ensures picked { IfOk result (λ r. ArePicked (circuit task.now.first.now) (circuit task.now.second.now) pairing.now task.now.settings.now.picked r.subjects.items r.lone.items) }
     ensures unknown { result ≡ Err CheckFault.Only → HasUnknown (circuit task.now.first.now) task.now.settings.now.picked }

@@ -29,6 +29,8 @@ pub struct Settings {
     pub explain: Vec<Target>,
     /// Which variables the assignments of the report tell, where that is asked for; as JSON it has buses then.
     pub assignment: Option<Assignment>,
+    /// Whether the values of the first pair that differs are wanted as a VCD.
+    pub vcd: bool,
     ghost some_workers: { 1 ≤ workers },
     ghost few_workers: { workers ≤ 16 },
     ghost some_nodes: { 1 ≤ limit },

@@ -2,7 +2,7 @@
 ghost use Rattle.std.specs.Prelude.{◌≡◌, ◌<◌, All, IfOk};
 ghost use Rattle.check_report.specs.Spreading.{spread, spread_marks, widened_verdict};
 
-use report_text::{Bits, Extras, Name, Role, Verdict};
+use report_text::{Bits, Extras, Name, PairKind, Verdict};
 use std::alloc::{AllocError, Global};
 
 /// The assignment of so many bits that has these bits at the places, and 0 elsewhere.
@@ -44,7 +44,7 @@ fn spread_marks(
 pub fn widened(
     alloc: Global,
     verdict: Verdict,
-    role: Role,
+    role: PairKind,
     name: &[u8],
     levels: usize,
     places: &[u16],

@@ -1,10 +1,10 @@
 //! What is to be explained.
 
-use report_text::{Name, Role};
+use report_text::{Name, PairKind};
 
 /// What is to be explained: an output of the first netlist, or the next state of one of its registers.
 #[derive(Drop)]
 pub struct Target {
-    pub role: Role,
+    pub role: PairKind,
     pub name: Name,
 }

@@ -13,7 +13,7 @@ pub struct Context<'a, H, G> {
     pub rt: &'a H,
     pub alloc: Global,
     pub settings: &'a Settings,
-    pub gate: &'a G,
+    pub monitor: &'a G,
 }
 
 /// Two netlists that are to be compared, with a condition or without, and how.

@@ -4,7 +4,8 @@ use Rattle.std.specs.Prelude.{IfSome, IsSomeAnd}
 use Rattle.check_report.specs.Best.{AreGivenUp, AreTried as TriesOrders, IsAllowed, IsGivenUpWithin, MayGoByCones as MayCheckByCones, NamesOrder as NamesCheckOrder, last_budget}
 use Rattle.check_report.specs.Check.{IsCheckFault}
 use Rattle.check_report.specs.Devices.{Told, told_of}
-use Rattle.check_report.specs.Deciding.{IsReportBy, IsUnknown}
+use Rattle.check_report.specs.Deciding.{IsUnknown}
+use Rattle.check_report.specs.Dumping.{IsReportWithVcd}
 use Rattle.check_report.specs.Explaining.{IsReportFault}
 use Rattle.check_report.specs.Limits.{AreBeyond}
 use Rattle.check_report.specs.Best.{IsFound}
@@ -52,8 +53,8 @@ pub none_past : {A : Type 0} (bound : Option A) (P : A → Type 0) → bound ≡
 none_past bound P none h = subst (λ b. IsSomeAnd b P) none h
 
 -- a report that no bound of requests was set for
-pub report_unbound : (told : Told) (s : Settings) (bound : Option ℕ) → bound ≡ None → (tried : Option Attempt) (o : Outcome) (bytes : List ℕ) → IsReportBy told s bound tried o bytes → IsReportBy told s None tried o bytes
-report_unbound told s bound none tried o bytes r = subst (λ b. IsReportBy told s b tried o bytes) none r
+pub report_unbound : (told : Told) (s : Settings) (bound : Option ℕ) → bound ≡ None → (tried : Option Attempt) (o : Outcome) (bytes : List ℕ) (vcd : Option (List ℕ)) → IsReportWithVcd told s bound tried o bytes vcd → IsReportWithVcd told s None tried o bytes vcd
+report_unbound told s bound none tried o bytes vcd r = subst (λ b. IsReportWithVcd told s b tried o bytes vcd) none r
 
 -- the attempts before one that is told were given up, as the options have it
 pub passed_as : (files : List ℕ → Option (List ℕ)) (one two : Option (List ℕ)) (given : Option (Option (List ℕ))) (o : Options) (choice : Choice) (picked : Picked) (s : Settings) → AreSettings o choice picked s

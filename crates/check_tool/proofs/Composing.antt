@@ -17,17 +17,17 @@ use Rattle.command_line.specs.declared.options.Texts.{Texts}
 use Rattle.command_line.specs.declared.options.Texts.TheVariants.{Input, Files, InputAndFile, FileAndInput, InputTwice, One}
 use Rattle.check_tool.specs.declared.fault.Place.TheVariants.{First, Second, Given as GivenFile, Order as OrderFile}
 use Rattle.check_tool.specs.declared.fault.ToolFault.{ToolFault}
-use Rattle.check_tool.specs.declared.fault.ToolFault.TheVariants.{OneFile, InputTwice as DashTwice, CannotOpen, InputUnread, InputTooLong, InputUndivided, BadOrder, Check, OutOfMemory}
+use Rattle.check_tool.specs.declared.fault.ToolFault.TheVariants.{OneFile, InputTwice as DashTwice, CannotOpen, CannotSave, InputUnread, InputTooLong, InputUndivided, BadOrder, Check, OutOfMemory}
 use Rattle.check_tool.specs.Splitting.{IsSplit}
 use Rattle.check_tool.specs.Ending.{Written, IsSaidOf}
 use Rattle.check_tool.specs.Faults.{fault_status}
 use Rattle.check_tool.specs.Opening.{Try, Extends, opened, AreTried}
-use Rattle.check_tool.specs.Running.{IsOpenFault, first_paths, second_paths, text_paths, order_paths, given_paths, later_paths, paths_of, IsShort, AreNamed, AreTexts, HasTexts, IsGivenOf, IsOrderOf, IsLaterFault, IsCompared, HasReported, HasReportedFront, HasFirstFailed, HasSecondFailed, HasGivenFailed, IsBeyond, IsGivenUp, ArePassed, AreUnknown, ArePicksUnknown, IsCompareFault, IsToolFault, attempt_of, limit_of}
+use Rattle.check_tool.specs.Running.{IsOpenFault, AreTwo, first_paths, second_paths, text_paths, order_paths, given_paths, later_paths, paths_of, IsShort, AreNamed, AreTexts, HasTexts, IsGivenOf, IsOrderOf, IsLaterFault, IsCompared, HasReported, HasReportedFront, HasFirstFailed, HasSecondFailed, HasGivenFailed, IsBeyond, IsGivenUp, ArePassed, AreUnknown, ArePicksUnknown, IsCompareFault, IsToolFault, attempt_of, limit_of}
 use Rattle.check_tool.proofs.Failing.{failed_check}
 
 -- ---- tries
 
-pub extends_none : (a : Option (List Try)) → Extends a a []
+pub extends_none : {A : Type 0} (a : Option (List A)) → Extends a a []
 extends_none None = tt
 extends_none (Some xs) = sym (append-nil xs)
 
@@ -117,6 +117,22 @@ has_texts told input (InputAndFile second) one two a = tt
 has_texts told input InputTwice one two a = absurd a
 has_texts told input One one two a = absurd a
 
+are_two : (told : List ℕ → Option (List ℕ)) (input : Option (List ℕ)) (t : Texts) (one two : Option (List ℕ)) → AreTexts told input t one two → AreTwo t
+are_two told input (Files first second) one two a = tt
+are_two told input Input one two a = tt
+are_two told input (FileAndInput first) one two a = tt
+are_two told input (InputAndFile second) one two a = tt
+are_two told input InputTwice one two a = absurd a
+are_two told input One one two a = absurd a
+
+two_from_first : (t : Texts) (path : List ℕ) → first_paths t ≡ path ∷ [] → AreTwo t
+two_from_first (Files first second) path e = tt
+two_from_first Input path e = tt
+two_from_first (FileAndInput first) path e = tt
+two_from_first (InputAndFile second) path e = tt
+two_from_first InputTwice path e = cc
+two_from_first One path e = cc
+
 -- ---- the whole of a run
 
 module _ (told : List ℕ → Option (List ℕ)) (input : Option (List ℕ)) (o : Options) (one two : Option (List ℕ)) (texts : AreTexts told input o.texts one two) where
@@ -160,6 +176,8 @@ module _ (told : List ℕ → Option (List ℕ)) (input : Option (List ℕ)) (o 
     later_fault tries OneFile (inr f) = absurd f.2.2
     later_fault tries DashTwice (inl f) = absurd f
     later_fault tries DashTwice (inr f) = absurd f.2.2
+    later_fault tries (CannotSave obstacle) (inl f) = absurd f
+    later_fault tries (CannotSave obstacle) (inr f) = absurd f.2.2
     later_fault tries InputUnread (inl f) = absurd f
     later_fault tries InputUnread (inr f) = absurd f.2.2
     later_fault tries InputTooLong (inl f) = absurd f
@@ -181,13 +199,17 @@ module _ (told : List ℕ → Option (List ℕ)) (input : Option (List ℕ)) (o 
     later_fault tries (BadOrder fault) (inl f) = absurd f
     later_fault tries (BadOrder fault) (inr f) =
         (f.2.0, f.2.1, has_texts told input o.texts one two texts, ap (λ l. opened (text_paths o.texts) ++ l) (f.1 ∙ ap (λ l. opened (given_paths o.given) ++ l) (f.2.2.0 ∙ ap opened (sym f.2.1)) ∙ sym (opened_more (given_paths o.given) (order_paths o.order))) ∙ sym (opened_more (text_paths o.texts) (later_paths o)), f.2.2.1)
-    later_fault tries OutOfMemory (inl f) = tried_more (text_paths o.texts) (later_paths o) tries (tried_first (given_paths o.given) (order_paths o.order) tries f)
-    later_fault tries OutOfMemory (inr f) =
-        tried_more (text_paths o.texts) (later_paths o) tries (subst (λ l. AreTried (later_paths o) l) (sym f.1) (tried_more (given_paths o.given) (order_paths o.order) f.0 (subst (λ p. AreTried p f.0) (sym f.2.1) f.2.2)))
+    later_fault tries OutOfMemory (inl f) =
+        (are_two told input o.texts one two texts, tried_more (text_paths o.texts) (later_paths o) tries (tried_first (given_paths o.given) (order_paths o.order) tries f))
+    later_fault tries OutOfMemory (inr f) = (
+      are_two told input o.texts one two texts,
+      tried_more (text_paths o.texts) (later_paths o) tries (subst (λ l. AreTried (later_paths o) l) (sym f.1) (tried_more (given_paths o.given) (order_paths o.order) f.0 (subst (λ p. AreTried p f.0) (sym f.2.1) f.2.2))),
+    )
 
     whole_fault : (tries : List Try) (fault : ToolFault) → IsCompareFault told broken one two first_failed second_failed o tries fault → IsToolFault told broken input_broken input o (opened (text_paths o.texts) ++ tries) fault
     whole_fault tries OneFile f = absurd f
     whole_fault tries DashTwice f = absurd f
+    whole_fault tries (CannotSave obstacle) f = absurd f
     whole_fault tries InputUnread f = absurd f
     whole_fault tries InputTooLong f = absurd f
     whole_fault tries InputUndivided f = absurd f
@@ -230,7 +252,7 @@ module _ (o : Options) (first second : Bor (List ℕ)) (files : o.texts ≡ File
     (first.now, true) ∷ (second.now, false) ∷ [],
     extends_more a b c ((first.now, true) ∷ []) ((second.now, false) ∷ []) e f,
     subst (λ x. IsToolFault told broken input_broken input o ((first.now, true) ∷ (second.now, false) ∷ []) x) (sym is)
-        (subst (λ t. AreTried (text_paths t ++ later_paths o) ((first.now, true) ∷ (second.now, false) ∷ [])) (sym files) (refl, (refl, refl))),
+        (subst (λ t. AreTwo t × AreTried (text_paths t ++ later_paths o) ((first.now, true) ∷ (second.now, false) ∷ [])) (sym files) (tt, (refl, (refl, refl)))),
   )
 
 -- ---- a first file that is not opened
@@ -243,7 +265,7 @@ first_unopened o path named told broken input_broken input fault a b (inr is) e 
   (path, false) ∷ [],
   e,
   subst (λ x. IsToolFault told broken input_broken input o ((path, false) ∷ []) x) (sym is)
-      (subst (λ ps. AreTried ((ps ++ second_paths o.texts) ++ later_paths o) ((path, false) ∷ [])) (sym named) (refl, refl)),
+      (two_from_first o.texts path named, subst (λ ps. AreTried ((ps ++ second_paths o.texts) ++ later_paths o) ((path, false) ∷ [])) (sym named) (refl, refl)),
 )
 
 -- ---- one file beside the input
@@ -268,5 +290,5 @@ second_unopened_beside o second beside told broken input_broken input fault a b 
   (second.now, false) ∷ [],
   e,
   subst (λ x. IsToolFault told broken input_broken input o ((second.now, false) ∷ []) x) (sym is)
-      (subst (λ t. AreTried (text_paths t ++ later_paths o) ((second.now, false) ∷ [])) (sym beside) (refl, refl)),
+      (subst (λ t. AreTwo t × AreTried (text_paths t ++ later_paths o) ((second.now, false) ∷ [])) (sym beside) (tt, (refl, refl))),
 )

@@ -5,3 +5,4 @@ pub mod Preparing
 pub mod Quoting
 pub mod Asking
 pub mod Saying
+pub mod Unsaved

@@ -22,8 +22,9 @@ use Rattle.check_tool.specs.declared.process.NoWords.{NoWords}
 use Rattle.check_tool.specs.declared.process.NoWords.TheVariants.{OutOfMemory as NoArguments, NoText}
 use Rattle.check_tool.specs.Faults.{fault_line, fault_status}
 use Rattle.check_tool.specs.Helping.{IsHelp, refused_paths}
-use Rattle.check_tool.specs.Opening.{Try, Extends, AreTried, opened}
+use Rattle.check_tool.specs.Opening.{Try, Save, Extends, AreTried, opened}
 use Rattle.check_tool.specs.Running.{paths_of, HasReported, HasReportedFront, IsBeyond, IsGivenUp, ArePassed, AreUnknown, MayGoByCones, NamesOrder, IsToolFault, StandOnInput, limit_of, node_bytes}
+use Rattle.check_tool.specs.Saving.{IsSaveFault, saves_of}
 
 -- what a device held and holds now, and whether it has failed by now, and whether a write has taken nothing of some bytes
 pub record Written : Type 0 where
@@ -99,7 +100,7 @@ attempt_line t = codes "bddcheck: order " ++ candidate_text t.order ++ codes ", 
 -- what is said of the attempt that a run ended with, where orders were tried
 abbrev pub IsAttemptSaid : Option Attempt → Written → Type 0
 IsAttemptSaid None w = Keeps w.held w.holds
-IsAttemptSaid (Some t) w = MaySay w (attempt_line t)
+IsAttemptSaid (Some t) w = Says w (attempt_line t)
 
 -- the line of a run whose pairs were judged by their cones
 abbrev pub cones_line : List ℕ
@@ -135,12 +136,12 @@ undecided_line o n = undecided_words n (cone_limit (limit_of o)) (larger_word o)
 -- it is said where some are
 abbrev pub IsUndecidedSaid : Options → (undecided : ℕ) → Written → Type 0
 IsUndecidedSaid o zero w = Keeps w.held w.holds
-IsUndecidedSaid o (suc n) w = MaySay w (undecided_line o (suc n))
+IsUndecidedSaid o (suc n) w = Says w (undecided_line o (suc n))
 
 -- what is said of a run that has done this, where more is asked for: what has decided, and how many pairs are undecided
 abbrev pub IsDoneSaid : (verbose : Bool) → Options → Done → Written → Type 0
 IsDoneSaid false o done w = Keeps w.held w.holds
-IsDoneSaid true o (Compared outcome tried) w = (b : Between) × IsWaySaid o.order tried (until w b) × IsUndecidedSaid o outcome.undecided (from w b)
+IsDoneSaid true o (Compared outcome tried vcd) w = (b : Between) × IsWaySaid o.order tried (until w b) × IsUndecidedSaid o outcome.undecided (from w b)
 IsDoneSaid true o (OrderPrinted tried) w = IsAttemptSaid tried w
 
 -- the words ask for more on standard error than faults
@@ -159,45 +160,59 @@ pub record IsReportStatus (outcome : Outcome) (status : ℕ) : Type 0 where
 
 -- the status of what a run has done: 0 for an order that was printed
 abbrev pub IsDoneStatus : Done → (status : ℕ) → Type 0
-IsDoneStatus (Compared outcome tried) status = IsReportStatus outcome status
+IsDoneStatus (Compared outcome tried vcd) status = IsReportStatus outcome status
 IsDoneStatus (OrderPrinted tried) status = status ≡ 0
 
--- what a run is given and leaves: whether the error device is seen on a terminal, the files that are told, the tries before and now, the
--- bytes of the input and whether it has failed now, and what was written to the output and to the error device
+-- what a run is given and leaves: whether the error device is seen on a terminal, the files that are told, the tries and the saves before
+-- and now, the bytes of the input and whether it has failed now, and what was written to the output and to the error device
 pub record Scene : Type 0 where
   pub seen : Bool
   pub told : List ℕ → Option (List ℕ)
   pub tried : Option (List Try)
   pub tries : Option (List Try)
+  pub saved : Option (List Save)
+  pub saves : Option (List Save)
   pub input : Option (List ℕ)
   pub input_failed : Bool
   pub output : Written
   pub errors : Written
 
 -- the same, of a folder and an input before and now
-abbrev pub scene_of : {F R : Type 0} → (seen : Bool) → (told : F → List ℕ → Option (List ℕ)) → (tries : F → Option (List Try)) → (folder folder' : F) → (remaining : R → Option (List ℕ)) → (has_failed : R → Bool) → (input input' : R) → (output errors : Written) → Scene
-scene_of seen told tries folder folder' remaining has_failed input input' output errors = record {
+abbrev pub scene_of : {F R : Type 0} → (seen : Bool) → (told : F → List ℕ → Option (List ℕ)) → (tries : F → Option (List Try)) → (saves : F → Option (List Save)) → (folder folder' : F) → (remaining : R → Option (List ℕ)) → (has_failed : R → Bool) → (input input' : R) → (output errors : Written) → Scene
+scene_of seen told tries saves folder folder' remaining has_failed input input' output errors = record {
   seen = seen;
   told = told folder;
   tried = tries folder;
   tries = tries folder';
+  saved = saves folder;
+  saves = saves folder';
   input = remaining input;
   input_failed = has_failed input';
   output = output;
   errors = errors;
 }
 
--- What the options ask for of what they name was written, and all files were opened. Without `--verbose` nothing was said, but for
--- progress on a terminal.
+-- What the options ask for of what they name was written, all files were opened, and the VCD saved where there is one. Without `--verbose`
+-- nothing was said, but for progress on a terminal.
 pub record Reports (s : Scene) (o : Options) (done : Done) (status : ℕ) : Type 0 where
   pub report : HasReported s.told s.input o s.output.held s.output.holds done
   pub opened_all : Extends s.tried s.tries (opened (paths_of o))
   pub passed : ArePassed s.told s.input o done
+  pub saved : Extends s.saved s.saves (saves_of o done true)
   pub said : IsBehindProgress (tells o s.seen) s.errors (IsDoneSaid o.verbose o done)
   pub code : IsDoneStatus done status
 
+-- What the options ask for of what they name was written as above, and then the VCD could not be saved: that was said.
+pub record IsUnsaved (s : Scene) (o : Options) (done : Done) (fault : ToolFault) (status : ℕ) : Type 0 where
+  pub report : HasReported s.told s.input o s.output.held s.output.holds done
+  pub opened_all : Extends s.tried s.tries (opened (paths_of o))
+  pub passed : ArePassed s.told s.input o done
+  pub cause : IsSaveFault o done fault
+  pub saved : Extends s.saved s.saves (saves_of o done false)
+  pub line : IsBehindProgress (tells o s.seen) s.errors (λ w. IsSaidOf (tells o s.seen) s.told o w fault status)
+
 -- There is a fault: its line was said, and nothing was written but for a front part of the report where the writing failed. The file of a
--- refused text may have been opened once more, where more is told.
+-- refused text may have been opened once more, where more is told. Nothing was saved.
 pub record Refuses (broken : List ℕ → Type 0) (s : Scene) (o : Options) (fault : ToolFault) (status : ℕ) : Type 0 where
   pub tries : List Try
   pub again : List Try
@@ -214,10 +229,11 @@ pub record Refuses (broken : List ℕ → Type 0) (s : Scene) (o : Options) (fau
   pub line : IsBehindProgress (tells o s.seen) s.errors (λ w. IsSaidOf (tells o s.seen) s.told o w fault status)
   pub front : fault ≡ Check Write → HasReportedFront s.told s.input o s.output.held s.output.holds s.output.has_failed s.output.has_stopped
   pub nothing : fault ≢ Check Write → Keeps s.output.held s.output.holds
+  pub unsaved : Extends s.saved s.saves []
 
 -- How a run of some options ends. `broken` says of a path that a file that was opened there has failed.
 abbrev pub IsEnding : (broken : List ℕ → Type 0) → Scene → Options → ℕ → Type 0
-IsEnding broken s o status = ((done : Done) × Reports s o done status) ⊎ ((fault : ToolFault) × Refuses broken s o fault status)
+IsEnding broken s o status = ((done : Done) × Reports s o done status) ⊎ (((done : Done) × (fault : ToolFault) × IsUnsaved s o done fault status) ⊎ ((fault : ToolFault) × Refuses broken s o fault status))
 
 -- what is told of words that ask for no options: help on the output, a mistake, or want of memory
 abbrev pub IsWordEnd : (output errors : Written) → Refused → ℕ → Type 0

@@ -12,7 +12,7 @@ use Rattle.check_tool.specs.declared.fault.Place.{Place}
 use Rattle.check_tool.specs.declared.fault.Place.TheVariants.{First as FirstFile, Second as SecondFile, Given as GivenFile, Order as OrderFile}
 use Rattle.check_tool.specs.declared.fault.Words.{Words}
 use Rattle.check_tool.specs.declared.fault.ToolFault.{ToolFault}
-use Rattle.check_tool.specs.declared.fault.ToolFault.TheVariants.{OneFile, InputTwice, CannotOpen, InputUnread, InputTooLong, InputUndivided, BadOrder, Check, OutOfMemory}
+use Rattle.check_tool.specs.declared.fault.ToolFault.TheVariants.{OneFile, InputTwice, CannotOpen, CannotSave, InputUnread, InputTooLong, InputUndivided, BadOrder, Check, OutOfMemory}
 
 -- what a file is
 abbrev pub place_text : Place → List ℕ
@@ -26,6 +26,7 @@ abbrev pub tool_fault_text : ToolFault → List ℕ
 tool_fault_text OneFile = codes "give two files or none"
 tool_fault_text InputTwice = codes "standard input: given twice"
 tool_fault_text (CannotOpen place obstacle) = place_text place ++ codes ": cannot be opened"
+tool_fault_text (CannotSave obstacle) = codes "vcd: cannot be written"
 tool_fault_text InputUnread = codes "standard input: cannot be read"
 tool_fault_text InputTooLong = codes "standard input: too long"
 tool_fault_text InputUndivided = codes "standard input: no line %%"
@@ -89,6 +90,7 @@ abbrev pub fault_status : ToolFault → ℕ
 fault_status OneFile = 2
 fault_status InputTwice = 2
 fault_status (CannotOpen place obstacle) = 2
+fault_status (CannotSave obstacle) = 3
 fault_status InputUnread = 2
 fault_status InputTooLong = 2
 fault_status InputUndivided = 2

@@ -16,9 +16,9 @@ use Rattle.command_line.specs.declared.options.Texts.{Texts}
 use Rattle.command_line.specs.declared.options.Texts.TheVariants.{Input, Files, InputAndFile, FileAndInput, InputTwice, One}
 use Rattle.check_tool.specs.declared.fault.Place.TheVariants.{First as FirstFile, Second as SecondFile, Given as GivenFile, Order as OrderFile}
 use Rattle.check_tool.specs.declared.fault.ToolFault.{ToolFault}
-use Rattle.check_tool.specs.declared.fault.ToolFault.TheVariants.{OneFile, InputTwice as DashTwice, CannotOpen, InputUnread, InputTooLong, InputUndivided, BadOrder, Check, OutOfMemory}
+use Rattle.check_tool.specs.declared.fault.ToolFault.TheVariants.{OneFile, InputTwice as DashTwice, CannotOpen, CannotSave, InputUnread, InputTooLong, InputUndivided, BadOrder, Check, OutOfMemory}
 use Rattle.check_tool.specs.declared.folder.Obstacle.{Obstacle}
-use Rattle.check_tool.specs.declared.folder.Obstacle.TheVariants.{Missing, Forbidden, NoFolder, Links, Other}
+use Rattle.check_tool.specs.declared.folder.Obstacle.TheVariants.{Missing, Forbidden, NoFolder, Links, Unwritten, Other}
 use Rattle.check_tool.specs.declared.help.Spot.{Spot}
 use Rattle.check_tool.specs.declared.help.Spot.TheVariants.{Nowhere, Text, Line}
 use Rattle.net_bench.specs.Statement.{is_word}
@@ -105,30 +105,36 @@ abbrev pub given_spot : Option (Bor (List ℕ)) → BenchFault → Where
 given_spot None fault = None
 given_spot (Some path) fault = text_spot path.now fault
 
+-- a file, where there is one
+abbrev pub file_spot : Option (Bor (List ℕ)) → Where
+file_spot None = None
+file_spot (Some path) = in_text path.now
+
 -- the place of a fault that stands in a file, or in a text of standard input
-abbrev pub fault_spot : Texts → Option (Bor (List ℕ)) → OrderChoice → ToolFault → Where
-fault_spot texts given choice (CannotOpen FirstFile obstacle) = in_text (first_name texts)
-fault_spot texts given choice (CannotOpen SecondFile obstacle) = in_text (second_name texts)
-fault_spot texts given choice (CannotOpen GivenFile obstacle) = given_spot given ReadFailed
-fault_spot texts given choice (CannotOpen OrderFile obstacle) = order_spot choice OrderReadFailed
-fault_spot texts given choice (BadOrder fault) = order_spot choice fault
-fault_spot texts given choice (Check (First fault)) = text_spot (first_name texts) fault
-fault_spot texts given choice (Check (Second fault)) = text_spot (second_name texts) fault
-fault_spot texts given choice (Check (Given fault)) = given_spot given fault
-fault_spot texts given choice (Check GivenOutputs) = given_spot given ReadFailed
-fault_spot texts given choice (Check (Order fault)) = order_spot choice fault
-fault_spot texts given choice (Check Only) = None
-fault_spot texts given choice (Check Explain) = None
-fault_spot texts given choice (Check (Wave fault)) = None
-fault_spot texts given choice (Check GivenUp) = None
-fault_spot texts given choice (Check Write) = None
-fault_spot texts given choice (Check NoCheckMemory) = None
-fault_spot texts given choice OneFile = None
-fault_spot texts given choice DashTwice = None
-fault_spot texts given choice InputUnread = None
-fault_spot texts given choice InputTooLong = None
-fault_spot texts given choice InputUndivided = None
-fault_spot texts given choice OutOfMemory = None
+abbrev pub fault_spot : Texts → (given vcd : Option (Bor (List ℕ))) → OrderChoice → ToolFault → Where
+fault_spot texts given vcd choice (CannotOpen FirstFile obstacle) = in_text (first_name texts)
+fault_spot texts given vcd choice (CannotOpen SecondFile obstacle) = in_text (second_name texts)
+fault_spot texts given vcd choice (CannotOpen GivenFile obstacle) = given_spot given ReadFailed
+fault_spot texts given vcd choice (CannotOpen OrderFile obstacle) = order_spot choice OrderReadFailed
+fault_spot texts given vcd choice (CannotSave obstacle) = file_spot vcd
+fault_spot texts given vcd choice (BadOrder fault) = order_spot choice fault
+fault_spot texts given vcd choice (Check (First fault)) = text_spot (first_name texts) fault
+fault_spot texts given vcd choice (Check (Second fault)) = text_spot (second_name texts) fault
+fault_spot texts given vcd choice (Check (Given fault)) = given_spot given fault
+fault_spot texts given vcd choice (Check GivenOutputs) = given_spot given ReadFailed
+fault_spot texts given vcd choice (Check (Order fault)) = order_spot choice fault
+fault_spot texts given vcd choice (Check Only) = None
+fault_spot texts given vcd choice (Check Explain) = None
+fault_spot texts given vcd choice (Check (Wave fault)) = None
+fault_spot texts given vcd choice (Check GivenUp) = None
+fault_spot texts given vcd choice (Check Write) = None
+fault_spot texts given vcd choice (Check NoCheckMemory) = None
+fault_spot texts given vcd choice OneFile = None
+fault_spot texts given vcd choice DashTwice = None
+fault_spot texts given vcd choice InputUnread = None
+fault_spot texts given vcd choice InputTooLong = None
+fault_spot texts given vcd choice InputUndivided = None
+fault_spot texts given vcd choice OutOfMemory = None
 
 -- what helps against a word that names no gate
 abbrev pub other_word : List ℕ
@@ -178,12 +184,13 @@ wave_help choice NoWaveMemory = fewer_nodes choice
 wave_help choice Full = fewer_nodes choice
 wave_help choice TooManyRequests = fewer_nodes choice
 
--- why a file was not opened
+-- why a file was not opened, or not written
 abbrev pub opening_help : Obstacle → List ℕ
 opening_help Missing = codes "no such file or folder"
 opening_help Forbidden = codes "permission denied"
 opening_help NoFolder = codes "a part of the path is no folder"
 opening_help Links = codes "a loop of links"
+opening_help Unwritten = codes "its device is full, or failed"
 opening_help Other = codes "the system refused it"
 
 -- what helps where a check has no report
@@ -205,6 +212,7 @@ abbrev pub fault_help : OrderChoice → ToolFault → List ℕ
 fault_help choice OneFile = codes "- as the other file is standard input"
 fault_help choice DashTwice = codes "name a file as one of the two"
 fault_help choice (CannotOpen place obstacle) = opening_help obstacle
+fault_help choice (CannotSave obstacle) = opening_help obstacle
 fault_help choice InputUnread = codes "the device failed, or is a folder"
 fault_help choice InputTooLong = codes "a text has at most 67108864 bytes"
 fault_help choice InputUndivided = codes "a line %% stands between two texts; one text beside a file is -"
@@ -272,6 +280,7 @@ names_gate (Check Write) = false
 names_gate (Check NoCheckMemory) = false
 names_gate (BadOrder fault) = false
 names_gate (CannotOpen place obstacle) = false
+names_gate (CannotSave obstacle) = false
 names_gate OneFile = false
 names_gate DashTwice = false
 names_gate InputUnread = false
@@ -291,11 +300,11 @@ help_line (Some (name, Some line)) help = codes "bddcheck: " ++ (name ++ (codes 
 
 -- the line that is said behind a fault's own
 abbrev pub help_text : Options → ToolFault → List ℕ
-help_text o fault = help_line (fault_spot o.texts o.given o.order fault) (fault_help o.order fault)
+help_text o fault = help_line (fault_spot o.texts o.given o.vcd o.order fault) (fault_help o.order fault)
 
 -- the same with what is shown of the file
 abbrev pub help_quoting : Options → ToolFault → List ℕ → List ℕ
-help_quoting o fault quoted = help_line (fault_spot o.texts o.given o.order fault) (shown_help o.order fault quoted ++ (codes ": " ++ quoted))
+help_quoting o fault quoted = help_line (fault_spot o.texts o.given o.vcd o.order fault) (shown_help o.order fault quoted ++ (codes ": " ++ quoted))
 
 -- a path, where there is one
 abbrev pub path_in : Option (Bor (List ℕ)) → List (List ℕ)
@@ -317,6 +326,7 @@ refused_paths o (Check GivenUp) = []
 refused_paths o (Check Write) = []
 refused_paths o (Check NoCheckMemory) = []
 refused_paths o (CannotOpen place obstacle) = []
+refused_paths o (CannotSave obstacle) = []
 refused_paths o OneFile = []
 refused_paths o DashTwice = []
 refused_paths o InputUnread = []
@@ -363,6 +373,7 @@ fault_mark (Check GivenUp) = None
 fault_mark (Check Write) = None
 fault_mark (Check NoCheckMemory) = None
 fault_mark (CannotOpen place obstacle) = None
+fault_mark (CannotSave obstacle) = None
 fault_mark OneFile = None
 fault_mark DashTwice = None
 fault_mark InputUnread = None

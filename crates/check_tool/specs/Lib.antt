@@ -4,4 +4,5 @@ pub mod Helping
 pub mod Opening
 pub mod Quoting
 pub mod Running
+pub mod Saving
 pub mod Ending

@@ -1,12 +1,16 @@
--- Files that are opened: which paths were asked for, and in which order.
+-- Files that are opened and saved: which paths were asked for, and in which order.
 use Rattle.std.specs.Prelude.{◌≡◌, ℕ, Bool, true, false, List, [], ◌∷◌, ◌++◌, map, Option, Some, None, IfSome, IsTrue, ⊤}
 
 -- a path that was asked for, and whether its file was opened
 abbrev pub Try : Type 0
 Try = List ℕ × Bool
 
--- tries that are told have grown by these
-abbrev pub Extends : Option (List Try) → Option (List Try) → List Try → Type 0
+-- a file that was to be made: its path, its bytes, and whether it has taken them all
+abbrev pub Save : Type 0
+Save = List ℕ × List ℕ × Bool
+
+-- tries or saves that are told have grown by these
+abbrev pub Extends : {A : Type 0} → Option (List A) → Option (List A) → List A → Type 0
 Extends None now more = ⊤
 Extends (Some before) None more = ⊥
 Extends (Some before) (Some now) more = now ≡ before ++ more

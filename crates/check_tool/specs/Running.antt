@@ -1,5 +1,5 @@
 -- What a run compares, what it writes, and why it writes no report.
-use Rattle.std.specs.Prelude.{◌≡◌, ◌≢◌, ◌<◌, ◌≤◌, ◌⊎◌, ◌/◌, ℕ, map, min, Bool, true, false, List, [], ◌∷◌, ◌++◌, length, Option, Some, None, IfSome, ⊤, codes}
+use Rattle.std.specs.Prelude.{◌≡◌, ◌≢◌, ◌<◌, ◌≤◌, ◌⊎◌, ◌/◌, ℕ, map, min, Bool, true, false, List, [], ◌∷◌, ◌++◌, length, Option, Some, None, IfSome, ⊤, codes, is_some}
 use Rattle.std.specs.Borrow.{Bor}
 use Rattle.std.specs.List.{AllZip}
 use Rattle.std.specs.Io.KnownBytes.{Appends}
@@ -21,11 +21,12 @@ use Rattle.check_report.specs.declared.choice.Choice.TheVariants.{One as Ordered
 use Rattle.check_report.specs.declared.picked.Picked.{Picked}
 use Rattle.check_report.specs.declared.picked.Picked.TheVariants.{All as AllPairs, Only as OnlyPairs, Share as SharedPairs}
 use Rattle.check_report.specs.declared.settings.Settings.{Settings}
-use Rattle.check_report.specs.Deciding.{IsReportBy, IsUnknown}
+use Rattle.check_report.specs.Deciding.{IsUnknown}
+use Rattle.check_report.specs.Dumping.{IsReportWithVcd, bytes_in}
 use Rattle.check_report.specs.Explaining.{IsUnexplained}
 use Rattle.check_report.specs.declared.target.Target.{Target}
-use Rattle.report_text.specs.declared.outcome.Role.{Role}
-use Rattle.report_text.specs.declared.outcome.Role.TheVariants.{Output, NextState}
+use Rattle.report_text.specs.declared.outcome.PairKind.{PairKind}
+use Rattle.report_text.specs.declared.outcome.PairKind.TheVariants.{Output, NextState}
 use Rattle.command_line.specs.declared.options.Picks.{Picks}
 use Rattle.command_line.specs.declared.options.Picks.TheVariants.{All, Only, Share}
 use Rattle.command_line.specs.declared.options.Options.{Options}
@@ -38,7 +39,7 @@ use Rattle.check_tool.specs.declared.done.Done.TheVariants.{Compared, OrderPrint
 use Rattle.check_tool.specs.declared.fault.Place.{Place}
 use Rattle.check_tool.specs.declared.fault.Place.TheVariants.{First, Second, Given as GivenFile, Order as OrderFile}
 use Rattle.check_tool.specs.declared.fault.ToolFault.{ToolFault}
-use Rattle.check_tool.specs.declared.fault.ToolFault.TheVariants.{OneFile, InputTwice as DashTwice, CannotOpen, InputUnread, InputTooLong, InputUndivided, BadOrder, Check, OutOfMemory}
+use Rattle.check_tool.specs.declared.fault.ToolFault.TheVariants.{OneFile, InputTwice as DashTwice, CannotOpen, CannotSave, InputUnread, InputTooLong, InputUndivided, BadOrder, Check, OutOfMemory}
 use Rattle.check_tool.specs.declared.folder.Obstacle.{Obstacle}
 use Rattle.check_tool.specs.Splitting.{IsSplit}
 use Rattle.check_tool.specs.Opening.{Try, opened, AreTried}
@@ -77,6 +78,15 @@ StandOnInput (FileAndInput first) = ⊤
 StandOnInput (Files first second) = ⊥
 StandOnInput InputTwice = ⊥
 StandOnInput One = ⊥
+
+-- two texts are named, the input as one of them at most
+abbrev pub AreTwo : Texts → Type 0
+AreTwo Input = ⊤
+AreTwo (Files first second) = ⊤
+AreTwo (InputAndFile second) = ⊤
+AreTwo (FileAndInput first) = ⊤
+AreTwo InputTwice = ⊥
+AreTwo One = ⊥
 
 -- the file that is opened for the order
 abbrev pub order_paths : OrderChoice → List (List ℕ)
@@ -200,7 +210,7 @@ IsPickedOf (Only words) AllPairs = ⊥
 IsPickedOf (Only words) (SharedPairs share) = ⊥
 
 -- what a word calls: behind `NEXT ` the next state of a register, else an output
-abbrev pub IsCalled : (word : List ℕ) → Role → (name : List ℕ) → Type 0
+abbrev pub IsCalled : (word : List ℕ) → PairKind → (name : List ℕ) → Type 0
 IsCalled word Output name = (word ≡ name) × ((register : List ℕ) → word ≢ codes "NEXT " ++ register)
 IsCalled word NextState name = word ≡ codes "NEXT " ++ name
 
@@ -218,11 +228,13 @@ pub record AreSettings (o : Options) (choice : Choice) (picked : Picked) (s : Se
   pub json : s.json ≡ o.json
   pub explain : AreTargetsOf o.explain.items s.explain.items
   pub assignment : s.assignment ≡ o.assignment
+  pub vcd : s.vcd ≡ is_some o.vcd
 
--- The bytes are what the options ask for of these two texts, and the condition's, by these settings: the report in the form that they ask for, with its counts, or the
--- order itself. The nodes that are needed in the order of a report are within the limit of the options.
+-- The bytes are what the options ask for of these two texts, and the condition's, by these settings: the report in the form that they ask for, with its counts and the
+-- VCD of the first pair that differs, or the order itself. The nodes that are needed in the order of a report are within the limit of the options.
 abbrev pub IsMade : (one two : Option (List ℕ)) → (given : Option (Option (List ℕ))) → Options → Settings → Done → (bytes : List ℕ) → Type 0
-IsMade one two given o s (Compared outcome tried) bytes = (o.print_order ≡ false) × IsReportBy (told_of one two given) s None tried outcome bytes
+IsMade one two given o s (Compared outcome tried vcd) bytes =
+    (o.print_order ≡ false) × IsReportWithVcd (told_of one two given) s None tried outcome bytes (bytes_in vcd)
 IsMade one two given o s (OrderPrinted tried) bytes =
     (o.print_order ≡ true) × (order : Order) × IsOrderPrinted (told_of one two given) o.matching order bytes × IsFound (told_of one two given) o.matching s.order (limit_of o) tried order
 
@@ -269,7 +281,7 @@ IsGivenUp told input o = AreNamed told input o (λ one two given choice. TriesOr
 
 -- the attempt that a run tells, where orders were tried and one of them decided
 abbrev pub attempt_of : Done → Option Attempt
-attempt_of (Compared outcome tried) = tried
+attempt_of (Compared outcome tried vcd) = tried
 attempt_of (OrderPrinted tried) = tried
 
 -- the attempts before the one that is told were given up: each within a smaller budget, and within the first budget each before it
@@ -319,6 +331,7 @@ IsListFault told broken path tries OutOfMemory = AreTried (path ∷ []) tries
 IsListFault told broken path tries (CannotOpen First obstacle) = ⊥
 IsListFault told broken path tries (CannotOpen Second obstacle) = ⊥
 IsListFault told broken path tries (CannotOpen GivenFile obstacle) = ⊥
+IsListFault told broken path tries (CannotSave obstacle) = ⊥
 IsListFault told broken path tries OneFile = ⊥
 IsListFault told broken path tries DashTwice = ⊥
 IsListFault told broken path tries InputUnread = ⊥
@@ -338,6 +351,7 @@ IsGivenFault given tries (CannotOpen First obstacle) = ⊥
 IsGivenFault given tries (CannotOpen Second obstacle) = ⊥
 IsGivenFault given tries (CannotOpen OrderFile obstacle) = ⊥
 IsGivenFault given tries (BadOrder fault) = ⊥
+IsGivenFault given tries (CannotSave obstacle) = ⊥
 IsGivenFault given tries OneFile = ⊥
 IsGivenFault given tries DashTwice = ⊥
 IsGivenFault given tries InputUnread = ⊥
@@ -366,6 +380,7 @@ IsCompareFault told broken one two first_failed second_failed o tries (Check fau
 IsCompareFault told broken one two first_failed second_failed o tries (CannotOpen place obstacle) = IsLaterFault told broken o tries (CannotOpen place obstacle)
 IsCompareFault told broken one two first_failed second_failed o tries (BadOrder fault) = IsLaterFault told broken o tries (BadOrder fault)
 IsCompareFault told broken one two first_failed second_failed o tries OutOfMemory = IsLaterFault told broken o tries OutOfMemory
+IsCompareFault told broken one two first_failed second_failed o tries (CannotSave obstacle) = ⊥
 IsCompareFault told broken one two first_failed second_failed o tries OneFile = ⊥
 IsCompareFault told broken one two first_failed second_failed o tries DashTwice = ⊥
 IsCompareFault told broken one two first_failed second_failed o tries InputUnread = ⊥
@@ -379,6 +394,7 @@ IsInputFault input InputUnread = ⊤
 IsInputFault input OutOfMemory = ⊤
 IsInputFault input (Check fault) = ⊥
 IsInputFault input (CannotOpen place obstacle) = ⊥
+IsInputFault input (CannotSave obstacle) = ⊥
 IsInputFault input (BadOrder fault) = ⊥
 IsInputFault input OneFile = ⊥
 IsInputFault input DashTwice = ⊥
@@ -418,6 +434,7 @@ abbrev pub IsToolFault : (List ℕ → Option (List ℕ)) → (broken : List ℕ
 IsToolFault told broken input_broken input o tries OneFile = (o.texts ≡ One) × (tries ≡ [])
 IsToolFault told broken input_broken input o tries DashTwice = (o.texts ≡ InputTwice) × (tries ≡ [])
 IsToolFault told broken input_broken input o tries (CannotOpen place obstacle) = IsUnopened input o tries place
+IsToolFault told broken input_broken input o tries (CannotSave obstacle) = ⊥
 IsToolFault told broken input_broken input o tries InputUnread = (o.texts ≡ Input) × (tries ≡ [])
 IsToolFault told broken input_broken input o tries InputTooLong = (o.texts ≡ Input) × (tries ≡ []) × IfSome input (λ text. 134221824 < length text)
 IsToolFault told broken input_broken input o tries InputUndivided = (o.texts ≡ Input) × (tries ≡ []) × IfSome input (λ text. IsShort text × IsSplit text None)
@@ -426,4 +443,4 @@ IsToolFault told broken input_broken input o tries (BadOrder fault) =
 IsToolFault told broken input_broken input o tries (Check fault) =
     (one two : Option (List ℕ)) × (given : Option (Option (List ℕ))) × (choice : Choice) × AreTexts told input o.texts one two × IsGivenOf told o.given given × IsOrderOf told o.order choice
     × (tries ≡ opened (paths_of o)) × IsFailedCheck one two given (HasFirstFailed broken input_broken o.texts) (HasSecondFailed broken input_broken o.texts) (HasGivenFailed broken o.given) o choice fault
-IsToolFault told broken input_broken input o tries OutOfMemory = AreTried (paths_of o) tries
+IsToolFault told broken input_broken input o tries OutOfMemory = AreTwo o.texts × AreTried (paths_of o) tries

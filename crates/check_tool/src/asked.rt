@@ -5,7 +5,7 @@ ghost use Rattle.command_line.specs.declared.options.OrderChoice.{OrderChoice as
 ghost use Rattle.check_tool.specs.Running.{AreSettings, AreTargetsOf, IsCalled, IsPickedOf, limit_of, limit_in};
 
 use crate::fault::ToolFault;
-use check_report::{Choice, Name, Picked, Role, Settings, Target};
+use check_report::{Choice, Name, PairKind, Picked, Settings, Target};
 use command_line::{Options, OrderChoice, Picks};
 use std::alloc::{AllocError, Global};
 
@@ -51,12 +51,12 @@ pub(crate) fn picked_of(alloc: Global, picks: &Picks<'_>) -> Result<Picked, Tool
 }
 
 /// What a word calls: behind `NEXT ` the next state of a register, else an output.
-fn called(word: &str) -> (Role, &str)
+fn called(word: &str) -> (PairKind, &str)
     ensures { IsCalled word.now result.0 result.1.now }
 {
     match word.strip_prefix("NEXT ") {
-        Some(register) => (Role::NextState, register),
-        None => (Role::Output, word),
+        Some(register) => (PairKind::NextState, register),
+        None => (PairKind::Output, word),
     }
 }
 
@@ -115,5 +115,6 @@ pub(crate) fn settings_of(
         json: options.json,
         explain,
         assignment: options.assignment,
+        vcd: options.vcd.is_some(),
     }
 }

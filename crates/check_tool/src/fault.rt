@@ -29,6 +29,8 @@ pub enum ToolFault {
     /// Standard input was named as both files.
     InputTwice,
     CannotOpen(Place, Obstacle),
+    /// The file for the VCD was not written.
+    CannotSave(Obstacle),
     InputUnread,
     InputTooLong,
     /// Standard input has no line that divides it.
@@ -183,6 +185,7 @@ pub(crate) fn words_of(fault: ToolFault) -> Words
         ToolFault::OneFile => plain("give two files or none"),
         ToolFault::InputTwice => plain("standard input: given twice"),
         ToolFault::CannotOpen(place, _) => refused(name_of(place), plain(": cannot be opened")),
+        ToolFault::CannotSave(_) => plain("vcd: cannot be written"),
         ToolFault::InputUnread => plain("standard input: cannot be read"),
         ToolFault::InputTooLong => plain("standard input: too long"),
         ToolFault::InputUndivided => plain("standard input: no line %%"),
@@ -238,7 +241,7 @@ pub fn status_of_fault(fault: ToolFault) -> u8
     match fault {
         ToolFault::BadOrder(fault) => status_of_order(fault),
         ToolFault::Check(fault) => status_of_check(fault),
-        ToolFault::OutOfMemory => 3,
+        ToolFault::CannotSave(_) | ToolFault::OutOfMemory => 3,
         _ => 2,
     }
 }

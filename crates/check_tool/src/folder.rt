@@ -1,12 +1,15 @@
-//! Where files are opened.
-ghost use Rattle.std.specs.Prelude.{◌≡◌, ◌∷◌, [], ℕ, List, Option, Some, None, false, IfOk, IfSome, is_ok};
-ghost use Rattle.check_tool.specs.Opening.{Extends, Try};
+//! Where files are opened, and saved.
+ghost use Rattle.std.specs.Prelude.{◌≡◌, ◌∷◌, [], ℕ, List, Option, Some, None, false, IfOk, IfSome, OnErr, OnOk, is_ok};
+ghost use Rattle.std.specs.Io.KnownBytes.{Appends};
+ghost use Rattle.report_text.specs.Writing.{AppendsFront};
+ghost use Rattle.check_tool.specs.Opening.{Extends, Save, Try};
 
-use net_bench::device::{Source, Through};
+use check_report::write_whole;
+use net_bench::device::{Sink, Source, Through};
 use std::rt::Files;
 use std::{fs, io};
 
-/// What stands in the way of an opening.
+/// What stands in the way of an opening, or of a saving.
 #[derive(Clone, Copy, Drop, Debug, PartialEq, Eq)]
 pub enum Obstacle {
     Missing,
@@ -15,6 +18,8 @@ pub enum Obstacle {
     NoFolder,
     /// Links lead back to one another.
     Links,
+    /// The file has not taken all.
+    Unwritten,
     Other,
 }
 
@@ -26,7 +31,7 @@ pub enum OpenFault {
     OutOfMemory,
 }
 
-/// Something in which files are opened for reading, by their paths.
+/// Something in which files are opened for reading and saved, by their paths.
 pub trait Folder {
     type File: Source + Drop;
 
@@ -34,6 +39,8 @@ pub trait Folder {
     ghost tries: { Self → Option (List Try) };
     // The bytes of the file at a path, where the folder tells them.
     ghost told: { Self → List ℕ → Option (List ℕ) };
+    // What was to be saved, the earliest first, where the folder tells that.
+    ghost saves: { Self → Option (List Save) } = { λ _. None };
 
     /// Opens the file at the path.
     fn open(&mut self, path: &str) -> Result<Self::File, OpenFault>
@@ -41,18 +48,22 @@ pub trait Folder {
         ensures file { IfOk result (λ file. IfSome (told self.old path.now) (λ text. Self.File.remaining file ≡ Some text)) }
         ensures fresh { IfOk result (λ file. Self.File.has_failed file ≡ false) }
         ensures named { IfOk result (λ file. IfSome (Self.File.origin file) (λ from. from ≡ path.now)) }
+        ensures kept { told self.new ≡ told self.old }
+        ensures unsaved { saves self.new ≡ saves self.old };
+
+    /// Makes the file at the path, anew where it is there, with these bytes.
+    fn save(&mut self, path: &str, bytes: &[u8]) -> Result<(), Obstacle>
+        ensures saved { Extends (saves self.old) (saves self.new) ((path.now, bytes.now, is_ok result) ∷ []) }
+        ensures unopened { tries self.new ≡ tries self.old }
         ensures kept { told self.new ≡ told self.old };
 
     /// Whether a plain file stands at the path: one that is still there when it was read, and that nobody has to write meanwhile.
     fn is_plain(&self, path: &str) -> bool;
 }
 
-/// Why the system opens no file.
-fn fault_of(kind: io::ErrorKind) -> OpenFault {
-    if kind == io::ErrorKind::OutOfMemory {
-        return OpenFault::OutOfMemory;
-    }
-    let obstacle = if kind == io::ErrorKind::NotFound {
+/// What the system tells of an obstacle.
+fn obstacle_of(kind: io::ErrorKind) -> Obstacle {
+    if kind == io::ErrorKind::NotFound {
         Obstacle::Missing
     } else if kind == io::ErrorKind::PermissionDenied {
         Obstacle::Forbidden
@@ -62,8 +73,27 @@ fn fault_of(kind: io::ErrorKind) -> OpenFault {
         Obstacle::Links
     } else {
         Obstacle::Other
-    };
-    OpenFault::Refused(obstacle)
+    }
+}
+
+/// Why the system opens no file.
+fn fault_of(kind: io::ErrorKind) -> OpenFault {
+    if kind == io::ErrorKind::OutOfMemory {
+        OpenFault::OutOfMemory
+    } else {
+        OpenFault::Refused(obstacle_of(kind))
+    }
+}
+
+/// Writes all bytes to a file that is saved.
+fn fill<W: Sink>(file: &mut W, bytes: &[u8]) -> Result<(), Obstacle>
+    ensures whole { OnOk result (Appends (W.contents file.old) (W.contents file.new) bytes.now) }
+    ensures front { OnErr result (AppendsFront (W.contents file.old) (W.contents file.new) (W.has_failed file.new) (W.has_stopped file.new) bytes.now) }
+{
+    match write_whole(file, bytes) {
+        Ok(()) => Ok(()),
+        Err(_) => Err(Obstacle::Unwritten),
+    }
 }
 
 /// The file system of a runtime, which tells nothing.
@@ -92,6 +122,13 @@ impl<'a, H: Files> Folder for Disk<'a, H> {
         match fs::open(self.rt, path) {
             Ok(file) => Ok(Through::new(file)),
             Err(error) => Err(fault_of(error.kind())),
+        }
+    }
+
+    fn save(&mut self, path: &str, bytes: &[u8]) -> Result<(), Obstacle> {
+        match fs::create(self.rt, path) {
+            Ok(file) => fill(&mut Through::new(file), bytes),
+            Err(error) => Err(obstacle_of(error.kind())),
         }
     }
 

@@ -2,7 +2,8 @@
 //!
 //! **Promises.** `tool::run_tool` and `process::status_of` end a run with the report that the words ask for, or with a
 //! fault of its cause, its line and its status, or with refused words (`ending`); at status 2 nothing was written
-//! (`untouched`), at 0 and 1 nothing said, unless more is asked for or seen on a terminal (`silent`).
+//! (`untouched`), at 0 and 1 nothing said, unless more is asked for or seen on a terminal (`silent`). Where a pair
+//! differs, the file for the VCD has it (`ending`).
 //! `run::run_options` says so of options: the report (`report`, `unwritten`), the files that were opened, in their
 //! order (`opened`), the input that is read only where a text stands on it (`unasked`), faults and their causes
 //! (`fault`, `full`, `given_up`, `only`, `hired`, `unbounded`). `split::split_input` divides at the first line `%%`;
@@ -11,19 +12,22 @@
 //! **Only tests show** files, pipes, terminals and signals of the built program (`tests/run.sh`), and what progress
 //! says (`report_tests`).
 //!
-//! **Begin** with `tool`, then `run`: files are opened, and `check_report` is called with the settings of `asked`. How
-//! a run ends is in `specs/Ending`, its causes in `specs/Running`.
+//! **Begin** with `tool`, then `run`: files are opened (`files`), and `check_report` is called with the settings of
+//! `asked`. How a run ends is in `specs/Ending`, its causes in `specs/Running`.
 #![tactic(auto)]
 
 mod asked;
 pub mod done;
 pub mod fault;
+mod files;
 pub mod folder;
 pub mod help;
 pub mod process;
 pub mod progress;
 pub mod quote;
+mod remedy;
 pub mod run;
+mod saving;
 mod say;
 pub mod screen;
 pub mod split;

@@ -78,7 +78,7 @@ pub fn status_of<
     errors: &mut E,
 ) -> u8
     // The program runs on the words behind its name; where there are none to be had, that is told.
-    ensures ending { let scene = scene_of (E.seen errors.old) F.told F.tries folder.old folder.new R.remaining R.has_failed input.old input.new
+    ensures ending { let scene = scene_of (E.seen errors.old) F.told F.tries F.saves folder.old folder.new R.remaining R.has_failed input.old input.new
         (written W.contents W.has_failed W.has_stopped out.old out.new) (written E.contents E.has_failed E.has_stopped errors.old errors.new) in
         MatchResult arguments
         (λ all. IsRun (HasFailedAt F.File.origin F.File.has_failed) scene (folder.new ≡ folder.old) (input.new ≡ input.old) (map string_bytes (drop 1 all.items)) result)

@@ -5,7 +5,7 @@ use crate::folder::{Disk, Folder};
 use crate::say::say;
 use crate::screen::Screen;
 use dd_store::Watch;
-use expand_work::{AttemptEnd, Free, Gate};
+use expand_work::{AttemptEnd, Free, Monitor};
 use net_bench::device::{Sink, read_text};
 use std::alloc::{AllocError, Global};
 use std::fmt;
@@ -121,7 +121,7 @@ const CLEAN: &[u8] = b"\r\x1b[K";
 struct Board<'a, E> {
     errors: &'a mut E,
     form: Form,
-    // When it was told last, or the gate was made, in milliseconds of the clock.
+    // When it was told last, or the monitor was made, in milliseconds of the clock.
     told: u64,
     // How many builds have begun, and whether the terminal has a line of them.
     attempts: u32,
@@ -174,7 +174,7 @@ impl<E: Sink> Board<'_, E> {
     }
 }
 
-/// A gate that holds nobody. It tells at which rank a build is, at most once a second: by lines, or by one line in place. What it writes is
+/// A monitor that holds nobody. It tells at which rank a build is, at most once a second: by lines, or by one line in place. What it writes is
 /// written under a lock, since builds of several threads may tell it.
 #[derive(Drop)]
 pub struct Progress<'a, 'e, H, E> {
@@ -197,7 +197,7 @@ fn millis<H: Clock>(rt: &H) -> u64 {
 }
 
 impl<'a, 'e, H: Clock + Meter + Wait, E: Sink> Progress<'a, 'e, H, E> {
-    /// A gate that tells in this form on this device, a second from now at the earliest.
+    /// A monitor that tells in this form on this device, a second from now at the earliest.
     pub fn new(rt: &'a H, alloc: Global, form: Form, errors: &'e mut E) -> Progress<'a, 'e, H, E> {
         let told = millis(rt);
         Progress {
@@ -231,7 +231,7 @@ impl<H: Clock + Meter + Wait + Sync, E: Sink + Send> Watch for Progress<'_, '_, 
     fn at_shard(&self, _shard: u8, _level: u16) {}
 }
 
-impl<H: Clock + Meter + Wait + Sync, E: Sink + Send> Gate for Progress<'_, '_, H, E> {
+impl<H: Clock + Meter + Wait + Sync, E: Sink + Send> Monitor for Progress<'_, '_, H, E> {
     fn at_level(&self, _worker: u32, _level: u16) {}
 
     fn most_alone(&self, workers: u32, expected: usize) -> usize {

@@ -236,6 +236,7 @@ fn remark(alloc: Global, text: &[u8], mark: Mark) -> Result<String, AllocError>
 fn quote_file<F: Folder>(alloc: Global, folder: &mut F, path: &str, mark: Mark) -> Option<String>
     ensures quoted { IfSome result (λ s. (text : List ℕ) × IsReadOf (F.told folder.old path.now) (Some text) × (string_bytes s ≡ remark mark text)) }
     ensures tried { (again : List Try) × Extends (F.tries folder.old) (F.tries folder.new) again × AreTried (path.now ∷ []) again }
+    ensures unsaved { F.saves folder.new ≡ F.saves folder.old }
 {
     if !folder.is_plain(path) {
         return None;
@@ -262,6 +263,7 @@ pub fn quote<F: Folder>(
 ) -> Option<String>
     ensures quoted { IfSome result (λ s. IsQuoted (F.told folder.old) options.now fault (string_bytes s)) }
     ensures tried { (again : List Try) × Extends (F.tries folder.old) (F.tries folder.new) again × AreTried (refused_paths options.now fault) again }
+    ensures unsaved { F.saves folder.new ≡ F.saves folder.old }
 {
     match refused_mark(options, fault) {
         Some((path, mark)) => quote_file(alloc, folder, path, mark),

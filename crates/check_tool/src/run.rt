@@ -1,35 +1,31 @@
 //! A run with its options, over any folder, input and output.
-ghost use Rattle.std.specs.Prelude.{◌≡◌, ◌≢◌, ◌⊎◌, ℕ, ◌≤◌, ◌∷◌, [], false, List, Option, None, IfOk, IfErr, OnOk, OnErr, IfSome, IsTrue, Some, Err, is_ok};
+ghost use Rattle.std.specs.Prelude.{◌≡◌, ◌≢◌, ℕ, false, List, Option, None, IfOk, IfErr, OnOk, OnErr, IfSome, IsTrue, Err};
 ghost use Rattle.std.specs.Io.KnownBytes.{Appends};
 ghost use Rattle.check_report.specs.declared.fault.CheckFault.TheVariants.{Only, Wave, GivenUp, Write};
 ghost use Rattle.check_tool.specs.declared.done.Done.{Done};
 ghost use Rattle.check_report.specs.declared.choice.Choice.{Choice as ChoiceValue};
-ghost use Rattle.command_line.specs.declared.options.OrderChoice.TheVariants.{Auto, Cones};
 ghost use Rattle.check_report.specs.Best.{AreGivenUp, AreTried as TriesOrders, IsAllowed, IsGivenUpWithin, last_budget};
-ghost use Rattle.check_report.specs.Devices.{told_by, told_of};
+ghost use Rattle.check_report.specs.Devices.{told_of};
 ghost use Rattle.check_report.specs.Limits.{AreBeyond};
 ghost use Rattle.report_text.specs.Writing.{AppendsFront};
 ghost use Rattle.expand_work.specs.declared.fault.WaveFault.TheVariants.{Full, NoWorker, TooManyRequests};
 ghost use Rattle.net_order.specs.declared.order.Order.{Order};
-ghost use Rattle.net_order.specs.OrderText.{IsOrderText};
 ghost use Rattle.check_tool.specs.Opening.{Extends, HasFailedAt, Try, opened};
-ghost use Rattle.check_tool.specs.Running.{IsOpenFault, order_paths, given_paths, later_paths, paths_of, IsShort, IsGivenOf, IsGivenFrom, IsOrderOf, IsListFault, IsOrderFault, IsGivenFault, IsLaterFault, IsCompared, IsCompareFault, IsInputFault, IsToolFault, HasReported, HasReportedFront, IsBeyond, IsGivenUp, ArePassed, AreUnknown, ArePicksUnknown, MayGoByCones, NamesOrder, StandOnInput, attempt_of, limit_of};
+ghost use Rattle.check_tool.specs.Running.{later_paths, paths_of, IsShort, IsGivenOf, IsOrderOf, IsCompared, IsCompareFault, IsInputFault, IsToolFault, HasReported, HasReportedFront, IsBeyond, IsGivenUp, ArePassed, AreUnknown, ArePicksUnknown, MayGoByCones, NamesOrder, StandOnInput, attempt_of, limit_of};
 ghost use Rattle.check_tool.specs.Ending.{HasProgress, tells, written as said_by};
 
 use crate::asked::{picked_of, settings_of, targets_of};
 use crate::done::Done;
 use crate::fault::{Place, ToolFault};
-use crate::folder::{Folder, OpenFault};
+use crate::files::{open, prepare};
+use crate::folder::Folder;
 use crate::progress::{Meter, Progress, form_on};
 use crate::screen::Screen;
 use crate::split::split_input;
-use check_report::{Choice, Context, check, print_order};
-use command_line::{Options, OrderChoice, Texts};
-use expand_work::{Free, Gate};
+use check_report::{Context, check, print_order};
+use command_line::{Options, Texts};
+use expand_work::{Free, Monitor};
 use net_bench::device::{InMemory, Sink, Source, TextFault, read_text};
-use net_order::names::Names;
-use net_order::order::Order;
-use net_order::order_file::read_order;
 use std::alloc::Global;
 use std::rt::Clock;
 use std::sync::Wait;
@@ -43,106 +39,7 @@ const INPUT_LIMIT: usize = 134_221_824;
 struct Run<'a, 'o, H, G> {
     rt: &'a H,
     options: &'a Options<'o>,
-    gate: &'a G,
-}
-
-/// Opens a file.
-fn open<F: Folder>(folder: &mut F, path: &str, place: Place) -> Result<F::File, ToolFault>
-    ensures tried { Extends (F.tries folder.old) (F.tries folder.new) ((path.now, is_ok result) ∷ []) }
-    ensures file { IfOk result (λ file. IfSome (F.told folder.old path.now) (λ text. F.File.remaining file ≡ Some text)) }
-    ensures named { IfOk result (λ file. IfSome (F.File.origin file) (λ from. from ≡ path.now)) }
-    ensures kept { F.told folder.new ≡ F.told folder.old }
-    ensures fault { IfErr result (λ fault. IsOpenFault place fault) }
-{
-    match folder.open(path) {
-        Ok(file) => Ok(file),
-        Err(OpenFault::Refused(obstacle)) => Err(ToolFault::CannotOpen(place, obstacle)),
-        Err(OpenFault::OutOfMemory) => Err(ToolFault::OutOfMemory),
-    }
-}
-
-/// The names of the file of an order, which is opened and read.
-fn names_in<F: Folder>(alloc: Global, folder: &mut F, path: &str) -> Result<Names, ToolFault>
-    ensures names { IfOk result (λ names. IfSome (F.told folder.old path.now) (λ text. IsOrderText text names)) }
-    ensures opened { OnOk result (Extends (F.tries folder.old) (F.tries folder.new) (opened (path.now ∷ []))) }
-    ensures kept { F.told folder.new ≡ F.told folder.old }
-    ensures fault { IfErr result (λ fault. (tries : List Try) × Extends (F.tries folder.old) (F.tries folder.new) tries × IsListFault (F.told folder.old) (HasFailedAt F.File.origin F.File.has_failed) path.now tries fault) }
-{
-    let mut file = open(folder, path, Place::Order)?;
-    match read_order(alloc, &mut file) {
-        Ok(names) => Ok(names),
-        Err(fault) => Err(ToolFault::BadOrder(fault)),
-    }
-}
-
-/// The order that is asked for. A file of names is opened and read.
-fn order_of<F: Folder>(
-    alloc: Global,
-    folder: &mut F,
-    choice: OrderChoice<'_>,
-) -> Result<Choice, ToolFault>
-    ensures order { IfOk result (IsOrderOf (F.told folder.old) choice.entry) }
-    ensures auto { IfOk result (λ c. c ≡ ChoiceValue.Auto → choice.entry ≡ Auto) }
-    ensures cones { IfOk result (λ c. (c ≡ ChoiceValue.Cones → choice.entry ≡ Cones) × (choice.entry ≡ Cones → c ≡ ChoiceValue.Cones)) }
-    ensures opened { OnOk result (Extends (F.tries folder.old) (F.tries folder.new) (opened (order_paths choice.entry))) }
-    ensures kept { F.told folder.new ≡ F.told folder.old }
-    ensures fault { IfErr result (λ fault. (tries : List Try) × Extends (F.tries folder.old) (F.tries folder.new) tries × IsOrderFault (F.told folder.old) (HasFailedAt F.File.origin F.File.has_failed) choice.entry tries fault) }
-{
-    match choice {
-        OrderChoice::Declared => Ok(Choice::One(Order::Declared)),
-        OrderChoice::Depth => Ok(Choice::One(Order::Depth)),
-        OrderChoice::Interleave => Ok(Choice::One(Order::Interleave)),
-        OrderChoice::Index => Ok(Choice::One(Order::Index)),
-        OrderChoice::Force => Ok(Choice::One(Order::Force)),
-        OrderChoice::Best => Ok(Choice::Best),
-        OrderChoice::Auto => Ok(Choice::Auto),
-        OrderChoice::Cones => Ok(Choice::Cones),
-        OrderChoice::File(path) => {
-            let names = names_in(alloc, folder, path)?;
-            Ok(Choice::One(Order::Listed(names)))
-        }
-        OrderChoice::Extended(path) => {
-            let names = names_in(alloc, folder, path)?;
-            Ok(Choice::One(Order::Extended(names)))
-        }
-    }
-}
-
-/// Opens the condition's file, where there is a condition.
-fn open_given<F: Folder>(folder: &mut F, path: Option<&str>) -> Result<Option<F::File>, ToolFault>
-    ensures given { IfOk result (λ file. IsGivenOf (F.told folder.old) path.entry (told_by F.File.remaining file)) }
-    ensures named { IfOk result (λ file. IsGivenFrom path.entry (told_by F.File.origin file)) }
-    ensures opened { OnOk result (Extends (F.tries folder.old) (F.tries folder.new) (opened (given_paths path.entry))) }
-    ensures kept { F.told folder.new ≡ F.told folder.old }
-    ensures fault { IfErr result (λ fault. (tries : List Try) × Extends (F.tries folder.old) (F.tries folder.new) tries × IsGivenFault path.entry tries fault) }
-{
-    match path {
-        Some(path) => {
-            let file = open(folder, path, Place::Given)?;
-            Ok(Some(file))
-        }
-        None => Ok(None),
-    }
-}
-
-/// Opens the condition's file, and then has the order.
-fn prepare<F: Folder>(
-    alloc: Global,
-    folder: &mut F,
-    options: &Options<'_>,
-) -> Result<(Option<F::File>, Choice), ToolFault>
-    ensures given { IfOk result (λ r. IsGivenOf (F.told folder.old) options.now.given (told_by F.File.remaining r.0)) }
-    ensures named { IfOk result (λ r. IsGivenFrom options.now.given (told_by F.File.origin r.0)) }
-    ensures order { IfOk result (λ r. IsOrderOf (F.told folder.old) options.now.order r.1) }
-    ensures auto { IfOk result (λ r. r.1 ≡ ChoiceValue.Auto → options.now.order ≡ Auto) }
-    ensures cones { IfOk result (λ r. (r.1 ≡ ChoiceValue.Cones → options.now.order ≡ Cones) × (options.now.order ≡ Cones → r.1 ≡ ChoiceValue.Cones)) }
-    ensures opened { OnOk result (Extends (F.tries folder.old) (F.tries folder.new) (opened (later_paths options.now))) }
-    ensures kept { F.told folder.new ≡ F.told folder.old }
-    ensures fault { IfErr result (λ fault. (tries : List Try) × Extends (F.tries folder.old) (F.tries folder.new) tries × IsLaterFault (F.told folder.old) (HasFailedAt F.File.origin F.File.has_failed) options.now tries fault) }
-{
-    let given = open_given(folder, options.given)?;
-    let order = order_of(alloc, folder, options.order)?;
-    Ok((given, order))
+    monitor: &'a G,
 }
 
 /// Compares two texts, or prints the order of their variables. The condition's file is opened, and a file of the order read, before them.
@@ -152,7 +49,7 @@ fn compare<
     R1: Source,
     R2: Source,
     W: Sink,
-    G: Gate,
+    G: Monitor,
 >(
     run: &Run<'_, '_, H, G>,
     folder: &mut F,
@@ -160,10 +57,11 @@ fn compare<
     second: &mut R2,
     out: &mut W,
 ) -> Result<Done, ToolFault>
-    requires unbounded { G.bound run.now.gate.now ≡ None }
+    requires unbounded { G.bound run.now.monitor.now ≡ None }
     ensures report { IfOk result (λ done. (bytes : List ℕ) × IsCompared (F.told folder.old) (R1.remaining first.old) (R2.remaining second.old) run.now.options.now done bytes × Appends (W.contents out.old) (W.contents out.new) bytes) }
     ensures opened { OnOk result (Extends (F.tries folder.old) (F.tries folder.new) (opened (later_paths run.now.options.now))) }
     ensures kept { F.told folder.new ≡ F.told folder.old }
+    ensures unsaved { F.saves folder.new ≡ F.saves folder.old }
     ensures fault { IfErr result (λ fault. (tries : List Try) × Extends (F.tries folder.old) (F.tries folder.new) tries ×
         IsCompareFault (F.told folder.old) (HasFailedAt F.File.origin F.File.has_failed) (R1.remaining first.old) (R2.remaining second.old) (IsTrue (R1.has_failed first.new)) (IsTrue (R2.has_failed second.new)) run.now.options.now tries fault) }
     ensures passed { IfOk result (λ done. IfSome (attempt_of done) (λ t. (given : Option (Option (List ℕ))) × (choice : ChoiceValue) × IsGivenOf (F.told folder.old) run.now.options.now.given given
@@ -192,7 +90,7 @@ fn compare<
         rt: run.rt,
         alloc,
         settings: &settings,
-        gate: run.gate,
+        monitor: run.monitor,
     };
     if options.print_order {
         let printed = print_order(&context, first, second, &mut given, out);
@@ -203,7 +101,7 @@ fn compare<
     }
     let checked = check(&context, first, second, &mut given, out);
     match checked {
-        Ok((outcome, tried)) => Ok(Done::Compared(outcome, tried)),
+        Ok((outcome, tried, vcd)) => Ok(Done::Compared(outcome, tried, vcd)),
         Err(fault) => Err(ToolFault::Check(fault)),
     }
 }
@@ -223,17 +121,18 @@ fn read_input<R: Source>(alloc: Global, input: &mut R) -> Result<Vec<u8>, ToolFa
     }
 }
 
-/// Compares what the options name as `run_options` does, where this gate watches.
-fn run_by<H: AllocGlobal + Threads + Wait + Sync, F: Folder, R: Source, W: Sink, G: Gate>(
+/// Compares what the options name as `run_options` does, where this monitor watches.
+fn run_by<H: AllocGlobal + Threads + Wait + Sync, F: Folder, R: Source, W: Sink, G: Monitor>(
     run: &Run<'_, '_, H, G>,
     folder: &mut F,
     input: &mut R,
     out: &mut W,
 ) -> Result<Done, ToolFault>
-    requires unbounded { G.bound run.now.gate.now ≡ None }
+    requires unbounded { G.bound run.now.monitor.now ≡ None }
     ensures report { IfOk result (HasReported (F.told folder.old) (R.remaining input.old) run.now.options.now (W.contents out.old) (W.contents out.new)) }
     ensures opened { OnOk result (Extends (F.tries folder.old) (F.tries folder.new) (opened (paths_of run.now.options.now))) }
     ensures kept { F.told folder.new ≡ F.told folder.old }
+    ensures unsaved { F.saves folder.new ≡ F.saves folder.old }
     ensures passed { IfOk result (ArePassed (F.told folder.old) (R.remaining input.old) run.now.options.now) }
     ensures full { result ≡ Err (ToolFault.Check (Wave Full)) → IsBeyond (F.told folder.old) (R.remaining input.old) run.now.options.now }
     ensures given_up { result ≡ Err (ToolFault.Check GivenUp) → IsGivenUp (F.told folder.old) (R.remaining input.old) run.now.options.now }
@@ -299,6 +198,7 @@ pub fn run_options<
     // Then each file that the options name was opened in the folder, in the stated order, and no other.
     ensures opened { OnOk result (Extends (F.tries folder.old) (F.tries folder.new) (opened (paths_of options.now))) }
     ensures kept { F.told folder.new ≡ F.told folder.old }
+    ensures unsaved { F.saves folder.new ≡ F.saves folder.old }
     // The attempts before the one that is told were given up: each within a smaller budget, and within the first budget each before it.
     ensures passed { IfOk result (ArePassed (F.told folder.old) (R.remaining input.old) options.now) }
     // The nodes that the texts need are within the limit where there is a report, and Full comes only where they are not, in any order
@@ -331,13 +231,31 @@ pub fn run_options<
 {
     match form_on(options.verbose, errors) {
         None => {
-            let gate = &Free;
-            run_by(&Run { rt, options, gate }, folder, input, out)
+            let monitor = &Free;
+            run_by(
+                &Run {
+                    rt,
+                    options,
+                    monitor,
+                },
+                folder,
+                input,
+                out,
+            )
         }
         Some(form) => {
             let progress = Progress::new(rt, rt.alloc(), form, errors);
-            let gate = &progress;
-            let ended = run_by(&Run { rt, options, gate }, folder, input, out);
+            let monitor = &progress;
+            let ended = run_by(
+                &Run {
+                    rt,
+                    options,
+                    monitor,
+                },
+                folder,
+                input,
+                out,
+            );
             progress.end();
             ended
         }

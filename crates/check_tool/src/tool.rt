@@ -12,6 +12,7 @@ use crate::help::{help_of, help_with};
 use crate::progress::Meter;
 use crate::quote::quote;
 use crate::run::run_options;
+use crate::saving::save;
 use crate::say::{say, say_parts};
 use crate::screen::Screen;
 use crate::tell::tell;
@@ -63,6 +64,7 @@ fn help_line<F: Folder>(
 ) -> Result<String, AllocError>
     ensures line { IfOk result (λ line. IsHelp (F.told folder.old) options.now fault (string_bytes line)) }
     ensures tried { (again : List Try) × Extends (F.tries folder.old) (F.tries folder.new) again × AreTried (refused_paths options.now fault) again }
+    ensures unsaved { F.saves folder.new ≡ F.saves folder.old }
 {
     match quote(alloc, folder, options, fault) {
         Some(quoted) if !quoted.is_empty() => help_with(alloc, options, fault, quoted.as_str()),
@@ -81,6 +83,7 @@ fn help<F: Folder, E: Sink>(
     ensures said { (line : List ℕ) × IsHelp (F.told folder.old) options.now fault line
         × MaySay (written E.contents E.has_failed E.has_stopped errors.old errors.new) line }
     ensures tried { (again : List Try) × Extends (F.tries folder.old) (F.tries folder.new) again × AreTried (refused_paths options.now fault) again }
+    ensures unsaved { F.saves folder.new ≡ F.saves folder.old }
 {
     if let Ok(line) = help_line(alloc, folder, options, fault) {
         say(errors, line.as_bytes());
@@ -105,6 +108,7 @@ fn refuse_run<F: Folder, E: Sink>(
 ) -> u8
     ensures said { IsSaidOf more (F.told folder.old) options.now (written E.contents E.has_failed E.has_stopped errors.old errors.new) fault result }
     ensures tried { (again : List Try) × Extends (F.tries folder.old) (F.tries folder.new) again × AreTried (asked_again more options.now fault) again }
+    ensures unsaved { F.saves folder.new ≡ F.saves folder.old }
     ensures bound { result ≤ 3 }
     ensures refused { 2 ≤ result }
 {
@@ -157,12 +161,12 @@ fn status_of(outcome: Outcome) -> u8
 }
 
 /// The status of what a run has done.
-fn status_of_done(done: Done) -> u8
-    ensures status { IsDoneStatus done result }
+fn status_of_done(done: &Done) -> u8
+    ensures status { IsDoneStatus done.now result }
     ensures bound { (result ≤ 3) × (result ≢ 2) }
 {
     match done {
-        Done::Compared(outcome, _) => status_of(outcome),
+        Done::Compared(outcome, ..) => status_of(*outcome),
         Done::OrderPrinted(_) => 0,
     }
 }
@@ -176,10 +180,11 @@ pub fn run_tool<
     W: Sink,
     E: Screen + Send,
 >(rt: &H, words: &[String], folder: &mut F, input: &mut R, out: &mut W, errors: &mut E) -> u8
-    // The words ask for options, and then the run ends with their report, or their order, and its status, or with the line and the status of a
-    // fault that has its cause, behind which stands what helps where more is asked for or seen on a terminal, and the input is read only where a text stands on it; or they are refused for a cause, no file is
-    // opened, nothing is read, and help, a mistake or want of memory is told.
-    ensures ending { let scene = scene_of (E.seen errors.old) F.told F.tries folder.old folder.new R.remaining R.has_failed input.old input.new
+    // The words ask for options, and then the run ends with their report, or their order, and its status, or with the line and the status
+    // of a fault that has its cause, behind which stands what helps where more is asked for or seen on a terminal, and the input is read
+    // only where a text stands on it; the VCD of the first pair that differs is saved in the file that they name behind the report, and
+    // nothing else is; or they are refused for a cause, no file is opened, nothing is read, and help, a mistake or want of memory is told.
+    ensures ending { let scene = scene_of (E.seen errors.old) F.told F.tries F.saves folder.old folder.new R.remaining R.has_failed input.old input.new
         (written W.contents W.has_failed W.has_stopped out.old out.new) (written E.contents E.has_failed E.has_stopped errors.old errors.new) in
         IsRun (HasFailedAt F.File.origin F.File.has_failed) scene (folder.new ≡ folder.old) (input.new ≡ input.old) (map string_bytes words.now) result }
     ensures bound { result ≤ 3 }
@@ -193,10 +198,14 @@ pub fn run_tool<
         Err(refused) => return refuse_words(alloc, &refused, out, errors),
     };
     let more = tells(&options, errors);
-    match run_options(rt, &options, folder, input, out, errors) {
-        Ok(done) => {
-            tell(alloc, &options, done, errors);
-            status_of_done(done)
+    let done = match run_options(rt, &options, folder, input, out, errors) {
+        Ok(done) => done,
+        Err(fault) => return refuse_run(alloc, folder, &options, more, fault, errors),
+    };
+    match save(folder, &options, &done) {
+        Ok(()) => {
+            tell(alloc, &options, &done, errors);
+            status_of_done(&done)
         }
         Err(fault) => refuse_run(alloc, folder, &options, more, fault, errors),
     }

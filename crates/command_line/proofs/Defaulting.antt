@@ -41,6 +41,10 @@ module _ (matching order format assignment : Option ValueParser) where
   unfolding clap_on_literals
   explain_found = refl
 
+  vcd_found : first_of (codes "vcd") (matches_of (tool_app matching order format assignment) []) ≡ None
+  unfolding clap_on_literals
+  vcd_found = refl
+
   share_found : share_in (matches_of (tool_app matching order format assignment) []) ≡ None
   unfolding clap_on_literals
   share_found = refl
@@ -162,5 +166,6 @@ defaults o (rows, found, agreed, are) =
       assignment = unsaid o.assignment (subst (λ w. IsAssignment w o.assignment) (ap (first_of (codes "assignment")) e ∙ assignment_found m d f g) are.assignment);
       texts = subst (λ w. AreTexts w None o.texts) (ap (first_of (codes "FIRST")) e ∙ first_found m d f g)
           (subst (λ w. AreTexts (first_of (codes "FIRST") rows) w o.texts) (ap (first_of (codes "SECOND")) e ∙ second_found m d f g) are.texts);
+      vcd = no_file o.vcd (subst (λ w. IsFile w o.vcd) (ap (first_of (codes "vcd")) e ∙ vcd_found m d f g) are.vcd);
       explain = no_words o.explain.items (are.explain ∙ ap explained_in e ∙ explain_found m d f g);
     }

@@ -7,7 +7,8 @@ use Rattle.command_line.specs.declared.options.Picks.TheVariants.{All}
 use Rattle.command_line.specs.declared.options.Texts.TheVariants.{Input}
 
 -- by name, in an order that is found, all pairs, without a condition, by 4 workers, as many nodes as a store may have and 4 GiB of memory hold, without
--- sizes, compared, silent, both texts on the input, no word of assignments, with nothing to explain
+-- sizes, compared, silent, both texts on the input, no word of assignments, with nothing to explain, and no file for the
+-- values of a pair that differs
 pub record AreDefaults (o : Options) : Type 0 where
   pub matching : o.matching ≡ Name
   pub order : o.order ≡ Auto
@@ -23,3 +24,4 @@ pub record AreDefaults (o : Options) : Type 0 where
   pub texts : o.texts ≡ Input
   pub explain : o.explain.items ≡ []
   pub assignment : o.assignment ≡ None
+  pub vcd : o.vcd ≡ None

@@ -61,6 +61,9 @@ share_rule = value_rule (codes "share") [] None
 abbrev pub explain_rule : Rule
 explain_rule = record (value_rule (codes "explain") [] None) { action = Some Append }
 
+abbrev pub vcd_rule : Rule
+vcd_rule = value_rule (codes "vcd") [] None
+
 -- 1 to 16 threads
 abbrev pub workers_rule : Rule
 workers_rule = value_rule (codes "workers") (codes "4" ∷ []) (Some (Signed (pos 1) (pos 16)))
@@ -111,7 +114,7 @@ TakesAssignments = TakesOnly (codes "all" ∷ codes "support" ∷ codes "ones" �
 -- The command with its arguments. The parsers of four lists of words are named apart.
 abbrev pub tool_app : (matching order format assignment : Option ValueParser) → App
 tool_app matching order format assignment =
-    with_rule (with_rule (with_rule (with_rule (with_rule (with_rule (with_rule (with_rule (with_rule (with_rule (with_rule (with_rule (with_rule (with_rule (with_rule (with_rule (with_rule (with_rule bare_app (match_rule matching)) (order_rule order)) order_file_rule) extend_rule) given_rule) only_rule) share_rule) explain_rule) workers_rule) limit_rule) memory_rule) sizes_rule) print_order_rule) (format_rule format)) (assignment_rule assignment)) verbose_rule) (new_rule (codes "FIRST"))) (new_rule (codes "SECOND"))
+    with_rule (with_rule (with_rule (with_rule (with_rule (with_rule (with_rule (with_rule (with_rule (with_rule (with_rule (with_rule (with_rule (with_rule (with_rule (with_rule (with_rule (with_rule (with_rule bare_app (match_rule matching)) (order_rule order)) order_file_rule) extend_rule) given_rule) only_rule) share_rule) explain_rule) vcd_rule) workers_rule) limit_rule) memory_rule) sizes_rule) print_order_rule) (format_rule format)) (assignment_rule assignment)) verbose_rule) (new_rule (codes "FIRST"))) (new_rule (codes "SECOND"))
 
 -- the command has these arguments
 abbrev pub IsTool : App → Type 0
@@ -351,10 +354,14 @@ AskForJson rows = IsSomeAnd (first_of (codes "format") rows) (λ word. bytes_eq 
 abbrev pub GiveExplainBeside : List Row → Type 0
 GiveExplainBeside rows = IsGiven (codes "explain") rows × ((flag_of (first_of (codes "print-order") rows) ≡ true) ⊎ IsGiven (codes "share") rows ⊎ AskForJson rows)
 
+-- the words give a file for the values of a pair that differs, and ask for an order in print, which compares none
+abbrev pub GiveIdleVcd : List Row → Type 0
+GiveIdleVcd rows = IsGiven (codes "vcd") rows × (flag_of (first_of (codes "print-order") rows) ≡ true)
+
 -- the words give two arguments that exclude each other
 abbrev pub AreAtOdds : List Row → Type 0
 AreAtOdds rows =
-    GiveTwoOrders rows ⊎ GiveTwoPicks rows ⊎ GiveFoundWith (codes "sizes") rows ⊎ GiveFoundWith (codes "print-order") rows ⊎ GivePicksInOrder rows ⊎ GiveIdleMemory rows ⊎ GiveIdleExtend rows ⊎ GiveExplainBeside rows
+    GiveTwoOrders rows ⊎ GiveTwoPicks rows ⊎ GiveFoundWith (codes "sizes") rows ⊎ GiveFoundWith (codes "print-order") rows ⊎ GivePicksInOrder rows ⊎ GiveIdleMemory rows ⊎ GiveIdleExtend rows ⊎ GiveExplainBeside rows ⊎ GiveIdleVcd rows
 
 -- the words give a memory that is none, or out of its range
 abbrev pub GiveBadMemory : List Row → Type 0
@@ -384,6 +391,7 @@ pub record AreOptions (rows : List Row) (o : Options) : Type 0 where
   pub verbose : o.verbose ≡ flag_of (first_of (codes "verbose") rows)
   pub explain : map (λ s. s.now) o.explain.items ≡ explained_in rows
   pub assignment : IsAssignment (first_of (codes "assignment") rows) o.assignment
+  pub vcd : IsFile (first_of (codes "vcd") rows) o.vcd
 
 -- the kinds of the first fault that clap finds in the words; none where it takes them
 abbrev pub AreFaults : List Text → Kinds → Type 0

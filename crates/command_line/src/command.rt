@@ -1,7 +1,7 @@
 //! The command of the program, as clap knows it.
 ghost use Rattle.std.specs.Prelude.{◌≡◌, false, codes, IfOk};
 ghost use Rattle.clap.specs.Words.{app_of, new_rule, rule_of};
-ghost use Rattle.command_line.specs.Words.{TakesMatches, TakesOrders, match_rule, order_rule, order_file_rule, extend_rule, given_rule, only_rule, share_rule, explain_rule, workers_rule, limit_rule, memory_rule, sizes_rule, print_order_rule, TakesFormats, format_rule, TakesAssignments, assignment_rule, verbose_rule, bare_app, IsTool};
+ghost use Rattle.command_line.specs.Words.{TakesMatches, TakesOrders, match_rule, order_rule, order_file_rule, extend_rule, given_rule, only_rule, share_rule, explain_rule, vcd_rule, workers_rule, limit_rule, memory_rule, sizes_rule, print_order_rule, TakesFormats, format_rule, TakesAssignments, assignment_rule, verbose_rule, bare_app, IsTool};
 
 use clap::{Arg, ArgAction, Command, value_parser};
 use std::alloc::{AllocError, Global};
@@ -132,6 +132,15 @@ fn explain<'a>(alloc: Global) -> Arg<'a>
         .help(
             "Behind the report, list the inner signals that differ where the pair of this output of the first netlist, or `NEXT name` of a register, does; may be given more than once",
         )
+}
+
+fn vcd<'a>(alloc: Global) -> Arg<'a>
+    ensures rule { rule_of result ≡ vcd_rule }
+    ensures local { result.global ≡ false }
+{
+    Arg::new(alloc, "vcd").long("vcd").value_name("FILE").help(
+        "Where a pair differs, write the values of all signals of both netlists at the assignment of the first such line to this file, as a VCD of one step",
+    )
 }
 
 fn workers<'a>(alloc: Global) -> Arg<'a>
@@ -276,6 +285,7 @@ pub fn command<'a>(alloc: Global) -> Result<Command<'a>, AllocError>
         .arg(share(alloc))?
         .arg(explain(alloc))?;
     let command = command
+        .arg(vcd(alloc))?
         .arg(workers(alloc))?
         .arg(limit(alloc))?
         .arg(memory(alloc))?

@@ -8,8 +8,8 @@
 //! **Only tests show** the texts of help and of mistakes (`tests/stored.txt`), and that the manual page and completions
 //! have the same options (`tests/papers.py`).
 //!
-//! **Begin** with `specs/Words` and `Defaults`; then `command`, the arguments, `matched`, what their matches say, and
-//! `odds`, what excludes what.
+//! **Begin** with `specs/Words` and `Defaults`; then `command`, the arguments, `matched`, what their matches say by
+//! their `values`, and `odds`, what excludes what.
 #![tactic(auto)]
 
 mod command;
@@ -20,6 +20,7 @@ mod options;
 mod reading;
 mod share;
 mod size;
+mod values;
 
 pub use options::{Options, OrderChoice, Picks, Texts};
 pub use reading::{Refused, read_options};

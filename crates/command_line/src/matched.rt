@@ -1,15 +1,15 @@
 //! What the matches of the parser ask for.
-ghost use Rattle.std.specs.Prelude.{◌≡◌, ◌≢◌, ◌≤◌, ◌↔◌, ℕ, List, [], Option, Some, None, Err, IfOk, IfSome, IsSomeAnd, IsTrue, codes, map, option_map};
-ghost use Rattle.clap.specs.Words.{all_of, first_of, found_of, one_of, rows_of};
-ghost use Rattle.command_line.specs.Words.{IsMatching, flag_of, unnamed_order, IsChoice, IsOrderIn, IsForm, IsAssignment, IsNumberIn, usual_limit, IsLimit, IsMemory, IsGiven, GiveBadShare, IsShare, AreAtOdds, ArePicks, AreTexts, AreOptions, are_picked, explained_in, names_in, share_in};
+ghost use Rattle.std.specs.Prelude.{◌≡◌, ◌≢◌, ◌≤◌, ℕ, List, [], Option, Some, None, Err, IfOk, IfSome, IsSomeAnd, codes, map, option_map};
+ghost use Rattle.clap.specs.Words.{first_of, found_of, one_of, rows_of};
+ghost use Rattle.command_line.specs.Words.{IsMatching, flag_of, unnamed_order, IsChoice, IsOrderIn, IsForm, IsAssignment, IsNumberIn, usual_limit, IsLimit, IsMemory, GiveBadShare, IsShare, AreAtOdds, ArePicks, AreTexts, AreOptions, are_picked, explained_in, names_in, share_in};
 ghost use Rattle.command_line.specs.declared.options.OrderChoice.{OrderChoice as ChoiceValue};
 ghost use Rattle.report_text.specs.declared.outcome.Share.{Share as ShareValue};
 
 use crate::options::{Options, OrderChoice, Picks, Texts};
 use crate::share::share_of;
 use crate::size::memory_of;
+use crate::values::{is_asked, names_of, word_of};
 use clap::ArgMatches;
-use clap::parser::ValueSource;
 use net_order::order::Match;
 use report_text::Assignment;
 use std::alloc::{AllocError, Global};
@@ -24,39 +24,6 @@ pub(crate) enum BadPicks {
     Share,
     /// A growth was refused.
     OutOfMemory,
-}
-
-/// Whether the words themselves give this argument.
-#[tactic(auto, using(crate::proofs::Found::source_row))]
-pub(crate) fn is_given(matches: &ArgMatches<'_>, id: &str) -> bool
-    ensures { IsTrue result ↔ IsGiven id.now (rows_of (found_of matches.now)) }
-{
-    matches.value_source(id) == Some(ValueSource::CommandLine)
-}
-
-/// The first value of an argument, where it has one.
-#[tactic(auto, using(crate::proofs::Found::word_row))]
-pub(crate) fn word_of<'a>(matches: &ArgMatches<'a>, id: &str) -> Option<&'a str>
-    ensures { option_map (λ s. s.now) result ≡ first_of id.now (rows_of (found_of matches.now)) }
-{
-    matches.get_str(id)
-}
-
-/// Whether a flag is asked for.
-pub(crate) fn is_asked(matches: &ArgMatches<'_>, id: &str) -> bool
-    ensures { result ≡ flag_of (first_of id.now (rows_of (found_of matches.now))) }
-{
-    is_true(word_of(matches, id))
-}
-
-/// Whether a word is that of a flag that is asked for.
-fn is_true(word: Option<&str>) -> bool
-    ensures { result ≡ flag_of (option_map (λ s. s.now) word.entry) }
-{
-    match word {
-        Some("true") => true,
-        _ => false,
-    }
 }
 
 /// The bytes of memory, where the word is such a number.
@@ -183,14 +150,6 @@ fn assignment_of(word: Option<&str>) -> Option<Assignment>
     }
 }
 
-/// The values of an argument, where it has some.
-#[tactic(auto, using(crate::proofs::Found::names_row))]
-fn names_of<'m, 'a>(matches: &'m ArgMatches<'a>, id: &str) -> Option<&'m [&'a str]>
-    ensures { option_map (λ s. map (λ n. n.now) s.now) result ≡ all_of id.now (rows_of (found_of matches.now)) }
-{
-    matches.get_strs(id)
-}
-
 /// Whether pairs are picked.
 pub(crate) fn has_picks(matches: &ArgMatches<'_>) -> bool
     ensures { let rows = rows_of (found_of matches.now) in result ≡ are_picked (names_in rows) (share_in rows) }
@@ -314,5 +273,6 @@ pub(crate) fn options_of<'a>(
         texts: texts_of(word_of(matches, "FIRST"), word_of(matches, "SECOND")),
         explain,
         assignment: assignment_of(word_of(matches, "assignment")),
+        vcd: word_of(matches, "vcd"),
     }
 }

@@ -2,10 +2,11 @@
 ghost use Rattle.std.specs.Prelude.{◌≡◌, ◌↔◌, ◌⊎◌, Bool, true, IsSomeAnd, IsTrue, MatchOption, bytes_eq, codes, option_map};
 ghost use Rattle.clap.specs.Words.{found_of, rows_of};
 ghost use Rattle.command_line.specs.declared.options.OrderChoice.{OrderChoice as ChoiceValue};
-ghost use Rattle.command_line.specs.Words.{IsOrderIn, IsChoice, IsFoundName, GiveTwoOrders, GiveTwoPicks, GiveFound, GiveFoundWith, GiveOther, GivePicksInOrder, GiveIdleMemory, GiveIdleExtend, AskForJson, GiveExplainBeside, AreAtOdds};
+ghost use Rattle.command_line.specs.Words.{IsOrderIn, IsChoice, IsFoundName, GiveTwoOrders, GiveTwoPicks, GiveFound, GiveFoundWith, GiveOther, GivePicksInOrder, GiveIdleMemory, GiveIdleExtend, AskForJson, GiveExplainBeside, GiveIdleVcd, AreAtOdds};
 
-use crate::matched::{has_picks, is_asked, is_given, unnamed_in, word_of};
+use crate::matched::{has_picks, unnamed_in};
 use crate::options::OrderChoice;
+use crate::values::{is_asked, is_given, word_of};
 use clap::ArgMatches;
 
 /// Two arguments that exclude each other, in the parser's words.
@@ -146,6 +147,13 @@ fn explains_beside(matches: &ArgMatches<'_>) -> bool
             || asks_for_json(matches))
 }
 
+/// Whether the words ask for the values of a pair that differs, and for an order in print, which compares none.
+fn has_idle_vcd(matches: &ArgMatches<'_>) -> bool
+    ensures { IsTrue result ↔ GiveIdleVcd (rows_of (found_of matches.now)) }
+{
+    is_given(matches, "vcd") && is_asked(matches, "print-order")
+}
+
 /// The argument that has no explanations.
 fn unexplained(matches: &ArgMatches<'_>) -> &'static str {
     if is_asked(matches, "print-order") {
@@ -195,6 +203,8 @@ pub(crate) fn odds_in(matches: &ArgMatches<'_>) -> Option<Odds>
         ("--extend", "an order other than that of '--order-file <F>'")
     } else if explains_beside(matches) {
         ("--explain <NAME>", unexplained(matches))
+    } else if has_idle_vcd(matches) {
+        ("--vcd <FILE>", "'--print-order'")
     } else {
         return None;
     };

@@ -79,6 +79,8 @@ pub struct Options<'a> {
     pub explain: Vec<&'a str>,
     /// Which variables the assignments of the report tell, where the words say it.
     pub assignment: Option<Assignment>,
+    /// The path of the file for the values at the assignment of the first pair that differs, where these are asked for.
+    pub vcd: Option<&'a str>,
     ghost some_workers: { 1 ≤ workers },
     ghost few_workers: { workers ≤ 16 },
     ghost some_nodes: { 1 ≤ limit },

@@ -5,9 +5,10 @@ ghost use Rattle.clap.specs.Words.{app_of, found_of, rows_of};
 ghost use Rattle.command_line.specs.Words.{IsTool, AreFound, AskFor, TellsVersion, IsToldAs, IsRefusal};
 
 use crate::command::command;
-use crate::matched::{BadPicks, explained_in, memory_in, options_of, picks_in, word_of};
+use crate::matched::{BadPicks, explained_in, memory_in, options_of, picks_in};
 use crate::odds::{Odds, odds_in};
 use crate::options::Options;
+use crate::values::word_of;
 use clap::error::ErrorKind;
 use clap::{ArgMatches, Command, Error};
 use std::alloc::Global;

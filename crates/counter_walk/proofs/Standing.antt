@@ -202,7 +202,7 @@ lines_free n lines reads d all off _ _ (branch p h v low high lo hi e s t f g q)
 IsAbleIff : (n : ℕ) (bits able : List Bool) → ℕ → (List Bool → Bool) → Type 0
 IsAbleIff n bits able p h = (get_or able p false ≡ true → Can n h bits) × (Can n h bits → get_or able p false ≡ true)
 
-module _ (n : ℕ) (lines : List Line) (bits able : List Bool) (short : length bits ≤ n) (a : AreAble lines bits able) where
+module _ (n : ℕ) (lines : List Line) (bits able : List Bool) (terminal_case : length bits ≤ n) (a : AreAble lines bits able) where
   -- some assignment has the bits
   some : List Bool
   some = bits ++ replicate (n - length bits) false

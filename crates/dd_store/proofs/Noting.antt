@@ -4,8 +4,8 @@ use Rattle.std.specs.List.{AllZip}
 use Rattle.std.specs.declared.vec.Vec.{Vec}
 use Rattle.std.specs.declared.alloc.Global.{Global}
 use Rattle.std.proofs.lemmas.List.{take_more, append-nil}
-use Rattle.slot_table.specs.declared.Placed.{Placed}
-use Rattle.slot_table.specs.declared.Placed.TheVariants.{Found, Added}
+use Rattle.slot_table.specs.declared.Admission.{Admission}
+use Rattle.slot_table.specs.declared.Admission.TheVariants.{Found, Added}
 use Rattle.slot_table.specs.Placing.{IsPlaced}
 use Rattle.dd_store.specs.declared.StoreFault.{StoreFault}
 use Rattle.dd_store.specs.declared.StoreFault.TheVariants.{Full, OutOfMemory}
@@ -83,16 +83,16 @@ pub Names-kept : (v s : ℕ) (list old new : List Pair) → Grows list old new �
 Names-kept v s list old new g p r n = (n.0, n.1, g.kept n.0 (plain_pair p.0 p.1) n.2)
 
 -- the place that a pair has found
-abbrev pub index_of : Placed → ℕ
+abbrev pub index_of : Admission → ℕ
 index_of (Found i) = i
 index_of (Added i) = i
 
-pub placed_at : (room : ℕ) (p : Pair) (old new : List Pair) (r : Placed) → IsPlaced room p old (Ok r) new → slice_get new (index_of r) ≡ Some p
+pub placed_at : (room : ℕ) (p : Pair) (old new : List Pair) (r : Admission) → IsPlaced room p old (Ok r) new → slice_get new (index_of r) ≡ Some p
 placed_at room p old new (Found i) h = rw h.1 h.0
 placed_at room p old new (Added i) h = rw (h.3, h.2) (slice_get-push old p)
 
 -- the references of a list that is a pair longer
-pub noted_more : (v s n : ℕ) (list old new : List Pair) (refs : List Ref) (d p : Pair) (r : Placed) → Grows (plain_list list) old new → n < length list → p ≡ get_or list n d
+pub noted_more : (v s n : ℕ) (list old new : List Pair) (refs : List Ref) (d p : Pair) (r : Admission) → Grows (plain_list list) old new → n < length list → p ≡ get_or list n d
     → slice_get new (index_of r) ≡ Some (plain_pair p.0 p.1) → AllZip (Names v s old) (take n list) refs
     → AllZip (Names v s new) (take (n + 1) list) (refs ++ Node (record { level = v; shard = s; index = index_of r }) (is_marked p.1) ∷ [])
 noted_more v s n list old new refs d p r g lt is at h =

@@ -3,7 +3,7 @@ use Rattle.std.proofs.Common.{◌≡◌, ℕ, false, ◌+◌, ◌-◌, ◌*◌, 
 use Rattle.std.proofs.lemmas.List.{get_or_read, set-get_or}
 use Rattle.dd_store.specs.declared.reference.Ref.{Ref}
 use Rattle.dd_store.specs.declared.reference.Reference.TheVariants.{Node}
-use Rattle.slot_table.specs.declared.Placed.TheVariants.{Found, Added}
+use Rattle.slot_table.specs.declared.Admission.TheVariants.{Found, Added}
 use Rattle.slot_table.specs.declared.Refusal.{Refusal}
 use Rattle.slot_table.specs.declared.Refusal.TheVariants.{Full, OutOfMemory}
 use Rattle.slot_table.specs.Placing.{IsPlaced}

@@ -5,7 +5,7 @@ use Rattle.std.specs.Option.{IfNone, IfSome}
 use Rattle.std.specs.Global.{Vec}
 use Rattle.std.specs.Vec.{vec_len, with_items}
 use Rattle.std.proofs.lemmas.List.{get_or-map, length-map}
-use Rattle.dd_store.specs.declared.level.Slot.{Slot}
+use Rattle.dd_store.specs.declared.level.Shard.{Shard}
 use Rattle.dd_store.specs.declared.StoreFault.{StoreFault}
 use Rattle.dd_store.specs.declared.StoreFault.TheVariants.{Full, OutOfMemory}
 use Rattle.dd_store.specs.declared.reference.Ref.{Ref}
@@ -19,7 +19,7 @@ use Rattle.dd_store.proofs.Noting.{zip_weaker}
 use Rattle.dd_store.proofs.AddingAll.{ready_plain, named_there}
 
 -- the pairs of some shards
-abbrev pub total : List Slot → ℕ
+abbrev pub total : List Shard → ℕ
 total slots = sum_by (λ (ps : List Pair). length ps) (pairs_of slots)
 
 -- the slots xs of level v of a store, which threads have left as ys, once they have added the lists' pairs as nodes have them
@@ -28,9 +28,9 @@ pub record Widened : Type 0 where
   pub count : ℕ
   pub v : ℕ
   pub lists : ℕ → List Pair
-  pub slots : Vec Slot
-  pub xs : List Slot
-  pub ys : List Slot
+  pub slots : Vec Shard
+  pub xs : List Shard
+  pub ys : List Shard
   pub as_long : length xs ≡ vec_len slots
   pub kept : IsKept S count
   pub ready : AreReady S v lists
@@ -72,7 +72,7 @@ module _ (w : Widened) where
   small n m is now = let e = counted n m is now in let b = count-small after sound in omega arith
 
 -- the same, once something else was taken out of the slots
-abbrev pub taken : (w : Widened) (zs : List Slot) → length zs ≡ length w.ys → pairs_of zs ≡ pairs_of w.ys → Widened
+abbrev pub taken : (w : Widened) (zs : List Shard) → length zs ≡ length w.ys → pairs_of zs ≡ pairs_of w.ys → Widened
 taken w zs len same = record {
   S = w.S;
   count = w.count;
@@ -89,24 +89,24 @@ taken w zs len same = record {
 
 -- what threads have noted of the slots of a level
 pub record Noted (w : Widened) (f : Option StoreFault) : Type 0 where
-  pub noted : (s : ℕ) (d : Slot) → s < 16 → AreNoted w.S.limit w.v s (w.lists s) (get_or w.ys s d).shard (get_or w.ys s d).found.items (get_or w.ys s d).fault
+  pub noted : (s : ℕ) (d : Shard) → s < 16 → AreNoted w.S.limit w.v s (w.lists s) (get_or w.ys s d).shard (get_or w.ys s d).found.items (get_or w.ys s d).fault
   pub fault : IsFault w.ys f
 
-module _ (w : Widened) (zs : List Slot) (len : length zs ≡ length w.ys) (same : pairs_of zs ≡ pairs_of w.ys) where
+module _ (w : Widened) (zs : List Shard) (len : length zs ≡ length w.ys) (same : pairs_of zs ≡ pairs_of w.ys) where
   abbrev pub final : Nodes
   final = after (taken w zs len same)
 
   sixteen : length w.ys ≡ 16
   sixteen = sixteen-left w.S w.v (plain_lists w.lists) w.xs w.ys w.left
 
-  any : Slot
+  any : Shard
   any = first_slot w.ys sixteen
 
   shard_is : (s : ℕ) → s < 16 → shard_at final w.v s ≡ (get_or w.ys s any).shard
   shard_is s lts =
       level-slot w.S final w.v (plain_lists w.lists) w.ys any w.kept.sound w.ready.level (subst (λ z. Replaced w.S final w.v (plain_lists w.lists) z) same (replaced (taken w zs len same))) sixteen s lts
 
-  pub answers_of : (refs : List (Vec Ref)) (f : Option StoreFault) → Noted w f → refs ≡ map (λ (c : Slot). c.found) w.ys
+  pub answers_of : (refs : List (Vec Ref)) (f : Option StoreFault) → Noted w f → refs ≡ map (λ (c : Shard). c.found) w.ys
       → IfNone f ((s : ℕ) → s < 16 → AllZip (λ p r. IsThere final w.v p.0 p.1 r) (w.lists s) (refs_at refs s))
   answers_of refs None n is = λ s lts.
       let found = (get_or w.ys s any).found.items in
@@ -114,8 +114,8 @@ module _ (w : Widened) (zs : List Slot) (len : length zs ≡ length w.ys) (same 
       let named : AllZip (Names w.v s (shard_at final w.v s)) (w.lists s) found = rw (shard_is s lts) noted in
       let at : refs_at refs s ≡ found =
       ap (λ z. refs_at z s) is
-      ∙ get_or-map (λ (v : Vec Ref). v.items) (map (λ (c : Slot). c.found) w.ys) s any.found [] (rw (length-map w.ys (λ (c : Slot). c.found)) (omega (arith, sixteen)))
-      ∙ ap (λ (v : Vec Ref). v.items) (get_or-map (λ (c : Slot). c.found) w.ys s any any.found (omega (arith, sixteen))) in
+      ∙ get_or-map (λ (v : Vec Ref). v.items) (map (λ (c : Shard). c.found) w.ys) s any.found [] (rw (length-map w.ys (λ (c : Shard). c.found)) (omega (arith, sixteen)))
+      ∙ ap (λ (v : Vec Ref). v.items) (get_or-map (λ (c : Shard). c.found) w.ys s any any.found (omega (arith, sixteen))) in
       rw at (zip_weaker (Names w.v s (shard_at final w.v s)) (λ p r. IsThere final w.v p.0 p.1 r) (w.lists s) found
       (λ i p r e k. named_there final w.v s lts p r (w.ready.differ s p (i, e)) k) named)
   answers_of refs (Some f) n is = tt

@@ -3,7 +3,7 @@ use Rattle.std.specs.Prelude.{◌≡◌, ◌≤◌, ℕ, List, [], ◌∷◌, �
 use Rattle.std.specs.List.{AllZip}
 use Rattle.std.specs.declared.vec.Vec.{Vec}
 use Rattle.std.specs.declared.alloc.Global.{Global}
-use Rattle.dd_store.specs.declared.level.Slot.{Slot}
+use Rattle.dd_store.specs.declared.level.Shard.{Shard}
 use Rattle.dd_store.specs.declared.StoreFault.{StoreFault}
 use Rattle.dd_store.specs.declared.StoreFault.TheVariants.{Full, OutOfMemory}
 use Rattle.dd_store.specs.declared.reference.Ref.{Ref}
@@ -34,11 +34,11 @@ abbrev pub refs_at : List (Vec Ref Global) → ℕ → List Ref
 refs_at lists s = slice_index_or (map (λ (v : Vec Ref Global). v.items) lists) s []
 
 -- a slot has grown by pairs of a list, within the limit
-abbrev pub IsGrown : ℕ → List Pair → Slot → Slot → Type 0
+abbrev pub IsGrown : ℕ → List Pair → Shard → Shard → Type 0
 IsGrown limit list old new = Grows list old.shard new.shard × (length old.shard ≤ limit → length new.shard ≤ limit)
 
 -- what adding a list leaves of a slot: its pairs are added as nodes have them
-abbrev pub IsAdded : ℕ → List Pair → Slot → Slot → Type 0
+abbrev pub IsAdded : ℕ → List Pair → Shard → Shard → Type 0
 IsAdded limit list old new = IsGrown limit (plain_list list) old new × IsStopped limit (plain_list list) new.shard new.fault
 
 -- a reference is that of a pair's place in shard s of level v, where the pair stands as a node has it, with a mark where its second has one
@@ -57,22 +57,22 @@ AreNoted limit v s list new found None = AllZip (Names v s new) list found
 AreNoted limit v s list new found (Some f) = IsHalted limit (plain_list list) new f
 
 -- what making a list leaves of a slot
-abbrev pub IsNoted : ℕ → ℕ → ℕ → List Pair → Slot → Slot → Type 0
+abbrev pub IsNoted : ℕ → ℕ → ℕ → List Pair → Shard → Shard → Type 0
 IsNoted limit v s list old new = IsGrown limit (plain_list list) old new × AreNoted limit v s list new.shard new.found.items new.fault
 
 -- the pairs of each shard
-abbrev pub pairs_of : List Slot → List (List Pair)
-pairs_of slots = map (λ (c : Slot). c.shard) slots
+abbrev pub pairs_of : List Shard → List (List Pair)
+pairs_of slots = map (λ (c : Shard). c.shard) slots
 
 -- each shard holds at most so many pairs
-abbrev pub AreWithin : ℕ → List Slot → Type 0
+abbrev pub AreWithin : ℕ → List Shard → Type 0
 AreWithin limit slots = (i : ℕ) → length (slice_index_or (pairs_of slots) i []) ≤ limit
 
 -- the fault of a level: want of memory where a slot has it, else Full where a slot has it
-abbrev pub IsFault : List Slot → Option StoreFault → Type 0
-IsFault slots None = (i : ℕ) (c : Slot) → slice_get slots i ≡ Some c → c.fault ≡ None
-IsFault slots (Some f) = (i : ℕ) × (c : Slot) × (slice_get slots i ≡ Some c) × (c.fault ≡ Some f)
+abbrev pub IsFault : List Shard → Option StoreFault → Type 0
+IsFault slots None = (i : ℕ) (c : Shard) → slice_get slots i ≡ Some c → c.fault ≡ None
+IsFault slots (Some f) = (i : ℕ) × (c : Shard) × (slice_get slots i ≡ Some c) × (c.fault ≡ Some f)
 
 -- no slot was refused memory
-abbrev pub HadMemory : List Slot → Type 0
-HadMemory slots = (i : ℕ) (c : Slot) → slice_get slots i ≡ Some c → c.fault ≡ Some OutOfMemory → ⊥
+abbrev pub HadMemory : List Shard → Type 0
+HadMemory slots = (i : ℕ) (c : Shard) → slice_get slots i ≡ Some c → c.fault ≡ Some OutOfMemory → ⊥

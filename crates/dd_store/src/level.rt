@@ -6,12 +6,12 @@ ghost use Rattle.dd_store.specs.declared.reference.Ref.{Ref as RefValue};
 ghost use Rattle.dd_store.specs.Graph.{Pair};
 ghost use Rattle.dd_store.specs.Growing.{Grows, IsStopped};
 ghost use Rattle.dd_store.specs.Levels.{IsAdded, IsHalted, Names, list_at, all_at, plain_list, pairs_of, AreWithin, IsFault, HadMemory};
-ghost use Rattle.dd_store.specs.declared.level.Slot.{Slot as SlotValue};
+ghost use Rattle.dd_store.specs.declared.level.Shard.{Shard as SlotValue};
 ghost use Rattle.slot_table.specs.Placing.{IsPlaced};
 
 use crate::StoreFault;
 use crate::reference::{NodeId, Ref, marked_pair};
-use slot_table::{Placed, Refusal, SlotTable};
+use slot_table::{Admission, Refusal, SlotTable};
 use std::alloc::Global;
 use std::thread::Threads;
 use std::{mem, thread};
@@ -28,17 +28,21 @@ const _: () = prove!(size_of::<(Ref, Ref)>() == 16);
 /// A shard, the children of its nodes by place, why the last list was not added whole, and the references that a thread has noted
 /// for its pairs, which are taken out before a call ends.
 #[derive(Drop)]
-pub(crate) struct Slot {
+pub(crate) struct Shard {
     pub(crate) shard: SlotTable<(Ref, Ref)>,
     pub(crate) fault: Option<StoreFault>,
     pub(crate) found: Vec<Ref>,
 }
 
 // A third of it is the list of references.
-const _: () = prove!(size_of::<Slot>() == 80);
+const _: () = prove!(size_of::<Shard>() == 80);
 
 /// Finds a pair in a shard, or adds it where the shard alone holds fewer than `limit` pairs.
-fn place(shard: &mut SlotTable<(Ref, Ref)>, pair: (Ref, Ref), limit: u64) -> Result<Placed, Refusal>
+fn place(
+    shard: &mut SlotTable<(Ref, Ref)>,
+    pair: (Ref, Ref),
+    limit: u64,
+) -> Result<Admission, Refusal>
     requires { limit < 2 ^ 32 }
     ensures { IsPlaced (limit - length shard.old) pair shard.old result shard.new }
 {
@@ -46,7 +50,7 @@ fn place(shard: &mut SlotTable<(Ref, Ref)>, pair: (Ref, Ref), limit: u64) -> Res
     shard.find_or_add(pair, room)
 }
 
-impl Slot {
+impl Shard {
     /// Adds a node for each pair that has none, as long as the shard alone holds fewer than `limit` nodes. Where a pair's second has a
     /// mark, the node is that of both complements.
     pub(crate) fn add_list(&mut self, list: &[(Ref, Ref)], limit: u64)
@@ -86,8 +90,8 @@ impl Slot {
             let mark = pair.1.is_marked();
             let placed = place(&mut self.shard, marked_pair(*pair, mark), limit)?;
             let index = match placed {
-                Placed::Found(index) => index,
-                Placed::Added(index) => index,
+                Admission::Found(index) => index,
+                Admission::Added(index) => index,
             };
             let node = Ref::node(NodeId {
                 level,
@@ -126,7 +130,7 @@ impl Slot {
 /// Adds list i to slot i, for the sixteen slots of a level. Four threads share the slots, four in a row for each.
 pub(crate) fn add_lists<R: Threads + Sync, H: Watch + Sync>(
     rt: &R,
-    slots: &mut [Slot],
+    slots: &mut [Shard],
     level: u16,
     lists: &[Vec<(Ref, Ref)>],
     limit: u64,
@@ -137,7 +141,7 @@ pub(crate) fn add_lists<R: Threads + Sync, H: Watch + Sync>(
     requires limit { limit < 2 ^ 32 }
     ensures { (s : ℕ) (d : SlotValue) → s < 16 → IsAdded limit (list_at lists.now s) (slice_index_or slots.old s d) (slice_index_or slots.new s d) }
 {
-    let add = |shard: usize, slot: &mut Slot|
+    let add = |shard: usize, slot: &mut Shard|
         requires { (shard < 16) × (length lists.now ≡ 16) × (limit < 2 ^ 32) }
         ensures { IsAdded limit (list_at lists.entry.now shard) slot.entry.now slot.exit.now }
     {
@@ -148,7 +152,7 @@ pub(crate) fn add_lists<R: Threads + Sync, H: Watch + Sync>(
 }
 
 /// Takes the references out of the slots.
-pub(crate) fn take_found(alloc: Global, slots: &mut [Slot], refs: &mut Vec<Vec<Ref>>)
+pub(crate) fn take_found(alloc: Global, slots: &mut [Shard], refs: &mut Vec<Vec<Ref>>)
     requires empty { refs.old.items ≡ [] }
     requires room { length slots.old ≤ vec_capacity refs.old }
     ensures found { refs.new.items ≡ map (λ (c : SlotValue). c.found) slots.old }
@@ -161,7 +165,7 @@ pub(crate) fn take_found(alloc: Global, slots: &mut [Slot], refs: &mut Vec<Vec<R
 }
 
 /// How many nodes the shards of a level hold.
-pub(crate) fn level_count(slots: &[Slot], limit: u64) -> u64
+pub(crate) fn level_count(slots: &[Shard], limit: u64) -> u64
     requires slots { length slots.now ≤ 16 }
     requires limit { limit < 2 ^ 32 }
     requires within { AreWithin limit slots.now }
@@ -175,7 +179,7 @@ pub(crate) fn level_count(slots: &[Slot], limit: u64) -> u64
 }
 
 /// Why pairs of the last lists are missing; want of memory comes before the limit.
-pub(crate) fn level_fault(slots: &[Slot]) -> Option<StoreFault>
+pub(crate) fn level_fault(slots: &[Shard]) -> Option<StoreFault>
     ensures fault { IsFault slots.now result }
     ensures memory { HadMemory slots.now ⊎ (result ≡ Some StoreFault.OutOfMemory) }
 {

@@ -1,9 +1,9 @@
 //! Threads that share the shards of a level, where each makes nodes in some neighbouring shards of its own.
 ghost use Rattle.std.specs.Prelude.{◌≡◌, ◌+◌, ◌^◌, ◌<◌, ◌≤◌, ℕ, length, slice_index_or, All};
-ghost use Rattle.dd_store.specs.declared.level.Slot.{Slot as SlotValue};
+ghost use Rattle.dd_store.specs.declared.level.Shard.{Shard as SlotValue};
 ghost use Rattle.dd_store.specs.Levels.{IsNoted, all_at};
 
-use crate::level::{Slot, Watch};
+use crate::level::{Shard, Watch};
 use crate::reference::{Ref, SHARDS};
 use rayon::prelude::*;
 use std::thread::Threads;
@@ -29,7 +29,13 @@ impl<'a, R, H> Makers<'a, R, H> {
 }
 
 /// Adds list i of each part to slot i, and notes the references of its pairs.
-fn note_lists(slot: &mut Slot, parts: &[Vec<Vec<(Ref, Ref)>>], limit: u64, level: u16, shard: usize)
+fn note_lists(
+    slot: &mut Shard,
+    parts: &[Vec<Vec<(Ref, Ref)>>],
+    limit: u64,
+    level: u16,
+    shard: usize,
+)
     requires limit { limit < 2 ^ 32 }
     requires lists { All (λ part. length part.items ≡ 16) parts.now }
     requires shard { shard < 16 }
@@ -40,7 +46,7 @@ fn note_lists(slot: &mut Slot, parts: &[Vec<Vec<(Ref, Ref)>>], limit: u64, level
 
 /// Adds the lists of neighbouring shards, of which `first` is the first, to their slots, and notes the references of the pairs.
 fn make_shards<H: Watch>(
-    slots: &mut [Slot],
+    slots: &mut [Shard],
     parts: &[Vec<Vec<(Ref, Ref)>>],
     limit: u64,
     level: u16,
@@ -62,7 +68,7 @@ fn make_shards<H: Watch>(
 /// Adds list i of each part to slot i, for the sixteen slots of a level, and notes the references of its pairs.
 pub(crate) fn make_slots<R: Threads + Sync, H: Watch + Sync>(
     makers: &Makers<'_, R, H>,
-    slots: &mut [Slot],
+    slots: &mut [Shard],
     parts: &[Vec<Vec<(Ref, Ref)>>],
     limit: u64,
     level: u16,
@@ -73,7 +79,7 @@ pub(crate) fn make_slots<R: Threads + Sync, H: Watch + Sync>(
     ensures { (s : ℕ) (d : SlotValue) → s < 16 → IsNoted limit level s (all_at parts.now s) (slice_index_or slots.old s d) (slice_index_or slots.new s d) }
 {
     let watch = makers.watch;
-    let make = |first: usize, share: &mut [Slot]|
+    let make = |first: usize, share: &mut [Shard]|
         requires { (first + length share.now ≤ 16) × All (λ part. length part.items ≡ 16) parts.now × (limit < 2 ^ 32) }
         ensures { (i : ℕ) (d : SlotValue) → i < length share.entry.now → IsNoted limit level (first + i) (all_at parts.entry.now (first + i)) (slice_index_or share.entry.now i d) (slice_index_or share.exit.now i d) }
     { make_shards(share, parts, limit, level, first, watch) };

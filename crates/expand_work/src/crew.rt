@@ -2,7 +2,7 @@
 ghost use Rattle.std.specs.Prelude.{◌≡◌, ◌<◌, ◌≤◌, ◌⊎◌, ◌-◌, ◌^◌};
 ghost use Rattle.expand_work.specs.Bounds.{most_of};
 
-use crate::Gate;
+use crate::Monitor;
 use std::alloc::Global;
 
 /// How many workers a wave may call in: 1 to 16.
@@ -42,19 +42,19 @@ pub struct Crew<'a, R, G> {
     /// How many threads a wave has that calls them in.
     pub workers: Workers,
     /// Says when, and is told of the levels that the workers come to.
-    pub gate: &'a G,
+    pub monitor: &'a G,
 }
 
-impl<'a, R, G: Gate> Crew<'a, R, G> {
+impl<'a, R, G: Monitor> Crew<'a, R, G> {
     /// The most requests that a level may have before the workers are called in, where so many are expected of the whole wave. One worker
     /// is called in for a whole wave or never, and none for a wave whose requests are bounded.
     pub fn most_alone(&self, expected: usize) -> usize
-        ensures bounded { most_of (G.bound self.now.gate.now) < 2 ^ 64 - 1 → result ≡ 2 ^ 64 - 1 }
+        ensures bounded { most_of (G.bound self.now.monitor.now) < 2 ^ 64 - 1 → result ≡ 2 ^ 64 - 1 }
         ensures one { self.now.workers.count ≡ 1 → (result ≡ 0) ⊎ (result ≡ 2 ^ 64 - 1) }
     {
         let workers = self.workers.count();
-        let most = self.gate.most_alone(workers, expected);
-        if self.gate.most_requests() < usize::MAX || (workers == 1 && most > 0) {
+        let most = self.monitor.most_alone(workers, expected);
+        if self.monitor.most_requests() < usize::MAX || (workers == 1 && most > 0) {
             usize::MAX
         } else {
             most

@@ -18,7 +18,7 @@ pub enum WaveFault {
     NoWorker,
     /// The store holds, or would hold, more nodes than its limit.
     Full,
-    /// The wave has more requests than its gate allows.
+    /// The wave has more requests than its monitor allows.
     TooManyRequests,
 }
 

@@ -7,7 +7,7 @@
 //! for nodes (`fault`) nor for requests (`unbounded`).
 //!
 //! **Only tests show** that two workers are in one level at once, that the stop flag is read where a level begins and
-//! in a wait, and that a `Gate` is told each level once by each worker, after it was closed (`wave_tests`).
+//! in a wait, and that a `Monitor` is told each level once by each worker, after it was closed (`wave_tests`).
 //!
 //! **Begin** with `worker`, the loop of one: send what is due, end the level on each lane, take until it is closed,
 //! split; then `team` and `parts`, and with `specs/Parts` and `Gathered`.
@@ -17,9 +17,9 @@ mod crew;
 mod due;
 mod expand;
 mod fault;
-mod gate;
 mod listen;
 mod lists;
+mod monitor;
 mod part;
 mod parts;
 mod say;
@@ -32,8 +32,8 @@ mod worker;
 
 pub use crew::{Crew, Workers};
 pub use fault::{WaveFault, WorkFault};
-pub use gate::{AttemptEnd, Free, Gate};
 pub use lists::{Noted, Rows, Tables};
+pub use monitor::{AttemptEnd, Free, Monitor};
 pub use part::Part;
 pub use parts::{Parts, expand_parts};
 pub use site::Site;

@@ -8,7 +8,7 @@ ghost use Rattle.expand_work.specs.Gathered.{AreParts, AreSettled, HaveExpanded,
 ghost use Rattle.expand_work.specs.Lean.{lean_row};
 
 use crate::team::{Wave, run_workers};
-use crate::{Crew, Gate, Part, Space, Spaces, WaveFault};
+use crate::{Crew, Monitor, Part, Space, Spaces, WaveFault};
 use dd_store::Store;
 use lane_queue::{Lanes, Port};
 use req_table::{Key, Placed};
@@ -109,7 +109,7 @@ fn split_parts(alloc: Global, parts: Vec<Part>) -> Result<(Vec<Port>, Vec<Space>
 ///
 /// NoWorker: a thread could not be started; then those that run are told to stop. OutOfMemory: a growth was refused, and
 /// every thread was started. All threads have ended before any answer is given.
-pub fn expand_parts<R: Threads + Wait + Sync, G: Gate>(
+pub fn expand_parts<R: Threads + Wait + Sync, G: Monitor>(
     crew: &Crew<'_, R, G>,
     store: &Store,
     roots: &[Key],
@@ -133,7 +133,7 @@ pub fn expand_parts<R: Threads + Wait + Sync, G: Gate>(
         roots,
     };
     let used = spaces.take_all(alloc);
-    let parts = run_workers(crew.rt, wave, ports, used, crew.gate)?;
+    let parts = run_workers(crew.rt, wave, ports, used, crew.monitor)?;
     let (ports, filled) = split_parts(alloc, parts)?;
     let settled = lanes.settle(crew.rt, ports)?;
     let parts = Parts {

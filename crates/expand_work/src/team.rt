@@ -10,7 +10,7 @@ ghost use Rattle.expand_work.specs.Team.{AreNew, AreStarted, AreWorked, AreJoine
 
 use crate::site::Site;
 use crate::worker::work;
-use crate::{Gate, Part, Space, Spaces, WaveFault, WorkFault};
+use crate::{Monitor, Part, Space, Spaces, WaveFault, WorkFault};
 use dd_store::Store;
 use lane_queue::{Lanes, Port};
 use req_table::Key;
@@ -96,13 +96,13 @@ fn with_last(
 }
 
 // Starts the thread of the worker that the port belongs to.
-fn start<'s, E, R: Wait + Sync, G: Gate>(
+fn start<'s, E, R: Wait + Sync, G: Monitor>(
     scope: &Scope<'s, E>,
     rt: &'s R,
     site: Site<'s>,
     port: Port,
     space: Option<Space>,
-    gate: &'s G,
+    monitor: &'s G,
 ) -> Result<Child<'s>, WaveFault>
     requires port { IsPortOf site.lanes.now port }
     requires fresh { IsFresh port }
@@ -138,7 +138,7 @@ fn start<'s, E, R: Wait + Sync, G: Gate>(
             roots,
             stop,
         };
-        work(rt, site, port, space, gate)
+        work(rt, site, port, space, monitor)
     };
     match scope.spawn_with(promise, work) {
         Ok(child) => Ok(child),
@@ -147,13 +147,13 @@ fn start<'s, E, R: Wait + Sync, G: Gate>(
 }
 
 // Starts a thread for each port. Where one cannot be started no more are, and those that run are told to stop.
-fn start_all<'s, E, R: Wait + Sync, G: Gate>(
+fn start_all<'s, E, R: Wait + Sync, G: Monitor>(
     scope: &Scope<'s, E>,
     rt: &'s R,
     site: Site<'s>,
     ports: Vec<Port>,
     used: Spaces,
-    gate: &'s G,
+    monitor: &'s G,
 ) -> Result<Vec<Child<'s>>, AllocError>
     requires ports { All (IsPortOf site.lanes.now) ports.items }
     requires fresh { All IsFresh ports.items }
@@ -166,7 +166,7 @@ fn start_all<'s, E, R: Wait + Sync, G: Gate>(
     let mut children = Vec::with_capacity(site.alloc, ports.len())?;
     for port in ports {
         let space = used.take();
-        let Ok(child) = start(scope, rt, site, port, space, gate) else {
+        let Ok(child) = start(scope, rt, site, port, space, monitor) else {
             site.stop.store(true, Ordering::SeqCst);
             break;
         };
@@ -186,13 +186,13 @@ pub struct Wave<'a> {
 
 // The parts of all workers by number, once all threads were joined. The caller's thread does the last worker's part, and each other
 // worker has a thread of its own: so there are no more threads than workers, and none is started for one worker.
-fn work_all<'s, E, R: Threads + Wait + Sync, G: Gate>(
+fn work_all<'s, E, R: Threads + Wait + Sync, G: Monitor>(
     scope: &Scope<'s, E>,
     rt: &'s R,
     site: Site<'s>,
     ports: Vec<Port>,
     used: Spaces,
-    gate: &'s G,
+    monitor: &'s G,
 ) -> Result<Vec<Part>, WaveFault>
     requires ports { AreNew site.lanes.now ports.items }
     requires sizes { site.lanes.now.sizes ≡ sizes_of site.store.now }
@@ -209,21 +209,21 @@ fn work_all<'s, E, R: Threads + Wait + Sync, G: Gate>(
     let mut used = used;
     let space = used.take();
     let count = ports.len();
-    let children = start_all(scope, rt, site, ports, used, gate)?;
+    let children = start_all(scope, rt, site, ports, used, monitor)?;
     let started = children.len() == count;
-    let last = work(rt, site, own, space, gate);
+    let last = work(rt, site, own, space, monitor);
     let others = join_all(rt, children, parts);
     let joined = with_last(others, last);
     judge(started, joined)
 }
 
 /// The parts of all workers by number, once all threads have ended.
-pub fn run_workers<R: Threads + Wait + Sync, G: Gate>(
+pub fn run_workers<R: Threads + Wait + Sync, G: Monitor>(
     rt: &R,
     wave: Wave<'_>,
     ports: Vec<Port>,
     used: Spaces,
-    gate: &G,
+    monitor: &G,
 ) -> Result<Vec<Part>, WaveFault>
     requires ports { AreNew wave.lanes.now ports.items }
     requires sizes { wave.lanes.now.sizes ≡ sizes_of wave.store.now }
@@ -258,7 +258,7 @@ pub fn run_workers<R: Threads + Wait + Sync, G: Gate>(
                 roots,
                 stop,
             };
-            work_all(scope, rt, site, ports, used, gate)
+            work_all(scope, rt, site, ports, used, monitor)
         },
     )
 }

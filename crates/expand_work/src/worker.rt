@@ -12,7 +12,7 @@ use crate::listen::{Senders, keep_own, take_until_closed};
 use crate::lists::{Rows, Tables};
 use crate::say::{send_due, send_ends};
 use crate::site::Site;
-use crate::{Gate, Part, Space, WorkFault};
+use crate::{Monitor, Part, Space, WorkFault};
 use dd_store::Store;
 use lane_queue::Port;
 use level_close::Clock;
@@ -50,12 +50,12 @@ fn speak<R: Wait>(rt: &R, site: Site<'_>, worker: &mut Worker, level: u16) -> Re
     send_ends(rt, site.lanes, port, level)
 }
 
-// Expands the level's keys, once it is closed, and tells the gate how many.
-fn expand_level<G: Gate>(
+// Expands the level's keys, once it is closed, and tells the monitor how many.
+fn expand_level<G: Monitor>(
     site: Site<'_>,
     worker: Worker,
     level: u16,
-    gate: &G,
+    monitor: &G,
 ) -> Result<Worker, AllocError>
     requires level { level < site.store.now.levels }
     requires closing { IsClosing site.lanes.now site.store.now site.roots.now level worker }
@@ -78,7 +78,7 @@ fn expand_level<G: Gate>(
     let row = rows.take(site.alloc, level);
     let keys = tables.keys(level);
     let (row, due, count) = expand_row(site.store, keys, workers, row, due, &mut spare)?;
-    gate.at_requests(count);
+    monitor.at_requests(count);
     rows.put(level, row);
     Ok(Worker {
         port,
@@ -93,14 +93,14 @@ fn expand_level<G: Gate>(
     })
 }
 
-// Sends what is due, keeps what it owns itself, and ends the level; takes until the level is closed, tells the gate, and
+// Sends what is due, keeps what it owns itself, and ends the level; takes until the level is closed, tells the monitor, and
 // expands the level's keys.
-fn do_level<R: Wait, G: Gate>(
+fn do_level<R: Wait, G: Monitor>(
     rt: &R,
     site: Site<'_>,
     worker: Worker,
     level: u16,
-    gate: &G,
+    monitor: &G,
 ) -> Result<Worker, WorkFault>
     requires level { level < site.store.now.levels }
     requires working { IsWorking site.lanes.now site.store.now site.roots.now level worker }
@@ -116,8 +116,8 @@ fn do_level<R: Wait, G: Gate>(
         ..
     } = &mut worker;
     take_until_closed(rt, site, port, senders, tables, level)?;
-    gate.at_level(worker.port.number(), level);
-    Ok(expand_level(site, worker, level, gate)?)
+    monitor.at_level(worker.port.number(), level);
+    Ok(expand_level(site, worker, level, monitor)?)
 }
 
 // A worker before its first level, which has to ask for its roots.
@@ -162,12 +162,12 @@ fn begin(site: Site<'_>, port: Port, used: Option<Space>) -> Result<Worker, Allo
 }
 
 // Goes through the levels.
-fn run_levels<R: Wait, G: Gate>(
+fn run_levels<R: Wait, G: Monitor>(
     rt: &R,
     site: Site<'_>,
     port: Port,
     used: Option<Space>,
-    gate: &G,
+    monitor: &G,
 ) -> Result<Part, WorkFault>
     requires port { IsPortOf site.lanes.now port }
     requires fresh { IsFresh port }
@@ -180,7 +180,7 @@ fn run_levels<R: Wait, G: Gate>(
         if site.stop.load(Ordering::SeqCst) {
             return Err(WorkFault::Stopped);
         }
-        worker = do_level(rt, site, worker, level, gate)?;
+        worker = do_level(rt, site, worker, level, monitor)?;
     }
     let own = worker.port.number();
     let Worker {
@@ -204,18 +204,18 @@ fn run_levels<R: Wait, G: Gate>(
 
 /// Does one worker's part of a wave over the lanes' store. At each level it sends all that is due (its roots at level
 /// 0, the children of the level before at each other) to the other workers, in bundles of 64 and then one with the rest,
-/// and keeps what it owns itself; it ends the level on every lane, takes until every sender has ended it, tells the gate,
+/// and keeps what it owns itself; it ends the level on every lane, takes until every sender has ended it, tells the monitor,
 /// and splits the distinct keys that it was asked for at that level.
 ///
 /// The flag is read when a level begins and whenever the lane is empty; once it is set the answer is Stopped. A worker
 /// that meets want of memory sets it before it answers. What it fills stands in the memory of an earlier wave where there is some. After
 /// a refusal the port and this memory are gone.
-pub fn work<R: Wait, G: Gate>(
+pub fn work<R: Wait, G: Monitor>(
     rt: &R,
     site: Site<'_>,
     port: Port,
     used: Option<Space>,
-    gate: &G,
+    monitor: &G,
 ) -> Result<Part, WorkFault>
     requires port { IsPortOf site.lanes.now port }
     requires fresh { IsFresh port }
@@ -223,7 +223,7 @@ pub fn work<R: Wait, G: Gate>(
     requires roots { All (IsKey site.store.now) site.roots.now }
     ensures { IfOk result (λ p. IsWorked site.entry.lanes.now site.entry.store.now site.entry.roots.now port.number p) }
 {
-    let result = run_levels(rt, site, port, used, gate);
+    let result = run_levels(rt, site, port, used, monitor);
     if matches!(result, Err(WorkFault::OutOfMemory)) {
         site.stop.store(true, Ordering::SeqCst);
     }

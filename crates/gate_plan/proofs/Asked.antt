@@ -12,8 +12,8 @@ use Rattle.net_bench.specs.Circuit.{Circuit, Net, IsNet, circuit, greatest}
 use Rattle.net_bench.specs.Labels.{bit_of}
 use Rattle.net_bench.proofs.Built.{has_labelling}
 use Rattle.req_table.specs.declared.Op.{Op}
-use Rattle.req_table.specs.Short.{short_of}
-use Rattle.req_table.specs.Memos.{Held, IsRight}
+use Rattle.req_table.specs.TerminalCase.{terminal_of}
+use Rattle.req_table.specs.ComputedTables.{Held, IsRight}
 use Rattle.reduce_up.specs.Known.{unknown, IsKeptWave}
 use Rattle.reduce_up.specs.Waves.{Entry, HasRequest, IsWithinLimit}
 use Rattle.reduce_up.proofs.Known.{request_unknown, kept_none, unknown_is}
@@ -76,7 +76,7 @@ module _ (net : Net) (h : IsNet net) (level : ℕ → ℕ) where
       one_denoted S sound (second_taken g j) a.second (reference_of refs s.second) a.has_second (w.right.known s.second) a.takes_second (takes_second S refs r j w g among rank a.step) in (
         entry_of refs s,
         image (entry_of refs) (plan_steps net net.gates r j) s (has_pick net r (λ g. step_of g j) net.gates g s among rank (has_step_of g j a.step)),
-        subst (λ z. short_of s.op (reference_of refs (first_operand s)) z ≡ None) second (subst (λ z. short_of s.op z a.second ≡ None) first a.long),
+        subst (λ z. terminal_of s.op (reference_of refs (first_operand s)) z ≡ None) second (subst (λ z. terminal_of s.op z a.second ≡ None) first a.long),
       )
 
   -- what is asked for is a step of a gate

@@ -11,9 +11,9 @@ use Rattle.dd_store.specs.View.{Has}
 use Rattle.req_table.specs.declared.Op.TheVariants.{And}
 use Rattle.req_table.specs.declared.Key.{Key}
 use Rattle.req_table.specs.Keys.{normal_of, wave_of}
-use Rattle.req_table.specs.Memos.{Held, or_held}
+use Rattle.req_table.specs.ComputedTables.{Held, or_held}
 use Rattle.req_table.specs.Reached.{IsReached, root, child}
-use Rattle.req_table.specs.Short.{short_of}
+use Rattle.req_table.specs.TerminalCase.{terminal_of}
 use Rattle.req_table.specs.Wave.{Wave}
 use Rattle.req_table.specs.contracts.KeyPartialEq.TheImpl.{eq-value}
 use Rattle.reduce_up.specs.Known.{known_entry, unless_known, unknown}
@@ -71,15 +71,15 @@ past_all (Some n) S m es past = record {
 -- where nothing is held, the entries of which nothing is known have the requests of all
 requests_unknown : (m : Held) (es : List Entry) → m.pairs ≡ [] → requests_of (unknown m es) ≡ requests_of es
 requests_unknown m [] empty = refl
-requests_unknown m (e ∷ es) empty = by (requests_unknown m es empty) (short_of e.0 e.1 e.2) refl
+requests_unknown m (e ∷ es) empty = by (requests_unknown m es empty) (terminal_of e.0 e.1 e.2) refl
   where
     n : Key × Bool
     n = normal_of e.0 e.1 e.2
 
-    by : requests_of (unknown m es) ≡ requests_of es → (o : Option Ref) → short_of e.0 e.1 e.2 ≡ o → requests_of (unless_known (known_entry m e) e ++ unknown m es) ≡ request_of (short_of e.0 e.1 e.2) e ++ requests_of es
+    by : requests_of (unknown m es) ≡ requests_of es → (o : Option Ref) → terminal_of e.0 e.1 e.2 ≡ o → requests_of (unless_known (known_entry m e) e ++ unknown m es) ≡ request_of (terminal_of e.0 e.1 e.2) e ++ requests_of es
     by rest None h =
         let none : known_entry m e ≡ None = ap (or_held m n) h ∙ ap (λ pairs. option_map (mark_by n.1) (lookup (eq-value.it n.0) pairs)) empty in
-        ap (λ o. requests_of (unless_known o e ++ unknown m es)) none ∙ ap (λ ks. request_of (short_of e.0 e.1 e.2) e ++ ks) rest
+        ap (λ o. requests_of (unless_known o e ++ unknown m es)) none ∙ ap (λ ks. request_of (terminal_of e.0 e.1 e.2) e ++ ks) rest
     by rest (Some r) h =
         let some : known_entry m e ≡ Some r = ap (or_held m n) h in
         ap (λ o. requests_of (unless_known o e ++ unknown m es)) some ∙ rest ∙ sym (ap (λ o. request_of o e ++ requests_of es) h)

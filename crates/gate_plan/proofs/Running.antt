@@ -19,7 +19,7 @@ use Rattle.net_bench.specs.Labels.{bit_of, is_complemented, value_of, IsLabellin
 use Rattle.net_bench.proofs.OneLabelling.{at_contained}
 use Rattle.net_bench.proofs.Built.{has_labelling}
 use Rattle.req_table.specs.declared.Op.{Op}
-use Rattle.req_table.specs.Short.{op_value}
+use Rattle.req_table.specs.TerminalCase.{op_value}
 use Rattle.reduce_up.specs.Waves.{entry_value, IsEntry, AnswersEach}
 use Rattle.gate_plan.specs.declared.steps.Step.{Step}
 use Rattle.gate_plan.specs.declared.steps.Copied.{Copied}

@@ -1,4 +1,4 @@
--- Whether the steps of gates ask for anything, which they do where a step has no short answer; and whether they ask for more than a bound.
+-- Whether the steps of gates ask for anything, which they do where a step has no terminal case; and whether they ask for more than a bound.
 use Rattle.std.specs.Prelude.{◌≡◌, ℕ, ◌+◌, ◌<◌, ◌≤◌, ◌==◌, ◌⊎◌, Bool, cond, List, [], Option, None, Some, Contains, slice_index}
 use Rattle.dd_store.specs.declared.reference.Ref.{Ref}
 use Rattle.dd_store.specs.Nodes.{Nodes, IsSound, count_of}
@@ -7,8 +7,8 @@ use Rattle.net_bench.specs.declared.netlist.GateLine.{GateLine}
 use Rattle.net_bench.specs.Circuit.{Circuit, circuit, AreRanks}
 use Rattle.net_bench.specs.Labels.{bit_of}
 use Rattle.net_order.specs.Order.{Paired}
-use Rattle.req_table.specs.Memos.{Held, IsRight}
-use Rattle.req_table.specs.Short.{short_of}
+use Rattle.req_table.specs.ComputedTables.{Held, IsRight}
+use Rattle.req_table.specs.TerminalCase.{terminal_of}
 use Rattle.reduce_up.specs.Waves.{Entry}
 use Rattle.wave_engine.specs.Bounds.{AreMoreThan}
 use Rattle.gate_plan.specs.Building.{Placed, Levelled, levelled, input_level, Denotes, value_after}
@@ -22,7 +22,7 @@ first_taken g j bits = cond (j == 0) (bit_of bits (operand_at g 0)) (value_after
 abbrev pub second_taken : GateLine → ℕ → List Bool → Bool
 second_taken g j bits = bit_of bits (step_at g j).second
 
--- the gate has a step j, and references of the store that denote what it takes in have no short answer
+-- the gate has a step j, and references of the store that denote what it takes in have no terminal case
 pub record IsAsked (c : Circuit) (level : ℕ → ℕ) (S : Nodes) (g : GateLine) (j : ℕ) : Type 0 where
   pub step : j < folds_of g
   pub first : Ref
@@ -31,9 +31,9 @@ pub record IsAsked (c : Circuit) (level : ℕ → ℕ) (S : Nodes) (g : GateLine
   pub has_second : Has S second
   pub takes_first : Denotes c level S first (first_taken g j)
   pub takes_second : Denotes c level S second (second_taken g j)
-  pub long : short_of (step_at g j).op first second ≡ None
+  pub long : terminal_of (step_at g j).op first second ≡ None
 
--- some gate of the netlist has a step without a short answer
+-- some gate of the netlist has a step without a terminal case
 abbrev pub Asks : Circuit → (ℕ → ℕ) → Nodes → Type 0
 Asks c level S = (g : GateLine) × Contains c.gates g × ((j : ℕ) × IsAsked c level S g j)
 
@@ -41,7 +41,7 @@ Asks c level S = (g : GateLine) × Contains c.gates g × ((j : ℕ) × IsAsked c
 abbrev pub AnyAsks : Circuit → Circuit → Option Circuit → Paired → Nodes → Type 0
 AnyAsks a b given p S = (one : Levelled) × Contains (levelled a b given p) one × Asks one.netlist one.level S
 
--- some gate of this rank has a step j without a short answer
+-- some gate of this rank has a step j without a terminal case
 abbrev pub AsksAt : Placed → Nodes → ℕ → ℕ → Type 0
 AsksAt one S r j = (g : GateLine) × Contains one.net.gates g × (rank_of one.net g ≡ r) × IsAsked (circuit one.net) (input_level one) S g j
 

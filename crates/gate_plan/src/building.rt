@@ -15,9 +15,9 @@ ghost use Rattle.gate_plan.specs.Building.{Placed, IsPaired, AreDiagrams, AllRig
 
 use crate::circuits::Circuits;
 use crate::inputs::make_variables;
-use crate::sides::{Diagrams, Side, copy_rank, entries_of, last_rank, most_folds, sides_of, start};
+use crate::sides::{Diagrams, PlannedNetlist, copy_rank, entries_of, last_rank, most_folds, sides_of, start};
 use dd_store::{Ref, Store};
-use expand_work::{Crew, Gate, WaveFault};
+use expand_work::{Crew, Monitor, WaveFault};
 use net_bench::netlist::Signal;
 use std::alloc::Global;
 use std::marker::Model;
@@ -80,10 +80,10 @@ impl Built {
 }
 
 /// The wave of one fold number of a rank: the steps of all netlists are asked for together.
-fn build_fold<R: Threads + Wait + Sync, G: Gate>(
+fn build_fold<R: Threads + Wait + Sync, G: Monitor>(
     engine: &mut Engine<'_, R, G>,
     store: &mut Store,
-    sides: &[Side<'_>],
+    sides: &[PlannedNetlist<'_>],
     built: &mut [Diagrams],
     rank: usize,
     fold: usize,
@@ -122,10 +122,10 @@ fn build_fold<R: Threads + Wait + Sync, G: Gate>(
 }
 
 /// The copies and all folds of one rank.
-fn build_rank<R: Threads + Wait + Sync, G: Gate>(
+fn build_rank<R: Threads + Wait + Sync, G: Monitor>(
     engine: &mut Engine<'_, R, G>,
     store: &mut Store,
-    sides: &[Side<'_>],
+    sides: &[PlannedNetlist<'_>],
     built: &mut [Diagrams],
     rank: usize,
 ) -> Result<(), WaveFault>
@@ -152,7 +152,7 @@ fn build_rank<R: Threads + Wait + Sync, G: Gate>(
     Ok(())
 }
 
-/// A number as a gate is told it: the greatest of a u32 stands for what is greater.
+/// A number as a monitor is told it: the greatest of a u32 stands for what is greater.
 fn told(number: usize) -> u32
     ensures { result ≡ min number (2 ^ 32 - 1) }
 {
@@ -160,12 +160,12 @@ fn told(number: usize) -> u32
 }
 
 /// All ranks, one after the other.
-fn build_ranks<R: Threads + Wait + Sync, G: Gate>(
+fn build_ranks<R: Threads + Wait + Sync, G: Monitor>(
     engine: &mut Engine<'_, R, G>,
     store: &mut Store,
-    sides: &[Side<'_>],
+    sides: &[PlannedNetlist<'_>],
     built: &mut [Diagrams],
-    gate: &G,
+    monitor: &G,
 ) -> Result<(), WaveFault>
     requires plans { (one : Placed) → Contains sides.now one → IsPlan one.net one.plan }
     requires held { IsHeldWithin store.old engine.old.held }
@@ -182,17 +182,17 @@ fn build_ranks<R: Threads + Wait + Sync, G: Gate>(
     let _ = store.levels();
     let ranks = last_rank(sides);
     for below in 0..ranks {
-        gate.at_rank(told(below + 1), told(ranks), store.count());
+        monitor.at_rank(told(below + 1), told(ranks), store.count());
         build_rank(engine, store, sides, built, below + 1)?;
     }
     Ok(())
 }
 
 /// All ranks, by an engine of their own.
-fn build_all<R: Threads + Wait + Sync, G: Gate>(
+fn build_all<R: Threads + Wait + Sync, G: Monitor>(
     crew: &Crew<'_, R, G>,
     store: &mut Store,
-    sides: &[Side<'_>],
+    sides: &[PlannedNetlist<'_>],
     built: &mut [Diagrams],
 ) -> Result<(), WaveFault>
     requires plans { (one : Placed) → Contains sides.now one → IsPlan one.net one.plan }
@@ -202,19 +202,19 @@ fn build_all<R: Threads + Wait + Sync, G: Gate>(
     ensures built { OnOk result (AllRight sides.now store.new built.new (greatest (map ranks_of sides.now) + 1)) }
     ensures within { OnOk result (IsWithinOrUnasked (AnyAsksBelow sides.now store.new (greatest (map ranks_of sides.now))) store.old store.new) }
     ensures fault { IfErr result (IsBuildFault store.old.levels (IsPlacedValue store.old.levels sides.now) store.new) }
-    ensures past { result ≡ Err WaveFault.TooManyRequests → IsPast (G.bound crew.now.gate.now) store.old.levels (map levelled_of sides.now) }
-    ensures alone { most_of (G.bound crew.now.gate.now) < 2 ^ 64 - 1 → result ≢ Err WaveFault.NoWorker }
+    ensures past { result ≡ Err WaveFault.TooManyRequests → IsPast (G.bound crew.now.monitor.now) store.old.levels (map levelled_of sides.now) }
+    ensures alone { most_of (G.bound crew.now.monitor.now) < 2 ^ 64 - 1 → result ≢ Err WaveFault.NoWorker }
     ensures memory { count_of store.old ≤ store.old.limit → result ≡ Err WaveFault.OutOfMemory → count_of store.new ≤ store.new.limit }
 {
     let _ = store.levels();
     let mut engine = Engine::new(crew)?;
-    build_ranks(&mut engine, store, sides, built, crew.gate)
+    build_ranks(&mut engine, store, sides, built, crew.monitor)
 }
 
 /// What is there before the first rank: the netlists with their plans, and the diagrams of their inputs and registers.
 #[derive(Drop)]
 struct Begun<'a> {
-    sides: Vec<Side<'a>>,
+    sides: Vec<PlannedNetlist<'a>>,
     built: Vec<Diagrams>,
 }
 
@@ -244,7 +244,7 @@ fn begin<'a>(
 /// variables in level order, then per rank the copies and one wave for each fold number, of all netlists together. What an earlier wave of
 /// the build was asked for is answered at once while it is held. A wave's requests are expanded by as many threads as there are workers;
 /// NoWorker is answered where one could not be started.
-pub fn build<R: Threads + Wait + Sync, G: Gate>(
+pub fn build<R: Threads + Wait + Sync, G: Monitor>(
     crew: &Crew<'_, R, G>,
     store: &mut Store,
     circuits: &Circuits<'_>,
@@ -265,10 +265,10 @@ pub fn build<R: Threads + Wait + Sync, G: Gate>(
     ensures need { let c = circuits_of circuits.now in count_of store.old ≡ 0 → OnOk result (HasNeed c.first c.second c.given c.pairing store.new) }
     // Full is answered only where the store has more nodes than its limit, or as many and lacks one that is needed.
     ensures fault { let c = circuits_of circuits.now in IfErr result (IsBuildFault (length c.pairing.names) (IsNeededValue c.first c.second c.given c.pairing) store.new) }
-    // The build is refused for its requests only where one of its waves reaches more than the gate allows.
-    ensures past { let c = circuits_of circuits.now in result ≡ Err WaveFault.TooManyRequests → IsPast (G.bound crew.now.gate.now) (length c.pairing.names) (levelled c.first c.second c.given c.pairing) }
-    // Where the gate sets a bound, no worker is wanted.
-    ensures alone { most_of (G.bound crew.now.gate.now) < 2 ^ 64 - 1 → result ≢ Err WaveFault.NoWorker }
+    // The build is refused for its requests only where one of its waves reaches more than the monitor allows.
+    ensures past { let c = circuits_of circuits.now in result ≡ Err WaveFault.TooManyRequests → IsPast (G.bound crew.now.monitor.now) (length c.pairing.names) (levelled c.first c.second c.given c.pairing) }
+    // Where the monitor sets a bound, no worker is wanted.
+    ensures alone { most_of (G.bound crew.now.monitor.now) < 2 ^ 64 - 1 → result ≢ Err WaveFault.NoWorker }
     // Where memory is wanted, a store that was within its limit is so still: Full comes first.
     ensures memory { count_of store.old ≤ store.old.limit → result ≡ Err WaveFault.OutOfMemory → count_of store.new ≤ store.new.limit }
 {

@@ -9,8 +9,8 @@ ghost use Rattle.wave_engine.specs.Bounds.{AreAtMost, ArePast};
 ghost use Rattle.gate_plan.specs.Conjoining.{AreConjoined, conjunctions};
 
 use dd_store::{Ref, Store};
-use expand_work::{Crew, Gate, WaveFault};
-use req_table::{Memo, Op};
+use expand_work::{Crew, Monitor, WaveFault};
+use req_table::{ComputedTable, Op};
 use std::alloc::{AllocError, Global};
 use std::sync::Wait;
 use std::thread::Threads;
@@ -32,7 +32,7 @@ fn conjunctions(
 }
 
 /// The diagram of each reference and the condition's, by one wave of its own.
-pub fn conjoin<R: Threads + Wait + Sync, G: Gate>(
+pub fn conjoin<R: Threads + Wait + Sync, G: Monitor>(
     crew: &Crew<'_, R, G>,
     store: &mut Store,
     references: &[Ref],
@@ -49,17 +49,17 @@ pub fn conjoin<R: Threads + Wait + Sync, G: Gate>(
     ensures within { OnOk result (IsWithinLimit store.old (conjunctions references.now given) store.new) }
     // Full is answered only where the store has more nodes than its limit, or as many and lacks one that is wanted.
     ensures fault { IfErr result (IsWaveFault store.old (conjunctions references.now given) store.new) }
-    // The wave is refused for its requests only where it reaches more than the gate allows.
-    ensures past { result ≡ Err WaveFault.TooManyRequests → ArePast (G.bound crew.now.gate.now) store.old (conjunctions references.now given) }
-    // A wave that was done reached no more than the gate allows.
-    ensures within_bound { most_of (G.bound crew.now.gate.now) < 2 ^ 64 - 1 → OnOk result (AreAtMost (most_of (G.bound crew.now.gate.now)) store.old (conjunctions references.now given)) }
-    // Where the gate sets a bound, no worker is wanted.
-    ensures alone { most_of (G.bound crew.now.gate.now) < 2 ^ 64 - 1 → result ≢ Err WaveFault.NoWorker }
+    // The wave is refused for its requests only where it reaches more than the monitor allows.
+    ensures past { result ≡ Err WaveFault.TooManyRequests → ArePast (G.bound crew.now.monitor.now) store.old (conjunctions references.now given) }
+    // A wave that was done reached no more than the monitor allows.
+    ensures within_bound { most_of (G.bound crew.now.monitor.now) < 2 ^ 64 - 1 → OnOk result (AreAtMost (most_of (G.bound crew.now.monitor.now)) store.old (conjunctions references.now given)) }
+    // Where the monitor sets a bound, no worker is wanted.
+    ensures alone { most_of (G.bound crew.now.monitor.now) < 2 ^ 64 - 1 → result ≢ Err WaveFault.NoWorker }
     // Where memory is wanted, a store that was within its limit is so still: Full comes first.
     ensures memory { count_of store.old ≤ store.old.limit → result ≡ Err WaveFault.OutOfMemory → count_of store.new ≤ store.new.limit }
 {
     let _ = store.levels();
     let entries = conjunctions(crew.alloc, references, given)?;
-    let mut memo = Memo::new(crew.alloc, 1)?;
-    wave(crew, store, &mut memo, entries.as_slice())
+    let mut computed = ComputedTable::new(crew.alloc, 1)?;
+    wave(crew, store, &mut computed, entries.as_slice())
 }

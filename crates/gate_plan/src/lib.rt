@@ -3,7 +3,7 @@
 //! **Promises.** A `Plan` has exactly the steps and copies of each gate by rank. `build` gives each signal of both
 //! netlists and of a condition the diagram of its function (`first`, `second`, `given`), adds needed nodes alone
 //! (`adds`), leaves an empty store with exactly these, within its limit (`need`, `within`), and is Full only where it
-//! is over or lacks one (`fault`); its requests are too many only where one wave is past the gate's bound (`past`,
+//! is over or lacks one (`fault`); its requests are too many only where one wave is past the monitor's bound (`past`,
 //! `alone`), and OutOfMemory leaves a store within its limit that was so (`memory`). `conjoin` takes references
 //! together with a condition's (`conjoined`, `adds`, `within_bound`).
 //!

@@ -58,14 +58,14 @@ impl Diagrams {
 
 /// A netlist with the plan of its gates, one of those that are built over the variables of a pairing.
 #[derive(Drop)]
-pub struct Side<'a> {
+pub struct PlannedNetlist<'a> {
     netlist: &'a Netlist,
     pairing: &'a Pairing,
     which: Which,
     plan: Plan,
 }
 
-impl<'a> Model for Side<'a> {
+impl<'a> Model for PlannedNetlist<'a> {
     ghost use Rattle.gate_plan.specs.Building.{Placed};
 
     ghost Value = { Placed };
@@ -73,19 +73,19 @@ impl<'a> Model for Side<'a> {
     ghost view = { λ s. record { net = s.netlist.now; which = s.which; pairing = s.pairing.now; plan = s.plan } };
 }
 
-impl<'a> Side<'a> {
+impl<'a> PlannedNetlist<'a> {
     /// A netlist of a pairing, with the plan of its gates.
     fn new(
         alloc: Global,
         netlist: &'a Netlist,
         pairing: &'a Pairing,
         which: Which,
-    ) -> Result<Side<'a>, AllocError>
+    ) -> Result<PlannedNetlist<'a>, AllocError>
         ensures plan { IfOk result (λ side. IsPlan netlist.entry.now side.plan) }
         ensures is { IfOk result (λ side. side ≡ record { net = netlist.entry.now; which = which; pairing = pairing.entry.now; plan = side.plan }) }
     {
         let plan = Plan::new(alloc, netlist)?;
-        Ok(Side {
+        Ok(PlannedNetlist {
             netlist,
             pairing,
             which,
@@ -151,20 +151,20 @@ impl<'a> Side<'a> {
 /// Puts a netlist of a pairing at the end, with the plan of its gates.
 fn add_side<'a>(
     alloc: Global,
-    sides: &mut Vec<Side<'a>>,
+    sides: &mut Vec<PlannedNetlist<'a>>,
     netlist: &'a Netlist,
     pairing: &'a Pairing,
     which: Which,
 ) -> Result<(), AllocError>
     ensures { OnOk result (AddsPlaced sides.old.items netlist.entry.now which pairing.entry.now sides.new.items) }
 {
-    let side = Side::new(alloc, netlist, pairing, which)?;
+    let side = PlannedNetlist::new(alloc, netlist, pairing, which)?;
     sides.push(side)?;
     Ok(())
 }
 
 /// The netlists of a pairing, each with the plan of its gates: the first, the second, and the condition where there is one.
-pub fn sides_of<'a>(alloc: Global, circuits: &Circuits<'a>) -> Result<Vec<Side<'a>>, AllocError>
+pub fn sides_of<'a>(alloc: Global, circuits: &Circuits<'a>) -> Result<Vec<PlannedNetlist<'a>>, AllocError>
     ensures { let c = circuits_of circuits.now in IfOk result (λ sides. ArePlaced c.first c.second c.given c.pairing sides.items) }
 {
     let pairing = circuits.pairing;
@@ -178,7 +178,7 @@ pub fn sides_of<'a>(alloc: Global, circuits: &Circuits<'a>) -> Result<Vec<Side<'
 }
 
 /// The last rank of all netlists.
-pub fn last_rank(sides: &[Side<'_>]) -> usize
+pub fn last_rank(sides: &[PlannedNetlist<'_>]) -> usize
     ensures { result ≡ greatest (map ranks_of sides.now) }
 {
     let mut last = 0;
@@ -190,7 +190,7 @@ pub fn last_rank(sides: &[Side<'_>]) -> usize
 }
 
 /// The greatest number of folds of a rank.
-pub fn most_folds(sides: &[Side<'_>], rank: usize) -> usize
+pub fn most_folds(sides: &[PlannedNetlist<'_>], rank: usize) -> usize
     requires first { 1 ≤ rank }
     requires plans { (one : Placed) → Contains sides.now one → IsPlan one.net one.plan }
     ensures { result ≡ greatest (map (folds_at rank) sides.now) }
@@ -206,7 +206,7 @@ pub fn most_folds(sides: &[Side<'_>], rank: usize) -> usize
 /// The diagrams of the inputs and registers of all netlists.
 pub fn start(
     alloc: Global,
-    sides: &[Side<'_>],
+    sides: &[PlannedNetlist<'_>],
     variables: &[Ref],
 ) -> Result<Vec<Diagrams>, AllocError>
     requires { (one : Placed) → Contains sides.now one → (s : ℕ) → Contains (variables_of (circuit one.net)) s → input_level one s < length variables.now }
@@ -222,7 +222,7 @@ pub fn start(
 }
 
 /// The copies of a rank in all netlists.
-pub fn copy_rank(sides: &[Side<'_>], built: &mut [Diagrams], rank: usize)
+pub fn copy_rank(sides: &[PlannedNetlist<'_>], built: &mut [Diagrams], rank: usize)
     requires first { 1 ≤ rank }
     requires plans { (one : Placed) → Contains sides.now one → IsPlan one.net one.plan }
     requires below { Each (λ one refs. All (IsCopyBelow (length refs)) (plan_copies one.net one.net.gates rank)) sides.now built.old }
@@ -238,7 +238,7 @@ pub fn copy_rank(sides: &[Side<'_>], built: &mut [Diagrams], rank: usize)
 /// What the steps of a rank and a fold number ask for, netlist after netlist.
 pub fn entries_of(
     alloc: Global,
-    sides: &[Side<'_>],
+    sides: &[PlannedNetlist<'_>],
     built: &[Diagrams],
     rank: usize,
     fold: usize,

@@ -10,9 +10,9 @@ use Rattle.req_table.specs.declared.Item.{Item}
 use Rattle.req_table.specs.declared.Sizes.{Sizes}
 use Rattle.lane_queue.specs.declared.rule.Terms.{Terms}
 use Rattle.lane_queue.specs.declared.rule.View.{View}
-use Rattle.lane_queue.specs.declared.port.Hold.{Hold}
-use Rattle.lane_queue.specs.declared.port.Hold.TheVariants.{Live, Joined}
-use Rattle.lane_queue.specs.declared.port.Line.{Line}
+use Rattle.lane_queue.specs.declared.line.Hold.{Hold}
+use Rattle.lane_queue.specs.declared.line.Hold.TheVariants.{Live, Joined}
+use Rattle.lane_queue.specs.declared.line.Line.{Line}
 use Rattle.lane_queue.specs.declared.rule.Lane.{Lane}
 use Rattle.req_table.specs.declared.Item.TheVariants.{Ask, End as item_end}
 use Rattle.req_table.specs.declared.Key.{Key}

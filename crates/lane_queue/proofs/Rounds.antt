@@ -7,7 +7,7 @@ use native.Mathlib.Decide.{ℕ_discrete}
 use Rattle.crossbeam_queue.specs.SegTies.{IsSegPassOf}
 use Rattle.lane_queue.specs.declared.rule.Lane.{Lane}
 use Rattle.lane_queue.specs.declared.make.Root.{Root}
-use Rattle.lane_queue.specs.declared.port.Line.{Line}
+use Rattle.lane_queue.specs.declared.line.Line.{Line}
 use Rattle.lane_queue.specs.Line.{line_view, IsLiveOn}
 use Rattle.lane_queue.specs.Joining.{root_view, Retired, MayJoin, MayJoinAll, JoinedTo, HaveJoined, HaveBegun, AllLive}
 

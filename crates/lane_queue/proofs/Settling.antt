@@ -12,9 +12,9 @@ use Rattle.lane_queue.specs.declared.rule.Terms.{Terms}
 use Rattle.lane_queue.specs.declared.rule.View.{View}
 use Rattle.lane_queue.specs.declared.rule.Lane.{Lane}
 use Rattle.lane_queue.specs.declared.make.Root.{Root}
-use Rattle.lane_queue.specs.declared.port.Hold.{Hold}
-use Rattle.lane_queue.specs.declared.port.Hold.TheVariants.{Live, Joined}
-use Rattle.lane_queue.specs.declared.port.Line.{Line}
+use Rattle.lane_queue.specs.declared.line.Hold.{Hold}
+use Rattle.lane_queue.specs.declared.line.Hold.TheVariants.{Live, Joined}
+use Rattle.lane_queue.specs.declared.line.Line.{Line}
 use Rattle.req_table.specs.Lanes.{ends}
 use Rattle.lane_queue.specs.Rule.{port, own_sent, IsPort}
 use Rattle.lane_queue.specs.Line.{line_view, IsLiveOn}

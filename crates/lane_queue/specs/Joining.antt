@@ -8,7 +8,7 @@ use Rattle.lane_queue.specs.declared.load.Load.{Load}
 use Rattle.lane_queue.specs.declared.rule.View.{View}
 use Rattle.lane_queue.specs.declared.rule.Lane.{Lane}
 use Rattle.lane_queue.specs.declared.make.Root.{Root}
-use Rattle.lane_queue.specs.declared.port.Line.{Line}
+use Rattle.lane_queue.specs.declared.line.Line.{Line}
 use Rattle.req_table.specs.Sizes.{scope_of}
 use Rattle.req_table.specs.Lanes.{LaneLaw}
 use Rattle.lane_queue.specs.Lists.{FairLane}

@@ -3,9 +3,9 @@ use Rattle.std.specs.Prelude.{◌≡◌}
 use Rattle.crossbeam_queue.specs.SegTies.{SegId, IsSegPassOf}
 use Rattle.std.specs.declared.alloc.Global.{Global}
 use Rattle.lane_queue.specs.declared.rule.View.{View}
-use Rattle.lane_queue.specs.declared.port.Hold.{Hold}
-use Rattle.lane_queue.specs.declared.port.Hold.TheVariants.{Live, Joined}
-use Rattle.lane_queue.specs.declared.port.Line.{Line}
+use Rattle.lane_queue.specs.declared.line.Hold.{Hold}
+use Rattle.lane_queue.specs.declared.line.Hold.TheVariants.{Live, Joined}
+use Rattle.lane_queue.specs.declared.line.Line.{Line}
 use Rattle.req_table.specs.Lanes.{ends}
 use Rattle.lane_queue.specs.Rule.{own_sent, IsPort}
 

@@ -2,8 +2,8 @@
 use Rattle.std.specs.Prelude.{ℕ, ◌+◌, List, [], ◌∷◌, ◌++◌, Option, Some, None}
 use Rattle.std.specs.declared.snapshot.Snapshot.{Snapshot}
 use Rattle.req_table.specs.declared.Item.{Item}
-use Rattle.lane_queue.specs.declared.own.Step.{Step}
-use Rattle.lane_queue.specs.declared.own.Step.TheVariants.{Nothing, Sent, Taken, Kept}
+use Rattle.lane_queue.specs.declared.own.Event.{Event}
+use Rattle.lane_queue.specs.declared.own.Event.TheVariants.{Nothing, Sent, Taken, Kept}
 use Rattle.lane_queue.specs.Loads.{items_in}
 
 -- How many steps there were, what was sent, and what was taken.
@@ -13,20 +13,20 @@ pub record OwnView : Type 0 where
   pub taken : List Item
 
 -- What a step sent, and what it took.
-abbrev pub sent_in : Step → List Item
+abbrev pub sent_in : Event → List Item
 sent_in Nothing = []
 sent_in (Sent x) = items_in x.value
 sent_in (Taken x) = []
 sent_in (Kept x) = x.value ∷ []
 
-abbrev pub taken_in : Step → List Item
+abbrev pub taken_in : Event → List Item
 taken_in Nothing = []
 taken_in (Sent x) = []
 taken_in (Taken x) = items_in x.value
 taken_in (Kept x) = x.value ∷ []
 
 -- The history before the last step, and then that step.
-abbrev pub told : Option (Snapshot OwnView) → Step → OwnView
+abbrev pub told : Option (Snapshot OwnView) → Event → OwnView
 told None x = record { steps = 0; sent = []; taken = [] }
 told (Some s) x = record {
   steps = s.value.steps + 1;

@@ -4,8 +4,8 @@ ghost use Rattle.crossbeam_queue.specs.SegTies.{IsSegPassOf};
 ghost use Rattle.lane_queue.specs.Line.{line_view, IsLiveOn};
 ghost use Rattle.lane_queue.specs.Joining.{Retired, MayJoinAll, HaveJoined, HaveBegun, AllLive};
 
+use crate::line::{Hold, Line};
 use crate::make::Root;
-use crate::port::{Hold, Line};
 use crate::rule::{Lane, LanePass};
 use crate::steps;
 use std::alloc::{AllocError, Global};

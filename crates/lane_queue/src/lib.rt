@@ -18,6 +18,7 @@
 mod join;
 mod lanes;
 pub mod law;
+mod line;
 mod load;
 mod make;
 mod own;

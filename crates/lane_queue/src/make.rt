@@ -6,7 +6,7 @@ ghost use Rattle.lane_queue.specs.Ports.{terms_of};
 ghost use Rattle.req_table.specs.Sizes.{sizes_of};
 ghost use Rattle.lane_queue.specs.Make.{RootsOk, NewLines};
 
-use crate::port::{Hold, Line};
+use crate::line::{Hold, Line};
 use crate::rule::{Lane, LanePass, Naming};
 use crate::steps;
 use dd_store::Store;

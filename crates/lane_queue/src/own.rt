@@ -11,7 +11,7 @@ use std::snapshot::Snapshot;
 
 /// What happened last.
 #[derive(Drop)]
-pub enum Step {
+pub enum Event {
     Nothing,
     Sent(Snapshot<Load>),
     Taken(Snapshot<Load>),
@@ -22,7 +22,7 @@ pub enum Step {
 #[derive(Drop)]
 pub struct Told {
     before: Option<Snapshot<Told>>,
-    last: Step,
+    last: Event,
 }
 
 impl Model for Told {
@@ -60,7 +60,7 @@ impl Own {
     {
         let told = Told {
             before: None,
-            last: Step::Nothing,
+            last: Event::Nothing,
         };
         Own {
             now: Snapshot::of(&told),
@@ -71,14 +71,14 @@ impl Own {
     pub fn sent(&mut self, load: Snapshot<Load>)
         ensures { (self.new.sent ≡ self.old.sent ++ items_in load.value) × (self.new.taken ≡ self.old.taken) }
     {
-        self.then(Step::Sent(load));
+        self.then(Event::Sent(load));
     }
 
     /// The load was taken.
     pub fn took(&mut self, load: Snapshot<Load>)
         ensures { (self.new.sent ≡ self.old.sent) × (self.new.taken ≡ self.old.taken ++ items_in load.value) }
     {
-        self.then(Step::Taken(load));
+        self.then(Event::Taken(load));
     }
 
     /// The request was kept.
@@ -86,11 +86,11 @@ impl Own {
         ensures { (self.new.sent ≡ self.old.sent ++ ask.value ∷ [])
             × (self.new.taken ≡ self.old.taken ++ ask.value ∷ []) }
     {
-        self.then(Step::Kept(ask));
+        self.then(Event::Kept(ask));
     }
 
     // One step more.
-    fn then(&mut self, last: Step)
+    fn then(&mut self, last: Event)
         ensures { (self.new.sent ≡ self.old.sent ++ sent_in last) × (self.new.taken ≡ self.old.taken ++ taken_in last) }
     {
         let Own { now: before } = mem::replace(self, Own::new());

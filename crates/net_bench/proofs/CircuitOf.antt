@@ -12,10 +12,10 @@ use Rattle.net_bench.specs.Text.{Word}
 use Rattle.net_bench.specs.Statement.{Statement, Input, Output, Gate, kind_of, takes_one, counted, input_name, output_name, gate_name, uses, defined}
 use Rattle.net_bench.specs.Circuit.{is_name_in, distinct, number_of, names_of, gate_with, gate_line, is_register_kind, is_register, is_gate, circuit_of, AreRanks, AreOnce, IsNet}
 use Rattle.net_bench.specs.Fault.{redefines, is_among, has_wrong_operands, is_one_operand_kind, is_defined}
-use Rattle.net_bench.specs.Marks.{HasOneGateEach}
+use Rattle.net_bench.specs.Heights.{HasOneGateEach}
 use Rattle.net_bench.specs.Sound.{IsSound, has_kind}
 use Rattle.net_bench.proofs.Numbers.{or_left, or_right, or_cases, in_distinct, contained_in, number_low, number_at, numbers_differ, name_itself, same_name, apart_distinct}
-use Rattle.net_bench.proofs.Marks.{both_true}
+use Rattle.net_bench.proofs.Heights.{both_true}
 
 -- ---- names of statements
 

@@ -3,8 +3,8 @@ use Rattle.std.proofs.Common.{◌≡◌, ◌≢◌, ℕ, ◌+◌, List, [], ◌�
 use Rattle.std.specs.Prelude.{flat_map, if◌then◌else◌, Some, None}
 use Rattle.std.proofs.lemmas.List.{map-append}
 use Rattle.std.proofs.lemmas.Grind.{flat_map-append}
-use Rattle.net_bench.specs.declared.syntax.Part.{Part}
-use Rattle.net_bench.specs.declared.syntax.Part.TheVariants.{Nothing as nothing, First as first_name, Opened as opened, Named as named, Defining as defining, AtWord as at_word, Operands as operands_open, AfterOperand as after_operand, AfterComma as comma_behind}
+use Rattle.net_bench.specs.declared.syntax.Pending.{Pending}
+use Rattle.net_bench.specs.declared.syntax.Pending.TheVariants.{Nothing as nothing, First as first_name, Opened as opened, Named as named, Defining as defining, AtWord as at_word, Operands as operands_open, AfterOperand as after_operand, AfterComma as comma_behind}
 use Rattle.net_bench.specs.Text.{Word, Token, Open, Close, Comma, Equals, Name, End}
 use Rattle.net_bench.specs.Statement.{Statement, Input, Output, Gate, spelled, after_comma, counted, operands}
 use Rattle.net_bench.specs.Machine.{State, Between, First, Opened, Named, Defining, AtWord, Operands, AfterOperand, AfterComma, Finished, Failed, is_port_word, is_input_word, port, step, tokens_of}
@@ -147,7 +147,7 @@ operands_step s t other = absurd (other refl)
 
 -- ---- the part alone says what was counted last
 
-pub newest_same : (done : List Statement) (p : Part) (t : Token) → newest (state_of done p) t ≡ newest (state_of [] p) t
+pub newest_same : (done : List Statement) (p : Pending) (t : Token) → newest (state_of done p) t ≡ newest (state_of [] p) t
 newest_same done nothing t = refl
 newest_same done (first_name word) t = refl
 newest_same done (opened word) t = refl
@@ -159,7 +159,7 @@ newest_same done (after_operand g) (Name b) = refl
 newest_same done (after_operand g) t = refl
 newest_same done (comma_behind g) t = refl
 
-pub newest_operands_same : (done : List Statement) (p : Part) (t : Token) → newest_operands (state_of done p) t ≡ newest_operands (state_of [] p) t
+pub newest_operands_same : (done : List Statement) (p : Pending) (t : Token) → newest_operands (state_of done p) t ≡ newest_operands (state_of [] p) t
 newest_operands_same done nothing t = refl
 newest_operands_same done (first_name word) t = refl
 newest_operands_same done (opened word) t = refl
@@ -171,7 +171,7 @@ newest_operands_same done (after_operand g) (Name b) = refl
 newest_operands_same done (after_operand g) t = refl
 newest_operands_same done (comma_behind g) t = refl
 
-pub live : (done : List Statement) (p : Part) → state_of done p ≢ Failed
+pub live : (done : List Statement) (p : Pending) → state_of done p ≢ Failed
 live done nothing e = cc
 live done (first_name word) e = cc
 live done (opened word) e = cc

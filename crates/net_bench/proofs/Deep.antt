@@ -1,4 +1,4 @@
--- A walk over gates with a stack: what it has left is marked, or can never be.
+-- A walk over gates with a stack: what it has left is ranked, or can never be.
 use Rattle.std.proofs.Common.{length-set, map, ◌≡◌, inl, inr, ℕ, zero, suc, ◌+◌, ◌<◌, ◌≤◌, List, [], ◌∷◌, ◌++◌, Bool, true, false, refl, sym, ap, ◌∙◌, subst, length, take, get_or, arith}
 use Rattle.std.proofs.Math.ListN.{set}
 use Rattle.std.specs.Prelude.{nat_lt, ◌==◌, ◌||◌, All, Some, reverse, slice_get, unwrap_or}
@@ -6,11 +6,11 @@ use Rattle.std.proofs.lemmas.Bool.{cases_lt}
 use Rattle.std.proofs.lemmas.Bool.Decides.{nat_tests}
 use Rattle.std.proofs.lemmas.List.{reverse-append, take_more, take_all, get_or_default, get_or-set_same, get_or-set_other}
 use Rattle.net_bench.specs.declared.netlist.GateLine.{GateLine}
-use Rattle.net_bench.specs.declared.ranks.Waiting.{Waiting}
+use Rattle.net_bench.specs.declared.walk.Waiting.{Waiting}
 use Rattle.net_bench.specs.declared.symbols.Symbol.{Symbol}
 use Rattle.net_bench.specs.Circuit.{Circuit, greatest}
-use Rattle.net_bench.specs.Marks.{all_marked, AreMarks, HasOneGateEach, IsBelow, IsDriven, IsEnded, IsMarking, IsNever, IsSettled, IsUnder, AreWaiting, gate_place, is_waiting, operands_at, out_at, steps_left, unbegun}
-use Rattle.net_bench.proofs.Marks.{both_true, marked_more, small}
+use Rattle.net_bench.specs.Heights.{all_ranked, AreHeights, HasOneGateEach, IsBelow, IsDriven, IsEnded, IsRanking, IsNever, IsSettled, IsUnder, AreWaiting, gate_place, is_waiting, operands_at, out_at, steps_left, unbegun}
+use Rattle.net_bench.proofs.Heights.{both_true, ranked_more, small}
 use Rattle.net_bench.proofs.Settled.{below}
 
 -- ---- the gate at a place
@@ -36,39 +36,39 @@ feeds gates p k low inside =
 abbrev as_circuit : List GateLine → Circuit
 as_circuit gates = record { names = []; inputs = []; outputs = []; gates = gates; registers = [] }
 
-lower : (gates : List GateLine) (ms : List ℕ) → AreMarks gates ms → (t s : ℕ) → IsBelow gates t s → 0 < get_or ms s 0 → (0 < get_or ms t 0) × (get_or ms t 0 < get_or ms s 0)
+lower : (gates : List GateLine) (ms : List ℕ) → AreHeights gates ms → (t s : ℕ) → IsBelow gates t s → 0 < get_or ms s 0 → (0 < get_or ms t 0) × (get_or ms t 0 < get_or ms s 0)
 lower gates ms sound t s b some = below (as_circuit gates) ms sound t s b some
 
--- ---- a gate gets its mark
+-- ---- a gate gets its height
 
-module _ (gates : List GateLine) (marks : List ℕ) (p : ℕ) (g : GateLine) (low : p < length gates) (at : g ≡ get_or gates p g) (outs : All (λ g. g.out < length marks) gates)
-    (one : HasOneGateEach gates) (sound : AreMarks gates marks) (all : all_marked marks (operands_at gates p) ≡ true) where
-  abbrev new_mark : ℕ
-  new_mark = greatest (map (λ s. get_or marks s 0) g.operands) + 1
+module _ (gates : List GateLine) (heights : List ℕ) (p : ℕ) (g : GateLine) (low : p < length gates) (at : g ≡ get_or gates p g) (outs : All (λ g. g.out < length heights) gates)
+    (one : HasOneGateEach gates) (sound : AreHeights gates heights) (all : all_ranked heights (operands_at gates p) ≡ true) where
+  abbrev new_height : ℕ
+  new_height = greatest (map (λ s. get_or heights s 0) g.operands) + 1
 
-  pub out_low : g.out < length marks
-  out_low = subst (λ (x : GateLine). x.out < length marks) (sym at) (outs p g low)
+  pub out_low : g.out < length heights
+  out_low = subst (λ (x : GateLine). x.out < length heights) (sym at) (outs p g low)
 
-  g_all : all_marked marks g.operands ≡ true
-  g_all = subst (λ os. all_marked marks os ≡ true) (gate_is gates p g low at).0 all
+  g_all : all_ranked heights g.operands ≡ true
+  g_all = subst (λ os. all_ranked heights os ≡ true) (gate_is gates p g low at).0 all
 
-  pub new_small : get_or marks g.out 0 ≡ 0 → new_mark ≤ length marks
-  new_small none = small gates marks p g low at out_low one sound none g_all
+  pub new_small : get_or heights g.out 0 ≡ 0 → new_height ≤ length heights
+  new_small none = small gates heights p g low at out_low one sound none g_all
 
-  pub new_sound : (s w : ℕ) → get_or marks g.out 0 ≡ 0 → s ≡ g.out → w ≡ new_mark → AreMarks gates (set marks s w)
+  pub new_sound : (s w : ℕ) → get_or heights g.out 0 ≡ 0 → s ≡ g.out → w ≡ new_height → AreHeights gates (set heights s w)
   new_sound s w none is_s is_w =
-      subst (λ k. AreMarks gates (set marks k w)) (sym is_s) (subst (λ v. AreMarks gates (set marks g.out v)) (sym is_w) (marked_more gates marks p g low at out_low one sound none g_all))
+      subst (λ k. AreHeights gates (set heights k w)) (sym is_s) (subst (λ v. AreHeights gates (set heights g.out v)) (sym is_w) (ranked_more gates heights p g low at out_low one sound none g_all))
 
-  pub new_marked : (s w : ℕ) → s ≡ g.out → w ≡ new_mark → 0 < get_or (set marks s w) (out_at gates p) 0
-  new_marked s w is_s is_w =
+  pub new_ranked : (s w : ℕ) → s ≡ g.out → w ≡ new_height → 0 < get_or (set heights s w) (out_at gates p) 0
+  new_ranked s w is_s is_w =
       let is = gate_is gates p g low at in
-      let there : get_or (set marks s w) (out_at gates p) 0 ≡ w = ap (λ k. get_or (set marks s w) k 0) (is.1 ∙ sym is_s) ∙ get_or-set_same marks s w 0 (subst (λ k. k < length marks) (sym is_s) out_low) in
+      let there : get_or (set heights s w) (out_at gates p) 0 ≡ w = ap (λ k. get_or (set heights s w) k 0) (is.1 ∙ sym is_s) ∙ get_or-set_same heights s w 0 (subst (λ k. k < length heights) (sym is_s) out_low) in
       omega (arith, there, is_w)
 
-  pub old_marked : 0 < get_or marks g.out 0 → 0 < get_or marks (out_at gates p) 0
-  old_marked some = subst (λ k. 0 < get_or marks k 0) (sym (gate_is gates p g low at).1) some
+  pub old_ranked : 0 < get_or heights g.out 0 → 0 < get_or heights (out_at gates p) 0
+  old_ranked some = subst (λ k. 0 < get_or heights k 0) (sym (gate_is gates p g low at).1) some
 
--- ---- what can never be marked
+-- ---- what can never be ranked
 
 pub never_below : (gates : List GateLine) (t s : ℕ) → IsBelow gates t s → IsNever gates t → IsNever gates s
 never_below gates t s b never ms sound =
@@ -77,43 +77,43 @@ never_below gates t s b never ms sound =
       | inr none ↦ omega arith
     ]
 
--- each gate that waits has a greater mark than the one on top, if it has one
-chain_down : (gates : List GateLine) (marks ms : List ℕ) → AreMarks gates ms → (f : Waiting) (fs : List Waiting) → AreWaiting gates marks (f ∷ fs) → (q : ℕ) → is_waiting q (f ∷ fs) ≡ true → 0 < get_or ms (out_at gates q) 0 →
+-- each gate that waits has a greater height than the one on top, if it has one
+chain_down : (gates : List GateLine) (heights ms : List ℕ) → AreHeights gates ms → (f : Waiting) (fs : List Waiting) → AreWaiting gates heights (f ∷ fs) → (q : ℕ) → is_waiting q (f ∷ fs) ≡ true → 0 < get_or ms (out_at gates q) 0 →
     (0 < get_or ms (out_at gates f.place) 0) × (get_or ms (out_at gates f.place) 0 ≤ get_or ms (out_at gates q) 0)
-chain_down gates marks ms sound f [] h q on some =
+chain_down gates heights ms sound f [] h q on some =
     elim (f.place == q) as (λ b. (f.place == q) ≡ b → (b || false) ≡ true → (0 < get_or ms (out_at gates f.place) 0) × (get_or ms (out_at gates f.place) 0 ≤ get_or ms (out_at gates q) 0)) [
       | true ↦ λ e k. let same : f.place ≡ q = grind arith in subst (λ p. (0 < get_or ms (out_at gates p) 0) × (get_or ms (out_at gates p) 0 ≤ get_or ms (out_at gates q) 0)) (sym same) (some, omega arith)
       | false ↦ λ e k. cc
     ] refl on
-chain_down gates marks ms sound f (u ∷ fs) h q on some =
+chain_down gates heights ms sound f (u ∷ fs) h q on some =
     elim (f.place == q) as (λ b. (f.place == q) ≡ b → (b || is_waiting q (u ∷ fs)) ≡ true → (0 < get_or ms (out_at gates f.place) 0) × (get_or ms (out_at gates f.place) 0 ≤ get_or ms (out_at gates q) 0)) [
       | true ↦ λ e k. let same : f.place ≡ q = grind arith in subst (λ p. (0 < get_or ms (out_at gates p) 0) × (get_or ms (out_at gates p) 0 ≤ get_or ms (out_at gates q) 0)) (sym same) (some, omega arith)
       | false ↦ λ e k.
-          let above = chain_down gates marks ms sound u fs h.2 q k some in
+          let above = chain_down gates heights ms sound u fs h.2 q k some in
           let here = lower gates ms sound (out_at gates f.place) (out_at gates u.place) h.1 above.0 in
           (here.0, omega (arith, here.1, above.1))
     ] refl on
 
-pub never_cycle : (gates : List GateLine) (marks : List ℕ) (f : Waiting) (fs : List Waiting) → AreWaiting gates marks (f ∷ fs) → (q : ℕ) → is_waiting q (f ∷ fs) ≡ true → IsBelow gates (out_at gates q) (out_at gates f.place) →
+pub never_cycle : (gates : List GateLine) (heights : List ℕ) (f : Waiting) (fs : List Waiting) → AreWaiting gates heights (f ∷ fs) → (q : ℕ) → is_waiting q (f ∷ fs) ≡ true → IsBelow gates (out_at gates q) (out_at gates f.place) →
     IsNever gates (out_at gates f.place)
-never_cycle gates marks f fs h q on b ms sound =
+never_cycle gates heights f fs h q on b ms sound =
     elim (cases_lt 0 (get_or ms (out_at gates f.place) 0)) [
       | inl some ↦
           let down = lower gates ms sound (out_at gates q) (out_at gates f.place) b some in
-          let up = chain_down gates marks ms sound f fs h q on down.0 in
+          let up = chain_down gates heights ms sound f fs h q on down.0 in
           absurd (omega (arith, down.1, up.1))
       | inr none ↦ omega arith
     ]
 
--- ---- marks that grow
+-- ---- heights that grow
 
 abbrev Grows : List ℕ → List ℕ → Type 0
 Grows ms more = (s : ℕ) → 0 < get_or ms s 0 → get_or more s 0 ≡ get_or ms s 0
 
-grow_all : (ms more : List ℕ) → Grows ms more → (ops : List ℕ) → all_marked ms ops ≡ true → all_marked more ops ≡ true
+grow_all : (ms more : List ℕ) → Grows ms more → (ops : List ℕ) → all_ranked ms ops ≡ true → all_ranked more ops ≡ true
 grow_all ms more h [] e = refl
 grow_all ms more h (s ∷ ss) e =
-    let both = both_true (nat_lt 0 (get_or ms s 0)) (all_marked ms ss) e in
+    let both = both_true (nat_lt 0 (get_or ms s 0)) (all_ranked ms ss) e in
     let some : 0 < get_or ms s 0 = let t : nat_lt 0 (get_or ms s 0) ≡ true = both.0 in grind arith in
     let now : nat_lt 0 (get_or more s 0) ≡ true = ap (λ k. nat_lt 0 k) (h s some) ∙ both.0 in
     rw (now, grow_all ms more h ss both.1) refl
@@ -129,14 +129,14 @@ grow_ended gates ms more h p (inr never) = inr never
 -- ---- the steps
 
 -- a gate is begun, and the gates that wait, wait for it
-pub step_begun : (gates : List GateLine) (marks : List ℕ) (begun : List Bool) (fs : List Waiting) (f : Waiting) → IsMarking gates marks begun fs → f.place < length gates → f.passed ≡ 0 → IsUnder gates f fs →
-    IsMarking gates marks (set begun f.place true) (f ∷ fs)
-step_begun gates marks begun fs f h low none under = record {
+pub step_begun : (gates : List GateLine) (heights : List ℕ) (begun : List Bool) (fs : List Waiting) (f : Waiting) → IsRanking gates heights begun fs → f.place < length gates → f.passed ≡ 0 → IsUnder gates f fs →
+    IsRanking gates heights (set begun f.place true) (f ∷ fs)
+step_begun gates heights begun fs f h low none under = record {
   sound = h.sound;
   len = length-set begun f.place true ∙ h.len;
-  chain = ((low, omega (arith, none), ap (λ k. all_marked marks (take k (operands_at gates f.place))) none), under, h.chain);
+  chain = ((low, omega (arith, none), ap (λ k. all_ranked heights (take k (operands_at gates f.place))) none), under, h.chain);
   left = λ p small on off.
-      elim (f.place == p) as (λ b. (f.place == p) ≡ b → (b || is_waiting p fs) ≡ false → IsEnded gates marks p) [
+      elim (f.place == p) as (λ b. (f.place == p) ≡ b → (b || is_waiting p fs) ≡ false → IsEnded gates heights p) [
         | true ↦ λ e k. cc
         | false ↦ λ e k. let other : p ≡ f.place → ⊥ = (λ s. grind arith) in h.left p small (sym (get_or-set_other begun f.place p true false other) ∙ on) k
       ] refl off;
@@ -152,41 +152,41 @@ still_begun (b ∷ begun) (suc q) (suc p) e = still_begun begun q p e
 pub now_begun : (begun : List Bool) (q : ℕ) → q < length begun → get_or (set begun q true) q false ≡ true
 now_begun begun q low = get_or-set_same begun q true false low
 
-module _ (gates : List GateLine) (marks : List ℕ) (begun : List Bool) (f : Waiting) (fs : List Waiting) (h : IsMarking gates marks begun (f ∷ fs)) where
+module _ (gates : List GateLine) (heights : List ℕ) (begun : List Bool) (f : Waiting) (fs : List Waiting) (h : IsRanking gates heights begun (f ∷ fs)) where
   -- the gate on top is left
-  pub step_left : (more : List ℕ) → Grows marks more → AreMarks gates more → IsEnded gates more f.place → IsMarking gates more begun fs
+  pub step_left : (more : List ℕ) → Grows heights more → AreHeights gates more → IsEnded gates more f.place → IsRanking gates more begun fs
   step_left more grows sound ended = record {
     sound = sound;
     len = h.len;
-    chain = grow_waiting gates marks more grows fs h.chain.2;
+    chain = grow_waiting gates heights more grows fs h.chain.2;
     left = λ p low on off.
         elim (f.place == p) as (λ b. (f.place == p) ≡ b → IsEnded gates more p) [
           | true ↦ λ e. let same : f.place ≡ p = grind arith in subst (IsEnded gates more) same ended
-          | false ↦ λ e. grow_ended gates marks more grows p (h.left p low on (ap (λ b. b || is_waiting p fs) e ∙ off))
+          | false ↦ λ e. grow_ended gates heights more grows p (h.left p low on (ap (λ b. b || is_waiting p fs) e ∙ off))
         ] refl;
   }
 
   -- it has passed all its operands
-  pub all_passed : length (operands_at gates f.place) ≤ f.passed → all_marked marks (operands_at gates f.place) ≡ true
-  all_passed high = subst (λ os. all_marked marks os ≡ true) (take_all f.passed (operands_at gates f.place) high) h.chain.0.2
+  pub all_passed : length (operands_at gates f.place) ≤ f.passed → all_ranked heights (operands_at gates f.place) ≡ true
+  all_passed high = subst (λ os. all_ranked heights os ≡ true) (take_all f.passed (operands_at gates f.place) high) h.chain.0.2
 
-  all_push : (ops : List ℕ) (s : ℕ) → all_marked marks ops ≡ true → 0 < get_or marks s 0 → all_marked marks (ops ++ s ∷ []) ≡ true
-  all_push [] s e some = let t : nat_lt 0 (get_or marks s 0) ≡ true = grind arith in rw t refl
+  all_push : (ops : List ℕ) (s : ℕ) → all_ranked heights ops ≡ true → 0 < get_or heights s 0 → all_ranked heights (ops ++ s ∷ []) ≡ true
+  all_push [] s e some = let t : nat_lt 0 (get_or heights s 0) ≡ true = grind arith in rw t refl
   all_push (o ∷ ops) s e some =
-      let both = both_true (nat_lt 0 (get_or marks o 0)) (all_marked marks ops) e in
+      let both = both_true (nat_lt 0 (get_or heights o 0)) (all_ranked heights ops) e in
       rw (both.0, all_push ops s both.1 some) refl
 
   under_more : (us : List Waiting) → IsUnder gates f us → IsUnder gates (record { place = f.place; passed = f.passed + 1 }) us
   under_more [] u = tt
   under_more (x ∷ us) u = u
 
-  -- its next operand has a mark
-  pub step_passed : f.passed < length (operands_at gates f.place) → 0 < get_or marks (get_or (operands_at gates f.place) f.passed 0) 0 → IsMarking gates marks begun (record { place = f.place; passed = f.passed + 1 } ∷ fs)
+  -- its next operand has a height
+  pub step_passed : f.passed < length (operands_at gates f.place) → 0 < get_or heights (get_or (operands_at gates f.place) f.passed 0) 0 → IsRanking gates heights begun (record { place = f.place; passed = f.passed + 1 } ∷ fs)
   step_passed low some = record {
     sound = h.sound;
     len = h.len;
     chain = (
-      (h.chain.0.0, omega (arith, low), subst (λ os. all_marked marks os ≡ true) (sym (take_more (operands_at gates f.place) f.passed 0 low)) (all_push (take f.passed (operands_at gates f.place)) (get_or (operands_at gates f.place) f.passed 0) h.chain.0.2 some)),
+      (h.chain.0.0, omega (arith, low), subst (λ os. all_ranked heights os ≡ true) (sym (take_more (operands_at gates f.place) f.passed 0 low)) (all_push (take f.passed (operands_at gates f.place)) (get_or (operands_at gates f.place) f.passed 0) h.chain.0.2 some)),
       under_more fs h.chain.1,
       h.chain.2,
     );
@@ -198,16 +198,16 @@ module _ (gates : List GateLine) (marks : List ℕ) (begun : List Bool) (f : Wai
 
   -- it waits for a gate that is begun
   pub step_down : (q : ℕ) → q < length gates → f.passed < length (operands_at gates f.place) → out_at gates q ≡ get_or (operands_at gates f.place) f.passed 0 →
-      IsMarking gates marks (set begun q true) (record { place = q; passed = 0 } ∷ f ∷ fs)
-  step_down q low inside is = step_begun gates marks begun (f ∷ fs) (record { place = q; passed = 0 }) h low refl (under_next q inside is)
+      IsRanking gates heights (set begun q true) (record { place = q; passed = 0 } ∷ f ∷ fs)
+  step_down q low inside is = step_begun gates heights begun (f ∷ fs) (record { place = q; passed = 0 }) h low refl (under_next q inside is)
 
-  -- the operand that it waits for was begun before, and has no mark: neither will ever have one
-  pub step_endless : (q : ℕ) → q < length gates → f.passed < length (operands_at gates f.place) → out_at gates q ≡ get_or (operands_at gates f.place) f.passed 0 → get_or begun q false ≡ true → get_or marks (out_at gates q) 0 ≡ 0 →
-      IsMarking gates marks begun fs
+  -- the operand that it waits for was begun before, and has no height: neither will ever have one
+  pub step_endless : (q : ℕ) → q < length gates → f.passed < length (operands_at gates f.place) → out_at gates q ≡ get_or (operands_at gates f.place) f.passed 0 → get_or begun q false ≡ true → get_or heights (out_at gates q) 0 ≡ 0 →
+      IsRanking gates heights begun fs
   step_endless q low inside is on none =
-      step_left marks (λ s e. refl) h.sound
+      step_left heights (λ s e. refl) h.sound
       (inr (elim (is_waiting q (f ∷ fs)) as (λ v. is_waiting q (f ∷ fs) ≡ v → IsNever gates (out_at gates f.place)) [
-        | true ↦ λ waits. never_cycle gates marks f fs h.chain q waits (under_next q inside is)
+        | true ↦ λ waits. never_cycle gates heights f fs h.chain q waits (under_next q inside is)
         | false ↦ λ off. elim (h.left q low on off) [
           | inl some ↦ absurd (omega (arith, some, none))
           | inr never ↦ never_below gates (out_at gates q) (out_at gates f.place) (under_next q inside is) never
@@ -247,7 +247,7 @@ past k n e = let out : nat_lt k n ≡ false = sym e in grind (arith, nat_tests)
 pub pushed : (fs : List Waiting) (f : Waiting) → reverse (fs ++ f ∷ []) ≡ f ∷ reverse fs
 pushed fs f = reverse-append fs (f ∷ [])
 
-module _ (gates : List GateLine) (symbols : List Symbol) (marks : List ℕ) (begun : List Bool) (f : Waiting) (fs : List Waiting) (h : IsMarking gates marks begun (f ∷ fs)) (g : GateLine) (is : g ≡ get_or gates f.place g)
+module _ (gates : List GateLine) (symbols : List Symbol) (heights : List ℕ) (begun : List Bool) (f : Waiting) (fs : List Waiting) (h : IsRanking gates heights begun (f ∷ fs)) (g : GateLine) (is : g ≡ get_or gates f.place g)
     (os : List ℕ) (is_os : os ≡ g.operands) (o : ℕ) (inside : f.passed < length os) (at : o ≡ get_or os f.passed o) where
   ops_are : operands_at gates f.place ≡ os
   ops_are = (gate_is gates f.place g h.chain.0.0 is).0 ∙ sym is_os
@@ -258,18 +258,18 @@ module _ (gates : List GateLine) (symbols : List Symbol) (marks : List ℕ) (beg
   operand_is : get_or (operands_at gates f.place) f.passed 0 ≡ o
   operand_is = ap (λ xs. get_or xs f.passed 0) ops_are ∙ sym (get_or_default os f.passed o 0 inside) ∙ sym at
 
-  pub next_passed : 0 < get_or marks o 0 → IsMarking gates marks begun (record { place = f.place; passed = f.passed + 1 } ∷ fs)
-  next_passed some = step_passed gates marks begun f fs h passed_low (subst (λ s. 0 < get_or marks s 0) (sym operand_is) some)
+  pub next_passed : 0 < get_or heights o 0 → IsRanking gates heights begun (record { place = f.place; passed = f.passed + 1 } ∷ fs)
+  next_passed some = step_passed gates heights begun f fs h passed_low (subst (λ s. 0 < get_or heights s 0) (sym operand_is) some)
 
   pub next_fewer : steps_left gates begun (record { place = f.place; passed = f.passed + 1 } ∷ fs) < steps_left gates begun (f ∷ fs)
   next_fewer = fewer_passed gates begun f fs passed_low
 
-  module _ (operands : All (λ g. All (λ s. s < length marks) g.operands) gates) (driven : (s : ℕ) → s < length marks → get_or marks s 0 ≡ 0 → IsDriven gates symbols s) (none : get_or marks o 0 ≡ 0)
+  module _ (operands : All (λ g. All (λ s. s < length heights) g.operands) gates) (driven : (s : ℕ) → s < length heights → get_or heights s 0 ≡ 0 → IsDriven gates symbols s) (none : get_or heights o 0 ≡ 0)
       (q : ℕ) (told : gate_place (slice_get symbols o) ≡ Some q) where
-    operand_low : o < length marks
+    operand_low : o < length heights
     operand_low =
-        let all : All (λ s. s < length marks) os = subst (All (λ s. s < length marks)) (sym is_os) (subst (λ (x : GateLine). All (λ s. s < length marks) x.operands) (sym is) (operands f.place g h.chain.0.0)) in
-        subst (λ s. s < length marks) (sym at) (all f.passed o inside)
+        let all : All (λ s. s < length heights) os = subst (All (λ s. s < length heights)) (sym is_os) (subst (λ (x : GateLine). All (λ s. s < length heights) x.operands) (sym is) (operands f.place g h.chain.0.0)) in
+        subst (λ s. s < length heights) (sym at) (all f.passed o inside)
 
     next_gate : (q < length gates) × (out_at gates q ≡ get_or (operands_at gates f.place) f.passed 0)
     next_gate =
@@ -280,40 +280,40 @@ module _ (gates : List GateLine) (symbols : List Symbol) (marks : List ℕ) (beg
     pub next_low : q < length gates
     next_low = next_gate.0
 
-    pub next_endless : get_or begun q false ≡ true → IsMarking gates marks begun fs
-    next_endless on = step_endless gates marks begun f fs h q next_gate.0 passed_low next_gate.1 on (ap (λ s. get_or marks s 0) (next_gate.1 ∙ operand_is) ∙ none)
+    pub next_endless : get_or begun q false ≡ true → IsRanking gates heights begun fs
+    next_endless on = step_endless gates heights begun f fs h q next_gate.0 passed_low next_gate.1 on (ap (λ s. get_or heights s 0) (next_gate.1 ∙ operand_is) ∙ none)
 
-    pub next_down : IsMarking gates marks (set begun q true) (record { place = q; passed = 0 } ∷ f ∷ fs)
-    next_down = step_down gates marks begun f fs h q next_gate.0 passed_low next_gate.1
+    pub next_down : IsRanking gates heights (set begun q true) (record { place = q; passed = 0 } ∷ f ∷ fs)
+    next_down = step_down gates heights begun f fs h q next_gate.0 passed_low next_gate.1
 
     pub next_down_fewer : get_or begun q false ≡ false → steps_left gates (set begun q true) (record { place = q; passed = 0 } ∷ f ∷ fs) < steps_left gates begun (f ∷ fs)
     next_down_fewer off = fewer_down gates begun f fs q next_gate.0 h.len off
 
 -- ---- the end
 
--- a gate that can never be marked has an operand without a mark
-pub ended_settled : (gates : List GateLine) (marks : List ℕ) (p : ℕ) (g : GateLine) → p < length gates → g ≡ get_or gates p g → g.out < length marks → HasOneGateEach gates → AreMarks gates marks → IsEnded gates marks p → IsSettled marks g
-ended_settled gates marks p g low at out one sound (inl some) none = let is = gate_is gates p g low at in absurd (omega (arith, some, none, ap (λ s. get_or marks s 0) is.1))
-ended_settled gates marks p g low at out one sound (inr never) none =
-    elim (all_marked marks g.operands) as (λ b. all_marked marks g.operands ≡ b → b ≡ false) [
+-- a gate that can never be ranked has an operand without a height
+pub ended_settled : (gates : List GateLine) (heights : List ℕ) (p : ℕ) (g : GateLine) → p < length gates → g ≡ get_or gates p g → g.out < length heights → HasOneGateEach gates → AreHeights gates heights → IsEnded gates heights p → IsSettled heights g
+ended_settled gates heights p g low at out one sound (inl some) none = let is = gate_is gates p g low at in absurd (omega (arith, some, none, ap (λ s. get_or heights s 0) is.1))
+ended_settled gates heights p g low at out one sound (inr never) none =
+    elim (all_ranked heights g.operands) as (λ b. all_ranked heights g.operands ≡ b → b ≡ false) [
       | true ↦ λ all.
-          let value = greatest (map (λ s. get_or marks s 0) g.operands) + 1 in
-          let zero_there : get_or (set marks g.out value) (out_at gates p) 0 ≡ 0 = never (set marks g.out value) (marked_more gates marks p g low at out one sound none all) in
+          let value = greatest (map (λ s. get_or heights s 0) g.operands) + 1 in
+          let zero_there : get_or (set heights g.out value) (out_at gates p) 0 ≡ 0 = never (set heights g.out value) (ranked_more gates heights p g low at out one sound none all) in
           let is = gate_is gates p g low at in
-          let there : get_or (set marks g.out value) g.out 0 ≡ value = get_or-set_same marks g.out value 0 out in
-          absurd (omega (arith, zero_there, there, ap (λ s. get_or (set marks g.out value) s 0) is.1))
+          let there : get_or (set heights g.out value) g.out 0 ≡ value = get_or-set_same heights g.out value 0 out in
+          absurd (omega (arith, zero_there, there, ap (λ s. get_or (set heights g.out value) s 0) is.1))
       | false ↦ λ e. refl
     ] refl
 
-pub all_settled : (gates : List GateLine) (marks : List ℕ) (begun : List Bool) → All (λ g. g.out < length marks) gates → HasOneGateEach gates → IsMarking gates marks begun [] →
-    ((p : ℕ) → p < length gates → get_or begun p false ≡ true) → All (IsSettled marks) gates
-all_settled gates marks begun outs one h all k d low =
+pub all_settled : (gates : List GateLine) (heights : List ℕ) (begun : List Bool) → All (λ g. g.out < length heights) gates → HasOneGateEach gates → IsRanking gates heights begun [] →
+    ((p : ℕ) → p < length gates → get_or begun p false ≡ true) → All (IsSettled heights) gates
+all_settled gates heights begun outs one h all k d low =
     let g = get_or gates k d in
-    ended_settled gates marks k g low (get_or_default gates k d _ low) (outs k d low) one h.sound (h.left k low (all k low) refl)
+    ended_settled gates heights k g low (get_or_default gates k d _ low) (outs k d low) one h.sound (h.left k low (all k low) refl)
 
 -- nothing is begun
-pub none_begun : (gates : List GateLine) (marks : List ℕ) (begun : List Bool) → AreMarks gates marks → length begun ≡ length gates → ((p : ℕ) → p < length begun → get_or begun p false ≡ false) → IsMarking gates marks begun []
-none_begun gates marks begun sound len none = record {
+pub none_begun : (gates : List GateLine) (heights : List ℕ) (begun : List Bool) → AreHeights gates heights → length begun ≡ length gates → ((p : ℕ) → p < length begun → get_or begun p false ≡ false) → IsRanking gates heights begun []
+none_begun gates heights begun sound len none = record {
   sound = sound;
   len = len;
   chain = tt;
@@ -323,7 +323,7 @@ none_begun gates marks begun sound len none = record {
     no_true : false ≡ true → ⊥
     no_true e = cc
 
--- a signal without a mark now had none before
+-- a signal without a height now had none before
 pub driven_later : (gates : List GateLine) (symbols : List Symbol) (ms more : List ℕ) → Grows ms more → length more ≡ length ms → ((s : ℕ) → s < length ms → get_or ms s 0 ≡ 0 → IsDriven gates symbols s) →
     (s : ℕ) → s < length more → get_or more s 0 ≡ 0 → IsDriven gates symbols s
 driven_later gates symbols ms more grows len driven s low none =

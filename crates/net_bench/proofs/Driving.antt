@@ -7,7 +7,7 @@ use Rattle.net_bench.specs.declared.netlist.Role.{Role}
 use Rattle.net_bench.specs.declared.netlist.Role.TheVariants.{Undefined as undefined, Input as input, Gate as gate, Register as register}
 use Rattle.net_bench.specs.declared.symbols.Symbol.{Symbol}
 use Rattle.net_bench.specs.Circuit.{Net, HasRole, circuit, variables_of}
-use Rattle.net_bench.specs.Marks.{IsDriven, gate_place, place_by}
+use Rattle.net_bench.specs.Heights.{IsDriven, gate_place, place_by}
 use Rattle.net_bench.specs.Symbols.{AreRoles}
 use Rattle.net_bench.proofs.Built.{register_out}
 use Rattle.net_bench.proofs.CircuitOf.{in_front, in_back}

@@ -2,8 +2,8 @@
 use Rattle.std.proofs.Common.{◌≡◌, ◌≢◌, ◌⊎◌, inl, inr, ℕ, ◌≤◌, List, [], ◌∷◌, ◌++◌, true, false, refl, sym, ap, ◌∙◌, subst, length, arith}
 use Rattle.std.specs.Prelude.{Option, Some, None, Ok, Err, slice_get}
 use Rattle.net_bench.specs.declared.symbols.SymbolTable.{SymbolTable}
-use Rattle.net_bench.specs.declared.syntax.Part.{Part}
-use Rattle.net_bench.specs.declared.syntax.Part.TheVariants.{Nothing as nothing, First as first_name, Opened as opened, Named as named, Defining as defining, AtWord as at_word, Operands as operands_open, AfterOperand as after_operand, AfterComma as comma_behind}
+use Rattle.net_bench.specs.declared.syntax.Pending.{Pending}
+use Rattle.net_bench.specs.declared.syntax.Pending.TheVariants.{Nothing as nothing, First as first_name, Opened as opened, Named as named, Defining as defining, AtWord as at_word, Operands as operands_open, AfterOperand as after_operand, AfterComma as comma_behind}
 use Rattle.net_bench.specs.declared.netlist.BenchFault.{BenchFault}
 use Rattle.net_bench.specs.declared.netlist.BenchFault.TheVariants.{BadStatement, OutOfMemory}
 use Rattle.net_bench.specs.declared.scan.Token.{Token as Scanned}
@@ -89,7 +89,7 @@ finishes all done line left table is same h =
     sym same ∙ ap (judge (Between done) (tokens_of (Between done))) is ∙ goes done (Between done) line End [] table h (clean_end done line table h) ∙
     judge_end (Finished done) (tokens_of (Finished done))
 
-broken_end : (done : List Statement) (p : Part) → (p ≡ nothing → ⊥) → step (state_of done p) End ≡ Failed
+broken_end : (done : List Statement) (p : Pending) → (p ≡ nothing → ⊥) → step (state_of done p) End ≡ Failed
 broken_end done nothing other = absurd (other refl)
 broken_end done (first_name w) other = refl
 broken_end done (opened w) other = refl
@@ -100,7 +100,7 @@ broken_end done (operands_open out w) other = refl
 broken_end done (after_operand g) other = refl
 broken_end done (comma_behind g) other = refl
 
-pub breaks : (all : Tokens) (done : List Statement) (p : Part) (line : ℕ) (left : Tokens) → left ≡ (line, End) ∷ [] → (p ≡ nothing → ⊥) →
+pub breaks : (all : Tokens) (done : List Statement) (p : Pending) (line : ℕ) (left : Tokens) → left ≡ (line, End) ∷ [] → (p ≡ nothing → ⊥) →
     judge (state_of done p) (tokens_of (state_of done p)) left ≡ judge (Between []) [] all → (BadStatement line ≡ OutOfMemory) ⊎ IsAnswer all (BadStatement line)
 breaks all done p line left is other same =
     stops all (state_of done p) line End [] left (BadStatement line) is same (inr (tells_misplaced (state_of done p) line End refl (broken_end done p other)))

@@ -4,6 +4,7 @@ pub mod PiecesOf
 pub mod Judging
 pub mod Reading
 pub mod Chains
+pub mod Greatest
 pub mod Names
 pub mod Places
 pub mod NameMap
@@ -11,7 +12,7 @@ pub mod OneLabelling
 pub mod SomeLabelling
 pub mod Built
 pub mod Refusing
-pub mod Marks
+pub mod Heights
 pub mod Settled
 pub mod Deep
 pub mod Numbers

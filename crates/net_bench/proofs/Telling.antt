@@ -3,8 +3,8 @@ use Rattle.std.proofs.Common.{◌≡◌, ◌≢◌, ◌⊎◌, inl, inr, ℕ, �
 use Rattle.std.specs.Prelude.{◌||◌, if◌then◌else◌, nat_lt, flat_map, filter, filter_map, fold, slice_get, slice_set, All, option_to_list, Option, Some, None, option_map}
 use Rattle.std.proofs.lemmas.List.Sums.{fold-append}
 use Rattle.net_bench.specs.declared.symbols.SymbolTable.{SymbolTable}
-use Rattle.net_bench.specs.declared.syntax.Part.{Part}
-use Rattle.net_bench.specs.declared.syntax.Part.TheVariants.{Nothing as nothing}
+use Rattle.net_bench.specs.declared.syntax.Pending.{Pending}
+use Rattle.net_bench.specs.declared.syntax.Pending.TheVariants.{Nothing as nothing}
 use Rattle.net_bench.specs.declared.netlist.GateLine.{GateLine}
 use Rattle.net_bench.specs.declared.netlist.BenchFault.{BenchFault}
 use Rattle.net_bench.specs.declared.netlist.BenchFault.TheVariants.{BadStatement, TooMany}
@@ -84,7 +84,7 @@ tells_word s line t fault none other e =
     let f : Says fault (gate_word (step s t)) = something_told (gate_word (step s t)) fault e in
     (f.0, two_pass s line t none other ∙ stop (gate_word (step s t)) _ f.0 f.1, f.2)
 
-pub tells_gate_word : (done : List Statement) (s : State) (line : ℕ) (t : Token) (p : Part) (fault : BenchFault) → None ≡ option_map told (lexical line t) → state_of done p ≡ step s t →
+pub tells_gate_word : (done : List Statement) (s : State) (line : ℕ) (t : Token) (p : Pending) (fault : BenchFault) → None ≡ option_map told (lexical line t) → state_of done p ≡ step s t →
     Some fault ≡ option_map told (gate_word (state_of done p)) → Tells fault s line t
 tells_gate_word done s line t p fault good at e =
     tells_word s line t fault (nothing_told (lexical line t) good) (λ f. live done p (at ∙ f)) (e ∙ ap (λ z. option_map told (gate_word z)) at)
@@ -189,42 +189,42 @@ operands_after done s t table h other = ap (λ n. n + newest_operands (step s t)
 -- ---- a token that goes on with a statement
 
 -- what is known there: the part stands for the next state, and no statement is closed
-record Part_at (done : List Statement) (s : State) (line : ℕ) (t : Token) (p : Part) (table : SymbolTable) : Type 0 where
+record Part_at (done : List Statement) (s : State) (line : ℕ) (t : Token) (p : Pending) (table : SymbolTable) : Type 0 where
   before : IsTold done s table
   lexical_ok : lexical line t ≡ None
   at : state_of done p ≡ step s t
   open_still : None ≡ closed s t
   word_ok : gate_word (step s t) ≡ None
 
-goes_on : (done : List Statement) (s : State) (t : Token) (p : Part) → state_of done p ≡ step s t → step s t ≢ Failed
+goes_on : (done : List Statement) (s : State) (t : Token) (p : Pending) → state_of done p ≡ step s t → step s t ≢ Failed
 goes_on done s t p at f = live done p (at ∙ f)
 
-to_crowded : {done : List Statement} {s : State} {line : ℕ} {t : Token} {p : Part} {table : SymbolTable} → Part_at done s line t p table →
+to_crowded : {done : List Statement} {s : State} {line : ℕ} {t : Token} {p : Pending} {table : SymbolTable} → Part_at done s line t p table →
     first_of (token_tests s line t) ≡ first_of (crowded line (tokens_of s ++ t ∷ []) ∷ [])
 to_crowded {done} {s} {line} {t} {p} {table} h =
     two_pass s line t h.lexical_ok (goes_on done s t p h.at) ∙ skip (gate_word (step s t)) _ h.word_ok ∙
     ap (λ o. first_of (wrong_count o ∷ second o ∷ crowded line (tokens_of s ++ t ∷ []) ∷ [])) (sym h.open_still)
 
-new_names : (done : List Statement) (s : State) (t : Token) (p : Part) → state_of done p ≡ step s t → newest (state_of [] p) t ≡ newest (step s t) t
+new_names : (done : List Statement) (s : State) (t : Token) (p : Pending) → state_of done p ≡ step s t → newest (state_of [] p) t ≡ newest (step s t) t
 new_names done s t p at = sym (newest_same done p t) ∙ ap (λ z. newest z t) at
 
-new_operands : (done : List Statement) (s : State) (t : Token) (p : Part) → state_of done p ≡ step s t → newest_operands (state_of [] p) t ≡ newest_operands (step s t) t
+new_operands : (done : List Statement) (s : State) (t : Token) (p : Pending) → state_of done p ≡ step s t → newest_operands (state_of [] p) t ≡ newest_operands (step s t) t
 new_operands done s t p at = sym (newest_operands_same done p t) ∙ ap (λ z. newest_operands z t) at
 
-over_is : {done : List Statement} {s : State} {line : ℕ} {t : Token} {p : Part} {table : SymbolTable} → Part_at done s line t p table →
+over_is : {done : List Statement} {s : State} {line : ℕ} {t : Token} {p : Pending} {table : SymbolTable} → Part_at done s line t p table →
     IsOver table (newest (state_of [] p) t) (newest_operands (state_of [] p) t) → IsCrowd (step s t)
 over_is {done} {s} {line} {t} {p} {table} h (inl many) =
     inl (subst (λ (ns : List (List ℕ)). max_signals < length ns) (ap (λ ws. fold with_name table.names (texts ws)) (new_names done s t p h.at) ∙ names_after done s t table h.before (goes_on done s t p h.at)) many)
 over_is {done} {s} {line} {t} {p} {table} h (inr many) =
     inr (subst (λ n. max_operands < n) (ap (λ n. table.operands + n) (new_operands done s t p h.at) ∙ operands_after done s t table h.before (goes_on done s t p h.at)) many)
 
-tells_over : {done : List Statement} {s : State} {line : ℕ} {t : Token} {p : Part} {table : SymbolTable} → Part_at done s line t p table → (fault : BenchFault) → fault ≡ TooMany line →
+tells_over : {done : List Statement} {s : State} {line : ℕ} {t : Token} {p : Pending} {table : SymbolTable} → Part_at done s line t p table → (fault : BenchFault) → fault ≡ TooMany line →
     IsOver table (newest (state_of [] p) t) (newest_operands (state_of [] p) t) → Tells fault s line t
 tells_over {done} {s} {line} {t} {p} {table} h fault is over =
     let f : Found = found Crowded line in
     (f, to_crowded h ∙ stop (crowded line (tokens_of s ++ t ∷ [])) [] f (full s line t h.before.right (goes_on done s t p h.at) (over_is h over)), is)
 
-module _ (done : List Statement) (s : State) (line : ℕ) (t : Token) (p : Part) (old : SymbolTable) (before : IsTold done s old)
+module _ (done : List Statement) (s : State) (line : ℕ) (t : Token) (p : Pending) (old : SymbolTable) (before : IsTold done s old)
     (good : None ≡ option_map told (lexical line t)) (at : state_of done p ≡ step s t) (open_still : None ≡ closed s t)
     (known : None ≡ option_map told (gate_word (state_of done p))) where
   here : Part_at done s line t p old

@@ -1,6 +1,6 @@
 -- A netlist of parts that are at hand, and what its symbols tell while they are made.
 use Rattle.std.specs.Prelude.{◌≡◌, ◌⊎◌, ℕ, true, List, slice_index_or}
-use Rattle.net_bench.specs.declared.assembly.Parts.{Parts}
+use Rattle.net_bench.specs.declared.assembly.Assembly.{Assembly}
 use Rattle.net_bench.specs.declared.symbols.Symbol.{Symbol}
 use Rattle.net_bench.specs.declared.netlist.Role.{Role}
 use Rattle.net_bench.specs.declared.netlist.Role.TheVariants.{Undefined as undefined}
@@ -8,7 +8,7 @@ use Rattle.net_bench.specs.Circuit.{Net, HasRole}
 use Rattle.net_bench.specs.Symbols.{blank, is_defined_role}
 
 -- the netlist that has these parts
-abbrev pub whole : Parts → Net
+abbrev pub whole : Assembly → Net
 whole p = record {
   names = p.names;
   inputs = p.inputs.items;

@@ -117,6 +117,14 @@ pub record Net : Type 0 where
   pub registers : List GateLine
   pub ranks : List ℕ
 
+-- the rank of a gate
+abbrev pub rank_of : Net → GateLine → ℕ
+rank_of n g = slice_index n.ranks g.out
+
+-- the greatest rank of a gate, 0 where there is none
+abbrev pub highest_rank : Net → ℕ
+highest_rank n = greatest (map (rank_of n) n.gates)
+
 -- the netlist without its ranks
 abbrev pub circuit : Net → Circuit
 circuit n = record { names = n.names; inputs = n.inputs; outputs = n.outputs; gates = n.gates; registers = n.registers }

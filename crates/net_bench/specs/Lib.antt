@@ -12,7 +12,7 @@ pub mod Fault
 pub mod FaultText
 pub mod Judge
 pub mod Labels
-pub mod Marks
+pub mod Heights
 pub mod NameTable
 pub mod Sound
 pub mod Symbols

@@ -2,8 +2,8 @@
 use Rattle.std.specs.Prelude.{◌≡◌, ℕ, ◌+◌, ◌*◌, ◌/◌, ◌%◌, ◌^◌, ◌≤◌, List, fold, length, map, take, drop, slice_get, Some, All, bit_xor}
 use Rattle.slot_table.specs.Probes.{home_of, IsFree, Probes}
 use Rattle.net_bench.specs.declared.name_table.Span.{Span}
-use Rattle.net_bench.specs.declared.name_table.Sought.{Sought}
-use Rattle.net_bench.specs.declared.name_table.Sought.TheVariants.{Number, Slot}
+use Rattle.net_bench.specs.declared.name_table.Probe.{Probe}
+use Rattle.net_bench.specs.declared.name_table.Probe.TheVariants.{Number, Slot}
 
 -- the name that lies in a span of the bytes
 abbrev pub name_in : List ℕ → Span → List ℕ
@@ -34,9 +34,9 @@ abbrev pub IsEachOnce : List (List ℕ) → Type 0
 IsEachOnce names = (i j : ℕ) (name : List ℕ) → slice_get names i ≡ Some name → slice_get names j ≡ Some name → i ≡ j
 
 -- where the search for a name ends: at its number, or at the first empty slot where it has none
-abbrev pub IsSought : List (List ℕ) → List ℕ → List ℕ → Sought → Type 0
-IsSought names ts name (Number i) = slice_get names i ≡ Some name
-IsSought names ts name (Slot j) = ((i : ℕ) → slice_get names i ≡ Some name → ⊥) × IsFree (length ts) (home_of spread_of (length ts) name) ts j
+abbrev pub IsProbe : List (List ℕ) → List ℕ → List ℕ → Probe → Type 0
+IsProbe names ts name (Number i) = slice_get names i ≡ Some name
+IsProbe names ts name (Slot j) = ((i : ℕ) → slice_get names i ≡ Some name → ⊥) × IsFree (length ts) (home_of spread_of (length ts) name) ts j
 
 -- what holds of each table
 pub record IsTable (bytes : List ℕ) (spans : List Span) (ts : List ℕ) : Type 0 where

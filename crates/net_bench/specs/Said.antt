@@ -3,10 +3,10 @@ use Rattle.std.specs.Prelude.{List, [], ◌∷◌, ◌++◌, map, Option, Some, 
 use Rattle.net_bench.specs.declared.syntax.Word.{Word as CodeWord}
 use Rattle.net_bench.specs.declared.syntax.Said.{Said}
 use Rattle.net_bench.specs.declared.syntax.Said.TheVariants.{Input as input, Output as output, Gate as gate}
-use Rattle.net_bench.specs.declared.syntax.Part.{Part}
+use Rattle.net_bench.specs.declared.syntax.Pending.{Pending}
 use Rattle.net_bench.specs.declared.syntax.Next.{Next}
 use Rattle.net_bench.specs.declared.syntax.Next.TheVariants.{More as more, Whole as whole}
-use Rattle.net_bench.specs.declared.syntax.Part.TheVariants.{Nothing as nothing, First as first_name, Opened as opened, Named as named, Defining as defining, AtWord as at_word, Operands as operands, AfterOperand as after_operand, AfterComma as after_comma}
+use Rattle.net_bench.specs.declared.syntax.Pending.TheVariants.{Nothing as nothing, First as first_name, Opened as opened, Named as named, Defining as defining, AtWord as at_word, Operands as operands, AfterOperand as after_operand, AfterComma as after_comma}
 use Rattle.net_bench.specs.Machine.{State, Between, First, Opened, Named, Defining, AtWord, Operands, AfterOperand, AfterComma}
 use Rattle.net_bench.specs.Text.{Word}
 use Rattle.net_bench.specs.Statement.{Statement, Input, Output, Gate}
@@ -22,7 +22,7 @@ statement_of (output word name) = Output (word_of word) (word_of name)
 statement_of (gate g) = Gate (word_of g.out) (word_of g.word) (word_of g.first) (map word_of g.others.items)
 
 -- the reader's state, from the statements so far and the part of the next
-abbrev pub state_of : List Statement → Part → State
+abbrev pub state_of : List Statement → Pending → State
 state_of done nothing = Between done
 state_of done (first_name word) = First done (word_of word)
 state_of done (opened word) = Opened done (word_of word)

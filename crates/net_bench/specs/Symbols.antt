@@ -12,7 +12,7 @@ use Rattle.net_bench.specs.declared.netlist.BenchFault.TheVariants.{TooMany, Out
 use Rattle.net_bench.specs.Text.{Word, Token, Name}
 use Rattle.net_bench.specs.Statement.{Statement, Input, Output, Gate, counted, operands, uses, input_name, output_name, gate_name, kind_of, line_of}
 use Rattle.net_bench.specs.Machine.{State, Between, First, Opened, Named, Defining, AtWord, Operands, AfterOperand, AfterComma, Finished, Failed, tokens_of, step, IsRight}
-use Rattle.net_bench.specs.declared.syntax.Part.{Part}
+use Rattle.net_bench.specs.declared.syntax.Pending.{Pending}
 use Rattle.net_bench.specs.Said.{state_of}
 use Rattle.net_bench.specs.Circuit.{is_name_in, with_name, distinct, find, number_of, gate_line, is_gate, is_register, is_register_kind, Net, HasRole}
 use Rattle.net_bench.specs.Sound.{has_kind}
@@ -285,6 +285,6 @@ abbrev pub Tells : BenchFault → State → ℕ → Token → Type 0
 Tells fault s line t = (f : Found) × (first_of (token_tests s line t) ≡ Some f) × (fault ≡ told f)
 
 -- the tests of a token have found nothing, and the part and the table are those of the next state
-abbrev pub GoesOn : State → ℕ → Token → Part → SymbolTable → Type 0
+abbrev pub GoesOn : State → ℕ → Token → Pending → SymbolTable → Type 0
 GoesOn s line t p table =
     (first_of (token_tests s line t) ≡ None) × ((done : List Statement) × (state_of done p ≡ step s t) × IsTold done (state_of done p) table)

@@ -12,7 +12,7 @@ use std::alloc::{AllocError, Global};
 
 /// The parts of a netlist: its signals by number, as `Netlist` has them.
 #[derive(Drop)]
-pub struct Parts {
+pub struct Assembly {
     pub names: NameTable,
     pub inputs: Vec<Signal>,
     pub outputs: Vec<Signal>,
@@ -24,7 +24,7 @@ pub struct Parts {
 
 /// The symbols before any role is told.
 #[tactic(auto, using(crate::proofs::Placing::none_set, crate::proofs::Placing::none_yet))]
-fn without_roles(alloc: Global, parts: &Parts) -> Result<Vec<Symbol>, AllocError>
+fn without_roles(alloc: Global, parts: &Assembly) -> Result<Vec<Symbol>, AllocError>
     requires inside { All (λ s. s < length parts.now.names) parts.now.outputs.items }
     ensures each { IfOk result (λ v. length v.items ≡ length parts.now.names) }
     ensures none { IfOk result (λ v. (s : ℕ) → role_in v.items s ≡ Undefined) }
@@ -49,7 +49,7 @@ fn without_roles(alloc: Global, parts: &Parts) -> Result<Vec<Symbol>, AllocError
 
 /// Tells the role of a signal.
 #[tactic(auto, using(crate::proofs::Placing::right_set, crate::proofs::Placing::placed_set, crate::proofs::Placing::kept_set))]
-fn tell(parts: &Parts, symbols: &mut [Symbol], signal: Signal, role: Role)
+fn tell(parts: &Assembly, symbols: &mut [Symbol], signal: Signal, role: Role)
     requires inside { signal < length symbols.old }
     requires role { HasRole (whole parts.now) signal role }
     requires some { is_defined_role role ≡ true }
@@ -65,7 +65,7 @@ fn tell(parts: &Parts, symbols: &mut [Symbol], signal: Signal, role: Role)
 }
 
 /// Tells the roles of the inputs.
-fn tell_inputs(parts: &Parts, symbols: &mut [Symbol])
+fn tell_inputs(parts: &Assembly, symbols: &mut [Symbol])
     requires inside { All (λ s. s < length symbols.old) parts.now.inputs.items }
     requires right { AreRight (whole parts.now) symbols.old }
     ensures right { AreRight (whole parts.now) symbols.new }
@@ -78,7 +78,7 @@ fn tell_inputs(parts: &Parts, symbols: &mut [Symbol])
 }
 
 /// Tells the roles of the gates' signals.
-fn tell_gates(parts: &Parts, symbols: &mut [Symbol]) -> Result<(), AllocError>
+fn tell_gates(parts: &Assembly, symbols: &mut [Symbol]) -> Result<(), AllocError>
     requires inside { All (λ g. g.out < length symbols.old) parts.now.gates.items }
     requires right { AreRight (whole parts.now) symbols.old }
     ensures right { OnOk result (AreRight (whole parts.now) symbols.new) }
@@ -93,7 +93,7 @@ fn tell_gates(parts: &Parts, symbols: &mut [Symbol]) -> Result<(), AllocError>
 }
 
 /// Tells the roles of the registers' signals.
-fn tell_registers(parts: &Parts, symbols: &mut [Symbol]) -> Result<(), AllocError>
+fn tell_registers(parts: &Assembly, symbols: &mut [Symbol]) -> Result<(), AllocError>
     requires inside { All (λ g. g.out < length symbols.old) parts.now.registers.items }
     requires right { AreRight (whole parts.now) symbols.old }
     ensures right { OnOk result (AreRight (whole parts.now) symbols.new) }
@@ -114,7 +114,7 @@ fn tell_registers(parts: &Parts, symbols: &mut [Symbol]) -> Result<(), AllocErro
 
 /// Tells the roles of all signals.
 #[tactic(auto, using(crate::proofs::Placing::inputs_low, crate::proofs::Placing::registers_low))]
-fn tell_all(parts: &Parts, symbols: &mut [Symbol]) -> Result<(), AllocError>
+fn tell_all(parts: &Assembly, symbols: &mut [Symbol]) -> Result<(), AllocError>
     requires sound { IsNet (whole parts.now) }
     requires each { length symbols.old ≡ length parts.now.names }
     requires right { AreRight (whole parts.now) symbols.old }
@@ -128,7 +128,7 @@ fn tell_all(parts: &Parts, symbols: &mut [Symbol]) -> Result<(), AllocError>
 
 /// The symbols of the signals of a netlist that has these parts.
 #[tactic(auto, using(crate::proofs::Placing::none_right))]
-pub(crate) fn symbols_of(alloc: Global, parts: &Parts) -> Result<Vec<Symbol>, AllocError>
+pub(crate) fn symbols_of(alloc: Global, parts: &Assembly) -> Result<Vec<Symbol>, AllocError>
     requires { IsNet (whole parts.now) }
     ensures { IfOk result (λ v. AreRoles (whole parts.now) v.items) }
 {

@@ -13,7 +13,7 @@ use crate::kinds::kind_of;
 use crate::netlist::BenchFault;
 use crate::scan::{Scanner, Token};
 use crate::symbols::SymbolTable;
-use crate::syntax::{Next, Part, Said, next_part};
+use crate::syntax::{Next, Pending, Said, next_part};
 use std::alloc::Global;
 
 /// The most bytes of a name.
@@ -36,10 +36,10 @@ fn token_fault(line: u32, token: Token<'_>) -> Option<BenchFault>
 }
 
 /// A gate word that names no kind, where the part ends in a gate word.
-fn word_fault(part: &Part<'_>) -> Option<BenchFault>
+fn word_fault(part: &Pending<'_>) -> Option<BenchFault>
     ensures { (done : List Statement) → result ≡ option_map told (gate_word (state_of done part.now)) }
 {
-    let Part::AtWord { out, word } = part else {
+    let Pending::AtWord { out, word } = part else {
         return None;
     };
     match kind_of(word.text) {
@@ -67,10 +67,10 @@ fn close(alloc: Global, symbols: &mut SymbolTable, said: Said<'_>) -> Result<(),
 fn take_token<'a>(
     alloc: Global,
     symbols: &mut SymbolTable,
-    part: Part<'a>,
+    part: Pending<'a>,
     line: u32,
     token: Token<'a>,
-) -> Result<Part<'a>, BenchFault>
+) -> Result<Pending<'a>, BenchFault>
     requires token { seen line token ≢ End }
     requires told { (done : List Statement) × IsTold done (state_of done part) symbols.old }
     ensures goes { IfOk result (λ p. (done : List Statement) → IsTold done (state_of done part.entry) symbols.old → GoesOn (state_of done part.entry) line (seen line token.entry) p symbols.new) }
@@ -89,13 +89,14 @@ fn take_token<'a>(
         }
         Next::Whole(said) => {
             close(alloc, symbols, said)?;
-            Ok(Part::Nothing)
+            Ok(Pending::Nothing)
         }
     }
 }
 
-/// The signals of a text and what its statements say of them, or its first fault: at each token a broken token comes first, then one that no
-/// statement has there, a gate word that names no kind, a wrong number of operands, a second definition, and last a limit that is passed.
+/// The signals of a text and what its statements say of them, or its first fault: at each token a broken token comes first, then one
+/// that no statement has there, a gate word that names no kind, a wrong number of operands, a second definition, and last a limit that
+/// is passed.
 pub fn judge_text(alloc: Global, text: &[u8]) -> Result<SymbolTable, BenchFault>
     requires { length text.now ≤ 67108864 }
     ensures ok { OnOk result (judge (Between []) [] (tokens_at 1 text.now) ≡ Ok (Finished (statements_in text.now))) }
@@ -103,12 +104,12 @@ pub fn judge_text(alloc: Global, text: &[u8]) -> Result<SymbolTable, BenchFault>
     ensures fault { IfErr result (λ f. (f ≡ BenchFault.OutOfMemory) ⊎ ((found : Found) × (judge (Between []) [] (tokens_at 1 text.now) ≡ Err found) × (f ≡ told found))) }
 {
     let mut symbols = SymbolTable::new(alloc);
-    let mut part = Part::Nothing;
+    let mut part = Pending::Nothing;
     let mut scanner = Scanner::new(text);
     'tokens: loop {
         let (line, token) = scanner.next();
         if let Token::End = token {
-            let Part::Nothing = part else {
+            let Pending::Nothing = part else {
                 return Err(BenchFault::BadStatement { line });
             };
             return Ok(symbols);

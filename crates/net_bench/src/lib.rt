@@ -12,7 +12,7 @@
 //!
 //! **Begin** with the format in `specs/Text`, `Statement` and `Fault`; then `reader`, which asks `scan` for tokens,
 //! notes names as signals (`name_table`) and statements by numbers (`symbols`, `build`), and gives each gate its rank
-//! (`ranks`).
+//! (`ranks`, by one `walk`).
 #![tactic(auto)]
 
 pub mod assembly;
@@ -28,3 +28,4 @@ pub mod reader;
 pub mod scan;
 mod symbols;
 mod syntax;
+mod walk;

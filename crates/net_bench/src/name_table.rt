@@ -2,7 +2,7 @@
 ghost use Rattle.std.specs.Prelude.{◌≡◌, ℕ, ◌+◌, ◌*◌, ◌<◌, ◌≤◌, ◌==◌, ◌^◌, List, [], ◌∷◌, ◌++◌, All, bytes_eq, fold, map, length, slice_get, slice_index_or, if◌then◌else◌, IfOk, OnOk, OnErr, Some, None};
 ghost use Rattle.net_bench.specs.Circuit.{with_name, find, number_of, is_name_in};
 ghost use Rattle.slot_table.specs.Probes.{Probes, home_of};
-ghost use Rattle.net_bench.specs.NameTable.{IsEachOnce, IsInside, IsSought, IsTable, hash_of, name_in, names_in, spread_of};
+ghost use Rattle.net_bench.specs.NameTable.{IsEachOnce, IsInside, IsProbe, IsTable, hash_of, name_in, names_in, spread_of};
 
 use slot_table::{free_slot, next_slot};
 use std::alloc::{AllocError, Global};
@@ -16,7 +16,7 @@ pub struct Span {
 }
 
 /// What a search of the slots ends at.
-pub enum Sought {
+pub enum Probe {
     /// The number of the name.
     Number(u32),
     /// The first empty slot, if the name has no number.
@@ -44,7 +44,7 @@ impl Model for NameTable {
 }
 
 /// A number of 32 bits, where it is one.
-pub(crate) fn narrow(number: usize) -> Result<u32, AllocError>
+pub fn narrow(number: usize) -> Result<u32, AllocError>
     ensures { IfOk result (λ n. n ≡ number) }
 {
     match u32::try_from(number) {
@@ -171,21 +171,21 @@ fn is_same(left: &[u8], right: &[u8]) -> bool
 }
 
 /// Where the search for a name ends.
-fn seek(bytes: &[u8], spans: &[Span], slots: &[u32], name: &[u8]) -> Sought
+fn seek(bytes: &[u8], spans: &[Span], slots: &[u32], name: &[u8]) -> Probe
     requires inside { All (IsInside bytes.now) spans.now }
     requires probes { Probes spread_of (length slots.now) (names_in bytes.now spans.now) slots.now }
     requires room { length spans.now < length slots.now }
-    ensures { IsSought (names_in bytes.now spans.now) slots.now name.now result }
+    ensures { IsProbe (names_in bytes.now spans.now) slots.now name.now result }
 {
     let mut slot = home(name, slots.len());
     for _distance in 0..slots.len() {
         let held = slots[slot];
         if held == 0 {
-            return Sought::Slot(slot);
+            return Probe::Slot(slot);
         }
         let other = name_in(bytes, spans[held as usize - 1]);
         if is_same(other, name) {
-            return Sought::Number(held - 1);
+            return Probe::Number(held - 1);
         }
         slot = next_slot(slot, slots.len());
     }
@@ -217,8 +217,8 @@ impl NameTable {
             self.slots.as_slice(),
             name,
         ) {
-            Sought::Number(number) => Some(number),
-            Sought::Slot(_) => None,
+            Probe::Number(number) => Some(number),
+            Probe::Slot(_) => None,
         }
     }
 
@@ -243,8 +243,8 @@ impl NameTable {
             self.slots.as_slice(),
             name,
         ) {
-            Sought::Number(number) => Ok(number),
-            Sought::Slot(slot) => {
+            Probe::Number(number) => Ok(number),
+            Probe::Slot(slot) => {
                 put(&mut self.bytes, &mut self.spans, name, span)?;
                 self.slots[slot] = held;
                 Ok(held - 1)

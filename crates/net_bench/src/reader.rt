@@ -6,11 +6,11 @@ ghost use Rattle.net_bench.specs.Devices.{TakesAtMost};
 ghost use Rattle.net_bench.specs.Judge.{statements_in};
 ghost use Rattle.net_bench.specs.Sound.{IsSound, AreDefined, IsLate};
 ghost use Rattle.net_bench.specs.Machine.{Between};
-ghost use Rattle.net_bench.specs.Marks.{IsDriven};
+ghost use Rattle.net_bench.specs.Heights.{IsDriven};
 ghost use Rattle.net_bench.specs.Assembly.{whole};
 ghost use Rattle.net_bench.specs.Symbols.{IsTold};
 
-use crate::assembly::{Parts, symbols_of};
+use crate::assembly::{Assembly, symbols_of};
 use crate::build::variables_of;
 use crate::device::{Source, TextFault, read_text};
 use crate::judge::judge_text;
@@ -232,13 +232,13 @@ fn netlist_of(alloc: Global, text: &[u8], symbols: SymbolTable) -> Result<Netlis
 }
 
 /// The netlist of parts that are at hand.
-pub fn netlist_of_parts(alloc: Global, parts: Parts) -> Result<Netlist, AllocError>
+pub fn netlist_of_parts(alloc: Global, parts: Assembly) -> Result<Netlist, AllocError>
     requires { IsNet (whole parts) }
     ensures { IfOk result (λ net. net ≡ whole parts) }
 {
     let symbols = symbols_of(alloc, &parts)?;
     let variables = variables_of(alloc, parts.inputs.as_slice(), parts.registers.as_slice())?;
-    let Parts {
+    let Assembly {
         names,
         inputs,
         outputs,

@@ -12,7 +12,7 @@ use crate::kinds::kind_of;
 use crate::name_table::NameTable;
 use crate::netlist::{BenchFault, GateLine, Kind, Role, Signal};
 use crate::scan::Token;
-use crate::syntax::{Part, Said, Word};
+use crate::syntax::{Pending, Said, Word};
 use std::alloc::{AllocError, Global};
 
 /// The most signals of a netlist.
@@ -226,7 +226,7 @@ impl SymbolTable {
     pub fn count(
         &mut self,
         alloc: Global,
-        part: &Part<'_>,
+        part: &Pending<'_>,
         line: u32,
         token: Token<'_>,
     ) -> Result<(), BenchFault>
@@ -237,9 +237,9 @@ impl SymbolTable {
         ensures err { IfErr result (IsCrowding line self.old (newest (state_of [] part.now) (seen line token.entry)) (newest_operands (state_of [] part.now) (seen line token.entry))) }
     {
         match part {
-            Part::Defining { out } => self.count_name(alloc, line, *out),
-            Part::Named { name, .. } => self.count_name(alloc, line, *name),
-            Part::AfterOperand(_) => match token {
+            Pending::Defining { out } => self.count_name(alloc, line, *out),
+            Pending::Named { name, .. } => self.count_name(alloc, line, *name),
+            Pending::AfterOperand(_) => match token {
                 Token::Name(text) => self.count_operand(alloc, line, Word { line, text }),
                 _ => Ok(()),
             },

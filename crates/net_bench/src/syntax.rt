@@ -50,7 +50,7 @@ impl Said<'_> {
 
 /// What the tokens behind the last whole statement have said.
 #[derive(Drop)]
-pub enum Part<'a> {
+pub enum Pending<'a> {
     Nothing,
     First { word: Word<'a> },
     Opened { word: Word<'a> },
@@ -89,7 +89,7 @@ fn port<'a>(word: Word<'a>, name: Word<'a>) -> Said<'a>
 /// What one more token makes of a part of a statement: more of it, or the whole.
 #[derive(Drop)]
 pub enum Next<'a> {
-    More(Part<'a>),
+    More(Pending<'a>),
     Whole(Said<'a>),
 }
 
@@ -113,23 +113,27 @@ fn with_operand<'a>(gate: SaidGate<'a>, operand: Word<'a>) -> Result<SaidGate<'a
 }
 
 /// What a name makes of a part of a statement.
-fn next_name<'a>(alloc: Global, part: Part<'a>, name: Word<'a>) -> Result<Part<'a>, BenchFault>
+fn next_name<'a>(
+    alloc: Global,
+    part: Pending<'a>,
+    name: Word<'a>,
+) -> Result<Pending<'a>, BenchFault>
     ensures step { IfOk result (λ p. (done : List Statement) → state_of done p ≡ step (state_of done part.entry) (Name (word_of name.entry))) }
     ensures closed { IfOk result (λ p. (done : List Statement) → closed (state_of done part.entry) (Name (word_of name.entry)) ≡ None) }
     ensures broken { IfErr result (λ e. (e ≡ BenchFault.OutOfMemory) ⊎
         ((e ≡ BadStatement name.entry.line) × ((done : List Statement) → step (state_of done part.entry) (Name (word_of name.entry)) ≡ Failed))) }
 {
     match part {
-        Part::Nothing => Ok(Part::First { word: name }),
-        Part::Opened { word } => Ok(Part::Named { word, name }),
-        Part::Defining { out } => Ok(Part::AtWord { out, word: name }),
-        Part::Operands { out, word } => Ok(Part::AfterOperand(SaidGate {
+        Pending::Nothing => Ok(Pending::First { word: name }),
+        Pending::Opened { word } => Ok(Pending::Named { word, name }),
+        Pending::Defining { out } => Ok(Pending::AtWord { out, word: name }),
+        Pending::Operands { out, word } => Ok(Pending::AfterOperand(SaidGate {
             out,
             word,
             first: name,
             others: Vec::new(alloc),
         })),
-        Part::AfterComma(gate) => Ok(Part::AfterOperand(with_operand(gate, name)?)),
+        Pending::AfterComma(gate) => Ok(Pending::AfterOperand(with_operand(gate, name)?)),
         _ => Err(BenchFault::BadStatement { line: name.line }),
     }
 }
@@ -137,7 +141,7 @@ fn next_name<'a>(alloc: Global, part: Part<'a>, name: Word<'a>) -> Result<Part<'
 /// What one more token, which is not the end, makes of a part of a statement.
 pub fn next_part<'a>(
     alloc: Global,
-    part: Part<'a>,
+    part: Pending<'a>,
     line: u32,
     token: Token<'a>,
 ) -> Result<Next<'a>, BenchFault>
@@ -152,14 +156,17 @@ pub fn next_part<'a>(
             let part = next_name(alloc, part, Word { line, text })?;
             Ok(Next::More(part))
         }
-        (Part::First { word }, Token::Equals) => Ok(Next::More(Part::Defining { out: word })),
-        (Part::First { word }, Token::Open) if is_input(word) || is_output(word) => Ok(Next::More(
-            Part::Opened { word },
-        )),
-        (Part::Named { word, name }, Token::Close) => Ok(Next::Whole(port(word, name))),
-        (Part::AtWord { out, word }, Token::Open) => Ok(Next::More(Part::Operands { out, word })),
-        (Part::AfterOperand(gate), Token::Comma) => Ok(Next::More(Part::AfterComma(gate))),
-        (Part::AfterOperand(gate), Token::Close) => Ok(Next::Whole(Said::Gate(gate))),
+        (Pending::First { word }, Token::Equals) => Ok(Next::More(Pending::Defining { out: word })),
+        (Pending::First { word }, Token::Open) if is_input(word) || is_output(word) => Ok(
+            Next::More(Pending::Opened { word }),
+        ),
+        (Pending::Named { word, name }, Token::Close) => Ok(Next::Whole(port(word, name))),
+        (Pending::AtWord { out, word }, Token::Open) => Ok(Next::More(Pending::Operands {
+            out,
+            word,
+        })),
+        (Pending::AfterOperand(gate), Token::Comma) => Ok(Next::More(Pending::AfterComma(gate))),
+        (Pending::AfterOperand(gate), Token::Close) => Ok(Next::Whole(Said::Gate(gate))),
         _ => Err(BenchFault::BadStatement { line }),
     }
 }

@@ -12,22 +12,22 @@ use Rattle.net_bench.specs.Statement.{takes_one}
 use Rattle.net_bench.proofs.OneLabelling.{at_contained}
 use Rattle.net_cone.specs.declared.cone.Numbers.{Numbers}
 use Rattle.net_cone.specs.Cones.{AreNames, IsBelow, IsCone, IsCopy, gate_name, last_gate, variable_name}
-use Rattle.net_cone.specs.Walk.{AreBelow, IsDrawn, IsMarked, IsNumbering, cone_names, gates_of, has_mark, marked_gates, renamed}
+use Rattle.net_cone.specs.Walk.{AreBelow, IsDrawn, IsVisited, IsNumbering, cone_names, gates_of, is_visited, visited_gates, renamed}
 use Rattle.net_cone.proofs.Lists.{all_map, filter_after_map, in_filter, in_first, in_map, in_second, map_alike, map_itself, map_twice, none_of, one_of}
 use Rattle.net_cone.proofs.Names.{AreApart, apart_append, apart_map, at_two, counted, new_map, none_map}
 use Rattle.net_cone.proofs.Numbered.{no_gate, one_name}
 use Rattle.net_cone.proofs.Walking.{all_found}
 
 -- what cones are made of
-pub record IsReady (n : Net) (root : ℕ) (given : List (List ℕ)) (marks : List Bool) (k : Numbers) (cone : Net) : Type 0 where
+pub record IsReady (n : Net) (root : ℕ) (given : List (List ℕ)) (seen : List Bool) (k : Numbers) (cone : Net) : Type 0 where
   pub sound : IsNet n
   pub root_low : root < length n.names
   pub named : AreNames n given
-  pub below : AreBelow n root marks
+  pub below : AreBelow n root seen
   pub numbered : IsNumbering k.from.items k.to.items
   pub each : length k.to.items ≡ length n.names
-  pub variables : k.variables ≡ length (filter (has_mark marks) (variables_of (circuit n)))
-  pub from : k.from.items ≡ filter (has_mark marks) (variables_of (circuit n)) ++ filter (has_mark marks) (map (λ g. g.out) n.gates)
+  pub variables : k.variables ≡ length (filter (is_visited seen) (variables_of (circuit n)))
+  pub from : k.from.items ≡ filter (is_visited seen) (variables_of (circuit n)) ++ filter (is_visited seen) (map (λ g. g.out) n.gates)
   pub drawn : IsDrawn n root given k cone
 
 greatest_one : (x : ℕ) → greatest (x ∷ []) ≡ x
@@ -54,7 +54,7 @@ same_rest : (x : ℕ) (xs ys : List ℕ) → x ∷ xs ≡ x ∷ ys → xs ≡ ys
 unfolding rest_of
 same_rest x xs ys same = ap rest_of same
 
-module _ (n : Net) (root : ℕ) (given : List (List ℕ)) (marks : List Bool) (k : Numbers) (cone : Net) (r : IsReady n root given marks k cone) where
+module _ (n : Net) (root : ℕ) (given : List (List ℕ)) (seen : List Bool) (k : Numbers) (cone : Net) (r : IsReady n root given seen k cone) where
   abbrev from : List ℕ
   from = k.from.items
 
@@ -62,15 +62,15 @@ module _ (n : Net) (root : ℕ) (given : List (List ℕ)) (marks : List Bool) (k
   to = k.to.items
 
   abbrev vars : List ℕ
-  vars = filter (has_mark marks) (variables_of (circuit n))
+  vars = filter (is_visited seen) (variables_of (circuit n))
 
   abbrev gates : List GateLine
-  gates = marked_gates marks n.gates
+  gates = visited_gates seen n.gates
 
-  parts : k.from.items ≡ filter (has_mark marks) (variables_of (circuit n)) ++ map (λ g. g.out) (marked_gates marks n.gates)
-  parts = r.from ∙ ap (λ os. filter (has_mark marks) (variables_of (circuit n)) ++ os) (filter_after_map (has_mark marks) (λ (g : GateLine). g.out) n.gates)
+  parts : k.from.items ≡ filter (is_visited seen) (variables_of (circuit n)) ++ map (λ g. g.out) (visited_gates seen n.gates)
+  parts = r.from ∙ ap (λ os. filter (is_visited seen) (variables_of (circuit n)) ++ os) (filter_after_map (is_visited seen) (λ (g : GateLine). g.out) n.gates)
 
-  count : length k.from.items ≡ k.variables + length (marked_gates marks n.gates)
+  count : length k.from.items ≡ k.variables + length (visited_gates seen n.gates)
   count = ap length parts ∙ length-append vars (map (λ g. g.out) gates) ∙ ap (λ m. length vars + m) (length-map gates (λ g. g.out)) ∙ ap (λ m. m + length gates) (sym r.variables)
 
   -- ---- numbers
@@ -81,15 +81,15 @@ module _ (n : Net) (root : ℕ) (given : List (List ℕ)) (marks : List Bool) (k
       let number : slice_index to s ≡ i = ap (slice_index to) (sym is) ∙ r.numbered.place i low in
       (subst (λ j. j < length from) (sym number) low, ap (slice_index from) number ∙ is)
 
-  gate_in : (g : GateLine) → Contains n.gates g → IsMarked marks g.out → Contains k.from.items g.out
-  gate_in g among marked =
+  gate_in : (g : GateLine) → Contains n.gates g → IsVisited seen g.out → Contains k.from.items g.out
+  gate_in g among visited =
       subst (λ xs. Contains xs g.out) (sym parts)
-      (in_second vars (map (λ h. h.out) gates) g.out (in_map (λ h. h.out) gates g (in_filter (λ h. has_mark marks h.out) n.gates g among marked)))
+      (in_second vars (map (λ h. h.out) gates) g.out (in_map (λ h. h.out) gates g (in_filter (λ h. is_visited seen h.out) n.gates g among visited)))
 
-  marked_in : (s : ℕ) → s < length n.names → IsMarked marks s → Contains k.from.items s
-  marked_in s low marked = elim (r.sound.defined s low) [
-    | inl variable ↦ subst (λ xs. Contains xs s) (sym parts) (in_first vars (map (λ h. h.out) gates) s (in_filter (has_mark marks) (variables_of (circuit n)) s variable marked))
-    | inr (g, among, out) ↦ subst (Contains k.from.items) out (gate_in g among (subst (IsMarked marks) (sym out) marked))
+  visited_in : (s : ℕ) → s < length n.names → IsVisited seen s → Contains k.from.items s
+  visited_in s low visited = elim (r.sound.defined s low) [
+    | inl variable ↦ subst (λ xs. Contains xs s) (sym parts) (in_first vars (map (λ h. h.out) gates) s (in_filter (is_visited seen) (variables_of (circuit n)) s variable visited))
+    | inr (g, among, out) ↦ subst (Contains k.from.items) out (gate_in g among (subst (IsVisited seen) (sym out) visited))
   ]
 
   variable_at : (t : ℕ) → t < k.variables → slice_index k.from.items t ≡ get_or vars t 0
@@ -97,7 +97,7 @@ module _ (n : Net) (root : ℕ) (given : List (List ℕ)) (marks : List Bool) (k
 
   is_variable : (t : ℕ) → t < k.variables → Contains (variables_of (circuit n)) (slice_index k.from.items t)
   is_variable t low = subst (Contains (variables_of (circuit n))) (sym (variable_at t low))
-      (All-filter (has_mark marks) (Contains (variables_of (circuit n))) (variables_of (circuit n)) (All-contains_itself (variables_of (circuit n))) t 0 (subst (λ m. t < m) r.variables low))
+      (All-filter (is_visited seen) (Contains (variables_of (circuit n))) (variables_of (circuit n)) (All-contains_itself (variables_of (circuit n))) t 0 (subst (λ m. t < m) r.variables low))
 
   gate_at : (i : ℕ) (d : GateLine) → i < length gates → slice_index k.from.items (k.variables + i) ≡ (get_or gates i d).out
   gate_at i d low =
@@ -105,39 +105,39 @@ module _ (n : Net) (root : ℕ) (given : List (List ℕ)) (marks : List Bool) (k
       get_or-append-add vars (map (λ g. g.out) gates) i 0 ∙ get_or-map (λ g. g.out) gates i d 0 low
 
   root_in : Contains k.from.items root
-  root_in = marked_in root r.root_low r.below.start
+  root_in = visited_in root r.root_low r.below.start
 
   -- ---- gates
 
-  met : All (λ g. Contains n.gates g × IsMarked marks g.out) gates
+  met : All (λ g. Contains n.gates g × IsVisited seen g.out) gates
   met i d low = (
-    All-filter (λ g. has_mark marks g.out) (Contains n.gates) n.gates (All-contains_itself n.gates) i d low,
-    filter_passes (λ g. has_mark marks g.out) n.gates i d low,
+    All-filter (λ g. is_visited seen g.out) (Contains n.gates) n.gates (All-contains_itself n.gates) i d low,
+    filter_passes (λ g. is_visited seen g.out) n.gates i d low,
   )
 
-  operand_in : (g : GateLine) → Contains n.gates g × IsMarked marks g.out → All (λ t. Contains k.from.items t) g.operands
-  operand_in g (among, marked) i d low =
-      marked_in (get_or g.operands i d)
+  operand_in : (g : GateLine) → Contains n.gates g × IsVisited seen g.out → All (λ t. Contains k.from.items t) g.operands
+  operand_in g (among, visited) i d low =
+      visited_in (get_or g.operands i d)
       ((at_contained (λ g. All (λ s. s < length n.names) g.operands × (0 < length g.operands) × (IsTrue (takes_one g.kind) → length g.operands ≡ 1)) n.gates g r.sound.operands among).0 i d low)
-      (r.below.closed g among marked i d low)
+      (r.below.closed g among visited i d low)
 
-  copy_of : (g : GateLine) → Contains n.gates g × IsMarked marks g.out → IsCopy n k.from.items (renamed k.to.items g)
-  copy_of g (among, marked) =
-      let out : (slice_index to g.out < length from) × (slice_index from (slice_index to g.out) ≡ g.out) = number_of g.out (gate_in g among marked) in
+  copy_of : (g : GateLine) → Contains n.gates g × IsVisited seen g.out → IsCopy n k.from.items (renamed k.to.items g)
+  copy_of g (among, visited) =
+      let out : (slice_index to g.out < length from) × (slice_index from (slice_index to g.out) ≡ g.out) = number_of g.out (gate_in g among visited) in
       record {
         source = g;
         among = among;
         inside = out.0;
         out = out.1;
         kind = refl;
-        low = all_map (slice_index to) (λ t. t < length from) g.operands (λ i d low. (number_of (get_or g.operands i d) (operand_in g (among, marked) i d low)).0);
+        low = all_map (slice_index to) (λ t. t < length from) g.operands (λ i d low. (number_of (get_or g.operands i d) (operand_in g (among, visited) i d low)).0);
         operands = map_twice (slice_index to) (slice_index from) g.operands ∙
-            map_alike (λ s. slice_index from (slice_index to s)) (λ s. s) g.operands (λ i d low. (number_of (get_or g.operands i d) (operand_in g (among, marked) i d low)).1) ∙ map_itself g.operands;
+            map_alike (λ s. slice_index from (slice_index to s)) (λ s. s) g.operands (λ i d low. (number_of (get_or g.operands i d) (operand_in g (among, visited) i d low)).1) ∙ map_itself g.operands;
         line = refl;
       }
 
   abbrev copies : List GateLine
-  copies = map (renamed k.to.items) (marked_gates marks n.gates)
+  copies = map (renamed k.to.items) (visited_gates seen n.gates)
 
   abbrev last : GateLine
   last = last_gate (length k.from.items) (slice_index k.to.items root)
@@ -189,7 +189,7 @@ module _ (n : Net) (root : ℕ) (given : List (List ℕ)) (marks : List Bool) (k
       omega arith
 
   abbrev outs : List ℕ
-  outs = map (λ (g : GateLine). g.out) (marked_gates marks n.gates)
+  outs = map (λ (g : GateLine). g.out) (visited_gates seen n.gates)
 
   out_at : (i : ℕ) → i < length gates → get_or outs i 0 ≡ slice_index k.from.items (k.variables + i)
   out_at i low = get_or-map (λ (g : GateLine). g.out) gates i no_gate 0 low ∙ sym (gate_at i no_gate low)
@@ -219,7 +219,7 @@ module _ (n : Net) (root : ℕ) (given : List (List ℕ)) (marks : List Bool) (k
       once i j less (omega arith) (variable_at i (omega arith) ∙ same ∙ sym (variable_at j (omega arith)))
 
   var_among : (i : ℕ) → i < length vars → Contains (variables_of (circuit n)) (slice_index vars i)
-  var_among i low = All-filter (has_mark marks) (Contains (variables_of (circuit n))) (variables_of (circuit n)) (All-contains_itself (variables_of (circuit n))) i 0 low
+  var_among i low = All-filter (is_visited seen) (Contains (variables_of (circuit n))) (variables_of (circuit n)) (All-contains_itself (variables_of (circuit n))) i 0 low
 
   front_apart : AreApart front
   front_apart = apart_map (variable_name given) vars var_once
@@ -308,13 +308,13 @@ module _ (n : Net) (root : ℕ) (given : List (List ℕ)) (marks : List Bool) (k
   number_rank : (s : ℕ) → Contains k.from.items s → slice_index cone.ranks (slice_index k.to.items s) ≡ slice_index n.ranks s
   number_rank s among = rank_at (slice_index to s) (number_of s among).0 ∙ ap (slice_index n.ranks) (number_of s among).1
 
-  copy_ranked : (g : GateLine) → Contains n.gates g × IsMarked marks g.out → IsRanked (renamed k.to.items g)
-  copy_ranked g (among, marked) =
-      number_rank g.out (gate_in g among marked) ∙
+  copy_ranked : (g : GateLine) → Contains n.gates g × IsVisited seen g.out → IsRanked (renamed k.to.items g)
+  copy_ranked g (among, visited) =
+      number_rank g.out (gate_in g among visited) ∙
       at_contained (λ h. slice_index n.ranks h.out ≡ greatest (map (slice_index n.ranks) h.operands) + 1) n.gates g r.sound.ranks.gates among ∙
       ap (λ xs. greatest xs + 1)
       (sym (map_twice (slice_index to) (slice_index cone.ranks) g.operands ∙
-      map_alike (λ s. slice_index cone.ranks (slice_index to s)) (slice_index n.ranks) g.operands (λ i d low. number_rank (get_or g.operands i d) (operand_in g (among, marked) i d low))))
+      map_alike (λ s. slice_index cone.ranks (slice_index to s)) (slice_index n.ranks) g.operands (λ i d low. number_rank (get_or g.operands i d) (operand_in g (among, visited) i d low))))
 
   last_ranked : IsRanked (last_gate (length k.from.items) (slice_index k.to.items root))
   last_ranked =
@@ -330,20 +330,20 @@ module _ (n : Net) (root : ℕ) (given : List (List ℕ)) (marks : List Bool) (k
   variables_are : variables_of (circuit cone) ≡ cone.inputs
   variables_are = ap (λ (rs : List GateLine). cone.inputs ++ map (λ g. g.out) rs) r.drawn.registers ∙ append-nil cone.inputs
 
-  gates_all : (P : GateLine → Type 0) → ((g : GateLine) → Contains n.gates g × IsMarked marks g.out → P (renamed k.to.items g)) → P last → All P cone.gates
+  gates_all : (P : GateLine → Type 0) → ((g : GateLine) → Contains n.gates g × IsVisited seen g.out → P (renamed k.to.items g)) → P last → All P cone.gates
   gates_all P copy end = subst (All P) (sym gates_are)
       (All-append P copies (last ∷ []) (all_map (renamed to) P gates (λ i d low. copy (get_or gates i d) (met i d low))) (one_of P last end))
 
   abbrev IsFed : GateLine → Type 0
   IsFed g = All (λ s. s < length cone.names) g.operands × (0 < length g.operands) × (IsTrue (takes_one g.kind) → length g.operands ≡ 1)
 
-  copy_fed : (g : GateLine) → Contains n.gates g × IsMarked marks g.out → IsFed (renamed k.to.items g)
-  copy_fed g (among, marked) =
+  copy_fed : (g : GateLine) → Contains n.gates g × IsVisited seen g.out → IsFed (renamed k.to.items g)
+  copy_fed g (among, visited) =
       let all : length cone.names ≡ length from + 1 = names_count in
       let long : length (map (slice_index to) g.operands) ≡ length g.operands = length-map g.operands (slice_index to) in
       let facts : All (λ s. s < length n.names) g.operands × (0 < length g.operands) × (IsTrue (takes_one g.kind) → length g.operands ≡ 1) =
       at_contained (λ g. All (λ s. s < length n.names) g.operands × (0 < length g.operands) × (IsTrue (takes_one g.kind) → length g.operands ≡ 1)) n.gates g r.sound.operands among in (
-        λ i d low. (let less : get_or (map (slice_index to) g.operands) i d < length from = (copy_of g (among, marked)).low i d low in omega arith),
+        λ i d low. (let less : get_or (map (slice_index to) g.operands) i d < length from = (copy_of g (among, visited)).low i d low in omega arith),
         omega (arith, facts.1),
         λ takes. long ∙ facts.2 takes,
       )
@@ -398,9 +398,9 @@ module _ (n : Net) (root : ℕ) (given : List (List ℕ)) (marks : List Bool) (k
 
   all_below : All (IsBelow (circuit n) root) k.from.items
   all_below = subst (All (IsBelow (circuit n) root)) (sym r.from)
-      (All-append (IsBelow (circuit n) root) vars (filter (has_mark marks) (map (λ g. g.out) n.gates))
-      (λ i d low. r.below.below (get_or vars i d) (filter_passes (has_mark marks) (variables_of (circuit n)) i d low))
-      (λ i d low. r.below.below (get_or (filter (has_mark marks) (map (λ g. g.out) n.gates)) i d) (filter_passes (has_mark marks) (map (λ g. g.out) n.gates) i d low)))
+      (All-append (IsBelow (circuit n) root) vars (filter (is_visited seen) (map (λ g. g.out) n.gates))
+      (λ i d low. r.below.below (get_or vars i d) (filter_passes (is_visited seen) (variables_of (circuit n)) i d low))
+      (λ i d low. r.below.below (get_or (filter (is_visited seen) (map (λ g. g.out) n.gates)) i d) (filter_passes (is_visited seen) (map (λ g. g.out) n.gates) i d low)))
 
   pub cone_of_signal : IsCone n root given cone k.from.items
   cone_of_signal =
@@ -412,7 +412,7 @@ module _ (n : Net) (root : ℕ) (given : List (List ℕ)) (marks : List Bool) (k
         count = names_count;
         below = all_below;
         once = once;
-        met = has_mark marks;
+        met = is_visited seen;
         order = r.from;
         input_places = λ t d low. r.drawn.input t d (subst (λ m. t < m) r.drawn.inputs low);
         gate_places = λ i d low. copy_out i d (subst (λ m. i < m) copies_count low) ∙ ap (λ m. m + i) (sym r.drawn.inputs);

@@ -1,7 +1,7 @@
 pub mod Functions
 pub mod Closed
-pub mod Marking
-pub mod Unmarking
+pub mod Visiting
+pub mod Unvisiting
 pub mod Walking
 pub mod Lists
 pub mod Names

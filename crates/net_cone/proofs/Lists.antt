@@ -3,11 +3,11 @@ use Rattle.std.proofs.Common.{◌≡◌, ℕ, zero, suc, List, [], ◌∷◌, �
 use Rattle.std.specs.Prelude.{All, Contains, cond, filter}
 
 pub in_filter : {X : Type 0} (p : X → Bool) (xs : List X) (x : X) → Contains xs x → p x ≡ true → Contains (filter p xs) x
-in_filter p [] x (i, low, at) marked = absurd (omega arith)
-in_filter p (y ∷ ys) x (zero, low, at) marked =
-    subst (λ b. Contains (cond b (y ∷ filter p ys) (filter p ys)) x) (sym (ap p at ∙ marked)) (0, omega arith, at)
-in_filter p (y ∷ ys) x (suc i, low, at) marked =
-    let there : Contains (filter p ys) x = in_filter p ys x (i, omega arith, at) marked in
+in_filter p [] x (i, low, at) visited = absurd (omega arith)
+in_filter p (y ∷ ys) x (zero, low, at) visited =
+    subst (λ b. Contains (cond b (y ∷ filter p ys) (filter p ys)) x) (sym (ap p at ∙ visited)) (0, omega arith, at)
+in_filter p (y ∷ ys) x (suc i, low, at) visited =
+    let there : Contains (filter p ys) x = in_filter p ys x (i, omega arith, at) visited in
     elim (p y) as (λ b. Contains (cond b (y ∷ filter p ys) (filter p ys)) x) [
       | true ↦ (suc there.0, omega (arith, there.1), there.2)
       | false ↦ there

@@ -9,7 +9,7 @@ use Rattle.std.proofs.lemmas.Option.{get_or_from_slice_get}
 use Rattle.net_bench.specs.declared.netlist.GateLine.{GateLine}
 use Rattle.net_bench.specs.Circuit.{AreOnce, IsNet, Net, circuit, variables_of}
 use Rattle.net_cone.specs.Cones.{AreNames, last_gate}
-use Rattle.net_cone.specs.Walk.{has_mark}
+use Rattle.net_cone.specs.Walk.{is_visited}
 
 pub name_at : (n : Net) (s : ℕ) (name : List ℕ) → slice_get n.names s ≡ Some name → name ≡ get_or n.names s []
 name_at n s name at = sym (get_or_from_slice_get n.names s name [] at)
@@ -35,12 +35,12 @@ earlier xs p s once low is i d less same =
     once i p before low
     (get_or_default xs i 0 d within ∙ sym (get_or-take p xs i d before) ∙ same ∙ is ∙ get_or_default xs p s 0 low)
 
-pub fresh_next : (marks : List Bool) (signals from initial : List ℕ) (p s : ℕ) → AreOnce signals → p < length signals → s ≡ get_or signals p s →
-    All (λ t. t ≢ s) initial → from ≡ initial ++ filter (has_mark marks) (take p signals) → All (λ t. t ≢ s) from
-fresh_next marks signals from initial p s once low is fresh added =
+pub fresh_next : (seen : List Bool) (signals from initial : List ℕ) (p s : ℕ) → AreOnce signals → p < length signals → s ≡ get_or signals p s →
+    All (λ t. t ≢ s) initial → from ≡ initial ++ filter (is_visited seen) (take p signals) → All (λ t. t ≢ s) from
+fresh_next seen signals from initial p s once low is fresh added =
     subst (All (λ t. t ≢ s)) (sym added)
-    (All-append (λ t. t ≢ s) initial (filter (has_mark marks) (take p signals)) fresh
-    (All-filter (has_mark marks) (λ t. t ≢ s) (take p signals) (earlier signals p s once low is)))
+    (All-append (λ t. t ≢ s) initial (filter (is_visited seen) (take p signals)) fresh
+    (All-filter (is_visited seen) (λ t. t ≢ s) (take p signals) (earlier signals p s once low is)))
 
 -- ---- the gates' signals
 
@@ -65,12 +65,12 @@ module _ (n : Net) (sound : IsNet n) (outs : List ℕ) (is : outs ≡ map (λ g.
       let long : length (map (λ g. g.out) n.gates) ≡ length n.gates = length_outs n.gates in
       sound.one_gate i j no_gate less (omega arith) (sym (out_at n.gates i 0 (omega arith)) ∙ same ∙ out_at n.gates j 0 low))
 
-  pub outs_fresh : (marks : List Bool) (old from : List ℕ) → old ≡ [] → from ≡ old ++ filter (has_mark marks) (variables_of (circuit n)) → All (λ s. All (λ t. t ≢ s) from) outs
-  outs_fresh marks old from none added =
-      let all : from ≡ filter (has_mark marks) (variables_of (circuit n)) = added ∙ ap (λ xs. xs ++ filter (has_mark marks) (variables_of (circuit n))) none in
+  pub outs_fresh : (seen : List Bool) (old from : List ℕ) → old ≡ [] → from ≡ old ++ filter (is_visited seen) (variables_of (circuit n)) → All (λ s. All (λ t. t ≢ s) from) outs
+  outs_fresh seen old from none added =
+      let all : from ≡ filter (is_visited seen) (variables_of (circuit n)) = added ∙ ap (λ xs. xs ++ filter (is_visited seen) (variables_of (circuit n))) none in
       subst (λ os. All (λ s. All (λ t. t ≢ s) from) os) (sym is)
       (λ k e low. subst (All (λ t. t ≢ get_or (map (λ g. g.out) n.gates) k e)) (sym all)
-      (All-filter (has_mark marks) (λ t. t ≢ get_or (map (λ g. g.out) n.gates) k e) (variables_of (circuit n))
+      (All-filter (is_visited seen) (λ t. t ≢ get_or (map (λ g. g.out) n.gates) k e) (variables_of (circuit n))
       (λ i d less same. sound.apart i d less k no_gate (subst (λ l. k < l) (length_outs n.gates) low) (sym (out_at n.gates k e low) ∙ sym same))))
 
 -- ---- names

@@ -12,7 +12,7 @@ use Rattle.net_bench.specs.declared.netlist.Role.TheVariants.{Gate as gate, Unde
 use Rattle.net_bench.specs.Circuit.{Net, IsNet, circuit, gate_by, gate_of}
 use Rattle.net_bench.proofs.Built.{role_gate}
 use Rattle.net_cone.specs.Cones.{IsBelow, here, deeper}
-use Rattle.net_cone.specs.Walk.{AreBelow, IsMarked, IsWalking, KeepsMarks, gates_of}
+use Rattle.net_cone.specs.Walk.{AreBelow, IsVisited, IsWalking, KeepsVisited, gates_of}
 
 pub contained_at : (xs : List ℕ) (i d : ℕ) → i < length xs → Contains xs (get_or xs i d)
 contained_at xs i d low = (i, low, get_or_default xs i (get_or xs i d) d low)
@@ -74,8 +74,8 @@ module _ (n : Net) (sound : IsNet n) (root s : ℕ) (old new : List Bool) (befor
     each = w.each;
     start = w.start;
     below = w.below;
-    waits = shorter (IsMarked old) before s w.waits;
-    done = λ g among marked. elim (w.done g among marked) [
+    waits = shorter (IsVisited old) before s w.waits;
+    done = λ g among visited. elim (w.done g among visited) [
       | inl waits ↦ elim (last_or before s g.out waits) [
         | inl is ↦ let found : gate_of n.gates s ≡ Some g = subst (λ t. gate_of n.gates t ≡ Some g) (sym is) (gate_found n sound g among) in cc
         | inr rest ↦ inl rest
@@ -85,17 +85,17 @@ module _ (n : Net) (sound : IsNet n) (root s : ℕ) (old new : List Bool) (befor
   }
 
   -- the operands of its gate are visited
-  pub pass_gate : (g : GateLine) → Contains n.gates g → g.out ≡ s → length new ≡ length n.names → All (IsMarked new) g.operands → KeepsMarks old new →
-      ((t : ℕ) → IsMarked new t → IsMarked old t ⊎ (Contains g.operands t × Contains after t)) → ((t : ℕ) → Contains before t → Contains after t) →
-      (All (IsMarked old) before → All (IsMarked new) after) → IsWalking n root new after
-  pass_gate g there out each operands kept only stay marked = record {
+  pub pass_gate : (g : GateLine) → Contains n.gates g → g.out ≡ s → length new ≡ length n.names → All (IsVisited new) g.operands → KeepsVisited old new →
+      ((t : ℕ) → IsVisited new t → IsVisited old t ⊎ (Contains g.operands t × Contains after t)) → ((t : ℕ) → Contains before t → Contains after t) →
+      (All (IsVisited old) before → All (IsVisited new) after) → IsWalking n root new after
+  pass_gate g there out each operands kept only stay visited = record {
     each = each;
     start = kept root w.start;
     below = λ t now. elim (only t now) [
       | inl was ↦ w.below t was
-      | inr (among, waits) ↦ deeper (w.below s (last_of (IsMarked old) before s w.waits)) (g, there, out, among)
+      | inr (among, waits) ↦ deeper (w.below s (last_of (IsVisited old) before s w.waits)) (g, there, out, among)
     ];
-    waits = marked (shorter (IsMarked old) before s w.waits);
+    waits = visited (shorter (IsVisited old) before s w.waits);
     done = λ h among now. elim (only h.out now) [
       | inl was ↦ elim (w.done h among was) [
         | inl waits ↦ elim (last_or before s h.out waits) [
@@ -103,7 +103,7 @@ module _ (n : Net) (sound : IsNet n) (root s : ℕ) (old new : List Bool) (befor
               let one : gate_of n.gates s ≡ Some g = subst (λ t. gate_of n.gates t ≡ Some g) out (gate_found n sound g there) in
               let two : gate_of n.gates s ≡ Some h = subst (λ t. gate_of n.gates t ≡ Some h) (sym is) (gate_found n sound h among) in
               let same : g ≡ h = cc in
-              inr (subst (λ (x : GateLine). All (IsMarked new) x.operands) same operands)
+              inr (subst (λ (x : GateLine). All (IsVisited new) x.operands) same operands)
           | inr rest ↦ inl (stay h.out rest)
         ]
         | inr all ↦ inr (λ i d low. kept (get_or h.operands i d) (all i d low))
@@ -112,23 +112,23 @@ module _ (n : Net) (sound : IsNet n) (root s : ℕ) (old new : List Bool) (befor
     ];
   }
 
-pub taken : (n : Net) (root s : ℕ) (marks : List Bool) (old rest : List ℕ) → old ≡ rest ++ s ∷ [] → IsWalking n root marks old → IsWalking n root marks (rest ++ s ∷ [])
-taken n root s marks old rest is w = subst (IsWalking n root marks) is w
+pub taken : (n : Net) (root s : ℕ) (seen : List Bool) (old rest : List ℕ) → old ≡ rest ++ s ∷ [] → IsWalking n root seen old → IsWalking n root seen (rest ++ s ∷ [])
+taken n root s seen old rest is w = subst (IsWalking n root seen) is w
 
-pub taken_low : (n : Net) → IsNet n → (root s : ℕ) (marks : List Bool) (rest : List ℕ) → IsWalking n root marks (rest ++ s ∷ []) → s < length n.names
-taken_low n sound root s marks rest w = inside marks s (length n.names) w.each (last_of (IsMarked marks) rest s w.waits)
+pub taken_low : (n : Net) → IsNet n → (root s : ℕ) (seen : List Bool) (rest : List ℕ) → IsWalking n root seen (rest ++ s ∷ []) → s < length n.names
+taken_low n sound root s seen rest w = inside seen s (length n.names) w.each (last_of (IsVisited seen) rest s w.waits)
   where
-    inside : (ms : List Bool) (i bound : ℕ) → length ms ≡ bound → IsMarked ms i → i < bound
-    inside [] i bound is marked = cc
-    inside (m ∷ ms) zero bound is marked = omega arith
-    inside (m ∷ ms) (suc i) zero is marked = absurd (omega arith)
-    inside (m ∷ ms) (suc i) (suc bound) is marked = let more : i < bound = inside ms i bound (omega arith) marked in omega arith
+    inside : (ms : List Bool) (i bound : ℕ) → length ms ≡ bound → IsVisited ms i → i < bound
+    inside [] i bound is visited = cc
+    inside (m ∷ ms) zero bound is visited = omega arith
+    inside (m ∷ ms) (suc i) zero is visited = absurd (omega arith)
+    inside (m ∷ ms) (suc i) (suc bound) is visited = let more : i < bound = inside ms i bound (omega arith) visited in omega arith
 
-pub begun : (n : Net) (root : ℕ) (old new : List Bool) (waiting : List ℕ) → length new ≡ length n.names → ((s : ℕ) → IsMarked old s → ⊥) → IsMarked new root →
-    ((s : ℕ) → IsMarked new s → IsMarked old s ⊎ ((s ≡ root) × Contains waiting s)) → All (IsMarked new) waiting → IsWalking n root new waiting
-begun n root old new waiting each none marked only all = record {
+pub begun : (n : Net) (root : ℕ) (old new : List Bool) (waiting : List ℕ) → length new ≡ length n.names → ((s : ℕ) → IsVisited old s → ⊥) → IsVisited new root →
+    ((s : ℕ) → IsVisited new s → IsVisited old s ⊎ ((s ≡ root) × Contains waiting s)) → All (IsVisited new) waiting → IsWalking n root new waiting
+begun n root old new waiting each none visited only all = record {
   each = each;
-  start = marked;
+  start = visited;
   below = λ s now. elim (only s now) [
     | inl was ↦ absurd (none s was)
     | inr (is, waits) ↦ subst (IsBelow (circuit n) root) (sym is) here
@@ -140,22 +140,22 @@ begun n root old new waiting each none marked only all = record {
   ];
 }
 
-pub ended : (n : Net) (root : ℕ) (marks : List Bool) (waiting : List ℕ) → waiting ≡ [] → IsWalking n root marks waiting → AreBelow n root marks
-ended n root marks [] e w = record {
+pub ended : (n : Net) (root : ℕ) (seen : List Bool) (waiting : List ℕ) → waiting ≡ [] → IsWalking n root seen waiting → AreBelow n root seen
+ended n root seen [] e w = record {
   each = w.each;
   start = w.start;
   below = w.below;
-  closed = λ g among marked. elim (w.done g among marked) [
+  closed = λ g among visited. elim (w.done g among visited) [
     | inl (i, low, at) ↦ absurd (omega arith)
     | inr all ↦ all
   ];
 }
-ended n root marks (x ∷ xs) e w = cc
+ended n root seen (x ∷ xs) e w = cc
 
-pub no_marks : (count s : ℕ) → IsMarked (replicate count false) s → ⊥
-no_marks zero s e = cc
-no_marks (suc n) zero e = cc
-no_marks (suc n) (suc s) e = no_marks n s e
+pub none_seen : (count s : ℕ) → IsVisited (replicate count false) s → ⊥
+none_seen zero s e = cc
+none_seen (suc n) zero e = cc
+none_seen (suc n) (suc s) e = none_seen n s e
 
 pub no_gate_by : (gates : List GateLine) (r : Role) → ((p : ℕ) → r ≡ gate p → ⊥) → gate_by gates r ≡ None
 no_gate_by gates Undefined none = refl

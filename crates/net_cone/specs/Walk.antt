@@ -1,4 +1,4 @@
--- What holds while a cone is made: the marks of its signals, and their numbers in it.
+-- What holds while a cone is made: the seen of its signals, and their numbers in it.
 use Rattle.std.specs.Prelude.{◌≡◌, ◌⊎◌, ◌<◌, ◌≤◌, ◌+◌, ℕ, Bool, true, false, if◌then◌else◌, List, [], ◌∷◌, ◌++◌, count_by, filter, filter_map, fold, map, length, take, drop, slice_index, slice_index_or, Contains, All}
 use Rattle.net_bench.specs.declared.netlist.GateLine.{GateLine}
 use Rattle.net_bench.specs.Circuit.{Net, circuit, gate_of, with_name}
@@ -6,39 +6,39 @@ use Rattle.net_cone.specs.declared.cone.Numbers.{Numbers}
 use Rattle.net_cone.specs.Cones.{IsBelow, gate_name, last_gate, variable_name}
 
 -- the signal has a mark
-abbrev pub has_mark : List Bool → ℕ → Bool
-has_mark marks s = slice_index_or marks s false
+abbrev pub is_visited : List Bool → ℕ → Bool
+is_visited seen s = slice_index_or seen s false
 
-abbrev pub IsMarked : List Bool → ℕ → Type 0
-IsMarked marks s = has_mark marks s ≡ true
+abbrev pub IsVisited : List Bool → ℕ → Type 0
+IsVisited seen s = is_visited seen s ≡ true
 
 -- how many gates' signals have one
-abbrev pub gates_marked : List Bool → List GateLine → ℕ
-gates_marked marks gates = count_by (λ g. has_mark marks g.out) gates
+abbrev pub gates_visited : List Bool → List GateLine → ℕ
+gates_visited seen gates = count_by (λ g. is_visited seen g.out) gates
 
 -- how many signals have none
-abbrev pub unmarked : List Bool → ℕ
-unmarked [] = 0
-unmarked (b ∷ bs) = if b then unmarked bs else unmarked bs + 1
+abbrev pub unvisited : List Bool → ℕ
+unvisited [] = 0
+unvisited (b ∷ bs) = if b then unvisited bs else unvisited bs + 1
 
 -- no mark is lost
-abbrev pub KeepsMarks : List Bool → List Bool → Type 0
-KeepsMarks old new = (s : ℕ) → IsMarked old s → IsMarked new s
+abbrev pub KeepsVisited : List Bool → List Bool → Type 0
+KeepsVisited old new = (s : ℕ) → IsVisited old s → IsVisited new s
 
--- the marked signals are below the root, and those that wait are marked; the others' operands are marked
-pub record IsWalking (n : Net) (root : ℕ) (marks : List Bool) (waiting : List ℕ) : Type 0 where
-  pub each : length marks ≡ length n.names
-  pub start : IsMarked marks root
-  pub below : (s : ℕ) → IsMarked marks s → IsBelow (circuit n) root s
-  pub waits : All (λ s. IsMarked marks s) waiting
-  pub done : (g : GateLine) → Contains n.gates g → IsMarked marks g.out → Contains waiting g.out ⊎ All (λ t. IsMarked marks t) g.operands
+-- the visited signals are below the root, and those that wait are visited; the others' operands are visited
+pub record IsWalking (n : Net) (root : ℕ) (seen : List Bool) (waiting : List ℕ) : Type 0 where
+  pub each : length seen ≡ length n.names
+  pub start : IsVisited seen root
+  pub below : (s : ℕ) → IsVisited seen s → IsBelow (circuit n) root s
+  pub waits : All (λ s. IsVisited seen s) waiting
+  pub done : (g : GateLine) → Contains n.gates g → IsVisited seen g.out → Contains waiting g.out ⊎ All (λ t. IsVisited seen t) g.operands
 
--- the marked signals are those below the root
-pub record AreBelow (n : Net) (root : ℕ) (marks : List Bool) : Type 0 where
-  pub each : length marks ≡ length n.names
-  pub start : IsMarked marks root
-  pub below : (s : ℕ) → IsMarked marks s → IsBelow (circuit n) root s
-  pub closed : (g : GateLine) → Contains n.gates g → IsMarked marks g.out → All (λ t. IsMarked marks t) g.operands
+-- the visited signals are those below the root
+pub record AreBelow (n : Net) (root : ℕ) (seen : List Bool) : Type 0 where
+  pub each : length seen ≡ length n.names
+  pub start : IsVisited seen root
+  pub below : (s : ℕ) → IsVisited seen s → IsBelow (circuit n) root s
+  pub closed : (g : GateLine) → Contains n.gates g → IsVisited seen g.out → All (λ t. IsVisited seen t) g.operands
 
 -- each signal of the list has its place as its number
 pub record IsNumbering (from to : List ℕ) : Type 0 where
@@ -49,9 +49,9 @@ pub record IsNumbering (from to : List ℕ) : Type 0 where
 abbrev pub renamed : List ℕ → GateLine → GateLine
 renamed to g = record { out = slice_index to g.out; kind = g.kind; operands = map (slice_index to) g.operands; line = g.line }
 
--- the gates whose signals are marked
-abbrev pub marked_gates : List Bool → List GateLine → List GateLine
-marked_gates marks gates = filter (λ g. has_mark marks g.out) gates
+-- the gates whose signals are visited
+abbrev pub visited_gates : List Bool → List GateLine → List GateLine
+visited_gates seen gates = filter (λ g. is_visited seen g.out) gates
 
 -- the gates of these signals, in their order
 abbrev pub gates_of : List GateLine → List ℕ → List GateLine

@@ -3,13 +3,13 @@ ghost use Rattle.std.specs.Prelude.{◌≡◌, ◌<◌, ◌≤◌, ℕ, ◌++◌
 ghost use Rattle.net_bench.specs.Assembly.{whole};
 ghost use Rattle.net_bench.specs.Circuit.{IsNet, circuit, variables_of, with_name};
 ghost use Rattle.net_cone.specs.Cones.{AreNames, IsCone, gate_signals};
-ghost use Rattle.net_cone.specs.Walk.{AreBelow, IsDrawn, IsNumbering, cone_names, has_mark};
+ghost use Rattle.net_cone.specs.Walk.{AreBelow, IsDrawn, IsNumbering, cone_names, is_visited};
 
-use crate::below::marks_below;
+use crate::below::seen_below;
 use crate::naming::{count_gates, count_variables};
-use crate::numbering::{first_numbers, last_gate, narrow, number_marked, ranks_of, renamed_gates};
-use net_bench::assembly::Parts;
-use net_bench::name_table::NameTable;
+use crate::numbering::{first_numbers, last_gate, number_visited, ranks_of, renamed_gates};
+use net_bench::assembly::Assembly;
+use net_bench::name_table::{NameTable, narrow};
 use net_bench::netlist::Signal;
 use net_bench::reader::{Netlist, netlist_of_parts};
 use std::alloc::{AllocError, Global};
@@ -42,45 +42,45 @@ pub struct Numbers {
     pub variables: usize,
 }
 
-/// Numbers the marked signals, the variables first, and answers how many of these there are.
+/// Numbers the visited signals, the variables first, and answers how many of these there are.
 fn number_all(
     net: &Netlist,
-    marks: &[bool],
+    seen: &[bool],
     outs: &[Signal],
     from: &mut Vec<Signal>,
     to: &mut [u32],
 ) -> Result<usize, AllocError>
-    requires marks { length marks.now ≡ length to.old }
+    requires seen { length seen.now ≡ length to.old }
     requires each { length to.old ≡ length net.now.names }
     requires outs { outs.now ≡ gate_signals net.now }
     requires none { from.old.items ≡ [] }
     ensures numbered { OnOk result (IsNumbering from.new.items to.new) }
-    ensures variables { IfOk result (λ n. n ≡ length (filter (has_mark marks.now) (variables_of (circuit net.now)))) }
-    ensures from { OnOk result (from.new.items ≡ filter (has_mark marks.now) (variables_of (circuit net.now)) ++ filter (has_mark marks.now) outs.now) }
+    ensures variables { IfOk result (λ n. n ≡ length (filter (is_visited seen.now) (variables_of (circuit net.now)))) }
+    ensures from { OnOk result (from.new.items ≡ filter (is_visited seen.now) (variables_of (circuit net.now)) ++ filter (is_visited seen.now) outs.now) }
 {
-    number_marked(marks, net.variables(), from, to)?;
+    number_visited(seen, net.variables(), from, to)?;
     let variables = from.len();
-    number_marked(marks, outs, from, to)?;
+    number_visited(seen, outs, from, to)?;
     Ok(variables)
 }
 
-/// The numbers of the marked signals.
+/// The numbers of the visited signals.
 fn numbers_of(
     alloc: Global,
     net: &Netlist,
-    marks: &[bool],
+    seen: &[bool],
     outs: &[Signal],
 ) -> Result<Numbers, AllocError>
-    requires marks { length marks.now ≡ length net.now.names }
+    requires seen { length seen.now ≡ length net.now.names }
     requires outs { outs.now ≡ gate_signals net.now }
     ensures each { IfOk result (λ v. length v.to.items ≡ length net.now.names) }
     ensures numbered { IfOk result (λ v. IsNumbering v.from.items v.to.items) }
-    ensures variables { IfOk result (λ v. v.variables ≡ length (filter (has_mark marks.now) (variables_of (circuit net.now)))) }
-    ensures from { IfOk result (λ v. v.from.items ≡ filter (has_mark marks.now) (variables_of (circuit net.now)) ++ filter (has_mark marks.now) (gate_signals net.now)) }
+    ensures variables { IfOk result (λ v. v.variables ≡ length (filter (is_visited seen.now) (variables_of (circuit net.now)))) }
+    ensures from { IfOk result (λ v. v.from.items ≡ filter (is_visited seen.now) (variables_of (circuit net.now)) ++ filter (is_visited seen.now) (gate_signals net.now)) }
 {
     let mut to = Vec::from_elem(alloc, 0u32, net.count())?;
     let mut from = Vec::new(alloc);
-    let variables = number_all(net, marks, outs, &mut from, to.as_mut_slice())?;
+    let variables = number_all(net, seen, outs, &mut from, to.as_mut_slice())?;
     Ok(Numbers {
         from,
         to,
@@ -120,7 +120,7 @@ fn parts_of(
     root: Signal,
     given: &[Vec<u8>],
     numbers: &Numbers,
-) -> Result<Parts, AllocError>
+) -> Result<Assembly, AllocError>
     requires root { root < length net.now.names }
     requires given { length given.now ≡ length net.now.names }
     requires to { length numbers.now.to.items ≡ length net.now.names }
@@ -137,7 +137,7 @@ fn parts_of(
     gates.push(last_gate(alloc, out, to, root)?)?;
     let mut outputs = Vec::new(alloc);
     outputs.push(out)?;
-    Ok(Parts {
+    Ok(Assembly {
         names,
         inputs: first_numbers(alloc, numbers.variables)?,
         outputs,
@@ -163,9 +163,9 @@ pub fn cone_of(
     requires outs { outs.now ≡ gate_signals net.now }
     ensures { IfOk result (λ c. IsCone net.now root (map (λ w. w.items) names.now) c.net c.from.items) }
 {
-    let below = marks_below(alloc, net, root)?;
-    let marks = below.as_slice();
-    let numbers = numbers_of(alloc, net, marks, outs)?;
+    let below = seen_below(alloc, net, root)?;
+    let seen = below.as_slice();
+    let numbers = numbers_of(alloc, net, seen, outs)?;
     let parts = parts_of(alloc, net, root, names, &numbers)?;
     let Numbers { from, .. } = numbers;
     Ok(Cone {

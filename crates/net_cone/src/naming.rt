@@ -3,8 +3,7 @@ ghost use Rattle.std.specs.Prelude.{◌≡◌, ◌<◌, ℕ, ◌++◌, ◌∷◌
 ghost use Rattle.net_bench.specs.Circuit.{IsNet, with_name};
 ghost use Rattle.net_cone.specs.Cones.{AreNames, gate_name, variable_name};
 
-use crate::numbering::narrow;
-use net_bench::name_table::NameTable;
+use net_bench::name_table::{NameTable, narrow};
 use net_bench::netlist::Signal;
 use net_bench::reader::Netlist;
 use std::alloc::{AllocError, Global};

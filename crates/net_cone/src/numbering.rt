@@ -2,24 +2,14 @@
 ghost use Rattle.std.specs.Prelude.{◌≡◌, ◌≢◌, ◌<◌, ℕ, ◌++◌, ◌∷◌, [], filter, map, length, slice_index, slice_index_or, ◌+◌, All, IfOk, OnOk};
 ghost use Rattle.net_bench.specs.Circuit.{AreOnce, IsNet};
 ghost use Rattle.net_cone.specs.Cones.{gate_signals, last_gate};
-ghost use Rattle.net_cone.specs.Walk.{IsNumbering, gates_of, has_mark, renamed};
+ghost use Rattle.net_cone.specs.Walk.{IsNumbering, gates_of, is_visited, renamed};
 
+use net_bench::name_table::narrow;
 use net_bench::netlist::{GateLine, Kind, Operands, Role, Signal};
 use net_bench::reader::Netlist;
 use std::alloc::{AllocError, Global};
 
-/// A number of 32 bits, where it is one.
-pub fn narrow(number: usize) -> Result<u32, AllocError>
-    ensures { IfOk result (λ n. n ≡ number) }
-{
-    match u32::try_from(number) {
-        Ok(narrow) => Ok(narrow),
-        Err(_) => Err(AllocError),
-    }
-}
-
 /// Gives a signal the next number.
-
 fn number(signal: Signal, from: &mut Vec<Signal>, to: &mut [u32]) -> Result<(), AllocError>
     requires inside { signal < length to.old }
     requires fresh { All (λ s. s ≢ signal) from.old.items }
@@ -33,24 +23,24 @@ fn number(signal: Signal, from: &mut Vec<Signal>, to: &mut [u32]) -> Result<(), 
     Ok(())
 }
 
-/// Gives the marked ones of these signals the next numbers, in their order.
-pub fn number_marked(
-    marks: &[bool],
+/// Gives the visited ones of these signals the next numbers, in their order.
+pub fn number_visited(
+    seen: &[bool],
     signals: &[Signal],
     from: &mut Vec<Signal>,
     to: &mut [u32],
 ) -> Result<(), AllocError>
-    requires marks { length marks.now ≡ length to.old }
+    requires seen { length seen.now ≡ length to.old }
     requires inside { All (λ s. s < length to.old) signals.now }
     requires once { AreOnce signals.now }
     requires fresh { All (λ s. All (λ t. t ≢ s) from.old.items) signals.now }
     requires numbered { IsNumbering from.old.items to.old }
     ensures numbered { OnOk result (IsNumbering from.new.items to.new) }
-    ensures added { OnOk result (from.new.items ≡ from.old.items ++ filter (has_mark marks.now) signals.now) }
+    ensures added { OnOk result (from.new.items ≡ from.old.items ++ filter (is_visited seen.now) signals.now) }
 {
     for place in 0..signals.len() {
         let signal = signals[place];
-        if marks[signal.number() as usize] {
+        if seen[signal.number() as usize] {
             number(signal, from, to)?;
         }
     }

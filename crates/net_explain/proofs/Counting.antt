@@ -2,7 +2,7 @@
 use Rattle.std.proofs.Common.{◌≡◌, ◌<◌, Bool, true, false, not, ◌&&◌, List, ◌∷◌, [], Some, None, refl, subst, get_or, length, arith}
 use Rattle.net_bench.specs.Circuit.{Net}
 use Rattle.net_explain.specs.declared.differing.Inner.{Inner}
-use Rattle.net_explain.specs.declared.explaining.Part.{Part}
+use Rattle.net_explain.specs.declared.explaining.GateCount.{GateCount}
 use Rattle.net_explain.specs.Explaining.{AreParts, IsPart, Viewed}
 
 pub both_true : (b c : Bool) → b ≡ true → c ≡ false → (b && not c) ≡ true
@@ -23,7 +23,7 @@ pub no_parts : (a b : Net) (v w : Viewed) (is : List Inner) → length is ≡ 0 
 no_parts a b v w [] e = tt
 no_parts a b v w (i ∷ is) e = absurd (omega arith)
 
-pub some_parts : (a b : Net) (v w : Viewed) (is : List Inner) (i : Inner) (p q : Part) → 0 < length is → i ≡ get_or is 0 i → IsPart a v i.first p → IsPart b w i.second q →
+pub some_parts : (a b : Net) (v w : Viewed) (is : List Inner) (i : Inner) (p q : GateCount) → 0 < length is → i ≡ get_or is 0 i → IsPart a v i.first p → IsPart b w i.second q →
     AreParts a b v w is (Some (record { 0 = p; 1 = q }))
 some_parts a b v w [] i p q low is first second = absurd (omega arith)
 some_parts a b v w (j ∷ js) i p q low is first second =

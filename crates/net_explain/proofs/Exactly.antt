@@ -5,7 +5,7 @@ use Rattle.std.proofs.lemmas.Bool.{ne_eqb}
 use Rattle.std.proofs.lemmas.Bool.Decides.{nat_tests}
 use Rattle.std.proofs.lemmas.Option.{get_or_from_slice_get, slice_get-get_or, slice_get_within}
 use Rattle.net_bench.specs.declared.netlist.GateLine.{GateLine}
-use Rattle.net_bench.specs.Circuit.{Net, IsNet, find, gate_of}
+use Rattle.net_bench.specs.Circuit.{Net, IsNet, find, gate_of, highest_rank, rank_of}
 use Rattle.net_bench.specs.Labels.{bit_of}
 use Rattle.net_bench.proofs.Found.{found_at}
 use Rattle.net_bench.proofs.Names.{found_place}
@@ -15,7 +15,7 @@ use Rattle.net_cone.proofs.Numbered.{one_name}
 use Rattle.net_cone.proofs.Walking.{gate_found}
 use Rattle.net_explain.specs.declared.differing.Inner.{Inner}
 use Rattle.net_explain.specs.Explaining.{IsInner, Viewed, differ, differing, gate_line, inner_at, inner_on, inner_to, inner_with, is_inner, line_of}
-use Rattle.net_explain.specs.Ranked.{highest, rank_of, rank_row}
+use Rattle.net_explain.specs.Ranked.{rank_row}
 use Rattle.net_explain.proofs.Lists.{same_or}
 use Rattle.net_explain.proofs.Rows.{in_row, rank_low, rank_top}
 
@@ -205,7 +205,7 @@ module _ (a b : Net) (v w : Viewed) (i : Inner) (first : IsNet a) (second : IsNe
       }
 
   pub is_inner_of : Contains (differing a b v w) i → IsInner a b v w i
-  is_inner_of among = let (s, e) = in_ranks (highest a) among in is_it s e
+  is_inner_of among = let (s, e) = in_ranks (highest_rank a) among in is_it s e
 
   up_to : (r top : ℕ) → r ≤ top → Contains (inner_to a b v w r) i → Contains (inner_to a b v w top) i
   up_to zero zero low there = there
@@ -243,5 +243,5 @@ module _ (a b : Net) (v w : Viewed) (i : Inner) (first : IsNet a) (second : IsNe
       ap (inner_on i.first i.second (bit_of v.values i.first) (line_of a i.first)) (listed_line b is.other_gate i.second i.second_line second is.other_among is.other_out is.other_line) ∙
       ap (λ o. inner_on i.first i.second (bit_of v.values i.first) o (Some i.second_line)) (listed_line a is.gate i.first i.first_line first is.among is.out is.line) ∙
       ap (λ z. inner_on i.first i.second z (Some i.first_line) (Some i.second_line)) is.value in
-      up_to (rank_of a is.gate) (highest a) (rank_top a is.gate is.among)
+      up_to (rank_of a is.gate) (highest_rank a) (rank_top a is.gate is.among)
       (in_rank (rank_of a is.gate) (rank_low a first is.gate is.among) (subst (Contains (rank_row a (rank_of a is.gate))) is.out (in_row a (rank_of a is.gate) is.gate is.among refl)) at)

@@ -3,7 +3,7 @@ pub mod Lists
 pub mod Folding
 pub mod Rows
 pub mod Setting
-pub mod Marking
+pub mod Visiting
 pub mod Inners
 pub mod Counting
 pub mod Wording

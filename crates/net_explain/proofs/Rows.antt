@@ -6,22 +6,12 @@ use Rattle.std.proofs.lemmas.List.Elements.{filter-append}
 use Rattle.std.proofs.lemmas.Bool.{ne_eqb}
 use Rattle.std.proofs.lemmas.Bool.Decides.{nat_tests}
 use Rattle.net_bench.specs.declared.netlist.GateLine.{GateLine}
-use Rattle.net_bench.specs.Circuit.{Net, IsNet, circuit, greatest}
+use Rattle.net_bench.specs.Circuit.{Net, IsNet, circuit, greatest, highest_rank, rank_of}
 use Rattle.net_bench.proofs.OneLabelling.{at_contained}
 use Rattle.net_bench.proofs.Chains.{greatest_above, lower}
 use Rattle.net_cone.proofs.Lists.{in_filter, in_map}
-use Rattle.net_explain.specs.Ranked.{AreRows, highest, rank_of, rank_row}
+use Rattle.net_explain.specs.Ranked.{AreRows, rank_row}
 use Rattle.net_explain.proofs.Lists.{all_of, same_or}
-
-greatest_more : (xs : List ℕ) (x : ℕ) → greatest (xs ++ x ∷ []) ≡ max (greatest xs) x
-greatest_more [] x = grind (arith, nat_tests)
-greatest_more (y ∷ xs) x =
-    let e : greatest (xs ++ x ∷ []) ≡ max (greatest xs) x = greatest_more xs x in
-    rw e (grind (arith, nat_tests))
-
--- one more item, and the greatest of the numbers of those so far
-pub greatest_next : {X : Type 0} (f : X → ℕ) (xs : List X) (i : ℕ) (x : X) → i < length xs → get_or xs i x ≡ x → greatest (map f (take (i + 1) xs)) ≡ max (greatest (map f (take i xs))) (f x)
-greatest_next f xs i x lt at = ap greatest (map_more f xs i x lt ∙ ap (λ y. map f (take i xs) ++ f y ∷ []) at) ∙ greatest_more (map f (take i xs)) (f x)
 
 long : {X : Type 0} (f : X → ℕ) (ys : List X) (i : ℕ) → i < length ys → i < length (map f ys)
 long f [] i lt = absurd (omega arith)
@@ -33,7 +23,7 @@ below_greatest : {X : Type 0} (f : X → ℕ) (xs : List X) (x : X) → Contains
 below_greatest f xs x among =
     subst (λ z. z ≤ greatest (map f xs)) (get_or-map f xs among.0 x 0 among.1 ∙ ap f among.2) (greatest_above (map f xs) among.0 (long f xs among.0 among.1))
 
-pub rank_top : (n : Net) (g : GateLine) → Contains n.gates g → rank_of n g ≤ highest n
+pub rank_top : (n : Net) (g : GateLine) → Contains n.gates g → rank_of n g ≤ highest_rank n
 rank_top n g among = below_greatest (rank_of n) n.gates g among
 
 module _ (n : Net) (sound : IsNet n) where

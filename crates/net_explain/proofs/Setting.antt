@@ -4,12 +4,12 @@ use Rattle.std.specs.Prelude.{Contains, All, Some, MatchOption, slice_index}
 use Rattle.std.proofs.lemmas.Bool.{cases_lt}
 use Rattle.std.proofs.lemmas.List.{get_or-set_same, get_or-set_other, length-set}
 use Rattle.net_bench.specs.declared.netlist.GateLine.{GateLine}
-use Rattle.net_bench.specs.Circuit.{Net, IsNet, circuit, gate_of, variables_of}
+use Rattle.net_bench.specs.Circuit.{Net, IsNet, circuit, gate_of, variables_of, highest_rank, rank_of}
 use Rattle.net_bench.specs.Labels.{IsFunctionOf, IsLabelling, bit_of, value_of}
 use Rattle.net_bench.proofs.OneLabelling.{at_contained, map_same}
 use Rattle.net_bench.proofs.Built.{same_labelling}
 use Rattle.net_cone.proofs.Walking.{gate_found}
-use Rattle.net_explain.specs.Ranked.{highest, rank_of, rank_row}
+use Rattle.net_explain.specs.Ranked.{rank_row}
 use Rattle.net_explain.specs.Values.{AreSet, HasValue, KeepsVariables}
 use Rattle.net_explain.proofs.Lists.{all_of, in_last, in_take, same_or, taken_more}
 use Rattle.net_explain.proofs.Rows.{in_row, operand_lower, rank_low, rank_top, row_gate, row_rank}
@@ -113,7 +113,7 @@ module _ (n : Net) (sound : IsNet n) where
     ];
   }
 
-  pub labelling_of : (level : ℕ → ℕ) (x old bits : List Bool) (ranks : ℕ) → ranks ≡ highest n → All (λ s. bit_of old s ≡ bit_of x (level s)) (variables_of (circuit n)) →
+  pub labelling_of : (level : ℕ → ℕ) (x old bits : List Bool) (ranks : ℕ) → ranks ≡ highest_rank n → All (λ s. bit_of old s ≡ bit_of x (level s)) (variables_of (circuit n)) →
       KeepsVariables n old bits → AreSet n bits ranks [] → IsLabelling (circuit n) level x bits
   labelling_of level x old bits ranks top variables kept done = record {
     each = done.each;

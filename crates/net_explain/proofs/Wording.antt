@@ -2,7 +2,7 @@
 use Rattle.std.proofs.Common.{◌≡◌, ℕ, ◌+◌, ◌<◌, ◌≤◌, ◌==◌, Bool, false, List, [], ◌∷◌, ◌++◌, Some, None, Option, refl, sym, ap, ◌∙◌, length, get_or, drop, arith}
 use Rattle.std.proofs.lemmas.Bool.Decides.{nat_tests}
 use Rattle.net_explain.specs.declared.differing.Inner.{Inner}
-use Rattle.net_explain.specs.declared.explaining.Part.{Part}
+use Rattle.net_explain.specs.declared.explaining.GateCount.{GateCount}
 use Rattle.net_explain.specs.Text.{behind_text, inner_text, inners_text, parts_text}
 use Rattle.net_explain.specs.Vcd.{change_text, changes_text, var_text, vars_text}
 use Rattle.net_explain.proofs.Lists.{any_default, drop_all, drop_here}
@@ -38,7 +38,7 @@ pub no_parts : (names : List (List ℕ)) (is : List Inner) → parts_text names 
 no_parts names [] = refl
 no_parts names (i ∷ is) = refl
 
-pub no_inners : (names : List (List ℕ)) (is : List Inner) (ps : Option (Part × Part)) → length is ≡ 0 → parts_text names is ps ≡ []
+pub no_inners : (names : List (List ℕ)) (is : List Inner) (ps : Option (GateCount × GateCount)) → length is ≡ 0 → parts_text names is ps ≡ []
 no_inners names [] None e = refl
 no_inners names [] (Some ps) e = refl
 no_inners names (i ∷ is) ps e = absurd (omega arith)
@@ -47,7 +47,7 @@ pub some_inner : (is : List Inner) → false ≡ (length is == 0) → 0 < length
 some_inner is e = grind (arith, nat_tests)
 
 -- the first of the inner signals
-pub at_first : (names : List (List ℕ)) (is : List Inner) (i : Inner) (name : List ℕ) (ps : Part × Part) → 0 < length is → i ≡ get_or is 0 i → name ≡ get_or names i.first [] →
+pub at_first : (names : List (List ℕ)) (is : List Inner) (i : Inner) (name : List ℕ) (ps : GateCount × GateCount) → 0 < length is → i ≡ get_or is 0 i → name ≡ get_or names i.first [] →
     parts_text names is (Some ps) ≡ behind_text name ps.0 ps.1
 at_first names [] i name ps low at e = absurd (omega arith)
 at_first names (j ∷ js) i name ps low at e = ap (λ (z : Inner). behind_text (get_or names z.first []) ps.0 ps.1) (sym at) ∙ ap (λ z. behind_text z ps.0 ps.1) (sym e)

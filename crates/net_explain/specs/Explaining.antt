@@ -1,21 +1,21 @@
 -- Which inner signals of two netlists have one name and other values at an assignment.
 use Rattle.std.specs.Prelude.{◌≡◌, ◌↔◌, ℕ, zero, suc, ◌==◌, Bool, true, not, ◌&&◌, cond, if◌then◌else◌, List, [], ◌∷◌, ◌++◌, filter_map, length, slice_index_or, Option, Some, None, count_by, Contains}
 use Rattle.net_bench.specs.declared.netlist.GateLine.{GateLine}
-use Rattle.net_bench.specs.Circuit.{Net, circuit, find, gate_of}
+use Rattle.net_bench.specs.Circuit.{Net, circuit, find, gate_of, highest_rank}
 use Rattle.net_bench.specs.Labels.{IsLabelling, bit_of}
 use Rattle.net_cone.specs.Cones.{IsBelow}
 use Rattle.net_order.specs.Order.{Paired}
-use Rattle.net_explain.specs.declared.evaluate.Which.{Which}
-use Rattle.net_explain.specs.declared.evaluate.Which.TheVariants.{First, Second}
+use Rattle.net_explain.specs.declared.evaluate.Half.{Half}
+use Rattle.net_explain.specs.declared.evaluate.Half.TheVariants.{First, Second}
 use Rattle.net_explain.specs.declared.differing.Inner.{Inner}
-use Rattle.net_explain.specs.declared.explaining.Part.{Part}
-use Rattle.net_explain.specs.Ranked.{highest, rank_row}
+use Rattle.net_explain.specs.declared.explaining.GateCount.{GateCount}
+use Rattle.net_explain.specs.Ranked.{rank_row}
 use Rattle.net_explain.specs.Values.{level_in}
 
 -- by signal, whether it is below the root
-pub record AreBelow (n : Net) (root : ℕ) (marks : List Bool) : Type 0 where
-  pub each : length marks ≡ length n.names
-  pub below : (s : ℕ) → (bit_of marks s ≡ true) ↔ IsBelow (circuit n) root s
+pub record AreBelow (n : Net) (root : ℕ) (visited : List Bool) : Type 0 where
+  pub each : length visited ≡ length n.names
+  pub below : (s : ℕ) → (bit_of visited s ≡ true) ↔ IsBelow (circuit n) root s
 
 -- One of two netlists, seen from a signal: by signal the values at an assignment, and which signals are below that one.
 pub record Viewed : Type 0 where
@@ -24,7 +24,7 @@ pub record Viewed : Type 0 where
   pub below : List Bool
 
 -- this is what is seen of a netlist of a pairing
-pub record IsView (n : Net) (p : Paired) (which : Which) (x : List Bool) (root : ℕ) (v : Viewed) : Type 0 where
+pub record IsView (n : Net) (p : Paired) (which : Half) (x : List Bool) (root : ℕ) (v : Viewed) : Type 0 where
   pub from : v.root ≡ root
   pub values : IsLabelling (circuit n) (level_in p which) x v.values
   pub below : AreBelow n root v.below
@@ -66,7 +66,7 @@ inner_to a b v w (suc r) = inner_to a b v w r ++ filter_map (inner_at a b v w) (
 
 -- *the inner signals that differ*, by rank in the first netlist, those of one rank in the order of its text
 abbrev pub differing : Net → Net → Viewed → Viewed → List Inner
-differing a b v w = inner_to a b v w (highest a)
+differing a b v w = inner_to a b v w (highest_rank a)
 
 -- An inner signal that differs, whatever the list: a signal of a gate of each netlist, on these lines.
 pub record IsInner (a b : Net) (v w : Viewed) (i : Inner) : Type 0 where
@@ -89,14 +89,14 @@ pub record IsInner (a b : Net) (v w : Viewed) (i : Inner) : Type 0 where
   pub other_value : bit_of w.values i.second ≡ not i.value
 
 -- how many gates are below what is seen, and how many of these are not below the signal
-pub record IsPart (n : Net) (v : Viewed) (low : ℕ) (p : Part) : Type 0 where
-  pub marks : List Bool
-  pub below : AreBelow n low marks
+pub record IsPart (n : Net) (v : Viewed) (low : ℕ) (p : GateCount) : Type 0 where
+  pub visited : List Bool
+  pub below : AreBelow n low visited
   pub all : p.all ≡ count_by (λ g. bit_of v.below g.out) n.gates
-  pub behind : p.behind ≡ count_by (λ g. bit_of v.below g.out && not (bit_of marks g.out)) n.gates
+  pub behind : p.behind ≡ count_by (λ g. bit_of v.below g.out && not (bit_of visited g.out)) n.gates
 
 -- so many gates of both netlists lie behind the first of the inner signals
-abbrev pub AreParts : Net → Net → Viewed → Viewed → List Inner → Option (Part × Part) → Type 0
+abbrev pub AreParts : Net → Net → Viewed → Viewed → List Inner → Option (GateCount × GateCount) → Type 0
 AreParts a b v w [] None = Unit {0}
 AreParts a b v w [] (Some ps) = ⊥
 AreParts a b v w (i ∷ is) None = ⊥
@@ -105,7 +105,7 @@ AreParts a b v w (i ∷ is) (Some ps) = IsPart a v i.first ps.0 × IsPart b w i.
 -- What explains that two signals differ at an assignment.
 pub record Explained : Type 0 where
   pub inner : List Inner
-  pub parts : Option (Part × Part)
+  pub parts : Option (GateCount × GateCount)
 
 -- this explains the pair of signals: exactly its inner signals that differ, and what lies behind the first of them
 pub record IsExplanation (a b : Net) (p : Paired) (pair : ℕ × ℕ) (x : List Bool) (e : Explained) : Type 0 where

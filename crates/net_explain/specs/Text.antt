@@ -1,7 +1,7 @@
 -- The lines of an explanation. A name is a list of bytes.
 use Rattle.std.specs.Prelude.{ℕ, Bool, true, false, not, List, [], ◌∷◌, ◌++◌, Option, Some, codes, decimal, length, slice_index_or}
 use Rattle.net_explain.specs.declared.differing.Inner.{Inner}
-use Rattle.net_explain.specs.declared.explaining.Part.{Part}
+use Rattle.net_explain.specs.declared.explaining.GateCount.{GateCount}
 use Rattle.net_explain.specs.Explaining.{Explained}
 
 -- the digit of a bit
@@ -24,15 +24,15 @@ inners_text names [] = []
 inners_text names (i ∷ is) = inner_text names i ++ inners_text names is
 
 -- how many gates of how many
-abbrev pub part_text : Part → List ℕ
+abbrev pub part_text : GateCount → List ℕ
 part_text p = decimal p.behind ++ (codes " of " ++ decimal p.all)
 
 -- the last line: the gates between a signal and what is explained, in each netlist
-abbrev pub behind_text : List ℕ → (first second : Part) → List ℕ
+abbrev pub behind_text : List ℕ → (first second : GateCount) → List ℕ
 behind_text name first second = codes "  gates behind " ++ (name ++ (codes ": first " ++ (part_text first ++ (codes ", second " ++ (part_text second ++ 10 ∷ [])))))
 
 -- the same of the first of the inner signals, where there is one
-abbrev pub parts_text : List (List ℕ) → List Inner → Option (Part × Part) → List ℕ
+abbrev pub parts_text : List (List ℕ) → List Inner → Option (GateCount × GateCount) → List ℕ
 parts_text names (i ∷ is) (Some ps) = behind_text (slice_index_or names i.first []) ps.0 ps.1
 parts_text names is ps = []
 

@@ -9,25 +9,25 @@ use net_bench::reader::Netlist;
 use net_cone::{cone_of, gate_signals, own_names};
 use std::alloc::{AllocError, Global};
 
-/// Marks the signals.
-fn mark_all(marks: &mut [bool], signals: &[Signal])
-    requires { All (λ s. s < length marks.old) signals.now }
-    ensures { (s : ℕ) → (bit_of marks.new s ≡ true) ↔ ((bit_of marks.old s ≡ true) ⊎ Contains signals.now s) }
+/// Visits the signals.
+fn visit_each(visited: &mut [bool], signals: &[Signal])
+    requires { All (λ s. s < length visited.old) signals.now }
+    ensures { (s : ℕ) → (bit_of visited.new s ≡ true) ↔ ((bit_of visited.old s ≡ true) ⊎ Contains signals.now s) }
 {
     for place in 0..signals.len() {
-        marks[signals[place].number() as usize] = true;
+        visited[signals[place].number() as usize] = true;
     }
 }
 
 /// By signal, whether it is below the root: the root itself, an operand of its gate, and so on. Time and memory are linear in the netlist.
-pub fn marks_below(alloc: Global, net: &Netlist, root: Signal) -> Result<Vec<bool>, AllocError>
+pub fn visited_below(alloc: Global, net: &Netlist, root: Signal) -> Result<Vec<bool>, AllocError>
     requires { root < length net.now.names }
     ensures { IfOk result (λ v. AreBelow net.now root v.items) }
 {
     let names = own_names(alloc, net)?;
     let gates = gate_signals(alloc, net)?;
     let cone = cone_of(alloc, net, root, names.as_slice(), gates.as_slice())?;
-    let mut marks = Vec::from_elem(alloc, false, net.count())?;
-    mark_all(marks.as_mut_slice(), cone.sources());
-    Ok(marks)
+    let mut visited = Vec::from_elem(alloc, false, net.count())?;
+    visit_each(visited.as_mut_slice(), cone.sources());
+    Ok(visited)
 }

@@ -4,7 +4,7 @@ ghost use Rattle.net_bench.specs.Circuit.{IsNet};
 ghost use Rattle.net_explain.specs.Explaining.{differ, differing, inner_at, is_inner, line_of};
 
 use crate::ranked::rows_of;
-use crate::view::View;
+use crate::view::Simulation;
 use net_bench::netlist::{Role, Signal};
 use net_bench::reader::Netlist;
 use std::alloc::{AllocError, Global};
@@ -39,7 +39,7 @@ fn differ(first: bool, second: bool) -> bool
 }
 
 /// Whether both are inner signals, and have other values.
-fn is_inner(seen: &View, other: &View, first: Signal, second: Signal) -> bool
+fn is_inner(seen: &Simulation, other: &Simulation, first: Signal, second: Signal) -> bool
     ensures { result ≡ is_inner seen.now other.now first second }
 {
     let is_pair = first.number() == seen.root().number()
@@ -63,8 +63,8 @@ pub fn name_of<'a>(net: &'a Netlist, signal: Signal) -> &'a [u8]
 fn inner_at(
     first: &Netlist,
     second: &Netlist,
-    seen: &View,
-    other: &View,
+    seen: &Simulation,
+    other: &Simulation,
     signal: Signal,
 ) -> Option<Inner>
     requires { signal < length first.now.names }
@@ -99,8 +99,8 @@ fn add(found: &mut Vec<Inner>, inner: Option<Inner>) -> Result<(), AllocError>
 fn add_row(
     first: &Netlist,
     second: &Netlist,
-    seen: &View,
-    other: &View,
+    seen: &Simulation,
+    other: &Simulation,
     row: &[Signal],
     found: &mut Vec<Inner>,
 ) -> Result<(), AllocError>
@@ -118,8 +118,8 @@ pub fn differing(
     alloc: Global,
     first: &Netlist,
     second: &Netlist,
-    seen: &View,
-    other: &View,
+    seen: &Simulation,
+    other: &Simulation,
 ) -> Result<Vec<Inner>, AllocError>
     ensures inner { IfOk result (λ v. v.items ≡ differing first.now second.now seen.now other.now) }
     // They are signals of their netlists.

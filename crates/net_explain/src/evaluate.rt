@@ -14,23 +14,23 @@ use std::alloc::{AllocError, Global};
 
 /// One of the two netlists of a pairing.
 #[derive(Clone, Copy, Drop, Debug, PartialEq, Eq)]
-pub enum Which {
+pub enum Half {
     First,
     Second,
 }
 
 /// The level of a variable of the first netlist or of the second.
-fn level_in(pairing: &Pairing, which: Which, variable: Signal) -> u32
+fn level_in(pairing: &Pairing, which: Half, variable: Signal) -> u32
     ensures { result ≡ level_in pairing.now which variable }
 {
     match which {
-        Which::First => pairing.first_level(variable),
-        Which::Second => pairing.second_level(variable),
+        Half::First => pairing.first_level(variable),
+        Half::Second => pairing.second_level(variable),
     }
 }
 
 /// Sets each variable to the bit of its level.
-fn set_variables(net: &Netlist, pairing: &Pairing, which: Which, at: &[bool], bits: &mut [bool])
+fn set_variables(net: &Netlist, pairing: &Pairing, which: Half, at: &[bool], bits: &mut [bool])
     requires { length bits.old ≡ length net.now.names }
     ensures { All (λ s. bit_of bits.new s ≡ bit_of at.now (level_in pairing.now which s)) (variables_of (circuit net.now)) }
 {
@@ -88,7 +88,7 @@ fn set_gates(net: &Netlist, rows: &[Vec<Signal>], bits: &mut [bool])
 fn set_signals(
     net: &Netlist,
     pairing: &Pairing,
-    which: Which,
+    which: Half,
     at: &[bool],
     rows: &[Vec<Signal>],
     bits: &mut [bool],
@@ -108,7 +108,7 @@ pub fn values(
     alloc: Global,
     net: &Netlist,
     pairing: &Pairing,
-    which: Which,
+    which: Half,
     at: &[bool],
 ) -> Result<Vec<bool>, AllocError>
     // Each variable has the bit of its level, and each gate the value of its operands.

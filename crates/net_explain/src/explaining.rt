@@ -2,11 +2,11 @@
 ghost use Rattle.std.specs.Prelude.{◌≡◌, ◌<◌, length, All, IfOk};
 ghost use Rattle.net_explain.specs.Explaining.{AreParts, IsExplanation, IsPart};
 
-use crate::cones::marks_below;
+use crate::cones::visited_below;
 use crate::differing::{Inner, differing};
-use crate::evaluate::Which;
+use crate::evaluate::Half;
 use crate::gates::bit_at;
-use crate::view::View;
+use crate::view::Simulation;
 use net_bench::netlist::Signal;
 use net_bench::reader::Netlist;
 use net_order::pairing::Pairing;
@@ -15,7 +15,7 @@ use std::marker::Model;
 
 /// How many gates are below a signal, and how many of these lie behind another one: they are not below it.
 #[derive(Clone, Copy, Drop, Debug, PartialEq, Eq)]
-pub struct Part {
+pub struct GateCount {
     pub all: usize,
     pub behind: usize,
 }
@@ -24,7 +24,7 @@ pub struct Part {
 #[derive(Drop)]
 pub struct Explanation {
     inner: Vec<Inner>,
-    parts: Option<(Part, Part)>,
+    parts: Option<(GateCount, GateCount)>,
 }
 
 impl Model for Explanation {
@@ -44,7 +44,7 @@ impl Explanation {
     }
 
     /// The gates below the pair's signal of each netlist, and those behind the first inner signal that differs, if there is one.
-    pub fn parts(&self) -> Option<(Part, Part)>
+    pub fn parts(&self) -> Option<(GateCount, GateCount)>
         ensures { result ≡ self.now.parts }
     {
         self.parts
@@ -52,22 +52,27 @@ impl Explanation {
 }
 
 /// The gates below what is seen, and those behind the signal.
-fn part_of(alloc: Global, net: &Netlist, seen: &View, low: Signal) -> Result<Part, AllocError>
+fn part_of(
+    alloc: Global,
+    net: &Netlist,
+    seen: &Simulation,
+    low: Signal,
+) -> Result<GateCount, AllocError>
     requires { low < length net.now.names }
     ensures { IfOk result (IsPart net.now seen.now low) }
 {
-    let marks = marks_below(alloc, net, low)?;
+    let visited = visited_below(alloc, net, low)?;
     let mut all = 0;
     let mut behind = 0;
     for gate in net.gates() {
         if seen.has_below(gate.out) {
             all += 1;
-            if !bit_at(marks.as_slice(), gate.out.number()) {
+            if !bit_at(visited.as_slice(), gate.out.number()) {
                 behind += 1;
             }
         }
     }
-    Ok(Part { all, behind })
+    Ok(GateCount { all, behind })
 }
 
 /// The gates behind the first of the inner signals, if there is one.
@@ -75,10 +80,10 @@ fn parts_of(
     alloc: Global,
     first: &Netlist,
     second: &Netlist,
-    seen: &View,
-    other: &View,
+    seen: &Simulation,
+    other: &Simulation,
     inner: &[Inner],
-) -> Result<Option<(Part, Part)>, AllocError>
+) -> Result<Option<(GateCount, GateCount)>, AllocError>
     requires first { All (λ i. i.first < length first.now.names) inner.now }
     requires second { All (λ i. i.second < length second.now.names) inner.now }
     ensures { IfOk result (AreParts first.now second.now seen.now other.now inner.now) }
@@ -109,8 +114,8 @@ pub fn explain(
     ensures known { IfOk result (λ e. All (λ i. i.first < length first.now.names) e.inner) }
 {
     let (root, partner) = pair;
-    let seen = View::new(alloc, first, pairing, Which::First, at, root)?;
-    let other = View::new(alloc, second, pairing, Which::Second, at, partner)?;
+    let seen = Simulation::new(alloc, first, pairing, Half::First, at, root)?;
+    let other = Simulation::new(alloc, second, pairing, Half::Second, at, partner)?;
     let inner = differing(alloc, first, second, &seen, &other)?;
     let parts = parts_of(alloc, first, second, &seen, &other, inner.as_slice())?;
     Ok(Explanation { inner, parts })

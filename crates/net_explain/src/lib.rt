@@ -25,7 +25,7 @@ mod vcd;
 mod view;
 
 pub use differing::Inner;
-pub use evaluate::{Which, values};
-pub use explaining::{Explanation, Part, explain};
+pub use evaluate::{Half, values};
+pub use explaining::{Explanation, GateCount, explain};
 pub use text::explanation_of;
 pub use vcd::vcd_of;

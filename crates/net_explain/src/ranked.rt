@@ -1,25 +1,11 @@
 // The gates of a netlist by rank.
 ghost use Rattle.std.specs.Prelude.{◌≡◌, ◌<◌, [], length, map, replicate, IfOk};
-ghost use Rattle.net_bench.specs.Circuit.{IsNet};
-ghost use Rattle.net_explain.specs.Ranked.{AreRows, highest};
+ghost use Rattle.net_bench.specs.Circuit.{IsNet, highest_rank};
+ghost use Rattle.net_explain.specs.Ranked.{AreRows};
 
 use net_bench::netlist::Signal;
 use net_bench::reader::Netlist;
 use std::alloc::{AllocError, Global};
-
-/// The greatest rank of a gate, 0 where there is none.
-fn highest_rank(net: &Netlist) -> usize
-    ensures { result ≡ highest net.now }
-{
-    let mut highest = 0;
-    for gate in net.gates() {
-        let rank = net.rank(gate.out) as usize;
-        if rank > highest {
-            highest = rank;
-        }
-    }
-    highest
-}
 
 /// So many rows without signals.
 fn empty_rows(alloc: Global, count: usize) -> Result<Vec<Vec<Signal>>, AllocError>
@@ -38,7 +24,7 @@ pub fn rows_of(alloc: Global, net: &Netlist) -> Result<Vec<Vec<Signal>>, AllocEr
     ensures sound { IsNet net.now }
 {
     let gates = net.gates();
-    let mut rows = empty_rows(alloc, highest_rank(net))?;
+    let mut rows = empty_rows(alloc, net.highest_rank())?;
     for gate in gates {
         let rank = net.rank(gate.out) as usize;
         rows[rank - 1].push(gate.out)?;

@@ -3,7 +3,7 @@ ghost use Rattle.std.specs.Prelude.{◌≡◌, ◌<◌, ◌++◌, length, All, I
 ghost use Rattle.net_explain.specs.Text.{behind_text, bit_text, explanation_text, head_text, inner_text, inners_text, part_text, parts_text};
 
 use crate::differing::{Inner, name_of};
-use crate::explaining::{Explanation, Part};
+use crate::explaining::{Explanation, GateCount};
 use net_bench::reader::Netlist;
 use std::alloc::{AllocError, Global};
 
@@ -75,10 +75,10 @@ fn add_inners(
 }
 
 /// Adds how many gates of how many.
-fn add_part(alloc: Global, text: &mut Vec<u8>, part: Part) -> Result<(), AllocError>
+fn add_part(alloc: Global, text: &mut Vec<u8>, part: GateCount) -> Result<(), AllocError>
     ensures { OnOk result (text.new.items ≡ text.old.items ++ part_text part) }
 {
-    let Part { all, behind } = part;
+    let GateCount { all, behind } = part;
     let shown = format!(in alloc; "{behind} of {all}")?;
     text.extend_from_slice(shown.as_bytes())?;
     Ok(())
@@ -89,8 +89,8 @@ fn add_behind(
     alloc: Global,
     text: &mut Vec<u8>,
     name: &[u8],
-    first: Part,
-    second: Part,
+    first: GateCount,
+    second: GateCount,
 ) -> Result<(), AllocError>
     ensures { OnOk result (text.new.items ≡ text.old.items ++ behind_text name.now first second) }
 {
@@ -110,7 +110,7 @@ fn add_parts(
     text: &mut Vec<u8>,
     net: &Netlist,
     inner: &[Inner],
-    parts: Option<(Part, Part)>,
+    parts: Option<(GateCount, GateCount)>,
 ) -> Result<(), AllocError>
     requires { All (λ i. i.first < length net.now.names) inner.now }
     ensures { OnOk result (text.new.items ≡ text.old.items ++ parts_text net.now.names inner.now parts) }

@@ -4,8 +4,8 @@ ghost use Rattle.net_bench.specs.Circuit.{IsNet};
 ghost use Rattle.net_bench.specs.Labels.{bit_of};
 ghost use Rattle.net_explain.specs.Explaining.{IsView};
 
-use crate::cones::marks_below;
-use crate::evaluate::{Which, values};
+use crate::cones::visited_below;
+use crate::evaluate::{Half, values};
 use crate::gates::bit_at;
 use net_bench::netlist::Signal;
 use net_bench::reader::Netlist;
@@ -15,13 +15,13 @@ use std::marker::Model;
 
 /// By signal, the values at an assignment, and which signals are below the root.
 #[derive(Drop)]
-pub struct View {
+pub struct Simulation {
     root: Signal,
     values: Vec<bool>,
     below: Vec<bool>,
 }
 
-impl Model for View {
+impl Model for Simulation {
     ghost use Rattle.net_explain.specs.Explaining.{Viewed};
 
     ghost Value = { Viewed };
@@ -29,23 +29,23 @@ impl Model for View {
     ghost view = { λ v. record { root = v.root; values = v.values.items; below = v.below.items } };
 }
 
-impl View {
+impl Simulation {
     /// What is seen of a netlist of a pairing.
     pub fn new(
         alloc: Global,
         net: &Netlist,
         pairing: &Pairing,
-        which: Which,
+        which: Half,
         at: &[bool],
         root: Signal,
-    ) -> Result<View, AllocError>
+    ) -> Result<Simulation, AllocError>
         requires { root < length net.now.names }
         ensures view { IfOk result (IsView net.now pairing.now which at.now root) }
         ensures sound { IsNet net.now }
     {
         let values = values(alloc, net, pairing, which, at)?;
-        let below = marks_below(alloc, net, root)?;
-        Ok(View {
+        let below = visited_below(alloc, net, root)?;
+        Ok(Simulation {
             root,
             values,
             below,

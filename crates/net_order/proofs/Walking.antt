@@ -122,35 +122,35 @@ module _ (leaves : ℕ → List ℕ) where
     top_inside : (f : Frame) (todo : List Frame) → Inside (f ∷ todo) → signal_of f < count
     top_inside f todo h = h 0 f (omega arith)
 
-    -- a signal is left: it is marked
-    pub left : (found : List ℕ) (marks : List Bool) (s : ℕ) (todo : List Frame) →
-        IsWalking leaves count goal found marks (Leave s ∷ todo) → IsWalking leaves count goal found (set marks s true) todo
-    left found marks s todo w =
-        let in_marks : s < length marks = omega (arith, w.len, top_inside (Leave s) todo w.inside) in
+    -- a signal is left: it is visited
+    pub left : (found : List ℕ) (seen : List Bool) (s : ℕ) (todo : List Frame) →
+        IsWalking leaves count goal found seen (Leave s ∷ todo) → IsWalking leaves count goal found (set seen s true) todo
+    left found seen s todo w =
+        let in_seen : s < length seen = omega (arith, w.len, top_inside (Leave s) todo w.inside) in
         record {
-          len = length-set marks s true ∙ w.len;
+          len = length-set seen s true ∙ w.len;
           leads = w.leads;
-          marked = λ t low e. elim (cases_eq t s) [
+          visited = λ t low e. elim (cases_eq t s) [
             | inl same ↦ subst (λ x. Among (leaves x) found) (sym same) w.well.0
-            | inr ne ↦ w.marked t low (sym (get_or-set_other marks s t true false ne) ∙ e)
+            | inr ne ↦ w.visited t low (sym (get_or-set_other seen s t true false ne) ∙ e)
           ];
           kept = λ t low e. elim (cases_eq t s) [
-            | inl same ↦ ap (λ x. get_or (set marks s true) x false) same ∙ get_or-set_same marks s true false in_marks
-            | inr ne ↦ get_or-set_other marks s t true false ne ∙ w.kept t low e
+            | inl same ↦ ap (λ x. get_or (set seen s true) x false) same ∙ get_or-set_same seen s true false in_seen
+            | inr ne ↦ get_or-set_other seen s t true false ne ∙ w.kept t low e
           ];
           well = w.well.1;
           inside = rest_inside (Leave s) todo w.inside;
         }
 
     -- a signal with a mark is passed
-    pub passed : (found : List ℕ) (marks : List Bool) (s : ℕ) (todo : List Frame) → get_or marks s false ≡ true →
-        IsWalking leaves count goal found marks (Enter s ∷ todo) → IsWalking leaves count goal found marks todo
-    passed found marks s todo e w =
-        let there : Among (leaves s) found = w.marked s (top_inside (Enter s) todo w.inside) e in
+    pub passed : (found : List ℕ) (seen : List Bool) (s : ℕ) (todo : List Frame) → get_or seen s false ≡ true →
+        IsWalking leaves count goal found seen (Enter s ∷ todo) → IsWalking leaves count goal found seen todo
+    passed found seen s todo e w =
+        let there : Among (leaves s) found = w.visited s (top_inside (Enter s) todo w.inside) e in
         record {
           len = w.len;
           leads = sym (passed_rest s todo found there) ∙ w.leads;
-          marked = w.marked;
+          visited = w.visited;
           kept = w.kept;
           well = passed_well s todo found there w.well;
           inside = rest_inside (Enter s) todo w.inside;
@@ -167,52 +167,52 @@ module _ (leaves : ℕ → List ℕ) where
     left_inside s todo h (suc i) d low = h (suc i) d low
 
     -- a gate is opened: its operands are entered, and then it is left
-    pub opened : (found : List ℕ) (marks : List Bool) (s : ℕ) (os : List ℕ) (todo : List Frame) → leaves s ≡ flat_map leaves os → All (λ o. o < count) os →
-        IsWalking leaves count goal found marks (Enter s ∷ todo) → IsWalking leaves count goal found marks (entered os (Leave s ∷ todo))
-    opened found marks s os todo e low w = record {
+    pub opened : (found : List ℕ) (seen : List Bool) (s : ℕ) (os : List ℕ) (todo : List Frame) → leaves s ≡ flat_map leaves os → All (λ o. o < count) os →
+        IsWalking leaves count goal found seen (Enter s ∷ todo) → IsWalking leaves count goal found seen (entered os (Leave s ∷ todo))
+    opened found seen s os todo e low w = record {
       len = w.len;
       leads = opened_rest s os todo found e ∙ w.leads;
-      marked = w.marked;
+      visited = w.visited;
       kept = w.kept;
       well = opened_well s os todo found e w.well;
       inside = entered_inside os (Leave s ∷ todo) low (left_inside s todo w.inside);
     }
 
     -- an input without a mark has not been found
-    met_rest : (found : List ℕ) (marks : List Bool) (s : ℕ) (todo : List Frame) → leaves s ≡ s ∷ [] → get_or marks s false ≡ false →
-        IsWalking leaves count goal found marks (Enter s ∷ todo) →
+    met_rest : (found : List ℕ) (seen : List Bool) (s : ℕ) (todo : List Frame) → leaves s ≡ s ∷ [] → get_or seen s false ≡ false →
+        IsWalking leaves count goal found seen (Enter s ∷ todo) →
         fold with_number (found ++ s ∷ []) (pending leaves todo) ≡ fold with_number found (pending leaves (Enter s ∷ todo))
-    met_rest found marks s todo e h w =
+    met_rest found seen s todo e h w =
         let new : is_member s found ≡ false = not_yes (is_member s found) (λ yes. no_true (sym h ∙ w.kept s (top_inside (Enter s) todo w.inside) yes)) in
         sym (
         ap (λ xs. fold with_number found (xs ++ pending leaves todo)) e ∙
         ap (λ b. fold with_number (cond b found (found ++ s ∷ [])) (pending leaves todo)) new
         )
 
-    -- an input without a mark is put at the end of what has been found, and marked
-    pub found_input : (found : List ℕ) (marks : List Bool) (s : ℕ) (todo : List Frame) → leaves s ≡ s ∷ [] → get_or marks s false ≡ false →
-        IsWalking leaves count goal found marks (Enter s ∷ todo) → IsWalking leaves count goal (found ++ s ∷ []) (set marks s true) todo
-    found_input found marks s todo e h w =
-        let in_marks : s < length marks = omega (arith, w.len, top_inside (Enter s) todo w.inside) in
+    -- an input without a mark is put at the end of what has been found, and visited
+    pub found_input : (found : List ℕ) (seen : List Bool) (s : ℕ) (todo : List Frame) → leaves s ≡ s ∷ [] → get_or seen s false ≡ false →
+        IsWalking leaves count goal found seen (Enter s ∷ todo) → IsWalking leaves count goal (found ++ s ∷ []) (set seen s true) todo
+    found_input found seen s todo e h w =
+        let in_seen : s < length seen = omega (arith, w.len, top_inside (Enter s) todo w.inside) in
         record {
-          len = length-set marks s true ∙ w.len;
-          leads = met_rest found marks s todo e h w ∙ w.leads;
-          marked = λ t low k. elim (cases_eq t s) [
+          len = length-set seen s true ∙ w.len;
+          leads = met_rest found seen s todo e h w ∙ w.leads;
+          visited = λ t low k. elim (cases_eq t s) [
             | inl same ↦ subst (λ xs. Among xs (found ++ s ∷ [])) (sym e ∙ ap leaves (sym same)) (among_right found (s ∷ []))
-            | inr ne ↦ λ x j. among_left found (s ∷ []) x (w.marked t low (sym (get_or-set_other marks s t true false ne) ∙ k) x j)
+            | inr ne ↦ λ x j. among_left found (s ∷ []) x (w.visited t low (sym (get_or-set_other seen s t true false ne) ∙ k) x j)
           ];
           kept = λ t low k. elim (cases_eq t s) [
-            | inl same ↦ ap (λ x. get_or (set marks s true) x false) same ∙ get_or-set_same marks s true false in_marks
-            | inr ne ↦ get_or-set_other marks s t true false ne ∙ w.kept t low (old_one t s found ne k)
+            | inl same ↦ ap (λ x. get_or (set seen s true) x false) same ∙ get_or-set_same seen s true false in_seen
+            | inr ne ↦ get_or-set_other seen s t true false ne ∙ w.kept t low (old_one t s found ne k)
           ];
           well = subst (λ xs. IsWell leaves todo (found ++ xs)) e w.well;
           inside = rest_inside (Enter s) todo w.inside;
         }
 
-    no_mark : (n s : ℕ) → get_or (replicate n false) s false ≡ true → ⊥
-    no_mark zero s e = no_true e
-    no_mark (suc n) zero e = no_true e
-    no_mark (suc n) (suc s) e = no_mark n s e
+    not_seen : (n s : ℕ) → get_or (replicate n false) s false ≡ true → ⊥
+    not_seen zero s e = no_true e
+    not_seen (suc n) zero e = no_true e
+    not_seen (suc n) (suc s) e = not_seen n s e
 
     -- nothing has been found, and the outputs are to be entered
     pub started : (outs : List ℕ) → fold with_number [] (flat_map leaves outs) ≡ goal → All (λ s. s < count) outs →
@@ -220,18 +220,18 @@ module _ (leaves : ℕ → List ℕ) where
     started outs e inside = record {
       len = length-replicate count false;
       leads = ap (fold with_number []) (entered_pending outs [] ∙ append-nil (flat_map leaves outs)) ∙ e;
-      marked = λ s low h. absurd (no_mark count s h);
+      visited = λ s low h. absurd (not_seen count s h);
       kept = λ s low h. absurd (no_true h);
       well = entered_well outs [] [] tt;
       inside = entered_inside outs [] inside (λ i d low. absurd (omega arith));
     }
 
--- ---- marks and frames
+-- ---- seen and frames
 
-pub same_mark : (marks : List Bool) (i : ℕ) (d e : Bool) → i < length marks → get_or marks i d ≡ get_or marks i e
-same_mark [] i d e h = absurd (omega (arith, h))
-same_mark (m ∷ ms) zero d e h = refl
-same_mark (m ∷ ms) (suc i) d e h = same_mark ms i d e (omega (arith, h))
+pub same_visit : (seen : List Bool) (i : ℕ) (d e : Bool) → i < length seen → get_or seen i d ≡ get_or seen i e
+same_visit [] i d e h = absurd (omega (arith, h))
+same_visit (m ∷ ms) zero d e h = refl
+same_visit (m ∷ ms) (suc i) d e h = same_visit ms i d e (omega (arith, h))
 
 -- one frame alone
 pub top_low : (count s : ℕ) → s < count → All (λ f. signal_of f < count) (Enter s ∷ [])

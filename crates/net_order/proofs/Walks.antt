@@ -15,7 +15,7 @@ use Rattle.net_order.specs.declared.walk.Way.TheVariants.{ByRank}
 use Rattle.net_order.specs.Order.{below, taken, with_number}
 use Rattle.net_order.specs.Walk.{ArePaths, IsGoing, IsSettled, IsStepsOf, IsWalk, entered, frame_steps, outcome, steps_below, steps_left}
 use Rattle.net_order.proofs.Leaves.{gate_leaves, steps_inside, gate_steps, input_leaves, some_steps, taken_all}
-use Rattle.net_order.proofs.Walking.{started, left, passed, opened, found_input, same_mark, top_low}
+use Rattle.net_order.proofs.Walking.{started, left, passed, opened, found_input, same_visit, top_low}
 
 -- ---- the operands that are kept for each gate
 
@@ -69,36 +69,36 @@ module _ (way : Way) where
   -- ---- what is to be found
 
   -- a walk finds what is left to be found
-  pub going : (c : Circuit) (goal found : List ℕ) (marks : List Bool) (todo : List Frame) → IsWalk way c goal found marks todo → IsGoing way c found marks todo
-  going c goal found marks todo w = subst (λ g. IsWalk way c g found marks todo) (sym w.leads) w
+  pub going : (c : Circuit) (goal found : List ℕ) (seen : List Bool) (todo : List Frame) → IsWalk way c goal found seen todo → IsGoing way c found seen todo
+  going c goal found seen todo w = subst (λ g. IsWalk way c g found seen todo) (sym w.leads) w
 
-  pub towards : (c : Circuit) (goal old found : List ℕ) (marks was : List Bool) (before todo : List Frame) → IsWalk way c goal old was before → IsWalk way c (outcome way c old before) found marks todo → IsWalk way c goal found marks todo
-  towards c goal old found marks was before todo w v = subst (λ g. IsWalk way c g found marks todo) w.leads v
+  pub towards : (c : Circuit) (goal old found : List ℕ) (seen was : List Bool) (before todo : List Frame) → IsWalk way c goal old was before → IsWalk way c (outcome way c old before) found seen todo → IsWalk way c goal found seen todo
+  towards c goal old found seen was before todo w v = subst (λ g. IsWalk way c g found seen todo) w.leads v
 
   -- ---- the three ways to enter a signal
 
-  mark_is : (c : Circuit) (goal found : List ℕ) (marks : List Bool) (s : ℕ) (todo : List Frame) → IsWalk way c goal found marks (Enter s ∷ todo) →
-      (r : Bool) → r ≡ get_or marks s r → r ≡ get_or marks s false
-  mark_is c goal found marks s todo w r at =
+  visit_is : (c : Circuit) (goal found : List ℕ) (seen : List Bool) (s : ℕ) (todo : List Frame) → IsWalk way c goal found seen (Enter s ∷ todo) →
+      (r : Bool) → r ≡ get_or seen s r → r ≡ get_or seen s false
+  visit_is c goal found seen s todo w r at =
       let low : s < length c.names = w.inside 0 (Enter s) (omega arith) in
-      at ∙ same_mark marks s r false (omega (arith, w.len, low))
+      at ∙ same_visit seen s r false (omega (arith, w.len, low))
 
   -- a signal with a mark is passed
-  pub enter_marked : (c : Circuit) (goal found : List ℕ) (marks : List Bool) (s : ℕ) (todo : List Frame) → IsWalk way c goal found marks (Enter s ∷ todo) →
-      (r : Bool) → r ≡ get_or marks s r → r ≡ true → IsWalk way c goal found marks todo
-  enter_marked c goal found marks s todo w r at e = passed (below way c) (length c.names) goal found marks s todo (sym (mark_is c goal found marks s todo w r at) ∙ e) w
+  pub enter_visited : (c : Circuit) (goal found : List ℕ) (seen : List Bool) (s : ℕ) (todo : List Frame) → IsWalk way c goal found seen (Enter s ∷ todo) →
+      (r : Bool) → r ≡ get_or seen s r → r ≡ true → IsWalk way c goal found seen todo
+  enter_visited c goal found seen s todo w r at e = passed (below way c) (length c.names) goal found seen s todo (sym (visit_is c goal found seen s todo w r at) ∙ e) w
 
-  module _ (n : Net) (sound : IsNet n) (goal found : List ℕ) (marks : List Bool) (s : ℕ) (todo : List Frame) (w : IsWalk way (circuit n) goal found marks (Enter s ∷ todo)) where
+  module _ (n : Net) (sound : IsNet n) (goal found : List ℕ) (seen : List Bool) (s : ℕ) (todo : List Frame) (w : IsWalk way (circuit n) goal found seen (Enter s ∷ todo)) where
     abbrev c : Circuit
     c = circuit n
 
     -- an input without a mark is found
-    pub enter_input : (r : Bool) → r ≡ get_or marks s r → r ≡ false → find (λ x. x.out == s) n.gates ≡ None → (new : List ℕ) → new ≡ found ++ s ∷ [] →
-        IsWalk way c goal new (set marks s true) todo
+    pub enter_input : (r : Bool) → r ≡ get_or seen s r → r ≡ false → find (λ x. x.out == s) n.gates ≡ None → (new : List ℕ) → new ≡ found ++ s ∷ [] →
+        IsWalk way c goal new (set seen s true) todo
     enter_input r at e none new grown =
         let low : s < length n.names = w.inside 0 (Enter s) (omega arith) in
-        subst (λ xs. IsWalk way c goal xs (set marks s true) todo) (sym grown)
-        (found_input (below way c) (length n.names) goal found marks s todo (input_leaves n sound way s low none) (sym (mark_is c goal found marks s todo w r at) ∙ e) w)
+        subst (λ xs. IsWalk way c goal xs (set seen s true) todo) (sym grown)
+        (found_input (below way c) (length n.names) goal found seen s todo (input_leaves n sound way s low none) (sym (visit_is c goal found seen s todo w r at) ∙ e) w)
 
     module _ (os : List ℕ) (steps : IsStepsOf way (circuit n) s os) (old pushed new : List Frame) (is_old : reverse old ≡ todo) (is_pushed : pushed ≡ old ++ Leave s ∷ [])
         (is_new : reverse new ≡ entered os (reverse pushed)) where
@@ -108,10 +108,10 @@ module _ (way : Way) where
           sym (is_new ∙ ap (λ xs. entered xs (reverse pushed)) steps.is ∙ ap (λ t. entered (taken way c steps.gate.operands) (reverse t)) is_pushed ∙ ap (entered (taken way c steps.gate.operands)) (reverse-append old (Leave s ∷ [])))
 
       -- a gate is opened
-      pub enter_gate : IsWalk way c goal found marks (reverse new)
+      pub enter_gate : IsWalk way c goal found seen (reverse new)
       enter_gate =
-          subst (IsWalk way c goal found marks) stack_is
-          (opened (below way c) (length n.names) goal found marks s (taken way c steps.gate.operands) todo (gate_leaves n sound way s steps.gate steps.found) (steps_inside n sound way s steps.gate steps.found) w)
+          subst (IsWalk way c goal found seen) stack_is
+          (opened (below way c) (length n.names) goal found seen s (taken way c steps.gate.operands) todo (gate_leaves n sound way s steps.gate steps.found) (steps_inside n sound way s steps.gate steps.found) w)
 
       -- a gate stands for more steps than its operands and its end
       pub fewer_opened : steps_left way c (reverse new) < steps_left way c (Enter s ∷ todo)
@@ -122,42 +122,42 @@ module _ (way : Way) where
   -- ---- the start, a frame that is taken, and the end
 
   -- a signal is to be walked
-  pub rooted : (c : Circuit) (found : List ℕ) (marks : List Bool) (s : ℕ) (stack new : List Frame) → IsSettled way c found marks → s < length c.names → stack ≡ [] → new ≡ stack ++ Enter s ∷ [] →
-      IsWalk way c (fold with_number found (below way c s)) found marks (reverse new)
-  rooted c found marks s stack new w low is_stack is_new =
+  pub rooted : (c : Circuit) (found : List ℕ) (seen : List Bool) (s : ℕ) (stack new : List Frame) → IsSettled way c found seen → s < length c.names → stack ≡ [] → new ≡ stack ++ Enter s ∷ [] →
+      IsWalk way c (fold with_number found (below way c s)) found seen (reverse new)
+  rooted c found seen s stack new w low is_stack is_new =
       let todo : Enter s ∷ [] ≡ reverse new = ap reverse (sym (is_new ∙ ap (λ t. t ++ Enter s ∷ []) is_stack)) in
-      subst (IsWalk way c (fold with_number found (below way c s)) found marks) todo
+      subst (IsWalk way c (fold with_number found (below way c s)) found seen) todo
       (record {
         len = w.len;
         leads = ap (fold with_number found) (append-nil (below way c s));
-        marked = w.marked;
+        visited = w.visited;
         kept = w.kept;
         well = tt;
         inside = λ i d h. top_low (length c.names) s low i d h;
       })
 
   -- nothing is to do any more
-  pub ended : (c : Circuit) (goal found : List ℕ) (marks : List Bool) (stack : List Frame) → stack ≡ [] → IsWalk way c goal found marks (reverse stack) → IsSettled way c found marks × (found ≡ goal)
-  ended c goal found marks stack e w =
-      let v = subst (λ t. IsWalk way c goal found marks (reverse t)) e w in
-      (subst (λ g. IsWalk way c g found marks []) (sym v.leads) v, v.leads)
+  pub ended : (c : Circuit) (goal found : List ℕ) (seen : List Bool) (stack : List Frame) → stack ≡ [] → IsWalk way c goal found seen (reverse stack) → IsSettled way c found seen × (found ≡ goal)
+  ended c goal found seen stack e w =
+      let v = subst (λ t. IsWalk way c goal found seen (reverse t)) e w in
+      (subst (λ g. IsWalk way c g found seen []) (sym v.leads) v, v.leads)
 
   -- no walk has begun
-  pub fresh : (c : Circuit) (marks : List Bool) → marks ≡ replicate (length c.names) false → IsSettled way c [] marks
-  fresh c marks e = subst (IsSettled way c []) (sym e) (started (below way c) (length c.names) [] [] refl (λ i d low. absurd (omega (arith, low))))
+  pub fresh : (c : Circuit) (seen : List Bool) → seen ≡ replicate (length c.names) false → IsSettled way c [] seen
+  fresh c seen e = subst (IsSettled way c []) (sym e) (started (below way c) (length c.names) [] [] refl (λ i d low. absurd (omega (arith, low))))
 
-  pub taken_frame : (c : Circuit) (goal found : List ℕ) (marks : List Bool) (old new : List Frame) (f g : Frame) → old ≡ new ++ f ∷ [] → f ≡ g → IsWalk way c goal found marks (reverse old) → IsWalk way c goal found marks (g ∷ reverse new)
-  taken_frame c goal found marks old new f g e same w =
-      subst (IsWalk way c goal found marks) (ap reverse e ∙ reverse-append new (f ∷ []) ∙ ap (λ h. h ∷ reverse new) same) w
+  pub taken_frame : (c : Circuit) (goal found : List ℕ) (seen : List Bool) (old new : List Frame) (f g : Frame) → old ≡ new ++ f ∷ [] → f ≡ g → IsWalk way c goal found seen (reverse old) → IsWalk way c goal found seen (g ∷ reverse new)
+  taken_frame c goal found seen old new f g e same w =
+      subst (IsWalk way c goal found seen) (ap reverse e ∙ reverse-append new (f ∷ []) ∙ ap (λ h. h ∷ reverse new) same) w
 
-  pub marked_left : (c : Circuit) (goal found : List ℕ) (marks : List Bool) (s : ℕ) (todo : List Frame) → IsWalk way c goal found marks (Leave s ∷ todo) → IsWalk way c goal found (set marks s true) todo
-  marked_left c goal found marks s todo w = left (below way c) (length c.names) goal found marks s todo w
+  pub visited_left : (c : Circuit) (goal found : List ℕ) (seen : List Bool) (s : ℕ) (todo : List Frame) → IsWalk way c goal found seen (Leave s ∷ todo) → IsWalk way c goal found (set seen s true) todo
+  visited_left c goal found seen s todo w = left (below way c) (length c.names) goal found seen s todo w
 
-  pub leave_low : (c : Circuit) (goal found : List ℕ) (marks : List Bool) (s : ℕ) (todo : List Frame) → IsWalk way c goal found marks (Leave s ∷ todo) → s < length marks
-  leave_low c goal found marks s todo w = let low : s < length c.names = w.inside 0 (Leave s) (omega arith) in omega (arith, low, w.len)
+  pub leave_low : (c : Circuit) (goal found : List ℕ) (seen : List Bool) (s : ℕ) (todo : List Frame) → IsWalk way c goal found seen (Leave s ∷ todo) → s < length seen
+  leave_low c goal found seen s todo w = let low : s < length c.names = w.inside 0 (Leave s) (omega arith) in omega (arith, low, w.len)
 
-  pub enter_low : (c : Circuit) (goal found : List ℕ) (marks : List Bool) (s : ℕ) (todo : List Frame) → IsWalk way c goal found marks (Enter s ∷ todo) → s < length marks
-  enter_low c goal found marks s todo w = let low : s < length c.names = w.inside 0 (Enter s) (omega arith) in omega (arith, low, w.len)
+  pub enter_low : (c : Circuit) (goal found : List ℕ) (seen : List Bool) (s : ℕ) (todo : List Frame) → IsWalk way c goal found seen (Enter s ∷ todo) → s < length seen
+  enter_low c goal found seen s todo w = let low : s < length c.names = w.inside 0 (Enter s) (omega arith) in omega (arith, low, w.len)
 
 -- ---- lists of operands, gate by gate
 

@@ -5,9 +5,9 @@ use Rattle.std.proofs.lemmas.Bool.{cases_eq}
 use Rattle.std.proofs.lemmas.List.{take_more, take_all, drop_more, length-set, get_or-set_other, get_or-set_same}
 use Rattle.net_bench.proofs.Numbers.{or_left, or_right, or_cases}
 use Rattle.net_order.specs.Order.{is_member, put_behind, weave, with_variable}
-use Rattle.net_order.specs.Tables.{IsMarked}
+use Rattle.net_order.specs.Tables.{IsVisited}
 use Rattle.net_order.proofs.Members.{equal_numbers, member_head, no_true}
-use Rattle.net_order.proofs.Walking.{same_mark}
+use Rattle.net_order.proofs.Walking.{same_visit}
 
 -- ---- right behind a variable
 
@@ -129,27 +129,27 @@ added_there order last v e = ap (λ b. cond b order (put_behind last v order)) (
 pub added_new : (order new : List ℕ) (last : Option ℕ) (v : ℕ) → is_member v order ≡ false → new ≡ put_behind last v order → new ≡ with_variable last v order
 added_new order new last v e is_new = is_new ∙ ap (λ b. cond b order (put_behind last v order)) (sym e)
 
-new_mark : (marks : List Bool) (v w : ℕ) (b : Bool) → v < length marks → get_or marks w false ≡ b → get_or (set marks v true) w false ≡ ((v == w) || b)
-new_mark marks v w b low e = elim (cases_eq w v) [
+new_visit : (seen : List Bool) (v w : ℕ) (b : Bool) → v < length seen → get_or seen w false ≡ b → get_or (set seen v true) w false ≡ ((v == w) || b)
+new_visit seen v w b low e = elim (cases_eq w v) [
   | inl same ↦
       let yes : (v == w) ≡ true = ap (λ y. v == y) same ∙ same_number v in
-      ap (λ y. get_or (set marks v true) y false) same ∙ get_or-set_same marks v true false low ∙ ap (λ c. c || b) (sym yes)
+      ap (λ y. get_or (set seen v true) y false) same ∙ get_or-set_same seen v true false low ∙ ap (λ c. c || b) (sym yes)
   | inr ne ↦
       let no : (v == w) ≡ false = other_number v w (λ f. ne (sym f)) in
-      get_or-set_other marks v w true false ne ∙ e ∙ ap (λ c. c || b) (sym no)
+      get_or-set_other seen v w true false ne ∙ e ∙ ap (λ c. c || b) (sym no)
 ]
   where
     other_number : (x y : ℕ) → (x ≡ y → ⊥) → (x == y) ≡ false
     other_number x y h = grind arith
 
-pub marked_new : (marks : List Bool) (order new : List ℕ) (last : Option ℕ) (v : ℕ) → IsMarked marks order → v < length marks → new ≡ put_behind last v order → IsMarked (set marks v true) new
-marked_new marks order new last v m low is_new =
-    subst (IsMarked (set marks v true)) (sym is_new) (record {
+pub visited_new : (seen : List Bool) (order new : List ℕ) (last : Option ℕ) (v : ℕ) → IsVisited seen order → v < length seen → new ≡ put_behind last v order → IsVisited (set seen v true) new
+visited_new seen order new last v m low is_new =
+    subst (IsVisited (set seen v true)) (sym is_new) (record {
       low = λ w e. elim (or_cases (v == w) (is_member w order) (sym (put_member w last v order) ∙ e)) [
-        | inl same ↦ subst (λ n. w < n) (sym (length-set marks v true)) (subst (λ y. y < length marks) (equal_numbers v w same) low)
-        | inr there ↦ subst (λ n. w < n) (sym (length-set marks v true)) (m.low w there)
+        | inl same ↦ subst (λ n. w < n) (sym (length-set seen v true)) (subst (λ y. y < length seen) (equal_numbers v w same) low)
+        | inr there ↦ subst (λ n. w < n) (sym (length-set seen v true)) (m.low w there)
       ];
-      each = λ w h. new_mark marks v w (is_member w order) low (m.each w (subst (λ n. w < n) (length-set marks v true) h)) ∙ sym (put_member w last v order);
+      each = λ w h. new_visit seen v w (is_member w order) low (m.each w (subst (λ n. w < n) (length-set seen v true) h)) ∙ sym (put_member w last v order);
     })
 
 -- ---- the rest of a walk
@@ -165,5 +165,5 @@ module _ (variable : ℕ → ℕ) (met : List ℕ) (i s v : ℕ) (low : i < leng
 pub met_low : (variable : ℕ → ℕ) (count : ℕ) (met : List ℕ) (i s v : ℕ) → i < length met → s ≡ get_or met i s → v ≡ variable s → All (λ x. variable x < count) met → v < count
 met_low variable count met i s v low at is_v h = subst (λ x. x < count) (sym is_v) (subst (λ x. variable x < count) (sym at) (h i s low))
 
-pub mark_of : (marks : List Bool) (order : List ℕ) (v : ℕ) (r : Bool) → IsMarked marks order → v < length marks → r ≡ get_or marks v r → is_member v order ≡ r
-mark_of marks order v r m low at = sym (m.each v low) ∙ sym (at ∙ same_mark marks v r false low)
+pub seen_of : (seen : List Bool) (order : List ℕ) (v : ℕ) (r : Bool) → IsVisited seen order → v < length seen → r ≡ get_or seen v r → is_member v order ≡ r
+seen_of seen order v r m low at = sym (m.each v low) ∙ sym (at ∙ same_visit seen v r false low)

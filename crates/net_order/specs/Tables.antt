@@ -54,9 +54,9 @@ abbrev pub IsOverflow : List (List ℕ) → OrderFault → Type 0
 IsOverflow names fault = (fault ≡ OutOfMemory) ⊎ ((fault ≡ TooManyInputs) × (max_variables < length names))
 
 -- Each variable of the order has a mark, and no other number has one.
-pub record IsMarked (marks : List Bool) (order : List ℕ) : Type 0 where
-  pub low : (v : ℕ) → is_member v order ≡ true → v < length marks
-  pub each : (v : ℕ) → v < length marks → slice_index_or marks v false ≡ is_member v order
+pub record IsVisited (seen : List Bool) (order : List ℕ) : Type 0 where
+  pub low : (v : ℕ) → is_member v order ≡ true → v < length seen
+  pub each : (v : ℕ) → v < length seen → slice_index_or seen v false ≡ is_member v order
 
 -- Signals of one netlist that are to be compared.
 pub record AreChosen : Type 0 where
@@ -64,11 +64,11 @@ pub record AreChosen : Type 0 where
   pub signals : List ℕ
 
 -- Each of them has a mark, and no other signal has one.
-pub record IsChosen (net : Net) (signals : List ℕ) (marks : List Bool) : Type 0 where
+pub record IsChosen (net : Net) (signals : List ℕ) (seen : List Bool) : Type 0 where
   pub sound : IsNet net
   pub known : All (λ s. s < length net.names) signals
-  pub len : length marks ≡ length net.names
-  pub each : (s : ℕ) → s < length net.names → slice_index_or marks s false ≡ is_member s signals
+  pub len : length seen ≡ length net.names
+  pub each : (s : ℕ) → s < length net.names → slice_index_or seen s false ≡ is_member s signals
 
 -- Each side's variables have their levels in an order of names.
 pub record AreLevels (names : List (List ℕ)) (sides : List Sided) (p : Paired) : Type 0 where

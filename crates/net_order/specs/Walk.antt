@@ -37,13 +37,13 @@ abbrev pub entered : List ℕ → List Frame → List Frame
 entered [] todo = todo
 entered (o ∷ os) todo = Enter o ∷ entered os todo
 
--- Between two steps of a walk that is to find `goal`: what has been found, the marks by signal, and what is to do, from the top of
+-- Between two steps of a walk that is to find `goal`: what has been found, the seen by signal, and what is to do, from the top of
 -- the stack. The first argument gives the leaves below a signal, the second is the number of signals.
-pub record IsWalking (leaves : ℕ → List ℕ) (count : ℕ) (goal found : List ℕ) (marks : List Bool) (todo : List Frame) : Type 0 where
-  pub len : length marks ≡ count
+pub record IsWalking (leaves : ℕ → List ℕ) (count : ℕ) (goal found : List ℕ) (seen : List Bool) (todo : List Frame) : Type 0 where
+  pub len : length seen ≡ count
   pub leads : fold with_number found (pending leaves todo) ≡ goal
-  pub marked : (s : ℕ) → s < count → slice_index_or marks s false ≡ true → Among (leaves s) found
-  pub kept : (s : ℕ) → s < count → is_member s found ≡ true → slice_index_or marks s false ≡ true
+  pub visited : (s : ℕ) → s < count → slice_index_or seen s false ≡ true → Among (leaves s) found
+  pub kept : (s : ℕ) → s < count → is_member s found ≡ true → slice_index_or seen s false ≡ true
   pub well : IsWell leaves todo found
   pub inside : All (λ f. signal_of f < count) todo
 
@@ -53,11 +53,11 @@ outcome way c found todo = fold with_number found (pending (below way c) todo)
 
 -- Between two steps of a walk that is to find `goal` in a netlist.
 abbrev pub IsWalk : Way → Circuit → List ℕ → List ℕ → List Bool → List Frame → Type 0
-IsWalk way c goal found marks todo = IsWalking (below way c) (length c.names) goal found marks todo
+IsWalk way c goal found seen todo = IsWalking (below way c) (length c.names) goal found seen todo
 
 -- Between two walks: nothing is to do.
 abbrev pub IsSettled : Way → Circuit → List ℕ → List Bool → Type 0
-IsSettled way c found marks = IsWalk way c found found marks []
+IsSettled way c found seen = IsWalk way c found found seen []
 
 -- How many steps a walk below a signal takes where no mark cuts it short: one for a variable, and for a gate two beside its operands'.
 -- The first number bounds the depth.
@@ -80,7 +80,7 @@ steps_left way c todo = sum_by (frame_steps (steps_below way c)) todo
 
 -- A walk goes on: it is to find what is left to be found.
 abbrev pub IsGoing : Way → Circuit → List ℕ → List Bool → List Frame → Type 0
-IsGoing way c found marks todo = IsWalk way c (outcome way c found todo) found marks todo
+IsGoing way c found seen todo = IsWalk way c (outcome way c found todo) found seen todo
 
 -- These are the operands of the signal's gate as a walk takes them.
 pub record IsStepsOf (way : Way) (c : Circuit) (s : ℕ) (steps : List ℕ) : Type 0 where

@@ -57,7 +57,7 @@ impl Correspondence {
 struct Chosen<'a> {
     net: &'a Netlist,
     signals: &'a [Signal],
-    marks: Vec<bool>,
+    seen: Vec<bool>,
 }
 
 impl<'a> Model for Chosen<'a> {
@@ -68,20 +68,20 @@ impl<'a> Model for Chosen<'a> {
 
     ghost view = { λ c. record { net = circuit c.net.now; signals = c.signals.now } };
 
-    ghost invariant = { λ c. IsChosen c.net.now c.signals.now c.marks.items };
+    ghost invariant = { λ c. IsChosen c.net.now c.signals.now c.seen.items };
 }
 
 /// For each signal below `count` whether it is among these.
-fn marked(alloc: Global, count: usize, signals: &[Signal]) -> Result<Vec<bool>, AllocError>
+fn visited(alloc: Global, count: usize, signals: &[Signal]) -> Result<Vec<bool>, AllocError>
     requires { All (λ s. s < count) signals.now }
     ensures len { IfOk result (λ v. length v.items ≡ count) }
-    ensures marks { IfOk result (λ v. (s : ℕ) → s < count → slice_index_or v.items s false ≡ is_member s signals.now) }
+    ensures seen { IfOk result (λ v. (s : ℕ) → s < count → slice_index_or v.items s false ≡ is_member s signals.now) }
 {
-    let mut marks = Vec::from_elem(alloc, false, count)?;
+    let mut seen = Vec::from_elem(alloc, false, count)?;
     for signal in signals {
-        marks[signal.number() as usize] = true;
+        seen[signal.number() as usize] = true;
     }
-    Ok(marks)
+    Ok(seen)
 }
 
 impl<'a> Chosen<'a> {
@@ -90,11 +90,11 @@ impl<'a> Chosen<'a> {
         requires { All (λ s. s < length net.now.names) signals.now }
         ensures { IfOk result (λ c. c ≡ record { net = circuit net.entry.now; signals = signals.entry.now }) }
     {
-        let marks = marked(alloc, net.count(), signals)?;
+        let seen = visited(alloc, net.count(), signals)?;
         Ok(Chosen {
             net,
             signals,
-            marks,
+            seen,
         })
     }
 
@@ -118,7 +118,7 @@ impl<'a> Chosen<'a> {
         ensures { result ≡ signal_named self.now.net self.now.signals name.now }
     {
         match self.net.find(name) {
-            Some(signal) => if self.marks[signal.number() as usize] {
+            Some(signal) => if self.seen[signal.number() as usize] {
                 Some(signal)
             } else {
                 None

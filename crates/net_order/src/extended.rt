@@ -6,7 +6,7 @@ ghost use Rattle.net_order.specs.Tables.{with_names};
 
 use crate::names::Names;
 use crate::order::OrderFault;
-use crate::side::Side;
+use crate::side::NamedNetlist;
 use crate::variables::{MAX_VARIABLES, add_all};
 use net_bench::name_table::NameTable;
 use std::alloc::{AllocError, Global};
@@ -44,8 +44,8 @@ fn add_known(
 /// The names of the list that are variables, then the others as they are declared.
 pub fn extended_table(
     alloc: Global,
-    sides: &[Side<'_>],
-    given: &[Side<'_>],
+    sides: &[NamedNetlist<'_>],
+    given: &[NamedNetlist<'_>],
     variables: &NameTable,
     list: &Names,
 ) -> Result<NameTable, OrderFault>

@@ -10,7 +10,7 @@ use crate::edge::Edge;
 use crate::hypergraph::{Graph, number_at, numbers_below, put};
 use crate::indexed::indexed_table;
 use crate::order::OrderFault;
-use crate::side::Side;
+use crate::side::NamedNetlist;
 use crate::variables::{MAX_VARIABLES, add_all};
 use net_bench::name_table::NameTable;
 use std::alloc::{AllocError, Global};
@@ -108,8 +108,8 @@ fn variables_back(
 fn forced_back(
     alloc: Global,
     names: &NameTable,
-    sides: &[Side<'_>],
-    given: &[Side<'_>],
+    sides: &[NamedNetlist<'_>],
+    given: &[NamedNetlist<'_>],
 ) -> Result<Vec<usize>, AllocError>
     ensures { IfOk result (λ v. v.items ≡ forced_back names.now sides.now given.now) }
 {
@@ -138,8 +138,8 @@ fn add_numbered(
 /// The variables as FORCE leaves them when they begin by rising number at the end of their names, the last one first.
 pub fn forced_table(
     alloc: Global,
-    sides: &[Side<'_>],
-    given: &[Side<'_>],
+    sides: &[NamedNetlist<'_>],
+    given: &[NamedNetlist<'_>],
     variables: &NameTable,
 ) -> Result<NameTable, OrderFault>
     requires all { variables.now ≡ declared sides.now given.now }

@@ -6,7 +6,7 @@ ghost use Rattle.net_order.specs.Order.{graph_of, level_of, named, rank_of, with
 
 use crate::edge::Edge;
 use crate::ranked::rank_at;
-use crate::side::Side;
+use crate::side::NamedNetlist;
 use net_bench::name_table::NameTable;
 use net_bench::netlist::{GateLine, Signal};
 use net_bench::reader::Netlist;
@@ -68,7 +68,7 @@ fn outs_of(alloc: Global, net: &Netlist) -> Result<Vec<usize>, AllocError>
 }
 
 /// Puts the levels of a side's variables at their places.
-fn put_levels(table: &mut Vec<u64>, names: &NameTable, side: &Side<'_>)
+fn put_levels(table: &mut Vec<u64>, names: &NameTable, side: &NamedNetlist<'_>)
     ensures { table.new.items ≡ fold (λ t s. slice_set t s (level_of names.now (named side.now s))) table.old.items (variables_of side.now.net) }
 {
     let net = side.net();
@@ -83,7 +83,7 @@ fn put_levels(table: &mut Vec<u64>, names: &NameTable, side: &Side<'_>)
 fn vertices_on(
     alloc: Global,
     names: &NameTable,
-    side: &Side<'_>,
+    side: &NamedNetlist<'_>,
     first: usize,
 ) -> Result<Vec<u64>, AllocError>
     requires { first < MAX_VERTICES }
@@ -160,7 +160,7 @@ fn add_side(
     edges: &mut Vec<Edge>,
     ranks: &mut Vec<u64>,
     names: &NameTable,
-    side: &Side<'_>,
+    side: &NamedNetlist<'_>,
 ) -> Result<(), AllocError>
     ensures { OnOk result (record { edges = edges.new.items; ranks = ranks.new.items } ≡ with_side names.now (record { edges = edges.old.items; ranks = ranks.old.items }) side.now) }
 {
@@ -180,7 +180,7 @@ fn add_sides(
     edges: &mut Vec<Edge>,
     ranks: &mut Vec<u64>,
     names: &NameTable,
-    sides: &[Side<'_>],
+    sides: &[NamedNetlist<'_>],
 ) -> Result<(), AllocError>
     ensures { OnOk result (record { edges = edges.new.items; ranks = ranks.new.items } ≡ fold (with_side names.now) (record { edges = edges.old.items; ranks = ranks.old.items }) sides.now) }
 {
@@ -197,8 +197,8 @@ impl Graph {
     pub fn new(
         alloc: Global,
         names: &NameTable,
-        sides: &[Side<'_>],
-        given: &[Side<'_>],
+        sides: &[NamedNetlist<'_>],
+        given: &[NamedNetlist<'_>],
     ) -> Result<Graph, AllocError>
         ensures { IfOk result (λ g. g ≡ graph_of names.now sides.now given.now) }
     {

@@ -3,15 +3,15 @@
 ghost use Rattle.std.specs.Prelude.{◌≡◌, ℕ, ◌<◌, ◌≤◌, [], length, map, All, OnOk, IfOk, IfErr, Some, None, insert, slice_index};
 ghost use Rattle.net_bench.specs.Circuit.{circuit, variables_of};
 ghost use Rattle.net_order.specs.Order.{declared, interleaved, numbered, put_behind, weave, weave_netlist, with_variable, woven};
-ghost use Rattle.net_order.specs.Tables.{AreKnown, IsMarked, with_names};
+ghost use Rattle.net_order.specs.Tables.{AreKnown, IsVisited, with_names};
 
 use crate::levels::{Levels, levels_on};
 use crate::order::OrderFault;
 use crate::ranked::by_rank;
 use crate::roots::roots_of;
-use crate::side::Side;
+use crate::side::NamedNetlist;
 use crate::variables::{MAX_VARIABLES, add_all};
-use crate::walk::{Way, met_below, no_marks, paths_of, walk_below};
+use crate::walk::{Way, met_below, none_seen, paths_of, walk_below};
 use net_bench::name_table::NameTable;
 use net_bench::netlist::Signal;
 use net_bench::reader::Netlist;
@@ -44,44 +44,44 @@ fn put_behind(order: &mut Vec<u32>, last: Option<u32>, variable: u32) -> Result<
     }
 }
 
-/// Puts a variable into the order, unless it is there: right behind the other one. The marks say which variables are there.
+/// Puts a variable into the order, unless it is there: right behind the other one. The seen say which variables are there.
 fn add(
     order: &mut Vec<u32>,
-    marks: &mut Vec<bool>,
+    seen: &mut Vec<bool>,
     last: Option<u32>,
     variable: u32,
 ) -> Result<(), AllocError>
-    requires low { variable < length marks.old.items }
-    requires marked { IsMarked marks.old.items order.old.items }
-    ensures marked { OnOk result (IsMarked marks.new.items order.new.items) }
-    ensures len { OnOk result (length marks.new.items ≡ length marks.old.items) }
+    requires low { variable < length seen.old.items }
+    requires visited { IsVisited seen.old.items order.old.items }
+    ensures visited { OnOk result (IsVisited seen.new.items order.new.items) }
+    ensures len { OnOk result (length seen.new.items ≡ length seen.old.items) }
     ensures added { OnOk result (order.new.items ≡ with_variable last variable order.old.items) }
 {
-    if marks[variable as usize] {
+    if seen[variable as usize] {
         return Ok(());
     }
     put_behind(order, last, variable)?;
-    marks[variable as usize] = true;
+    seen[variable as usize] = true;
     Ok(())
 }
 
-/// Puts the variables of one walk into the order. The marks say which variables are there.
+/// Puts the variables of one walk into the order. The seen say which variables are there.
 fn weave(
     order: &mut Vec<u32>,
-    marks: &mut Vec<bool>,
+    seen: &mut Vec<bool>,
     variables: &Levels,
     met: &[Signal],
 ) -> Result<(), AllocError>
-    requires low { All (λ s. slice_index variables.now s < length marks.old.items) met.now }
-    requires marked { IsMarked marks.old.items order.old.items }
-    ensures marked { OnOk result (IsMarked marks.new.items order.new.items) }
-    ensures len { OnOk result (length marks.new.items ≡ length marks.old.items) }
+    requires low { All (λ s. slice_index variables.now s < length seen.old.items) met.now }
+    requires visited { IsVisited seen.old.items order.old.items }
+    ensures visited { OnOk result (IsVisited seen.new.items order.new.items) }
+    ensures len { OnOk result (length seen.new.items ≡ length seen.old.items) }
     ensures woven { OnOk result (order.new.items ≡ weave order.old.items None (map (slice_index variables.now) met.now)) }
 {
     let mut last = None;
     for signal in met {
         let variable = variables.at(*signal);
-        add(order, marks, last, variable)?;
+        add(order, seen, last, variable)?;
         last = Some(variable);
     }
     Ok(())
@@ -92,14 +92,14 @@ fn weave(
 fn weave_netlist(
     alloc: Global,
     order: &mut Vec<u32>,
-    marks: &mut Vec<bool>,
+    seen: &mut Vec<bool>,
     net: &Netlist,
     variables: &Levels,
 ) -> Result<(), AllocError>
-    requires low { All (λ s. slice_index variables.now s < length marks.old.items) (variables_of (circuit net.now)) }
-    requires marked { IsMarked marks.old.items order.old.items }
-    ensures marked { OnOk result (IsMarked marks.new.items order.new.items) }
-    ensures len { OnOk result (length marks.new.items ≡ length marks.old.items) }
+    requires low { All (λ s. slice_index variables.now s < length seen.old.items) (variables_of (circuit net.now)) }
+    requires visited { IsVisited seen.old.items order.old.items }
+    ensures visited { OnOk result (IsVisited seen.new.items order.new.items) }
+    ensures len { OnOk result (length seen.new.items ≡ length seen.old.items) }
     ensures woven { OnOk result (order.new.items ≡ weave_netlist (circuit net.now) (slice_index variables.now) order.old.items) }
 {
     let paths = paths_of(alloc, net, Way::ByRank)?;
@@ -107,13 +107,13 @@ fn weave_netlist(
     let ranked = by_rank(alloc, net, roots.as_slice())?;
     let ranked = ranked.as_slice();
     let mut found = Vec::new(alloc);
-    let mut walked = no_marks(alloc, &paths)?;
+    let mut walked = none_seen(alloc, &paths)?;
     for root in ranked {
         let before = found.len();
         walk_below(alloc, &paths, &mut found, &mut walked, root.number())?;
         if found.len() > before {
             let met = met_below(alloc, &paths, root.number())?;
-            weave(order, marks, variables, met.as_slice())?;
+            weave(order, seen, variables, met.as_slice())?;
         }
     }
     Ok(())
@@ -136,17 +136,17 @@ fn add_variables(
 }
 
 /// The numbers of the variables that walks meet, in interleaved order.
-fn woven(alloc: Global, sides: &[Side<'_>], variables: &NameTable) -> Result<Vec<u32>, AllocError>
+fn woven(alloc: Global, sides: &[NamedNetlist<'_>], variables: &NameTable) -> Result<Vec<u32>, AllocError>
     requires { AreKnown variables.now sides.now }
     ensures woven { IfOk result (λ v. v.items ≡ woven variables.now sides.now) }
     ensures low { IfOk result (λ v. All (λ k. k < length variables.now) v.items) }
 {
     let mut order = Vec::new(alloc);
-    let mut marks = Vec::from_elem(alloc, false, variables.len())?;
+    let mut seen = Vec::from_elem(alloc, false, variables.len())?;
     for i in 0..sides.len() {
         let side = &sides[i];
         let numbers = levels_on(alloc, variables, side)?;
-        weave_netlist(alloc, &mut order, &mut marks, side.net(), &numbers)?;
+        weave_netlist(alloc, &mut order, &mut seen, side.net(), &numbers)?;
     }
     Ok(order)
 }
@@ -154,8 +154,8 @@ fn woven(alloc: Global, sides: &[Side<'_>], variables: &NameTable) -> Result<Vec
 /// The variables in interleaved order.
 pub fn interleaved_table(
     alloc: Global,
-    sides: &[Side<'_>],
-    given: &[Side<'_>],
+    sides: &[NamedNetlist<'_>],
+    given: &[NamedNetlist<'_>],
     variables: &NameTable,
 ) -> Result<NameTable, OrderFault>
     requires all { variables.now ≡ declared sides.now given.now }

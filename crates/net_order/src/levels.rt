@@ -3,7 +3,7 @@ ghost use Rattle.std.specs.Prelude.{◌≡◌, ◌++◌, IfOk, OnOk, slice_index
 ghost use Rattle.std.specs.List.{AllZip};
 ghost use Rattle.net_order.specs.Order.{HasLevels};
 
-use crate::side::Side;
+use crate::side::NamedNetlist;
 use net_bench::name_table::NameTable;
 use net_bench::netlist::Signal;
 use std::alloc::{AllocError, Global};
@@ -46,7 +46,7 @@ pub fn level_at(sides: &[Levels], place: usize, variable: Signal) -> u32
 }
 
 /// The levels of one side's variables.
-pub fn levels_on(alloc: Global, table: &NameTable, side: &Side<'_>) -> Result<Levels, AllocError>
+pub fn levels_on(alloc: Global, table: &NameTable, side: &NamedNetlist<'_>) -> Result<Levels, AllocError>
     ensures { IfOk result (HasLevels table.now side.now) }
 {
     let net = side.net();
@@ -62,7 +62,7 @@ pub fn levels_on(alloc: Global, table: &NameTable, side: &Side<'_>) -> Result<Le
 pub fn all_levels(
     alloc: Global,
     table: &NameTable,
-    sides: &[Side<'_>],
+    sides: &[NamedNetlist<'_>],
 ) -> Result<Vec<Levels>, AllocError>
     ensures { IfOk result (λ v. AllZip (HasLevels table.now) sides.now v.items) }
 {

@@ -14,7 +14,7 @@ use crate::listed::listed;
 use crate::listings::registers_of;
 use crate::names::Names;
 use crate::order::{Match, Order, OrderFault};
-use crate::side::{Side, sides_of};
+use crate::side::{NamedNetlist, sides_of};
 use crate::variables::{declared_table, depth_table};
 use net_bench::name_table::NameTable;
 use net_bench::netlist::Signal;
@@ -145,8 +145,8 @@ pub(crate) fn are_counted(first: &Netlist, second: &Netlist, how: Match) -> bool
 /// The names by level, in the order that is asked for.
 fn ordered_table(
     alloc: Global,
-    sides: &[Side<'_>],
-    given: &[Side<'_>],
+    sides: &[NamedNetlist<'_>],
+    given: &[NamedNetlist<'_>],
     order: &Order,
     variables: NameTable,
 ) -> Result<NameTable, OrderFault>
@@ -177,7 +177,7 @@ fn finish(
     first: &Netlist,
     second: &Netlist,
     how: Match,
-    sides: &[Side<'_>],
+    sides: &[NamedNetlist<'_>],
     table: NameTable,
 ) -> Result<Pairing, AllocError>
     requires counted { AreCounted how (circuit first.now) (circuit second.now) }

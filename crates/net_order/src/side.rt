@@ -12,7 +12,7 @@ use std::marker::Model;
 
 /// A netlist of a pairing. By position another one names its variables: that of the same place.
 #[derive(Drop)]
-pub struct Side<'a> {
+pub struct NamedNetlist<'a> {
     net: &'a Netlist,
     namer: &'a Netlist,
     how: Match,
@@ -20,7 +20,7 @@ pub struct Side<'a> {
     partners: Vec<u32>,
 }
 
-impl<'a> Model for Side<'a> {
+impl<'a> Model for NamedNetlist<'a> {
     ghost use Rattle.net_bench.specs.Circuit.{circuit};
     ghost use Rattle.net_order.specs.Order.{Sided};
     ghost use Rattle.net_order.specs.Tables.{IsSide};
@@ -53,14 +53,14 @@ fn partner_table(
     Ok(table)
 }
 
-impl<'a> Side<'a> {
+impl<'a> NamedNetlist<'a> {
     /// A netlist whose variables are matched with those of the one that names them.
     fn new(
         alloc: Global,
         net: &'a Netlist,
         namer: &'a Netlist,
         how: Match,
-    ) -> Result<Side<'a>, AllocError>
+    ) -> Result<NamedNetlist<'a>, AllocError>
         requires { AreMatched how (circuit namer.now) (circuit net.now) }
         ensures { IfOk result (λ side. side ≡ record { how = how; namer = circuit namer.entry.now; net = circuit net.entry.now }) }
     {
@@ -70,7 +70,7 @@ impl<'a> Side<'a> {
             Match::Name => Vec::new(alloc),
             Match::Position => partner_table(alloc, net.count(), variables, names)?,
         };
-        Ok(Side {
+        Ok(NamedNetlist {
             net,
             namer,
             how,
@@ -107,16 +107,16 @@ pub fn sides_of<'a>(
     second: &'a Netlist,
     given: Option<&'a Netlist>,
     how: Match,
-) -> Result<Vec<Side<'a>>, AllocError>
+) -> Result<Vec<NamedNetlist<'a>>, AllocError>
     requires { AreCounted how (circuit first.now) (circuit second.now) }
     ensures { IfOk result (λ sides. sides.items ≡ both how (circuit first.entry.now) (circuit second.entry.now) ++ given_side (condition given.entry)) }
 {
     let mut sides = Vec::new(alloc);
-    sides.push(Side::new(alloc, first, first, Match::Name)?)?;
-    sides.push(Side::new(alloc, second, first, how)?)?;
+    sides.push(NamedNetlist::new(alloc, first, first, Match::Name)?)?;
+    sides.push(NamedNetlist::new(alloc, second, first, how)?)?;
     match given {
         None => {}
-        Some(given) => sides.push(Side::new(alloc, given, given, Match::Name)?)?,
+        Some(given) => sides.push(NamedNetlist::new(alloc, given, given, Match::Name)?)?,
     }
     Ok(sides)
 }

@@ -6,7 +6,7 @@ ghost use Rattle.net_order.specs.Tables.{IsOverflow, listed_of, with_names};
 
 use crate::listings::{Listing, listed_of};
 use crate::order::OrderFault;
-use crate::side::Side;
+use crate::side::NamedNetlist;
 use net_bench::name_table::NameTable;
 use net_bench::netlist::Signal;
 use std::alloc::Global;
@@ -18,7 +18,7 @@ pub const MAX_VARIABLES: usize = 4_096;
 fn add_names(
     alloc: Global,
     table: &mut NameTable,
-    side: &Side<'_>,
+    side: &NamedNetlist<'_>,
     variables: &[Signal],
 ) -> Result<(), OrderFault>
     requires room { length table.old ≤ MAX_VARIABLES }
@@ -40,7 +40,7 @@ fn add_names(
 fn add_side(
     alloc: Global,
     table: &mut NameTable,
-    side: &Side<'_>,
+    side: &NamedNetlist<'_>,
     listing: Listing,
 ) -> Result<(), OrderFault>
     requires { length table.old ≤ MAX_VARIABLES }
@@ -56,7 +56,7 @@ fn add_side(
 fn add_sides(
     alloc: Global,
     table: &mut NameTable,
-    sides: &[Side<'_>],
+    sides: &[NamedNetlist<'_>],
     listing: Listing,
 ) -> Result<(), OrderFault>
     requires { length table.old ≤ MAX_VARIABLES }
@@ -72,7 +72,7 @@ fn add_sides(
 }
 
 /// Puts all variables of sides into the table, as they are declared.
-fn add_declared(alloc: Global, table: &mut NameTable, sides: &[Side<'_>]) -> Result<(), OrderFault>
+fn add_declared(alloc: Global, table: &mut NameTable, sides: &[NamedNetlist<'_>]) -> Result<(), OrderFault>
     requires { length table.old ≤ MAX_VARIABLES }
     ensures ok { OnOk result (table.new ≡ with_names table.old (names_in sides.now)) }
     ensures few { OnOk result (length table.new ≤ MAX_VARIABLES) }
@@ -86,8 +86,8 @@ fn add_declared(alloc: Global, table: &mut NameTable, sides: &[Side<'_>]) -> Res
 pub fn add_all(
     alloc: Global,
     table: &mut NameTable,
-    sides: &[Side<'_>],
-    given: &[Side<'_>],
+    sides: &[NamedNetlist<'_>],
+    given: &[NamedNetlist<'_>],
 ) -> Result<(), OrderFault>
     requires { length table.old ≤ MAX_VARIABLES }
     ensures ok { OnOk result (table.new ≡ with_names table.old (all_names sides.now given.now)) }
@@ -101,8 +101,8 @@ pub fn add_all(
 /// The variables in declared order.
 pub fn declared_table(
     alloc: Global,
-    sides: &[Side<'_>],
-    given: &[Side<'_>],
+    sides: &[NamedNetlist<'_>],
+    given: &[NamedNetlist<'_>],
 ) -> Result<NameTable, OrderFault>
     ensures ok { IfOk result (λ t. t ≡ declared sides.now given.now) }
     ensures few { IfOk result (λ t. length t ≤ MAX_VARIABLES) }
@@ -116,8 +116,8 @@ pub fn declared_table(
 /// The variables in depth order.
 pub fn depth_table(
     alloc: Global,
-    sides: &[Side<'_>],
-    given: &[Side<'_>],
+    sides: &[NamedNetlist<'_>],
+    given: &[NamedNetlist<'_>],
 ) -> Result<NameTable, OrderFault>
     requires { length (declared sides.now given.now) ≤ MAX_VARIABLES }
     ensures ok { IfOk result (λ t. t ≡ by_depth sides.now given.now) }

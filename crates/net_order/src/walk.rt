@@ -114,22 +114,22 @@ fn steps_of<'a>(paths: &'a Paths<'_>, signal: u32) -> Option<&'a [Signal]>
 fn enter(
     paths: &Paths<'_>,
     found: &mut Vec<Signal>,
-    marks: &mut Vec<bool>,
+    seen: &mut Vec<bool>,
     stack: &mut Vec<Frame>,
     signal: u32,
 ) -> Result<(), AllocError>
     requires paths { ArePaths paths.now.way paths.now.net.now (map (λ l. l.items) paths.now.steps.items) }
-    requires walking { IsGoing paths.now.way (circuit paths.now.net.now) found.old.items marks.old.items (Frame.Enter signal ∷ reverse stack.old.items) }
-    ensures walking { OnOk result (IsWalk paths.now.way (circuit paths.now.net.now) (outcome paths.now.way (circuit paths.now.net.now) found.old.items (Frame.Enter signal ∷ reverse stack.old.items)) found.new.items marks.new.items (reverse stack.new.items)) }
+    requires walking { IsGoing paths.now.way (circuit paths.now.net.now) found.old.items seen.old.items (Frame.Enter signal ∷ reverse stack.old.items) }
+    ensures walking { OnOk result (IsWalk paths.now.way (circuit paths.now.net.now) (outcome paths.now.way (circuit paths.now.net.now) found.old.items (Frame.Enter signal ∷ reverse stack.old.items)) found.new.items seen.new.items (reverse stack.new.items)) }
     ensures fewer { OnOk result (steps_left paths.now.way (circuit paths.now.net.now) (reverse stack.new.items) < steps_left paths.now.way (circuit paths.now.net.now) (Frame.Enter signal ∷ reverse stack.old.items)) }
 {
-    if marks[signal as usize] {
+    if seen[signal as usize] {
         return Ok(());
     }
     match steps_of(paths, signal) {
         None => {
             found.push(Signal::of(signal))?;
-            marks[signal as usize] = true;
+            seen[signal as usize] = true;
             Ok(())
         }
         Some(operands) => {
@@ -145,13 +145,13 @@ pub fn walk_below(
     alloc: Global,
     paths: &Paths<'_>,
     found: &mut Vec<Signal>,
-    marks: &mut Vec<bool>,
+    seen: &mut Vec<bool>,
     root: u32,
 ) -> Result<(), AllocError>
     requires paths { ArePaths paths.now.way paths.now.net.now (map (λ l. l.items) paths.now.steps.items) }
     requires inside { root < length paths.now.net.now.names }
-    requires settled { IsSettled paths.now.way (circuit paths.now.net.now) found.old.items marks.old.items }
-    ensures settled { OnOk result (IsSettled paths.now.way (circuit paths.now.net.now) found.new.items marks.new.items) }
+    requires settled { IsSettled paths.now.way (circuit paths.now.net.now) found.old.items seen.old.items }
+    ensures settled { OnOk result (IsSettled paths.now.way (circuit paths.now.net.now) found.new.items seen.new.items) }
     ensures found { OnOk result (found.new.items ≡ fold with_number found.old.items (below paths.now.way (circuit paths.now.net.now) root)) }
 {
     let mut stack = Vec::new(alloc);
@@ -159,16 +159,16 @@ pub fn walk_below(
     while let Some(frame) = stack.pop() {
         match frame {
             Frame::Enter(signal) => {
-                enter(paths, found, marks, &mut stack, signal)?;
+                enter(paths, found, seen, &mut stack, signal)?;
             }
-            Frame::Leave(signal) => marks[signal as usize] = true,
+            Frame::Leave(signal) => seen[signal as usize] = true,
         }
     }
     Ok(())
 }
 
-/// Marks of a walk that has not begun.
-pub fn no_marks(alloc: Global, paths: &Paths<'_>) -> Result<Vec<bool>, AllocError>
+/// What was visited by a walk that has not begun.
+pub fn none_seen(alloc: Global, paths: &Paths<'_>) -> Result<Vec<bool>, AllocError>
     ensures { IfOk result (λ v. IsSettled paths.now.way (circuit paths.now.net.now) [] v.items) }
 {
     Vec::from_elem(alloc, false, paths.net.count())
@@ -181,8 +181,8 @@ pub fn met_below(alloc: Global, paths: &Paths<'_>, root: u32) -> Result<Vec<Sign
     ensures { IfOk result (λ v. v.items ≡ met_below paths.now.way (circuit paths.now.net.now) root) }
 {
     let mut found = Vec::new(alloc);
-    let mut marks = no_marks(alloc, paths)?;
-    walk_below(alloc, paths, &mut found, &mut marks, root)?;
+    let mut seen = none_seen(alloc, paths)?;
+    walk_below(alloc, paths, &mut found, &mut seen, root)?;
     Ok(found)
 }
 
@@ -194,11 +194,11 @@ pub fn met(alloc: Global, net: &Netlist) -> Result<Vec<Signal>, AllocError>
 {
     let paths = paths_of(alloc, net, Way::Written)?;
     let mut found = Vec::new(alloc);
-    let mut marks = no_marks(alloc, &paths)?;
+    let mut seen = none_seen(alloc, &paths)?;
     let roots = roots_of(alloc, net)?;
     let roots = roots.as_slice();
     for root in roots {
-        walk_below(alloc, &paths, &mut found, &mut marks, root.number())?;
+        walk_below(alloc, &paths, &mut found, &mut seen, root.number())?;
     }
     Ok(found)
 }

@@ -13,11 +13,11 @@ use Rattle.dd_store.specs.View.{Keeps as KeepsNodes}
 use Rattle.dd_store.specs.Nodes.{node as node_at}
 use Rattle.dd_store.specs.Marks.{mark_by, turned}
 use Rattle.dd_store.proofs.Marks.{IsRef-mark_by, den-mark_by, turned-twice}
-use Rattle.req_table.specs.Short.{short_of}
+use Rattle.req_table.specs.TerminalCase.{terminal_of}
 use Rattle.req_table.specs.declared.Key.{Key}
 use Rattle.req_table.specs.Keys.{normal_of, IsKey, meaning}
-use Rattle.req_table.specs.Memos.{Held, Keeps, IsRight, IsAnswerOf, IsValueOf, or_held}
-use Rattle.req_table.proofs.Memos.{known_value, not_known, right_kept, right_with}
+use Rattle.req_table.specs.ComputedTables.{Held, Keeps, IsRight, IsAnswerOf, IsValueOf, or_held}
+use Rattle.req_table.proofs.ComputedTables.{known_value, not_known, right_kept, right_with}
 use Rattle.req_table.proofs.Waved.{is_key}
 use Rattle.req_table.specs.contracts.KeyPartialEq.TheImpl.{eq-value}
 use Rattle.std.specs.Map.{lookup}
@@ -33,8 +33,8 @@ use Rattle.reduce_up.proofs.Rooted.{all_of, normal_means}
 use Rattle.reduce_up.proofs.Waving.{adds_below, wave_given_up, wave_done}
 
 -- ---- the entries of which nothing is known
--- they are entries without a short answer
-pub unknown_is : (m : Held) (es : List Entry) (e : Entry) → Contains (unknown m es) e → Contains es e × (short_of e.0 e.1 e.2 ≡ None)
+-- they are entries without a terminal case
+pub unknown_is : (m : Held) (es : List Entry) (e : Entry) → Contains (unknown m es) e → Contains es e × (terminal_of e.0 e.1 e.2 ≡ None)
 unknown_is m [] e c = absurd (nothing {X = Entry} e c)
 unknown_is m (d ∷ es) e c =
     elim (Contains-append_cases (unless_known (known_entry m d) d) (unknown m es) e c) [
@@ -42,12 +42,12 @@ unknown_is m (d ∷ es) e c =
       | inr h ↦ let i = unknown_is m es e h in (tail_in {X = Entry} d e es i.0, i.1)
     ]
   where
-    own : (o : Option Ref) → known_entry m d ≡ o → Contains (unless_known o d) e → Contains (d ∷ es) e × (short_of e.0 e.1 e.2 ≡ None)
+    own : (o : Option Ref) → known_entry m d ≡ o → Contains (unless_known o d) e → Contains (d ∷ es) e × (terminal_of e.0 e.1 e.2 ≡ None)
     own None h i =
         elim (in_cases {X = Entry} d e [] i) [
           | inl same ↦ (
             subst (Contains (d ∷ es)) same (head_in {X = Entry} d es),
-            subst (λ (z : Entry). short_of z.0 z.1 z.2 ≡ None) same (not_known m (normal_of d.0 d.1 d.2) (short_of d.0 d.1 d.2) h),
+            subst (λ (z : Entry). terminal_of z.0 z.1 z.2 ≡ None) same (not_known m (normal_of d.0 d.1 d.2) (terminal_of d.0 d.1 d.2) h),
           )
           | inr j ↦ absurd (nothing {X = Entry} e j)
         ]
@@ -56,8 +56,8 @@ unknown_is m (d ∷ es) e c =
 pub unknown_good : (S : Nodes) (m : Held) (es : List Entry) → All (IsEntry S) es → All (IsEntry S) (unknown m es)
 unknown_good S m es good = all_of (IsEntry S) (unknown m es) (λ e c. All-contains (IsEntry S) es e good (unknown_is m es e c).0)
 
-pub unknown_long : (m : Held) (es : List Entry) → All (λ e. short_of e.0 e.1 e.2 ≡ None) (unknown m es)
-unknown_long m es = all_of (λ e. short_of e.0 e.1 e.2 ≡ None) (unknown m es) (λ e c. (unknown_is m es e c).1)
+pub unknown_long : (m : Held) (es : List Entry) → All (λ e. terminal_of e.0 e.1 e.2 ≡ None) (unknown m es)
+unknown_long m es = all_of (λ e. terminal_of e.0 e.1 e.2 ≡ None) (unknown m es) (λ e c. (unknown_is m es e c).1)
 
 -- one of which nothing is known is a request, and no other
 pub is_request : (o : Option Ref) (e : Entry) → is_some o ≡ false → unless_known o e ≡ e ∷ []
@@ -145,7 +145,7 @@ module _ (S : Nodes) (w : IsSound S) (m : Held) (right : IsRight S m) (T : Nodes
   -- the answers of all entries
   pub woven_answers : (es : List Entry) → All (IsEntry S) es → (found : List Ref) → AnswersEach S (unknown m es) T found → AnswersEach S es T (woven (map (known_entry m) es) found)
   woven_answers [] good found z = tt
-  woven_answers (e ∷ es) good found z = by (known_entry m e) (known_value S m right e.0 e.1 e.2 (good 0 e (omega arith)).0 (good 0 e (omega arith)).1 (short_of e.0 e.1 e.2) refl)
+  woven_answers (e ∷ es) good found z = by (known_entry m e) (known_value S m right e.0 e.1 e.2 (good 0 e (omega arith)).0 (good 0 e (omega arith)).1 (terminal_of e.0 e.1 e.2) refl)
       (woven_answers es (λ k b lt. good (suc k) b (omega arith))) found z
     where
       by : (o : Option Ref) → IfSome o (IsValueOf S e.0 e.1 e.2) → ((found : List Ref) → AnswersEach S (unknown m es) T found → AnswersEach S es T (woven (map (known_entry m) es) found)) → (found : List Ref) → AnswersEach S (unless_known o e ++ unknown m es) T found → AnswersEach S (e ∷ es) T (woven (o ∷ map (known_entry m) es) found)
@@ -153,8 +153,8 @@ module _ (S : Nodes) (w : IsSound S) (m : Held) (right : IsRight S m) (T : Nodes
       by None v rest [] z = absurd z
       by None v rest (r ∷ found) z = (z.0, rest found z.1)
 
-  -- the memo after their requests were kept is right
-  pub right_after : (es : List Entry) → All (IsEntry S) es → All (λ e. short_of e.0 e.1 e.2 ≡ None) es → (found : List Ref) → AnswersEach S es T found
+  -- the computed table after their requests were kept is right
+  pub right_after : (es : List Entry) → All (IsEntry S) es → All (λ e. terminal_of e.0 e.1 e.2 ≡ None) es → (found : List Ref) → AnswersEach S es T found
       → (old new : Held) → IsRight T old → AreKept old es found new → IsRight T new
   right_after [] good long found z old new was kept = subst (IsRight T) (sym kept) was
   right_after (e ∷ es) good long [] z old new was kept = absurd z
@@ -197,7 +197,7 @@ kept_wave : (m : Held) (es : List Entry) (found : List Ref) (new : Held) → len
 kept_wave m es found new e kept = subst (λ z. AreKept m (unknown m es) z new) (sym (found_back m es found e)) kept
 
 -- ---- a wave over what was sought
--- the store T and the memo `new` after a wave over all entries, with the answers
+-- the store T and the computed table `new` after a wave over all entries, with the answers
 pub record IsWaved (S : Nodes) (m : Held) (es : List Entry) (T : Nodes) (answers : List Ref) (new : Held) : Type 0 where
   pub adds : AddsDescribed S T (IsWanted S es)
   pub answered : AnswersEach S es T answers
@@ -212,8 +212,8 @@ module _ (S : Nodes) (w : IsSound S) (m : Held) (right : IsRight S m) (es : List
   pub sought_good : All (IsEntry S) asked
   sought_good = subst (All (IsEntry S)) (sym only) (unknown_good S m es good)
 
-  pub sought_long : All (λ e. short_of e.0 e.1 e.2 ≡ None) s.requests
-  sought_long = subst (All (λ (e : Entry). short_of e.0 e.1 e.2 ≡ None)) (sym sought.requests) (unknown_long m es)
+  pub sought_long : All (λ e. terminal_of e.0 e.1 e.2 ≡ None) s.requests
+  sought_long = subst (All (λ (e : Entry). terminal_of e.0 e.1 e.2 ≡ None)) (sym sought.requests) (unknown_long m es)
 
   pub sought_count : missing s.known ≡ length s.requests
   sought_count = ap missing sought.known ∙ unknown_count m es ∙ ap (λ (l : List Entry). length l) (sym sought.requests)
@@ -222,7 +222,7 @@ module _ (S : Nodes) (w : IsSound S) (m : Held) (right : IsRight S m) (es : List
     pub sought_adds : AddsDescribed S T (IsWanted S asked) → AddsDescribed S T (IsWanted S es)
     sought_adds adds = wanted_of_all S T m es (subst (λ z. AddsDescribed S T (IsWanted S z)) only adds)
 
-    -- the memo is right for a store that has only grown
+    -- the computed table is right for a store that has only grown
     pub sought_right : AddsDescribed S T (IsWanted S asked) → IsRight T m
     sought_right adds = right_kept S T w adds.keeps m right
 
@@ -267,20 +267,20 @@ unknown_in m (d ∷ es) e c h =
       | inr i ↦ Contains-append_right (unless_known (known_entry m d) d) (unknown m es) e (unknown_in m es e i h)
     ]
 
--- where nothing is held, each entry without a short answer is a request
+-- where nothing is held, each entry without a terminal case is a request
 pub request_unknown : (m : Held) (es : List Entry) → m.pairs ≡ [] → HasRequest es → HasRequest (unknown m es)
 request_unknown m es empty (e, c, long) = (e, unknown_in m es e c (ap (or_held m (normal_of e.0 e.1 e.2)) long ∙ ap (λ pairs. option_map (mark_by (normal_of e.0 e.1 e.2).1) (lookup (eq-value.it (normal_of e.0 e.1 e.2).0) pairs)) empty), long)
 
--- where a memo holds nothing, a wave is within its limit as its entries are
+-- where a computed table holds nothing, a wave is within its limit as its entries are
 pub within_all : (S T : Nodes) (m : Held) (es : List Entry) → m.pairs ≡ [] → IsWithinLimit S (unknown m es) T → IsWithinLimit S es T
 within_all S T m es empty (inl le) = inl le
 within_all S T m es empty (inr (none, same)) = inr (λ asked. none (request_unknown m es empty asked), same)
 
--- a wave without requests leaves the memo as it was
+-- a wave without requests leaves the computed table as it was
 pub kept_none : (m : Held) (es : List Entry) (answers : List Ref) (new : Held) → (HasRequest (unknown m es) → ⊥) → IsKeptWave m es answers new → new ≡ m
 kept_none m es answers new none kept = by (unknown m es) (unknown_is m es) none kept
   where
-    by : (rs : List Entry) → ((e : Entry) → Contains rs e → Contains es e × (short_of e.0 e.1 e.2 ≡ None)) → (HasRequest rs → ⊥) → AreKept m rs (found_of m es answers) new → new ≡ m
+    by : (rs : List Entry) → ((e : Entry) → Contains rs e → Contains es e × (terminal_of e.0 e.1 e.2 ≡ None)) → (HasRequest rs → ⊥) → AreKept m rs (found_of m es answers) new → new ≡ m
     by [] is never h = h
     by (e ∷ rs) is never h = absurd (never (e, head_in {X = Entry} e rs, (is e (head_in {X = Entry} e rs)).1))
 

@@ -12,7 +12,7 @@ use Rattle.dd_store.proofs.View.{parts, denotes, same_ref, top-part}
 use Rattle.dd_store.proofs.Lacking.{no_diagram, depends}
 use Rattle.req_table.specs.declared.Key.{Key}
 use Rattle.req_table.specs.Keys.{meaning}
-use Rattle.req_table.specs.Short.{op_value}
+use Rattle.req_table.specs.TerminalCase.{op_value}
 use Rattle.req_table.proofs.Waved.{unread}
 use Rattle.reduce_up.specs.Reducing.{IsKeyAt, IsAnswerAt, IsRecordFault}
 

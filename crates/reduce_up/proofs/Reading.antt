@@ -28,7 +28,7 @@ use Rattle.expand_work.specs.Work.{owned_by}
 use Rattle.expand_work.specs.Expanded.{row_of}
 use Rattle.expand_work.specs.Gathered.{PartsView, AreParts, noted_of}
 use Rattle.expand_work.proofs.Counting.{asked_by-append}
-use Rattle.req_table.specs.Short.{op_number}
+use Rattle.req_table.specs.TerminalCase.{op_number}
 use Rattle.dd_store.specs.Codes.{code_of}
 use Rattle.expand_work.proofs.Zips.{zip_long}
 use Rattle.reduce_up.proofs.Rooted.{item_at}

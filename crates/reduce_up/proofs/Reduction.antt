@@ -22,7 +22,7 @@ use Rattle.dd_store.specs.Nodes.{Nodes, den, IsSound, IsDiagram, count_of}
 use Rattle.dd_store.specs.View.{part, Has, top, Keeps, IsOneNode, IsMade}
 use Rattle.reduce_up.specs.Reducing.{IsKeyAt, IsAnswer, IsAnswerAt, IsChild, IsRecordAt, AreAnswers, IsResolved, AddsDescribed, AskedBy, IsRowReduced, IsRecordFault, IsRowFault, ReducesRow, wave_fault}
 use Rattle.req_table.specs.Keys.{meaning}
-use Rattle.req_table.specs.Short.{op_value}
+use Rattle.req_table.specs.TerminalCase.{op_value}
 use Rattle.std.proofs.Math.Nat.{eq-or-lt_of_le}
 use Rattle.reduce_up.proofs.Noting.{head_in}
 use Rattle.reduce_up.proofs.Opposite.{one_node_either, one_node_part}

@@ -9,37 +9,37 @@ use Rattle.dd_store.specs.View.{Has}
 use Rattle.dd_store.specs.Marks.{turned, mark_by}
 use Rattle.dd_store.proofs.View.{has-negate}
 use Rattle.req_table.specs.declared.Key.{Key}
-use Rattle.req_table.specs.Short.{short_of}
+use Rattle.req_table.specs.TerminalCase.{terminal_of}
 use Rattle.req_table.specs.Keys.{normal_of, IsKey, meaning}
-use Rattle.req_table.proofs.Means.{Answers, short_means}
-use Rattle.req_table.proofs.Shorts.{OnAnswer, short_is}
+use Rattle.req_table.proofs.Means.{Answers, terminal_means}
+use Rattle.req_table.proofs.TerminalCases.{OnAnswer, terminal_is}
 use Rattle.req_table.proofs.Waved.{is_key, is_value, meaning_normal}
 use Rattle.reduce_up.specs.Waves.{Entry, entry_value, entry_for, entries_for, IsEntry, request_of, requests_of, IsTakenFrom}
 use Rattle.reduce_up.proofs.Noting.{nothing, head_in, tail_in, in_cases}
 
 -- a request is that of an entry
-pub of_entry : (es : List Entry) (k : Key) → Contains (requests_of es) k → (e : Entry) × Contains es e × (short_of e.0 e.1 e.2 ≡ None) × (k ≡ (normal_of e.0 e.1 e.2).0)
+pub of_entry : (es : List Entry) (k : Key) → Contains (requests_of es) k → (e : Entry) × Contains es e × (terminal_of e.0 e.1 e.2 ≡ None) × (k ≡ (normal_of e.0 e.1 e.2).0)
 of_entry [] k c = absurd (nothing k c)
 of_entry (e ∷ es) k c =
-    elim (Contains-append_cases (request_of (short_of e.0 e.1 e.2) e) (requests_of es) k c) [
-      | inl h ↦ let m = own (short_of e.0 e.1 e.2) refl h in (e, head_in {X = Entry} e es, m.0, m.1)
+    elim (Contains-append_cases (request_of (terminal_of e.0 e.1 e.2) e) (requests_of es) k c) [
+      | inl h ↦ let m = own (terminal_of e.0 e.1 e.2) refl h in (e, head_in {X = Entry} e es, m.0, m.1)
       | inr h ↦ let m = of_entry es k h in (m.0, tail_in {X = Entry} e m.0 es m.1, m.2, m.3)
     ]
   where
-    own : (o : Option Ref) → short_of e.0 e.1 e.2 ≡ o → Contains (request_of o e) k → (short_of e.0 e.1 e.2 ≡ None) × (k ≡ (normal_of e.0 e.1 e.2).0)
+    own : (o : Option Ref) → terminal_of e.0 e.1 e.2 ≡ o → Contains (request_of o e) k → (terminal_of e.0 e.1 e.2 ≡ None) × (k ≡ (normal_of e.0 e.1 e.2).0)
     own None h d = (h, elim (in_cases (normal_of e.0 e.1 e.2).0 k [] d) [ inl same ↦ sym same | inr i ↦ absurd (nothing k i) ])
     own (Some r) h d = absurd (nothing k d)
 
--- an entry that has no short answer has its request
-pub to_request : (es : List Entry) (e : Entry) → Contains es e → short_of e.0 e.1 e.2 ≡ None → Contains (requests_of es) (normal_of e.0 e.1 e.2).0
+-- an entry that has no terminal case has its request
+pub to_request : (es : List Entry) (e : Entry) → Contains es e → terminal_of e.0 e.1 e.2 ≡ None → Contains (requests_of es) (normal_of e.0 e.1 e.2).0
 to_request [] e c long = absurd (nothing {X = Entry} e c)
 to_request (d ∷ es) e c long =
     elim (in_cases {X = Entry} d e es c) [
       | inl same ↦
-          let own : Contains (request_of (short_of e.0 e.1 e.2) e) (normal_of e.0 e.1 e.2).0 = subst (λ o. Contains (request_of o e) (normal_of e.0 e.1 e.2).0) (sym long) (head_in (normal_of e.0 e.1 e.2).0 []) in
-          Contains-append_left (request_of (short_of d.0 d.1 d.2) d) (requests_of es) (normal_of e.0 e.1 e.2).0
-          (subst (λ (z : Entry). Contains (request_of (short_of z.0 z.1 z.2) z) (normal_of e.0 e.1 e.2).0) (sym same) own)
-      | inr i ↦ Contains-append_right (request_of (short_of d.0 d.1 d.2) d) (requests_of es) (normal_of e.0 e.1 e.2).0 (to_request es e i long)
+          let own : Contains (request_of (terminal_of e.0 e.1 e.2) e) (normal_of e.0 e.1 e.2).0 = subst (λ o. Contains (request_of o e) (normal_of e.0 e.1 e.2).0) (sym long) (head_in (normal_of e.0 e.1 e.2).0 []) in
+          Contains-append_left (request_of (terminal_of d.0 d.1 d.2) d) (requests_of es) (normal_of e.0 e.1 e.2).0
+          (subst (λ (z : Entry). Contains (request_of (terminal_of z.0 z.1 z.2) z) (normal_of e.0 e.1 e.2).0) (sym same) own)
+      | inr i ↦ Contains-append_right (request_of (terminal_of d.0 d.1 d.2) d) (requests_of es) (normal_of e.0 e.1 e.2).0 (to_request es e i long)
     ]
 
 -- what holds of each element of a list
@@ -59,11 +59,11 @@ requests_good S es h =
 pub normal_means : (S : Nodes) (e : Entry) (x : List Bool) → turned (normal_of e.0 e.1 e.2).1 (meaning S (normal_of e.0 e.1 e.2).0 x) ≡ entry_value S e x
 normal_means S e x = meaning_normal S e.0 e.1 e.2 x
 
--- a short answer is the entry's diagram
-pub short_diagram : (S : Nodes) (e : Entry) → IsEntry S e → (r : Ref) → short_of e.0 e.1 e.2 ≡ Some r → IsDiagram S r (entry_value S e)
-short_diagram S e i r h = (
-  subst (OnAnswer (Has S)) h (short_is (Has S) (has-negate S) e.0 e.1 e.2 tt i.0 i.1),
-  λ x hx. subst (λ o. Answers (λ r. den S r x) o (entry_value S e x)) h (short_means (λ r. den S r x) (is_value S x) e.0 e.1 e.2),
+-- a terminal case is the entry's diagram
+pub terminal_diagram : (S : Nodes) (e : Entry) → IsEntry S e → (r : Ref) → terminal_of e.0 e.1 e.2 ≡ Some r → IsDiagram S r (entry_value S e)
+terminal_diagram S e i r h = (
+  subst (OnAnswer (Has S)) h (terminal_is (Has S) (has-negate S) e.0 e.1 e.2 tt i.0 i.1),
+  λ x hx. subst (λ o. Answers (λ r. den S r x) o (entry_value S e x)) h (terminal_means (λ r. den S r x) (is_value S x) e.0 e.1 e.2),
 )
 
 -- an element that a loop reads is one of the list
@@ -90,7 +90,7 @@ requests_again S (k ∷ ks) good =
     ∙ ap (λ z. k ∷ z) (requests_again S ks (λ j e m. good (suc j) e (omega (arith, m))))
 
 -- what the pairs have for requests is taken for them as entries
-pub taken_each : (S : Nodes) (T : List (Key × Ref)) (ks : List Key) (rs : List Ref) → All (IsKey S) ks → AllZip (λ k r. Contains {X = Key × Ref} T (k, r)) ks rs → AllZip (λ e r. IsTakenFrom T (short_of e.0 e.1 e.2) e r) (entries_for ks) rs
+pub taken_each : (S : Nodes) (T : List (Key × Ref)) (ks : List Key) (rs : List Ref) → All (IsKey S) ks → AllZip (λ k r. Contains {X = Key × Ref} T (k, r)) ks rs → AllZip (λ e r. IsTakenFrom T (terminal_of e.0 e.1 e.2) e r) (entries_for ks) rs
 taken_each S T [] [] good z = z
 taken_each S T [] (r ∷ rs) good z = z
 taken_each S T (k ∷ ks) [] good z = z

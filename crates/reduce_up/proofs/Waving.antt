@@ -23,7 +23,7 @@ use Rattle.req_table.specs.declared.Record.{Record}
 use Rattle.req_table.specs.Keys.{IsKey, meaning, level_of, normal_of, wave_of}
 use Rattle.req_table.specs.Reached.{root}
 use Rattle.req_table.specs.Settled.{IsClosure}
-use Rattle.req_table.specs.Short.{short_of}
+use Rattle.req_table.specs.TerminalCase.{terminal_of}
 use Rattle.req_table.specs.Tables.{row_at}
 use Rattle.req_table.proofs.AsksFor.{AsksFor, asks_for}
 use Rattle.req_table.proofs.Waved.{is_key, is_wave, are_requests}
@@ -36,7 +36,7 @@ use Rattle.reduce_up.proofs.Levelling.{past_rows}
 use Rattle.reduce_up.proofs.Noting.{nothing, head_in, tail_in, in_cases}
 use Rattle.reduce_up.proofs.Opposite.{either_more, either_either, either_reads, fixed_turned}
 use Rattle.reduce_up.proofs.Reduction.{kept_meaning, diagram_kept}
-use Rattle.reduce_up.proofs.Rooted.{all_of, of_entry, to_request, requests_good, normal_means, short_diagram}
+use Rattle.reduce_up.proofs.Rooted.{all_of, of_entry, to_request, requests_good, normal_means, terminal_diagram}
 
 -- f is the function of one of the keys with the bits before level v fixed
 abbrev pub IsKeyFixed : Nodes → List Key → ℕ → (List Bool → Bool) → Type 0
@@ -151,7 +151,7 @@ module _ (S : Nodes) (w : IsSound S) (workers : ℕ) (some : 0 < workers) (entri
             inr (v, new.1, new.2, new.3, wanted_either v (den T m) reads new.4)
 
     -- the diagrams of the entries
-    pub entry_answered : (pairs : List (Key × Ref)) → AreReduced rows T pairs → (e : Entry) → IsEntry S e → (r : Ref) → (o : Option Ref) → short_of e.0 e.1 e.2 ≡ o → IsTakenFrom pairs o e r → IsDiagram T r (entry_value S e)
+    pub entry_answered : (pairs : List (Key × Ref)) → AreReduced rows T pairs → (e : Entry) → IsEntry S e → (r : Ref) → (o : Option Ref) → terminal_of e.0 e.1 e.2 ≡ o → IsTakenFrom pairs o e r → IsDiagram T r (entry_value S e)
     entry_answered pairs d e i r None h taken =
         let k : Key = (normal_of e.0 e.1 e.2).0 in
         let m : Bool = (normal_of e.0 e.1 e.2).1 in
@@ -163,13 +163,13 @@ module _ (S : Nodes) (w : IsSound S) (workers : ℕ) (some : 0 < workers) (entri
           λ x hx. den-mark_by T m t x ∙ ap (turned m) (a.denotes x hx ∙ kept_meaning S T w adds.keeps k key.first key.second x) ∙ normal_means S e x,
         )
     entry_answered pairs d e i r (Some s) h taken =
-        subst (λ z. IsDiagram T z (entry_value S e)) (sym taken) (diagram_kept S T w adds.keeps (entry_value S e) s (short_diagram S e i s h))
+        subst (λ z. IsDiagram T z (entry_value S e)) (sym taken) (diagram_kept S T w adds.keeps (entry_value S e) s (terminal_diagram S e i s h))
 
-    pub wave_answers : (pairs : List (Key × Ref)) → AreReduced rows T pairs → (es : List Entry) → All (IsEntry S) es → (answers : List Ref) → AllZip (λ e r. IsTakenFrom pairs (short_of e.0 e.1 e.2) e r) es answers → AnswersEach S es T answers
+    pub wave_answers : (pairs : List (Key × Ref)) → AreReduced rows T pairs → (es : List Entry) → All (IsEntry S) es → (answers : List Ref) → AllZip (λ e r. IsTakenFrom pairs (terminal_of e.0 e.1 e.2) e r) es answers → AnswersEach S es T answers
     wave_answers pairs d [] g [] z = z
     wave_answers pairs d [] g (r ∷ answers) z = z
     wave_answers pairs d (e ∷ es) g [] z = z
-    wave_answers pairs d (e ∷ es) g (r ∷ answers) z = (entry_answered pairs d e (g 0 e (omega arith)) r (short_of e.0 e.1 e.2) refl z.0, wave_answers pairs d es (λ k b lt. g (suc k) b (omega arith)) answers z.1)
+    wave_answers pairs d (e ∷ es) g (r ∷ answers) z = (entry_answered pairs d e (g 0 e (omega arith)) r (terminal_of e.0 e.1 e.2) refl z.0, wave_answers pairs d es (λ k b lt. g (suc k) b (omega arith)) answers z.1)
 
     -- each new node lies below an answer, or is the complement of one that does
     pub wave_below : (answers : List Ref) → AnswersEach S entries T answers → AddsBelow S T answers

@@ -1,13 +1,13 @@
--- What a wave knows of its entries before it begins, and what it leaves in the memo.
+-- What a wave knows of its entries before it begins, and what it leaves in the computed table.
 use Rattle.std.specs.Prelude.{◌≡◌, ℕ, ◌+◌, List, [], ◌∷◌, ◌++◌, drop, slice_index_or, map, Option, None, Some}
 use Rattle.dd_store.specs.declared.reference.Ref.{Ref}
 use Rattle.dd_store.specs.declared.reference.Reference.TheVariants.{False}
 use Rattle.dd_store.specs.Marks.{mark_by}
 use Rattle.req_table.specs.Keys.{normal_of}
-use Rattle.req_table.specs.Memos.{Held, Keeps, known_of}
+use Rattle.req_table.specs.ComputedTables.{Held, Keeps, known_of}
 use Rattle.reduce_up.specs.Waves.{Entry}
 
--- what is known of an entry: its short answer, or what the memo holds of its key
+-- what is known of an entry: its terminal case, or what the computed table holds of its key
 abbrev pub known_entry : Held → Entry → Option Ref
 known_entry m e = known_of m e.0 e.1 e.2
 
@@ -43,7 +43,7 @@ woven [] found = []
 woven (Some r ∷ known) found = r ∷ woven known found
 woven (None ∷ known) found = slice_index_or found 0 False ∷ woven known (drop 1 found)
 
--- the memo after each of these entries' requests was kept with its answer, in order
+-- the computed table after each of these entries' requests was kept with its answer, in order
 abbrev pub AreKept : Held → List Entry → List Ref → Held → Type 0
 AreKept old [] answers new = new ≡ old
 AreKept old (e ∷ es) [] new = new ≡ old
@@ -59,6 +59,6 @@ found_of m [] answers = []
 found_of m (e ∷ es) [] = []
 found_of m (e ∷ es) (r ∷ answers) = unless_known_answer (known_entry m e) r ++ found_of m es answers
 
--- the memo after a wave: of each entry that was a request its key is kept with its answer, in the entries' order
+-- the computed table after a wave: of each entry that was a request its key is kept with its answer, in the entries' order
 abbrev pub IsKeptWave : Held → List Entry → List Ref → Held → Type 0
 IsKeptWave old entries answers new = AreKept old (unknown old entries) (found_of old entries answers) new

@@ -15,7 +15,7 @@ use Rattle.dd_store.specs.Marks.{mark_by}
 use Rattle.req_table.specs.Keys.{key, normal_of, meaning, wave_of}
 use Rattle.req_table.specs.Settled.{IsClosure}
 use Rattle.req_table.specs.Tables.{row_at}
-use Rattle.req_table.specs.Short.{short_of}
+use Rattle.req_table.specs.TerminalCase.{terminal_of}
 use Rattle.expand_work.specs.declared.fault.WaveFault.{WaveFault}
 use Rattle.reduce_up.specs.Reducing.{AddsDescribed}
 use Rattle.expand_work.specs.declared.fault.WaveFault.TheVariants as wave_faults
@@ -55,9 +55,9 @@ entry_for k = (k.op, k.f, k.g)
 abbrev pub entries_for : List Key → List Entry
 entries_for ks = map entry_for ks
 
--- some entry needs a request: it has no short answer
+-- some entry needs a request: it has no terminal case
 abbrev pub HasRequest : List Entry → Type 0
-HasRequest entries = (e : Entry) × Contains entries e × (short_of e.0 e.1 e.2 ≡ None)
+HasRequest entries = (e : Entry) × Contains entries e × (terminal_of e.0 e.1 e.2 ≡ None)
 
 -- the store `new` is within its limit, or there was no request and the store is as it was
 abbrev pub IsWithinLimit : Nodes → List Entry → Nodes → Type 0
@@ -76,7 +76,7 @@ IsWaveFault old entries new wave_faults.TooManyRequests = Unit {0}
 IsWaveFault old entries new wave_faults.Full =
     HasRequest entries × ((new.limit < count_of new) ⊎ ((count_of new ≡ new.limit) × LacksWanted old entries new))
 
--- what a wave over entries comes to and leaves; `asked`: the entries that no memo answers
+-- what a wave over entries comes to and leaves; `asked`: the entries that no computed table answers
 pub record AnswersWave (old : Nodes) (entries asked : List Entry) (result : Result (Vec Ref Global) WaveFault) (new : Nodes) : Type 0 where
   pub sound : IsSound new
   -- it keeps what was there, and each new node denotes a function that is wanted, or the complement of one
@@ -86,7 +86,7 @@ pub record AnswersWave (old : Nodes) (entries asked : List Entry) (result : Resu
   pub within : OnOk result (IsWithinLimit old asked new)
   pub fault : IfErr result (λ e. IsWaveFault old asked new e)
 
--- the request of an entry that has no short answer
+-- the request of an entry that has no terminal case
 abbrev pub request_of : Option Ref → Entry → List Key
 request_of None e = (normal_of e.0 e.1 e.2).0 ∷ []
 request_of (Some r) e = []
@@ -94,9 +94,9 @@ request_of (Some r) e = []
 -- the requests of a list of entries, in order
 abbrev pub requests_of : List Entry → List Key
 requests_of [] = []
-requests_of (e ∷ es) = request_of (short_of e.0 e.1 e.2) e ++ requests_of es
+requests_of (e ∷ es) = request_of (terminal_of e.0 e.1 e.2) e ++ requests_of es
 
--- r is the short answer of an entry, or what the pairs have for its request, complemented where it has a mark
+-- r is the terminal case of an entry, or what the pairs have for its request, complemented where it has a mark
 abbrev pub IsTakenFrom : List (Key × Ref) → Option Ref → Entry → Ref → Type 0
 IsTakenFrom pairs None e r = (a : Ref) × Contains pairs ((normal_of e.0 e.1 e.2).0, a) × (r ≡ mark_by (normal_of e.0 e.1 e.2).1 a)
 IsTakenFrom pairs (Some s) e r = r ≡ s

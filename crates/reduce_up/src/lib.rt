@@ -4,8 +4,8 @@
 //! **Promises.** `shared_wave` gives each request its diagram, adds nodes below the answers alone, or complements of
 //! such, and answers Full only where the store is over its limit, or at it and lacks a node that is wanted (`wave`);
 //! exactly the requests that are reached were expanded (`expanded`); OutOfMemory leaves a store within its limit that
-//! was so (`memory`); requests are never too many (`unbounded`). `Sought` knows which entries a memo answers, and puts
-//! answers and memo together (`Sought::settle`: `answers`, `kept`, `refused`).
+//! was so (`memory`); requests are never too many (`unbounded`). `Sought` knows which entries a computed table answers, and puts
+//! answers and computed table together (`Sought::settle`: `answers`, `kept`, `refused`).
 //!
 //! **Only tests show** when threads share a level (8,192 records, two workers), how many, and that every width answers
 //! what the workers on one thread do (`wave_tests`).

@@ -1,11 +1,11 @@
-//! What is known of a wave's entries before it begins: short answers, and what a memo holds of earlier waves.
+//! What is known of a wave's entries before it begins: terminal cases, and what a computed table holds of earlier waves.
 ghost use Rattle.std.specs.Prelude.{◌≡◌, ◌≤◌, All, IfOk, OnOk, OnErr, None, length};
-ghost use Rattle.req_table.specs.Short.{short_of};
+ghost use Rattle.req_table.specs.TerminalCase.{terminal_of};
 ghost use Rattle.reduce_up.specs.Known.{IsSought, AreKept, missing, woven};
 
 use dd_store::Ref;
 use req_table::requests::{known, normal};
-use req_table::{Memo, Op};
+use req_table::{ComputedTable, Op};
 use std::alloc::{AllocError, Global};
 use std::marker::Model;
 
@@ -34,14 +34,18 @@ impl Sought {
     }
 
     /// Seeks the entries, each once.
-    pub fn seek(&mut self, memo: &Memo, entries: &[(Op, Ref, Ref)]) -> Result<(), AllocError>
-        ensures { OnOk result (IsSought memo.now entries.now self.new) }
+    pub fn seek(
+        &mut self,
+        computed: &ComputedTable,
+        entries: &[(Op, Ref, Ref)],
+    ) -> Result<(), AllocError>
+        ensures { OnOk result (IsSought computed.now entries.now self.new) }
     {
         self.known.clear();
         self.requests.clear();
         for entry in entries {
             let (op, f, g) = *entry;
-            let answer = known(memo, op, f, g);
+            let answer = known(computed, op, f, g);
             self.known.push(answer)?;
             if answer.is_none() {
                 self.requests.push(*entry)?;
@@ -77,34 +81,34 @@ impl Sought {
     }
 
     /// Keeps the request of each entry of which nothing was known with what was found for it.
-    fn keep(&self, memo: &mut Memo, found: &[Ref])
-        requires requests { All (λ e. short_of e.0 e.1 e.2 ≡ None) self.now.requests }
+    fn keep(&self, computed: &mut ComputedTable, found: &[Ref])
+        requires requests { All (λ e. terminal_of e.0 e.1 e.2 ≡ None) self.now.requests }
         requires each { length found.now ≡ length self.now.requests }
-        ensures { AreKept memo.old self.now.requests found.now memo.new }
+        ensures { AreKept computed.old self.now.requests found.now computed.new }
     {
         for place in 0..self.requests.len() {
             let (op, f, g) = self.requests[place];
             let (key, mark) = normal(op, f, g);
-            memo.keep(key, found[place].marked(mark));
+            computed.keep(key, found[place].marked(mark));
         }
     }
 
-    /// The answers of all entries, of which these were found. The memo keeps what was found, or nothing where memory is refused.
+    /// The answers of all entries, of which these were found. The computed table keeps what was found, or nothing where memory is refused.
     pub fn settle(
         &self,
         alloc: Global,
-        memo: &mut Memo,
+        computed: &mut ComputedTable,
         found: &[Ref],
     ) -> Result<Vec<Ref>, AllocError>
-        requires requests { All (λ e. short_of e.0 e.1 e.2 ≡ None) self.now.requests }
+        requires requests { All (λ e. terminal_of e.0 e.1 e.2 ≡ None) self.now.requests }
         requires each { length found.now ≡ length self.now.requests }
         requires known { missing self.now.known ≡ length self.now.requests }
         ensures answers { IfOk result (λ answers. answers.items ≡ woven self.now.known found.now) }
-        ensures kept { OnOk result (AreKept memo.old self.now.requests found.now memo.new) }
-        ensures refused { OnErr result (memo.new ≡ memo.old) }
+        ensures kept { OnOk result (AreKept computed.old self.now.requests found.now computed.new) }
+        ensures refused { OnErr result (computed.new ≡ computed.old) }
     {
         let answers = self.answers(alloc, found)?;
-        self.keep(memo, found);
+        self.keep(computed, found);
         Ok(answers)
     }
 }

@@ -15,7 +15,7 @@ use crate::narrow::make_level;
 use crate::spare::Spare;
 use crate::wide::share_level;
 use dd_store::{Ref, Store, StoreFault};
-use expand_work::{Crew, Gate, Parts, WaveFault};
+use expand_work::{Crew, Monitor, Parts, WaveFault};
 use req_table::{Key, Placed, PlacedChild};
 use std::alloc::{AllocError, Global};
 use std::thread::Threads;
@@ -157,7 +157,7 @@ pub(crate) fn level_size(parts: &Parts, workers: u32, level: u16) -> usize
 const FEWEST_SHARED: usize = 8192;
 
 /// The diagrams of a level's records, worker by worker, by threads where there are many and several workers; missing nodes are made.
-fn level_answers<R: Threads + Sync, G: Gate>(
+fn level_answers<R: Threads + Sync, G: Monitor>(
     crew: &Crew<'_, R, G>,
     store: &mut Store,
     field: Field<'_>,
@@ -175,7 +175,7 @@ fn level_answers<R: Threads + Sync, G: Gate>(
 }
 
 /// Puts the diagrams of a level's requests in, and sees that the store is within its limit where there are some.
-fn reduce_team_level<R: Threads + Sync, G: Gate>(
+fn reduce_team_level<R: Threads + Sync, G: Monitor>(
     crew: &Crew<'_, R, G>,
     store: &mut Store,
     field: Field<'_>,
@@ -225,7 +225,7 @@ pub(crate) fn begin(store: &Store, field: Field<'_>, spare: Spare) -> Result<Pro
 }
 
 /// Reduces a wave from the last level up.
-pub(crate) fn reduce_team<R: Threads + Sync, G: Gate>(
+pub(crate) fn reduce_team<R: Threads + Sync, G: Monitor>(
     crew: &Crew<'_, R, G>,
     store: &mut Store,
     field: Field<'_>,

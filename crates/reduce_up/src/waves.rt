@@ -9,7 +9,7 @@ use crate::roots::root_answers;
 use crate::spare::Spare;
 use crate::team::{Field, Progress, begin, reduce_team};
 use dd_store::{Ref, Store};
-use expand_work::{Crew, Gate, Spaces, WaveFault, expand_parts};
+use expand_work::{Crew, Monitor, Spaces, WaveFault, expand_parts};
 use req_table::Key;
 use std::alloc::Global;
 use std::marker::Model;
@@ -18,7 +18,7 @@ use std::sync::Wait;
 use std::thread::Threads;
 
 /// The diagram of each root, by reduction of what the workers recorded, each for itself.
-fn answer_team<R: Threads + Sync, G: Gate>(
+fn answer_team<R: Threads + Sync, G: Monitor>(
     crew: &Crew<'_, R, G>,
     store: &mut Store,
     field: Field<'_>,
@@ -81,13 +81,13 @@ impl Rooms {
     }
 }
 
-/// The diagram of each request, without a memo.
+/// The diagram of each request, without a computed table.
 ///
 /// The requests, and all that they ask for, are expanded by workers in threads, and reduced from the last level up (Ochi,
 /// Yasuoka and Yajima 1993). NoWorker is answered where a worker's thread could not be started;
 /// what no other thread could be started for, the caller's thread does. All of it is done in the memory of an earlier wave as far as there
 /// is some, and leaves its own for the next; after a refusal it is given back.
-pub fn shared_wave<R: Threads + Wait + Sync, G: Gate>(
+pub fn shared_wave<R: Threads + Wait + Sync, G: Monitor>(
     crew: &Crew<'_, R, G>,
     store: &mut Store,
     roots: &[Key],

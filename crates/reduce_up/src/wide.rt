@@ -9,7 +9,7 @@ use crate::reads::read_level;
 use crate::spare::Spare;
 use crate::team::{Field, Rest};
 use dd_store::{Makers, Ref, Store, StoreFault};
-use expand_work::{Crew, Gate};
+use expand_work::{Crew, Monitor};
 use std::thread::Threads;
 
 /// Keeps the memory of what was read, for another level.
@@ -20,7 +20,7 @@ fn keep_read(spare: &mut Spare, parts: Vec<Vec<Vec<(Ref, Ref)>>>, homes: Vec<Hom
 }
 
 /// The diagrams of a level's records, worker by worker; missing nodes are made.
-pub(crate) fn share_level<R: Threads + Sync, G: Gate>(
+pub(crate) fn share_level<R: Threads + Sync, G: Monitor>(
     crew: &Crew<'_, R, G>,
     store: &mut Store,
     field: Field<'_>,
@@ -36,7 +36,7 @@ pub(crate) fn share_level<R: Threads + Sync, G: Gate>(
     };
     let makers = Makers {
         rt: crew.rt,
-        watch: crew.gate,
+        watch: crew.monitor,
         count: field.workers,
     };
     let lists = read.parts.as_slice();

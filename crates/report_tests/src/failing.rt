@@ -1,7 +1,7 @@
 //! Checks over devices that fail at each place.
 use crate::devices::{Dripping, End, Endless, Page, drip, new_page};
 use check_report::{CheckFault, Choice, Context, Picked, Settings, check};
-use expand_work::{Free, Gate};
+use expand_work::{Free, Monitor};
 use net_bench::device::Source;
 use net_bench::netlist::BenchFault;
 use net_order::order::{Match, Order};
@@ -26,12 +26,12 @@ static NOT_BOTH: &str = "INPUT(1)\nINPUT(2)\nOUTPUT(c)\nc = NAND(1, 2)\n";
 pub(crate) const AMPLE: usize = 1_000;
 
 /// The fault of a check by name, in the declared order, by two workers.
-pub(crate) fn checked<R: AllocGlobal + Threads + Wait + Sync, R1: Source, R2: Source, G: Gate>(
+pub(crate) fn checked<R: AllocGlobal + Threads + Wait + Sync, R1: Source, R2: Source, G: Monitor>(
     rt: &R,
     first: &mut R1,
     second: &mut R2,
     given: &mut Option<Dripping>,
-    gate: &G,
+    monitor: &G,
     out: &mut Page,
 ) -> Option<CheckFault> {
     let settings = Settings {
@@ -44,12 +44,13 @@ pub(crate) fn checked<R: AllocGlobal + Threads + Wait + Sync, R1: Source, R2: So
         json: false,
         explain: Vec::new(rt.alloc()),
         assignment: None,
+        vcd: false,
     };
     let context = Context {
         rt,
         alloc: rt.alloc(),
         settings: &settings,
-        gate,
+        monitor,
     };
     check(&context, first, second, given, out).err()
 }

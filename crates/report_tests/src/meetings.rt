@@ -2,7 +2,7 @@
 use crate::devices::{End, new_page};
 use crate::failing::{AMPLE, C17, C17B, REPORT, checked, whole};
 use dd_store::Watch;
-use expand_work::Gate;
+use expand_work::Monitor;
 use std::sync::atomic::{AtomicBool, Ordering};
 use std::test::Fail;
 
@@ -57,7 +57,7 @@ impl Watch for AtLevel {
     fn at_shard(&self, _shard: u8, _level: u16) {}
 }
 
-impl Gate for AtLevel {
+impl Monitor for AtLevel {
     fn at_level(&self, worker: u32, level: u16) {
         if level == 0 && worker <= 1 {
             self.0.come(worker == 1);
@@ -81,7 +81,7 @@ impl Watch for AtShards {
     }
 }
 
-impl Gate for AtShards {
+impl Monitor for AtShards {
     fn at_level(&self, _worker: u32, _level: u16) {}
 
     fn most_requests(&self) -> usize {
@@ -95,30 +95,30 @@ static PAIRS15: &str =
 
 #[test]
 fn two_at_a_level(rt: HostRuntime) -> Result<(), Fail> {
-    let gate = AtLevel(Meeting::new());
+    let monitor = AtLevel(Meeting::new());
     let mut out = new_page(rt.alloc(), AMPLE, End::Fails, true);
     let fault = checked(
         &rt,
         &mut whole(C17),
         &mut whole(C17B),
         &mut None,
-        &gate,
+        &monitor,
         &mut out,
     );
     assert!(rt; fault.is_none() && out.held.as_slice() == REPORT.as_bytes());
-    assert!(rt; gate.0.met());
+    assert!(rt; monitor.0.met());
     Ok(())
 }
 
 // A level of this netlist has so many requests that threads share its shards.
 #[test]
 fn two_at_shards(rt: HostRuntime) -> Result<(), Fail> {
-    let gate = AtShards(Meeting::new());
+    let monitor = AtShards(Meeting::new());
     let mut out = new_page(rt.alloc(), AMPLE, End::Fails, true);
     let (mut first, mut second) = (whole(PAIRS15), whole(PAIRS15));
-    let fault = checked(&rt, &mut first, &mut second, &mut None, &gate, &mut out);
+    let fault = checked(&rt, &mut first, &mut second, &mut None, &monitor, &mut out);
     let equal = "EQUAL o\n1 equal, 0 different, 0 unmatched\n";
     assert!(rt; fault.is_none() && out.held.as_slice() == equal.as_bytes());
-    assert!(rt; gate.0.met());
+    assert!(rt; monitor.0.met());
     Ok(())
 }

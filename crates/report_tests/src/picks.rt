@@ -40,12 +40,13 @@ fn reported<R: AllocGlobal + Threads + Wait + Sync>(
         json: false,
         explain: Vec::new(rt.alloc()),
         assignment: None,
+        vcd: false,
     };
     let context = Context {
         rt,
         alloc: rt.alloc(),
         settings: &settings,
-        gate: &Free,
+        monitor: &Free,
     };
     let mut first = Through::new(THREE.as_bytes());
     let mut second = Through::new(TWO.as_bytes());

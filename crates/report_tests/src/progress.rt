@@ -3,7 +3,7 @@ use crate::devices::{End, drip, new_page};
 use crate::failing::AMPLE;
 use crate::runs::{Shelf, ran};
 use check_tool::progress::{Form, Meter, Progress};
-use expand_work::{Free, Gate};
+use expand_work::{Free, Monitor};
 use std::alloc::{Alloc, Global};
 use std::io;
 use std::rt::Clock;

@@ -29,7 +29,7 @@ pub(crate) enum Later {
 }
 
 /// A folder with the files `first`, `second` and `list`, one of which may fail at its end, and `forbidden`, which memory is wanting for. It
-/// notes the paths that it is asked for.
+/// notes the paths that it is asked for, and what is saved in the file `wave`; `full` takes nothing, and no other file is made.
 #[derive(Drop)]
 pub(crate) struct Shelf {
     pub(crate) second: &'static str,
@@ -37,6 +37,7 @@ pub(crate) struct Shelf {
     pub(crate) failing: &'static str,
     pub(crate) later: Later,
     pub(crate) asked: Vec<u8>,
+    pub(crate) wave: Vec<u8>,
 }
 
 impl Shelf {
@@ -48,6 +49,7 @@ impl Shelf {
             failing: "",
             later: Later::Stays,
             asked: Vec::new(alloc),
+            wave: Vec::new(alloc),
         }
     }
 
@@ -94,6 +96,20 @@ impl Folder for Shelf {
             "list" => Ok(self.file(path, self.list)),
             "forbidden" => Err(OpenFault::OutOfMemory),
             _ => Err(OpenFault::Refused(Obstacle::Missing)),
+        }
+    }
+
+    fn save(&mut self, path: &str, bytes: &[u8]) -> Result<(), Obstacle> {
+        match path {
+            "wave" => {
+                self.wave.clear();
+                match self.wave.extend_from_slice(bytes) {
+                    Ok(()) => Ok(()),
+                    Err(_) => Err(Obstacle::Unwritten),
+                }
+            }
+            "full" => Err(Obstacle::Unwritten),
+            _ => Err(Obstacle::Missing),
         }
     }
 
@@ -314,5 +330,59 @@ fn plain_run(rt: HostRuntime) -> Result<(), Fail> {
     )?;
     assert!(rt; status == 1 && errors.held.is_empty());
     assert!(rt; out.held.as_slice() == REPORT.as_bytes());
+    Ok(())
+}
+
+/// What a run on these words writes, saves and says, with its status.
+fn saved_by<R: AllocGlobal + Clock + Meter + Threads + Wait + Sync>(
+    rt: &R,
+    line: &str,
+) -> Result<(Vec<u8>, Vec<u8>, Vec<u8>, u8), AllocError> {
+    let mut folder = Shelf::new(rt.alloc());
+    let mut out = new_page(rt.alloc(), AMPLE, End::Fails, true);
+    let mut errors = new_page(rt.alloc(), AMPLE, End::Fails, true);
+    let mut input = drip("", 1);
+    let status = ran(rt, line, &mut folder, &mut input, &mut out, &mut errors)?;
+    Ok((out.held, folder.wave, errors.held, status))
+}
+
+// What the file has in full is in tests/vcd.py.
+#[test]
+fn differences_as_vcd(rt: HostRuntime) -> Result<(), Fail> {
+    let (report, wave, said, status) = saved_by(&rt, "--vcd wave --order declared first second")?;
+    assert!(rt; status == 1 && said.is_empty());
+    assert!(rt; report.as_slice() == REPORT.as_bytes());
+    assert!(rt;
+        wave.as_slice()
+            .starts_with(b"$timescale 1 ns $end\n$scope module first $end\n")
+    );
+    let (_, wave, said, status) = saved_by(&rt, "--vcd wave first first")?;
+    assert!(rt; status == 0 && said.is_empty() && wave.is_empty());
+    let (_, wave, _, status) = saved_by(&rt, "--vcd wave --only 22 first second")?;
+    assert!(rt; status == 0 && wave.is_empty());
+    Ok(())
+}
+
+#[test]
+fn files_that_are_not_saved(rt: HostRuntime) -> Result<(), Fail> {
+    for (words, helps) in [
+        ("--vcd full first second", ""),
+        (
+            "--verbose --order declared --vcd full first second",
+            "bddcheck: full: its device is full, or failed\n",
+        ),
+        (
+            "--verbose --order declared --vcd nowhere/wave first second",
+            "bddcheck: nowhere/wave: no such file or folder\n",
+        ),
+    ] {
+        let (report, _, said, status) = saved_by(&rt, words)?;
+        let want = format!(in rt.alloc(); "bddcheck: vcd: cannot be written\n{helps}")?;
+        assert!(rt;
+            status == 3 && report.as_slice() == REPORT.as_bytes(),
+            "{words}"
+        );
+        assert!(rt; said.as_slice() == want.as_bytes(), "{words}");
+    }
     Ok(())
 }

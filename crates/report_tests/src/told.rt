@@ -1,8 +1,8 @@
-//! What a gate is told of a comparison, in one order and in the best.
+//! What a monitor is told of a comparison, in one order and in the best.
 use crate::failing::C17;
 use check_report::{CheckFault, Choice, Context, Picked, Settings, judge};
 use dd_store::Watch;
-use expand_work::{AttemptEnd, Gate};
+use expand_work::{AttemptEnd, Monitor};
 use net_bench::device::Through;
 use net_order::order::{Match, Order};
 use std::alloc::{AllocError, Global};
@@ -28,7 +28,7 @@ impl Watch for Listener {
     fn at_shard(&self, _shard: u8, _level: u16) {}
 }
 
-impl Gate for Listener {
+impl Monitor for Listener {
     fn at_level(&self, _worker: u32, _level: u16) {}
 
     fn most_alone(&self, _workers: u32, _expected: usize) -> usize {
@@ -61,7 +61,7 @@ impl Gate for Listener {
     }
 }
 
-/// What a gate was told, added up as by a listener.
+/// What a monitor was told, added up as by a listener.
 #[derive(Clone, Copy, Drop, Debug, PartialEq, Eq)]
 struct Told {
     times: usize,
@@ -73,7 +73,7 @@ struct Told {
     wide: usize,
 }
 
-/// What a gate is told of the comparison of a netlist with itself, within so many nodes.
+/// What a monitor is told of the comparison of a netlist with itself, within so many nodes.
 fn told_of<R: Threads + Wait + Sync>(
     rt: &R,
     alloc: Global,
@@ -91,8 +91,9 @@ fn told_of<R: Threads + Wait + Sync>(
         json: false,
         explain: Vec::new(alloc),
         assignment: None,
+        vcd: false,
     };
-    let gate = Listener {
+    let monitor = Listener {
         times: AtomicUsize::new(0),
         ranks: AtomicU64::new(0),
         last_ranks: AtomicU64::new(0),
@@ -108,17 +109,17 @@ fn told_of<R: Threads + Wait + Sync>(
         rt,
         alloc,
         settings: &settings,
-        gate: &gate,
+        monitor: &monitor,
     };
     judge(&context, &mut first, &mut second, &mut nothing)?;
     Ok(Told {
-        times: gate.times.load(Ordering::SeqCst),
-        ranks: gate.ranks.load(Ordering::SeqCst),
-        last_ranks: gate.last_ranks.load(Ordering::SeqCst),
-        nodes: gate.nodes.load(Ordering::SeqCst),
-        requests: gate.requests.load(Ordering::SeqCst),
-        decided: gate.decided.load(Ordering::SeqCst),
-        wide: gate.wide.load(Ordering::SeqCst),
+        times: monitor.times.load(Ordering::SeqCst),
+        ranks: monitor.ranks.load(Ordering::SeqCst),
+        last_ranks: monitor.last_ranks.load(Ordering::SeqCst),
+        nodes: monitor.nodes.load(Ordering::SeqCst),
+        requests: monitor.requests.load(Ordering::SeqCst),
+        decided: monitor.decided.load(Ordering::SeqCst),
+        wide: monitor.wide.load(Ordering::SeqCst),
     })
 }
 

@@ -11,8 +11,8 @@ use Rattle.net_order.specs.declared.order.Order.TheVariants as orders
 use Rattle.report_text.specs.declared.kind.OrderKind.{OrderKind}
 use Rattle.report_text.specs.declared.kind.OrderKind.TheVariants.{Declared, Depth, Interleave, Index, Force, File, Auto, Cones}
 use Rattle.report_text.specs.declared.outcome.Outcome.{Outcome}
-use Rattle.report_text.specs.declared.outcome.Role.{Role}
-use Rattle.report_text.specs.declared.outcome.Role.TheVariants.{Output, NextState}
+use Rattle.report_text.specs.declared.outcome.PairKind.{PairKind}
+use Rattle.report_text.specs.declared.outcome.PairKind.TheVariants.{Output, NextState}
 use Rattle.report_text.specs.declared.outcome.Side.{Side}
 use Rattle.report_text.specs.declared.outcome.Side.TheVariants.{First, Second}
 use Rattle.report_text.specs.declared.verdict.Verdict.{Verdict}
@@ -59,7 +59,7 @@ bit_token true = number (decimal 1)
 bit_token false = number (decimal 0)
 
 -- what is spoken of: an output, or the next state of a register
-abbrev pub role_text : Role → List ℕ
+abbrev pub role_text : PairKind → List ℕ
 role_text Output = codes "output"
 role_text NextState = codes "next state"
 
@@ -67,7 +67,7 @@ abbrev pub side_word : Side → List ℕ
 side_word First = codes "first"
 side_word Second = codes "second"
 
-abbrev pub subject_tokens : Role → List ℕ → List Token
+abbrev pub subject_tokens : PairKind → List ℕ → List Token
 subject_tokens role name = key (codes "of") ∷ string (role_text role) ∷ key (codes "name") ∷ string (shown name) ∷ []
 
 -- sizes where they are asked for

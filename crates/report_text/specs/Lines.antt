@@ -3,8 +3,8 @@ use Rattle.std.specs.Prelude.{ℕ, zero, suc, Bool, true, false, List, [], ◌�
 use Rattle.report_text.specs.declared.assignment.Assignment.{Assignment}
 use Rattle.report_text.specs.declared.assignment.Assignment.TheVariants.{All, Support, Ones}
 use Rattle.report_text.specs.declared.outcome.Outcome.{Outcome}
-use Rattle.report_text.specs.declared.outcome.Role.{Role}
-use Rattle.report_text.specs.declared.outcome.Role.TheVariants.{Output, NextState}
+use Rattle.report_text.specs.declared.outcome.PairKind.{PairKind}
+use Rattle.report_text.specs.declared.outcome.PairKind.TheVariants.{Output, NextState}
 use Rattle.report_text.specs.declared.outcome.Side.{Side}
 use Rattle.report_text.specs.declared.outcome.Side.TheVariants.{First, Second}
 use Rattle.report_text.specs.declared.verdict.Verdict.{Verdict}
@@ -54,7 +54,7 @@ side_text First = codes "FIRST"
 side_text Second = codes "SECOND"
 
 -- a name, that of a next state behind its word
-abbrev pub subject_text : Role → List ℕ → List ℕ
+abbrev pub subject_text : PairKind → List ℕ → List ℕ
 subject_text Output name = name
 subject_text NextState name = codes "NEXT " ++ name
 

@@ -3,7 +3,7 @@ ghost use Rattle.std.specs.Prelude.{◌≡◌, ◌++◌, ℕ, List, [], ◌∷�
 ghost use Rattle.report_text.specs.Lines.{line_text, variable_text, assignment_text, bit_text, side_text, sizes_text, subject_text, undecided_text, share_text, counts_text};
 
 use crate::assignment::{Assignment, is_told, mark_at};
-use crate::outcome::{Outcome, Role, Share, Side};
+use crate::outcome::{Outcome, PairKind, Share, Side};
 use crate::verdict::{Extras, Verdict};
 use net_order::names::Names;
 use std::alloc::{AllocError, Global};
@@ -11,7 +11,7 @@ use std::alloc::{AllocError, Global};
 /// What a line speaks of: as what, and by which name.
 #[derive(Clone, Copy, Drop)]
 struct Label<'a> {
-    role: Role,
+    role: PairKind,
     name: &'a [u8],
 }
 
@@ -71,8 +71,8 @@ fn add_label(text: &mut Vec<u8>, label: Label<'_>) -> Result<(), AllocError>
     ensures { OnOk result (text.new.items ≡ text.old.items ++ subject_text label.entry.role label.entry.name.now) }
 {
     match label.role {
-        Role::Output => {}
-        Role::NextState => text.extend_from_slice(b"NEXT ")?,
+        PairKind::Output => {}
+        PairKind::NextState => text.extend_from_slice(b"NEXT ")?,
     }
     text.extend_from_slice(label.name)?;
     Ok(())

@@ -29,7 +29,7 @@ pub enum Side {
 
 /// What a signal is compared as.
 #[derive(Clone, Copy, Drop, Debug, PartialEq, Eq)]
-pub enum Role {
+pub enum PairKind {
     Output,
     /// What a register takes next.
     NextState,

@@ -2,7 +2,7 @@
 ghost use Rattle.std.specs.Prelude.{◌≡◌, IfOk};
 ghost use Rattle.report_text.specs.Marks.{marks_of};
 
-use crate::outcome::{Role, Side};
+use crate::outcome::{PairKind, Side};
 use std::alloc::{AllocError, Global};
 use std::marker::Model;
 
@@ -93,13 +93,13 @@ impl Extras {
 pub enum Verdict {
     /// The two functions are equal. Their size is there where sizes are asked for.
     Equal {
-        role: Role,
+        role: PairKind,
         name: Name,
         size: Option<u64>,
     },
     /// The two functions differ first at this assignment, where they have these values.
     Differs {
-        role: Role,
+        role: PairKind,
         name: Name,
         at: Bits,
         first: bool,
@@ -109,12 +109,12 @@ pub enum Verdict {
     /// An output or a register of one netlist has no partner in the other.
     Lone {
         side: Side,
-        role: Role,
+        role: PairKind,
         name: Name,
     },
     /// No attempt has decided whether the two functions are equal.
     Undecided {
-        role: Role,
+        role: PairKind,
         name: Name,
     },
 }

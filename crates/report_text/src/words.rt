@@ -3,7 +3,7 @@ ghost use Rattle.std.specs.Prelude.{◌≡◌};
 ghost use Rattle.report_text.specs.Json.{shown, match_kind, order_word, role_text, side_word};
 
 use crate::kind::OrderKind;
-use crate::outcome::{Role, Side};
+use crate::outcome::{PairKind, Side};
 use net_order::order::Match;
 
 /// A name as a text, which it is where it is ASCII, as each name of a netlist.
@@ -43,12 +43,12 @@ pub(crate) fn order_word(kind: OrderKind) -> &'static str
 }
 
 /// The words of what is compared.
-pub(crate) fn role_name(role: Role) -> &'static str
+pub(crate) fn role_name(role: PairKind) -> &'static str
     ensures { result.now ≡ role_text role }
 {
     match role {
-        Role::Output => "output",
-        Role::NextState => "next state",
+        PairKind::Output => "output",
+        PairKind::NextState => "next state",
     }
 }
 

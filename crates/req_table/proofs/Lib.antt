@@ -6,8 +6,8 @@ pub mod Fair
 pub mod Rows
 pub mod Closure
 pub mod Means
-pub mod Shorts
+pub mod TerminalCases
 pub mod Waved
 pub mod Sized
 pub mod AsksFor
-pub mod Memos
+pub mod ComputedTables

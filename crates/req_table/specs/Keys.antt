@@ -10,8 +10,8 @@ use Rattle.req_table.specs.declared.Child.{Child}
 use Rattle.req_table.specs.declared.Child.TheVariants.{Done, Ask}
 use Rattle.req_table.specs.declared.Record.{Record}
 use Rattle.dd_store.specs.Marks.{turned}
-use Rattle.req_table.specs.Short.{short_of, owner_of, op_value}
-pub use Rattle.req_table.specs.Short.{key, normal_of}
+use Rattle.req_table.specs.TerminalCase.{terminal_of, owner_of, op_value}
+pub use Rattle.req_table.specs.TerminalCase.{key, normal_of}
 use Rattle.req_table.specs.Wave.{Wave}
 
 -- the smaller level of the operands, in a store of n levels
@@ -22,11 +22,11 @@ level_at n k = min (top n k.f) (top n k.g)
 abbrev pub level_of : Nodes → Key → ℕ
 level_of S k = level_at S.levels k
 
--- a key of the store: it has no short answer, and is its own request: And, or Xor without marks, with its operands in order
+-- a key of the store: it has no terminal case, and is its own request: And, or Xor without marks, with its operands in order
 pub record IsKey (S : Nodes) (k : Key) : Type 0 where
   pub first : Has S k.f
   pub second : Has S k.g
-  pub long : short_of k.op k.f k.g ≡ None
+  pub long : terminal_of k.op k.f k.g ≡ None
   pub ordered : normal_of k.op k.f k.g ≡ (k, false)
 
 -- the function that a key asks for
@@ -41,14 +41,14 @@ Denotes S op f g r = (x : List Bool) → den S r x ≡ op_value op (den S f x) (
 abbrev pub ask_of : Nodes → Key × Bool → Child
 ask_of S n = Ask (level_of S n.0) n.0 n.1
 
--- the answer of an operation where it is short, else the request
+-- the answer of an operation where it is a terminal case, else the request
 abbrev pub answer_of : Nodes → Op → Ref → Ref → Option Ref → Child
 answer_of S op f g None = ask_of S (normal_of op f g)
 answer_of S op f g (Some r) = Done r
 
 -- what an operation comes to
 abbrev pub child : Nodes → Op → Ref → Ref → Child
-child S op f g = answer_of S op f g (short_of op f g)
+child S op f g = answer_of S op f g (terminal_of op f g)
 
 -- the child of a key for the bit of its level
 abbrev pub child_of : Nodes → Key → Bool → Child

@@ -3,13 +3,13 @@ pub mod Lanes
 pub mod Reached
 pub mod Settled
 pub mod Equal
-pub mod Short
+pub mod TerminalCase
 pub mod Operation
 pub mod Keys
 pub mod Meanings
 pub mod Sizes
 pub mod Tables
-pub mod Memos
+pub mod ComputedTables
 pub mod Words
 pub mod WordLaws
 pub mod PlacedWords

@@ -7,7 +7,7 @@ use Rattle.dd_store.specs.Words.{word_of, reference_of, IsWord}
 use Rattle.dd_store.specs.WordLaws.{word_of-reference_of}
 use Rattle.req_table.specs.declared.Op.{Op}
 use Rattle.req_table.specs.declared.Op.TheVariants.{And, Or, Xor, Nand, Nor, Xnor}
-use Rattle.req_table.specs.Short.{op_number}
+use Rattle.req_table.specs.TerminalCase.{op_number}
 use Rattle.req_table.specs.Words.{first_word, op_of, operation_of, IsFirstWord}
 
 op_number-op_of : (n : ℕ) → n < 6 → op_number (op_of n) ≡ n

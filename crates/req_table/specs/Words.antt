@@ -6,7 +6,7 @@ use Rattle.dd_store.specs.Words.{word_of, reference_of, IsWord}
 use Rattle.req_table.specs.declared.Op.{Op}
 use Rattle.req_table.specs.declared.Op.TheVariants.{And, Or, Xor, Nand, Nor, Xnor}
 use Rattle.req_table.specs.declared.Operation.{Operation}
-use Rattle.req_table.specs.Short.{op_number}
+use Rattle.req_table.specs.TerminalCase.{op_number}
 
 abbrev pub first_word : Op → Ref → ℕ
 first_word op f = op_number op * 2 ^ 58 + word_of f

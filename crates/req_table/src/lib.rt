@@ -1,30 +1,30 @@
 //! Requests, their records, and the items that carry them from worker to worker.
 //!
-//! **Promises.** `requests::short`, `normal`, `child`, `split` and `known` follow their tables (`value`, `key`) and
+//! **Promises.** `requests::terminal_case`, `normal`, `child`, `split` and `known` follow their tables (`value`, `key`) and
 //! mean the operation on the operands' functions (`means`, `low`, `high`). A `Key` is a request, in sixteen bytes
 //! (`Key::op`: `request`). A `Table` is a list of requests, each once (`Table::admit`: `offers`, `stands`, `refused`).
-//! A `Memo` is a list of keys with answers (`Memo::peek`: `value`, `once`, `few`); `keep` puts a pair first and drops
-//! the key's old one, or the last of a full memo, or changes nothing.
+//! A `ComputedTable` is a list of keys with answers (`ComputedTable::peek`: `value`, `once`, `few`); `keep` puts a pair first and drops
+//! the key's old one, or the last of a full computed table, or changes nothing.
 //!
 //! **Only tests show** that ample memory suffices, that then a pair is kept, and that a full store answers what is held
 //! (`wave_tests`).
 //!
-//! **Begin** with `specs/Short` and `Keys`, what an operation comes to; what both forms of workers share, lanes and
+//! **Begin** with `specs/TerminalCase` and `Keys`, what an operation comes to; what both forms of workers share, lanes and
 //! settled waves, is in `specs/Lanes` and `Settled`.
 #![tactic(auto)]
 
 ghost use Rattle.std.specs.Prelude.{◌≡◌, None};
 ghost use Rattle.req_table.specs.Operation.{IsRequest};
-ghost use Rattle.req_table.specs.Short.{op_number};
+ghost use Rattle.req_table.specs.TerminalCase.{op_number};
 ghost use Rattle.req_table.specs.Words.{op_of};
 
-mod memo;
+mod computed;
 mod placed;
 pub mod requests;
 mod table;
 
+pub use computed::ComputedTable;
 use dd_store::Ref;
-pub use memo::Memo;
 pub use placed::{Placed, PlacedChild};
 use std::collections::LinkedList;
 use std::fmt;
@@ -51,7 +51,7 @@ pub struct Operation {
     pub g: Ref,
 }
 
-/// A request, in sixteen bytes: And of two references, or Xor of two without marks, that has no short answer, with its operands in
+/// A request, in sixteen bytes: And of two references, or Xor of two without marks, that has no terminal case, with its operands in
 /// order.
 #[derive(Clone, Copy)]
 pub struct Key {

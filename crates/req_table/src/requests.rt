@@ -1,15 +1,15 @@
-//! Short answers, normal keys, children and owners.
+//! Terminal cases, normal keys, children and owners.
 ghost use Rattle.std.specs.Prelude.{◌≡◌, ◌<◌, Bool, List, None, IfSome, length, true, false};
 ghost use Rattle.dd_store.specs.Nodes.{Nodes, den};
 ghost use Rattle.dd_store.specs.View.{Has};
 ghost use Rattle.std.specs.Option.{option_map};
 ghost use Rattle.dd_store.specs.Marks.{is_marked, mark_by, turned};
 ghost use Rattle.req_table.specs.Operation.{IsRequest};
-ghost use Rattle.req_table.specs.Short.{key, short_of, short_at, short_and, short_xor, form_of, in_order, plain_of, op_value, owner_of};
+ghost use Rattle.req_table.specs.TerminalCase.{key, terminal_of, terminal_at, terminal_and, terminal_xor, form_of, in_order, plain_of, op_value, owner_of};
 ghost use Rattle.req_table.specs.Keys.{normal_of, level_of, child as child_at, record_of, meaning, child_value, Denotes, IsKey, IsChildIn, IsDeeper, IsHalf};
-ghost use Rattle.req_table.specs.Memos.{IsRight, IsValueOf, known_of};
+ghost use Rattle.req_table.specs.ComputedTables.{IsRight, IsValueOf, known_of};
 
-use crate::{Child, Key, Memo, Op, Record, number};
+use crate::{Child, ComputedTable, Key, Op, Record, number};
 use dd_store::{Ref, Store, code};
 
 /// A reference without its mark.
@@ -41,8 +41,8 @@ fn form(op: Op, f: Ref, g: Ref) -> (Op, Ref, Ref, bool)
 }
 
 /// And of two references where it needs no request.
-fn short_and(f: Ref, g: Ref) -> Option<Ref>
-    ensures { result ≡ short_and f g }
+fn terminal_and(f: Ref, g: Ref) -> Option<Ref>
+    ensures { result ≡ terminal_and f g }
 {
     if f == g || g == Ref::TRUE {
         return Some(f);
@@ -57,8 +57,8 @@ fn short_and(f: Ref, g: Ref) -> Option<Ref>
 }
 
 /// Xor of two references where it needs no request.
-fn short_xor(f: Ref, g: Ref) -> Option<Ref>
-    ensures { result ≡ short_xor f g }
+fn terminal_xor(f: Ref, g: Ref) -> Option<Ref>
+    ensures { result ≡ terminal_xor f g }
 {
     if f.is_terminal() {
         return Some(g.marked(f == Ref::TRUE));
@@ -76,12 +76,12 @@ fn short_xor(f: Ref, g: Ref) -> Option<Ref>
 }
 
 /// The answer of And or Xor, where it needs no request.
-fn short_at(op: Op, f: Ref, g: Ref) -> Option<Ref>
-    ensures { result ≡ short_at (key op f g) }
+fn terminal_at(op: Op, f: Ref, g: Ref) -> Option<Ref>
+    ensures { result ≡ terminal_at (key op f g) }
 {
     match op {
-        Op::And => short_and(f, g),
-        Op::Xor => short_xor(f, g),
+        Op::And => terminal_and(f, g),
+        Op::Xor => terminal_xor(f, g),
         _ => None,
     }
 }
@@ -109,12 +109,12 @@ fn request(op: Op, f: Ref, g: Ref) -> Key
 }
 
 /// The answer of an operation that needs no request: a terminal, or an operand or its complement.
-pub fn short(op: Op, f: Ref, g: Ref) -> Option<Ref>
-    ensures value { result ≡ short_of op f g }
+pub fn terminal_case(op: Op, f: Ref, g: Ref) -> Option<Ref>
+    ensures value { result ≡ terminal_of op f g }
     ensures means { (S : Nodes) → IfSome result (Denotes S op f g) }
 {
     let (op, f, g, mark) = form(op, f, g);
-    marked(short_at(op, f, g), mark)
+    marked(terminal_at(op, f, g), mark)
 }
 
 /// The worker that expands a request: the number of the operation, plus three times the code of the first operand, plus
@@ -138,7 +138,7 @@ pub fn owner(key: Key, workers: u32) -> u32
 /// The request for an operation, by And or Xor, with the operands in order: False, True, then nodes by level, shard and index,
 /// without a mark before marked; and whether the operation's answer is the complement of the request's.
 pub fn normal(op: Op, f: Ref, g: Ref) -> (Key, bool)
-    requires { short_of op f g ≡ None }
+    requires { terminal_of op f g ≡ None }
     ensures key { result ≡ normal_of op f g }
     ensures means { (S : Nodes) (x : List Bool) → turned result.1 (meaning S result.0 x) ≡ op_value op (den S f x) (den S g x) }
 {
@@ -155,7 +155,7 @@ pub fn level_of(store: &Store, key: Key) -> u16
     if first < second { first } else { second }
 }
 
-/// What an operation comes to: its short answer, or else its request.
+/// What an operation comes to: its terminal case, or else its request.
 #[inline(always)]
 pub fn child(store: &Store, op: Op, f: Ref, g: Ref) -> Child
     requires first { Has store.now f }
@@ -165,7 +165,7 @@ pub fn child(store: &Store, op: Op, f: Ref, g: Ref) -> Child
     ensures means { (x : List Bool) → child_value store.now result x ≡ op_value op (den store.now f x) (den store.now g x) }
 {
     let (op, f, g, mark) = form(op, f, g);
-    match short_at(op, f, g) {
+    match terminal_at(op, f, g) {
         Some(answer) => Child::Done(answer.marked(mark)),
         None => {
             let key = request(op, f, g);
@@ -198,14 +198,14 @@ pub fn split(store: &Store, key: Key) -> Record
     Record { key, low, high }
 }
 
-/// The answer of an operation that needs no request, or that the memo holds.
-pub fn known(memo: &Memo, op: Op, f: Ref, g: Ref) -> Option<Ref>
-    ensures value { result ≡ known_of memo.now op f g }
-    ensures means { (S : Nodes) → IsRight S memo.now → Has S f → Has S g → IfSome result (IsValueOf S op f g) }
+/// The answer of an operation that needs no request, or that the computed table holds.
+pub fn known(computed: &ComputedTable, op: Op, f: Ref, g: Ref) -> Option<Ref>
+    ensures value { result ≡ known_of computed.now op f g }
+    ensures means { (S : Nodes) → IsRight S computed.now → Has S f → Has S g → IfSome result (IsValueOf S op f g) }
 {
     let (op, f, g, mark) = form(op, f, g);
-    match short_at(op, f, g) {
+    match terminal_at(op, f, g) {
         Some(answer) => Some(answer.marked(mark)),
-        None => marked(memo.peek(&request(op, f, g)), mark),
+        None => marked(computed.peek(&request(op, f, g)), mark),
     }
 }

@@ -1,14 +1,14 @@
 -- What looking for an item, and perhaps adding it, leaves.
 use Rattle.std.specs.Prelude.{◌≡◌, ℕ, ◌<◌, List, [], ◌∷◌, ◌++◌, length, slice_get, Some, Result, Ok, Err}
 use Rattle.slot_table.specs.Lists.{IsIn}
-use Rattle.slot_table.specs.declared.Placed.{Placed}
-use Rattle.slot_table.specs.declared.Placed.TheVariants.{Found, Added}
+use Rattle.slot_table.specs.declared.Admission.{Admission}
+use Rattle.slot_table.specs.declared.Admission.TheVariants.{Found, Added}
 use Rattle.slot_table.specs.declared.Refusal.{Refusal}
 use Rattle.slot_table.specs.declared.Refusal.TheVariants.{Full, OutOfMemory}
 
 -- what looking for an item, with room for so many more, answers and leaves: its place, or that of one item more, or a
 -- refusal that changes nothing
-abbrev pub IsPlaced : {X : Type 0} → ℕ → X → List X → Result Placed Refusal → List X → Type 0
+abbrev pub IsPlaced : {X : Type 0} → ℕ → X → List X → Result Admission Refusal → List X → Type 0
 IsPlaced room x old (Ok (Found i)) new = (slice_get old i ≡ Some x) × (new ≡ old)
 IsPlaced room x old (Ok (Added i)) new = (IsIn old x → ⊥) × (0 < room) × (i ≡ length old) × (new ≡ old ++ x ∷ [])
 IsPlaced room x old (Err Full) new = (IsIn old x → ⊥) × (room ≡ 0) × (new ≡ old)

@@ -1,8 +1,8 @@
 -- Slots, in which the search for an item begins at its home and goes on after a slot that is not empty. An empty slot
 -- holds 0, and any other the place of an item and 1.
 use Rattle.std.specs.Prelude.{◌≡◌, ℕ, suc, ◌+◌, ◌-◌, ◌*◌, ◌^◌, ◌<◌, ◌≤◌, ◌⊎◌, nat_lt, if◌then◌else◌, List, length, slice_get, Some, bit_and}
-use Rattle.slot_table.specs.declared.Sought.{Sought}
-use Rattle.slot_table.specs.declared.Sought.TheVariants.{Place, Slot}
+use Rattle.slot_table.specs.declared.slots.Sought.{Sought}
+use Rattle.slot_table.specs.declared.slots.Sought.TheVariants.{Place, Slot}
 
 -- the slot, of n, at a distance from home: the first comes after the last
 unfoldable pub slot_of : ℕ → ℕ → ℕ → ℕ

@@ -11,7 +11,7 @@ ghost use Rattle.std.specs.Prelude.{◌≡◌, Bool, List, IfOk};
 ghost use Rattle.dd_store.specs.declared.reference.Ref.{Ref as RefValue};
 ghost use Rattle.dd_store.specs.Nodes.{IsSound, den, IsDiagram};
 ghost use Rattle.dd_store.specs.View.{Has};
-ghost use Rattle.req_table.specs.Memos.{IsRight};
+ghost use Rattle.req_table.specs.ComputedTables.{IsRight};
 ghost use Rattle.reduce_up.specs.Waves.{IsEntry, entry_value};
 
 use dd_store::{Ref, Store};
@@ -61,7 +61,7 @@ pub fn two_ways<R: Threads + Wait + Sync>(
         rt,
         alloc,
         workers: Workers::new(1),
-        gate: &Free,
+        monitor: &Free,
     };
     let mut engine = Engine::new(&crew)?;
     let (not_f, not_g) = both(&mut engine, store, (Op::Nand, f, f), (Op::Nand, g, g))?;

@@ -7,7 +7,7 @@ use Rattle.req_table.specs.declared.Key.{Key}
 use Rattle.req_table.specs.declared.Child.{Child}
 use Rattle.req_table.specs.declared.Child.TheVariants.{Done, Ask}
 use Rattle.req_table.specs.declared.Record.{Record}
-use Rattle.req_table.specs.Short.{owner_of}
+use Rattle.req_table.specs.TerminalCase.{owner_of}
 use Rattle.req_table.specs.Lanes.{sent_by, IsFair, IsClosed, asks_at}
 use Rattle.req_table.specs.Settled.{IsDistinctOf, key_of, asked, asked_by, is_owned}
 use Rattle.req_table.specs.Keys.{record_of, wave_at}

@@ -6,13 +6,14 @@ use Rattle.req_table.specs.declared.Key.{Key}
 use Rattle.req_table.specs.declared.Record.{Record}
 use Rattle.req_table.specs.declared.Child.{Child}
 use Rattle.req_table.specs.declared.Child.TheVariants.{Done, Ask}
-use Rattle.req_table.specs.Short.{owner_of}
+use Rattle.req_table.specs.TerminalCase.{owner_of}
 use Rattle.req_table.specs.declared.Item.{Item}
 use Rattle.req_table.specs.Wave.{Wave}
-use Rattle.req_table.specs.Lanes.{sent_by, ends, asks_at}
+use Rattle.req_table.specs.Lanes.{sent_by, ends, asks_at, IsFair}
 use Rattle.req_table.specs.Settled.{IsDistinctOf, key_of, dealt_from}
 use Rattle.req_table.specs.Keys.{wave_at, owner}
-use Rattle.wave_core.specs.Step.{State}
+use Rattle.wave_core.specs.declared.Event.{Event}
+use Rattle.wave_core.specs.Step.{State, IsStep, IsAllowed}
 use Rattle.wave_core.specs.Counting.{sum_over, noted}
 
 -- `ended` counts the Ends that s sent to k; `counted`, at the pair of k and s, those of s that k took; `tables` has
@@ -52,6 +53,18 @@ state_of v = record {
 
 abbrev pub wave_of_view : Nodes → View → Wave
 wave_of_view S v = wave_at S v.levels v.workers
+
+-- by this event a machine comes from one view to the other
+abbrev pub Does : Nodes → View → Event → View → Type 0
+Does S old event new = IsStep (wave_of_view S old) (state_of old) event (state_of new)
+
+-- a machine may do this event
+abbrev pub Allows : Nodes → View → Event → Type 0
+Allows S v event = IsAllowed (wave_of_view S v) (state_of v) event
+
+-- what `by` took of each worker is fair
+abbrev pub TookFairly : Nodes → View → ℕ → Type 0
+TookFairly S v by = (s : ℕ) → s < v.workers → IsFair (wave_of_view S v).scope (sent_by s (list_of v.taken by))
 
 pub record IsShaped (v : View) : Type 0 where
   pub few_workers : v.workers ≤ 16

@@ -15,6 +15,7 @@
 mod events;
 mod lists;
 mod machine;
+mod queues;
 mod records;
 mod start;
 mod waves;

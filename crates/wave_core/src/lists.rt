@@ -1,14 +1,11 @@
-//! Lists that grow at the end; two of them also shrink at the front.
-ghost use Rattle.std.specs.Prelude.{◌≡◌, ℕ, List, [], ◌∷◌, ◌++◌, length, replicate, sum, ◌≤◌, ◌*◌, ◌^◌, MatchOption, MatchBool, IfOk, OnOk, OnErr};
+//! Lists that grow at the end.
+ghost use Rattle.std.specs.Prelude.{◌≡◌, List, [], ◌∷◌, ◌++◌, length, replicate, sum, ◌≤◌, ◌*◌, ◌^◌, IfOk, OnOk, OnErr};
 ghost use Rattle.std.specs.List.{sum_by};
-ghost use Rattle.req_table.specs.Lanes.{sent_by, is_from};
 ghost use Rattle.req_table.specs.declared.Item.{Item as ItemValue};
-ghost use Rattle.req_table.specs.declared.Key.{Key as KeyValue};
 ghost use Rattle.req_table.specs.declared.Record.{Record as RecordValue};
 
-use req_table::{Child, Item, Key, Record};
+use req_table::{Child, Item, Record};
 use std::alloc::{AllocError, Global};
-use std::collections::VecDeque;
 use std::marker::Model;
 
 /// Items that were sent or taken, in order.
@@ -135,161 +132,6 @@ impl Row {
     {
         let _low: &Child = &added.low;
         self.records.push(*added)?;
-        Ok(())
-    }
-}
-
-/// Keys that are due from one worker to another, in order.
-#[derive(Drop)]
-pub struct Keys {
-    keys: VecDeque<Key>,
-}
-
-impl Model for Keys {
-    ghost use Rattle.std.specs.Prelude.{List};
-    ghost use Rattle.req_table.specs.declared.Key.{Key as KeyValue};
-
-    ghost Value = { List KeyValue };
-
-    ghost view = { λ l. l.keys.items };
-}
-
-impl Keys {
-    /// An empty list.
-    pub fn new(alloc: Global) -> Keys
-        ensures { result ≡ [] }
-    {
-        Keys {
-            keys: VecDeque::new(alloc),
-        }
-    }
-
-    /// So many empty lists.
-    pub fn many(alloc: Global, count: usize) -> Result<Vec<Keys>, AllocError>
-        ensures { IfOk result (λ lists. lists.items ≡ replicate count []) }
-    {
-        let mut lists = Vec::new(alloc);
-        for made in 0..count {
-            lists.push(Keys::new(alloc))?;
-        }
-        Ok(lists)
-    }
-
-    /// The one at the front.
-    pub fn first(&self) -> Option<Key>
-        ensures { MatchOption result (self.now ≡ []) (λ x. (rest : List KeyValue) × (self.now ≡ x ∷ rest)) }
-    {
-        self.keys.front().copied()
-    }
-
-    /// Whether there is none.
-    pub fn is_empty(&self) -> bool
-        ensures { MatchBool result (self.now ≡ []) (¬ (self.now ≡ [])) }
-    {
-        self.keys.is_empty()
-    }
-
-    /// Takes the one at the front away.
-    pub fn pop(&mut self)
-        ensures { (xs : List KeyValue) (x : KeyValue) → self.old ≡ x ∷ xs → self.new ≡ xs }
-    {
-        let _ = self.keys.pop_front();
-    }
-
-    /// Puts one at the end. After want of memory the list is as before.
-    pub fn put(&mut self, key: Key) -> Result<(), AllocError>
-        ensures ok { OnOk result (self.new ≡ self.old ++ key ∷ []) }
-        ensures err { OnErr result (self.new ≡ self.old) }
-    {
-        self.keys.push_back(key)?;
-        Ok(())
-    }
-
-    /// Takes the last key back.
-    pub fn undo(&mut self)
-        ensures { (xs : List KeyValue) (x : KeyValue) → self.old ≡ xs ++ x ∷ [] → self.new ≡ xs }
-    {
-        let _ = self.keys.pop_back();
-    }
-}
-
-/// Whether an item is of this sender.
-fn is_from(item: &Item, sender: u32) -> bool
-    ensures { result ≡ is_from sender item.now }
-{
-    match item {
-        Item::Ask { from, .. } | Item::End { from, .. } => *from == sender,
-    }
-}
-
-/// Items that wait on one lane, in order.
-#[derive(Drop)]
-pub struct Lane {
-    items: VecDeque<Item>,
-}
-
-impl Model for Lane {
-    ghost use Rattle.std.specs.Prelude.{List};
-    ghost use Rattle.req_table.specs.declared.Item.{Item as ItemValue};
-
-    ghost Value = { List ItemValue };
-
-    ghost view = { λ l. l.items.items };
-}
-
-impl Lane {
-    /// An empty list.
-    pub fn new(alloc: Global) -> Lane
-        ensures { result ≡ [] }
-    {
-        Lane {
-            items: VecDeque::new(alloc),
-        }
-    }
-
-    /// So many empty lists.
-    pub fn many(alloc: Global, count: usize) -> Result<Vec<Lane>, AllocError>
-        ensures { IfOk result (λ lists. lists.items ≡ replicate count []) }
-    {
-        let mut lists = Vec::new(alloc);
-        for made in 0..count {
-            lists.push(Lane::new(alloc))?;
-        }
-        Ok(lists)
-    }
-
-    /// The one at the front.
-    pub fn first(&self) -> Option<Item>
-        ensures { MatchOption result (self.now ≡ []) (λ x. (rest : List ItemValue) × (self.now ≡ x ∷ rest)) }
-    {
-        self.items.front().copied()
-    }
-
-    /// Whether one is of this sender.
-    pub fn has_from(&self, sender: u32) -> bool
-        ensures { MatchBool result (¬ (sent_by sender self.now ≡ [])) (sent_by sender self.now ≡ []) }
-    {
-        for place in 0..self.items.len() {
-            if is_from(&self.items[place], sender) {
-                return true;
-            }
-        }
-        false
-    }
-
-    /// Takes the one at the front away.
-    pub fn pop(&mut self)
-        ensures { (xs : List ItemValue) (x : ItemValue) → self.old ≡ x ∷ xs → self.new ≡ xs }
-    {
-        let _ = self.items.pop_front();
-    }
-
-    /// Puts one at the end. After want of memory the list is as before.
-    pub fn put(&mut self, item: &Item) -> Result<(), AllocError>
-        ensures ok { OnOk result (self.new ≡ self.old ++ item.now ∷ []) }
-        ensures err { OnErr result (self.new ≡ self.old) }
-    {
-        self.items.push_back(*item)?;
         Ok(())
     }
 }

@@ -2,7 +2,7 @@
 ghost use Rattle.std.specs.Prelude.{◌≡◌, ◌*◌, ◌<◌, ◌≤◌, [], length, replicate, IfOk};
 ghost use Rattle.wave_core.specs.View.{AreDealt};
 
-use crate::lists::Keys;
+use crate::queues::Keys;
 use req_table::requests::owner;
 use req_table::{Key, Table};
 use std::alloc::{AllocError, Global};

@@ -5,5 +5,5 @@ pub mod Reduction
 pub mod Rooted
 pub mod Shared
 pub mod Splits
-pub mod Memos
+pub mod ComputedTables
 pub mod Merging

@@ -23,7 +23,7 @@ use Rattle.dd_store.specs.View.{part, Has, top, Keeps, IsOneNode, IsMade}
 use Rattle.expand_work.specs.Fault.{wave_fault}
 use Rattle.reduce_up.specs.Reducing.{IsKeyAt, IsAnswer, IsAnswerAt, IsChild, IsRecordAt, AreAnswers, HasAnswer, IsReady, IsResolved, AddsDescribed, AskedBy, IsRow, IsRowReduced, Notes, IsRecordFault, IsRowFault, ReducesRow}
 use Rattle.req_table.specs.Keys.{meaning}
-use Rattle.req_table.specs.Short.{op_value}
+use Rattle.req_table.specs.TerminalCase.{op_value}
 use Rattle.std.specs.Prelude.{slice_index_or}
 use Rattle.std.proofs.Math.Nat.{eq-or-lt_of_le}
 use Rattle.reduce_up.proofs.Noting.{head_in}

@@ -9,20 +9,20 @@ use Rattle.dd_store.specs.View.{Has}
 use Rattle.dd_store.specs.Marks.{turned, mark_by}
 use Rattle.dd_store.proofs.View.{has-negate}
 use Rattle.req_table.specs.declared.Key.{Key}
-use Rattle.req_table.specs.Short.{short_of}
+use Rattle.req_table.specs.TerminalCase.{terminal_of}
 use Rattle.req_table.specs.Keys.{normal_of, IsKey, meaning}
-use Rattle.req_table.proofs.Means.{Answers, short_means}
-use Rattle.req_table.proofs.Shorts.{OnAnswer, short_is}
+use Rattle.req_table.proofs.Means.{Answers, terminal_means}
+use Rattle.req_table.proofs.TerminalCases.{OnAnswer, terminal_is}
 use Rattle.req_table.proofs.Waved.{is_key, is_value, meaning_normal}
 use Rattle.reduce_up.specs.Waves.{Entry, entry_value, entry_for, entries_for, IsEntry, request_of, requests_of, IsTakenFrom}
 use Rattle.reduce_up.proofs.Noting.{nothing, head_in, tail_in, in_cases}
 use Rattle.reduce_up.proofs.Rooted.{item_next}
 
 -- one more entry
-requests_on : (es : List Entry) (e : Entry) → requests_of (es ++ e ∷ []) ≡ requests_of es ++ request_of (short_of e.0 e.1 e.2) e
-requests_on [] e = append-nil (request_of (short_of e.0 e.1 e.2) e)
+requests_on : (es : List Entry) (e : Entry) → requests_of (es ++ e ∷ []) ≡ requests_of es ++ request_of (terminal_of e.0 e.1 e.2) e
+requests_on [] e = append-nil (request_of (terminal_of e.0 e.1 e.2) e)
 requests_on (d ∷ es) e =
-    ap (λ z. request_of (short_of d.0 d.1 d.2) d ++ z) (requests_on es e) ∙ sym (append_assoc (request_of (short_of d.0 d.1 d.2) d) (requests_of es) (request_of (short_of e.0 e.1 e.2) e))
+    ap (λ z. request_of (terminal_of d.0 d.1 d.2) d ++ z) (requests_on es e) ∙ sym (append_assoc (request_of (terminal_of d.0 d.1 d.2) d) (requests_of es) (request_of (terminal_of e.0 e.1 e.2) e))
 
 -- one more entry's request, or none
 pub request_none : (o : Option Ref) (b : Bool) (e : Entry) → is_some o ≡ not b → b ≡ true → request_of o e ≡ (normal_of e.0 e.1 e.2).0 ∷ []
@@ -34,6 +34,6 @@ request_some None b e s t = absurd (true≢false (sym (s ∙ ap not t)))
 request_some (Some r) b e s t = refl
 
 pub requests_next : (es : List Entry) (i : ℕ) (e : Entry) (before new after : List Key) → i < length es → e ≡ get_or es i e → before ≡ requests_of (take i es) →
-    request_of (short_of e.0 e.1 e.2) e ≡ new → after ≡ before ++ new → after ≡ requests_of (take (i + 1) es)
+    request_of (terminal_of e.0 e.1 e.2) e ≡ new → after ≡ before ++ new → after ≡ requests_of (take (i + 1) es)
 requests_next es i e before new after lt is b n a =
     a ∙ ap (λ z. z ++ new) b ∙ ap (λ z. requests_of (take i es) ++ z) (sym n) ∙ sym (ap requests_of (item_next es i e lt is) ∙ requests_on (take i es) e)

@@ -2,6 +2,6 @@ pub mod Levels
 pub mod Placed
 pub mod Reducing
 pub mod Sharing
-pub mod Memos
+pub mod ComputedTables
 pub mod Expanded
 pub mod Merging

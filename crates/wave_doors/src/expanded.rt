@@ -9,7 +9,7 @@ ghost use Rattle.wave_doors.specs.Expanded.{IsSettledFor};
 
 use crate::merge::merge_rows;
 use dd_store::Store;
-use expand_work::{Crew, Gate, Spaces, WaveFault, Workers, expand_parts};
+use expand_work::{Crew, Monitor, Spaces, WaveFault, Workers, expand_parts};
 use lane_queue::Port;
 use req_table::Key;
 use std::alloc::Global;
@@ -56,13 +56,13 @@ impl Expanded {
 ///
 /// NoWorker: a thread could not be started; then those that run are told to stop. OutOfMemory: a growth was refused, and
 /// every thread was started. All threads have ended before any answer is given.
-pub fn expand_all<R: Threads + Wait + Sync, G: Gate>(
+pub fn expand_all<R: Threads + Wait + Sync, G: Monitor>(
     rt: &R,
     alloc: Global,
     store: &Store,
     roots: &[Key],
     workers: u32,
-    gate: &G,
+    monitor: &G,
 ) -> Result<Expanded, WaveFault>
     requires workers { (0 < workers) × (workers ≤ 16) }
     requires roots { All (IsKey store.now) roots.now }
@@ -80,7 +80,7 @@ pub fn expand_all<R: Threads + Wait + Sync, G: Gate>(
         rt,
         alloc,
         workers: Workers::new(workers),
-        gate,
+        monitor,
     };
     let (parts, ports) = expand_parts(&crew, store, roots, &mut Spaces::new(alloc))?;
     let records = merge_rows(alloc, store, roots, &parts, workers)?;

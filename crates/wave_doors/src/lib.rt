@@ -1,11 +1,11 @@
 //! Doors for callers of their own, which the program does not link: the records of a wave by threads, the reduction of
 //! records, a wave on the caller's thread by the state machine of the workers, and what requests come to where what a
-//! memo holds is done.
+//! computed table holds is done.
 //!
 //! **Promises.** `expand_all` answers the records of exactly the reached requests, each once (`closure`, `settled`),
 //! with as many loads as that takes (`put`). `reduce` gives each record's key its diagram (`answers`), adds nodes of
-//! these alone (`adds`) and says why it is Full (`fault`). `wave_one` is a wave by any choices, with a memo (`wave`,
-//! `kept`, `refused`, `right`). `child_known` and `split_known` have their key's meaning where the memo is right
+//! these alone (`adds`) and says why it is Full (`fault`). `wave_one` is a wave by any choices, with a computed table (`wave`,
+//! `kept`, `refused`, `right`). `child_known` and `split_known` have their key's meaning where the computed table is right
 //! (`means`, `low`, `high`).
 //!
 //! **Only tests show** that ample memory suffices, and when threads share a level (`wave_tests`).

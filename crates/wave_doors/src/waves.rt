@@ -1,9 +1,9 @@
 //! Waves on the caller's thread: the diagrams of a list of operations by the state machine of the workers.
 ghost use Rattle.std.specs.Prelude.{◌≡◌, ◌≢◌, ℕ, ◌<◌, ◌≤◌, All, IfOk, IfErr, OnErr, None};
 ghost use Rattle.std.specs.List.{AllZip};
-ghost use Rattle.req_table.specs.Short.{short_of};
+ghost use Rattle.req_table.specs.TerminalCase.{terminal_of};
 ghost use Rattle.req_table.specs.Keys.{normal_of, IsKey};
-ghost use Rattle.req_table.specs.Memos.{IsRight};
+ghost use Rattle.req_table.specs.ComputedTables.{IsRight};
 ghost use Rattle.reduce_up.specs.Known.{unknown, IsKeptWave};
 ghost use Rattle.reduce_up.specs.Reducing.{HasAnswer};
 ghost use Rattle.reduce_up.specs.Waves.{IsEntry, AnswersWave, IsClosureOf, requests_of, IsTakenFrom};
@@ -11,22 +11,22 @@ ghost use Rattle.reduce_up.specs.Waves.{IsEntry, AnswersWave, IsClosureOf, reque
 use crate::levels::reduce;
 use crate::results::Results;
 use dd_store::{Ref, Store, Watch};
-use expand_work::{Crew, Gate, WaveFault};
+use expand_work::{Crew, Monitor, WaveFault};
 use reduce_up::Sought;
-use req_table::requests::{normal, short};
-use req_table::{Key, Memo, Op};
+use req_table::requests::{normal, terminal_case};
+use req_table::{ComputedTable, Key, Op};
 use std::alloc::{AllocError, Global};
 use std::thread::Threads;
 use wave_core::{Core, Records};
 
-/// The requests of the entries that have no short answer.
+/// The requests of the entries that have no terminal case.
 fn requests_of(alloc: Global, entries: &[(Op, Ref, Ref)]) -> Result<Vec<Key>, AllocError>
     ensures { IfOk result (λ keys. keys.items ≡ requests_of entries.now) }
 {
     let mut keys = Vec::new(alloc);
     for entry in entries {
         let (op, f, g) = *entry;
-        if short(op, f, g).is_none() {
+        if terminal_case(op, f, g).is_none() {
             let (key, _) = normal(op, f, g);
             keys.push(key)?;
         }
@@ -34,12 +34,12 @@ fn requests_of(alloc: Global, entries: &[(Op, Ref, Ref)]) -> Result<Vec<Key>, Al
     Ok(keys)
 }
 
-/// The diagram of an entry: its short answer, or that of its request.
+/// The diagram of an entry: its terminal case, or that of its request.
 fn answer_of(op: Op, f: Ref, g: Ref, results: &Results) -> Ref
-    requires { short_of op f g ≡ None → HasAnswer results.now (normal_of op f g).0 }
-    ensures { IsTakenFrom results.now (short_of op f g) (op, f, g) result }
+    requires { terminal_of op f g ≡ None → HasAnswer results.now (normal_of op f g).0 }
+    ensures { IsTakenFrom results.now (terminal_of op f g) (op, f, g) result }
 {
-    match short(op, f, g) {
+    match terminal_case(op, f, g) {
         Some(answer) => answer,
         None => {
             let (key, mark) = normal(op, f, g);
@@ -55,7 +55,7 @@ fn answers_of(
     results: &Results,
 ) -> Result<Vec<Ref>, AllocError>
     requires { All (HasAnswer results.now) (requests_of entries.now) }
-    ensures { IfOk result (λ answers. AllZip (λ e r. IsTakenFrom results.now (short_of e.0 e.1 e.2) e r) entries.now answers.items) }
+    ensures { IfOk result (λ answers. AllZip (λ e r. IsTakenFrom results.now (terminal_of e.0 e.1 e.2) e r) entries.now answers.items) }
 {
     let mut answers = Vec::new(alloc);
     for entry in entries {
@@ -111,7 +111,7 @@ fn answer_closure<R: Threads + Sync, H: Watch + Sync>(
 }
 
 /// The diagram of each operation on its two operands, of which nothing is known.
-fn wave_alone<R: Threads + Sync, G: Gate>(
+fn wave_alone<R: Threads + Sync, G: Monitor>(
     crew: &Crew<'_, R, G>,
     store: &mut Store,
     entries: &[(Op, Ref, Ref)],
@@ -123,7 +123,7 @@ fn wave_alone<R: Threads + Sync, G: Gate>(
     ensures unbounded { IfErr result (λ e. e ≢ WaveFault.TooManyRequests) }
 {
     let _ = store.levels();
-    let (rt, alloc, gate) = (crew.rt, crew.alloc, crew.gate);
+    let (rt, alloc, monitor) = (crew.rt, crew.alloc, crew.monitor);
     let workers = crew.workers.count();
     let Ok(roots) = requests_of(alloc, entries) else {
         return Err(WaveFault::OutOfMemory);
@@ -131,37 +131,37 @@ fn wave_alone<R: Threads + Sync, G: Gate>(
     let Ok(records) = closure_of(alloc, store, workers, roots.as_slice(), choices) else {
         return Err(WaveFault::OutOfMemory);
     };
-    answer_closure(rt, alloc, store, entries, &records, gate)
+    answer_closure(rt, alloc, store, entries, &records, monitor)
 }
 
 /// The diagram of each operation on its two operands.
 ///
-/// What has a short answer or is held in the memo is answered at once. The requests of all other operations together are expanded
-/// by the state machine of the workers on the caller's thread, which the choices drive, and reduced from the last level up. The
-/// memo then keeps them with their answers. The gate is told of shared levels alone.
-pub fn wave_one<R: Threads + Sync, G: Gate>(
+/// What has a terminal case or is held in the computed table is answered at once. The requests of all other operations together are
+/// expanded by the state machine of the workers on the caller's thread, which the choices drive, and reduced from the last level up.
+/// The computed table then keeps them with their answers. The monitor is told of shared levels alone.
+pub fn wave_one<R: Threads + Sync, G: Monitor>(
     crew: &Crew<'_, R, G>,
     store: &mut Store,
-    memo: &mut Memo,
+    computed: &mut ComputedTable,
     entries: &[(Op, Ref, Ref)],
     choices: &[u8],
 ) -> Result<Vec<Ref>, WaveFault>
     requires operands { All (IsEntry store.old) entries.now }
-    requires right { IsRight store.old memo.old }
-    ensures wave { AnswersWave store.old entries.now (unknown memo.old entries.now) result store.new }
+    requires right { IsRight store.old computed.old }
+    ensures wave { AnswersWave store.old entries.now (unknown computed.old entries.now) result store.new }
     ensures served { IfErr result (λ e. e ≢ WaveFault.NoWorker) }
     ensures unbounded { IfErr result (λ e. e ≢ WaveFault.TooManyRequests) }
-    ensures kept { IfOk result (λ answers. IsKeptWave memo.old entries.now answers.items memo.new) }
-    ensures refused { OnErr result (memo.new ≡ memo.old) }
-    ensures right { IsRight store.new memo.new }
+    ensures kept { IfOk result (λ answers. IsKeptWave computed.old entries.now answers.items computed.new) }
+    ensures refused { OnErr result (computed.new ≡ computed.old) }
+    ensures right { IsRight store.new computed.new }
 {
     let _ = store.levels();
     let mut sought = Sought::new(crew.alloc);
-    let Ok(_) = sought.seek(memo, entries) else {
+    let Ok(_) = sought.seek(computed, entries) else {
         return Err(WaveFault::OutOfMemory);
     };
     let found = wave_alone(crew, store, sought.requests(), choices)?;
-    match sought.settle(crew.alloc, memo, found.as_slice()) {
+    match sought.settle(crew.alloc, computed, found.as_slice()) {
         Ok(answers) => Ok(answers),
         Err(_) => Err(WaveFault::OutOfMemory),
     }

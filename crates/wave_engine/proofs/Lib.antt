@@ -1,6 +1,6 @@
-pub mod Marking
+pub mod LevelSets
 pub mod Placing
-pub mod Marked
+pub mod Members
 pub mod Wanted
 pub mod Raising
 pub mod Fronting

@@ -13,7 +13,7 @@ use Rattle.req_table.specs.declared.Child.{Child}
 use Rattle.req_table.specs.declared.Child.TheVariants as child
 use Rattle.req_table.specs.Keys.{IsKey, IsChildIn, level_of, normal_of, child as child_at, child_of, answer_of}
 use Rattle.req_table.specs.Reached.{root as root_of, child as child_from}
-use Rattle.req_table.specs.Short.{short_of}
+use Rattle.req_table.specs.TerminalCase.{terminal_of}
 use Rattle.req_table.specs.Tables.{Offers}
 use Rattle.req_table.proofs.Waved.{told, held, deeper, bounded}
 use Rattle.reduce_up.specs.Waves.{Entry, requests_of}
@@ -134,7 +134,7 @@ asked_entry S e l k (Some r) (m, h) = absurd (cc)
 
 pub root_admitted : (S : Nodes) (es : List Entry) (e : Entry) → Contains es e → IsChildIn S (child_at S e.0 e.1 e.2) → (l : ℕ) (k : Key) → AsksAt (child_at S e.0 e.1 e.2) l k → IsAdmitted S es l k
 root_admitted S es e c i l k h =
-    let a = asked_entry S e l k (short_of e.0 e.1 e.2) h in
+    let a = asked_entry S e l k (terminal_of e.0 e.1 e.2) h in
     let in_store : IsKey S k × (l ≡ level_of S k) = subst (IsChildIn S) h.1 i in
     record { key = in_store.0; level = sym in_store.1; reached = root_of (subst (Contains (requests_of es)) a.1 (to_request es e c a.0)) }
 

@@ -26,7 +26,7 @@ use Rattle.req_table.specs.declared.Child.{Child}
 use Rattle.req_table.specs.declared.Child.TheVariants as child
 use Rattle.req_table.specs.Keys.{IsKey, IsChildIn, key, level_at, level_of, normal_of, child as child_at, child_of, child_value, answer_of, ask_of, meaning, wave_of}
 use Rattle.req_table.specs.Reached.{IsReached, root as root_of, child as child_from}
-use Rattle.req_table.specs.Short.{short_of}
+use Rattle.req_table.specs.TerminalCase.{terminal_of}
 use Rattle.req_table.proofs.Waved.{child_has_value, child_stands}
 use Rattle.reduce_up.specs.Reducing.{AddsDescribed, IsAnswer}
 use Rattle.reduce_up.specs.Waves.{Entry, entry_value, IsEntry, AnswersEach, IsWanted, HasRequest, IsWithinLimit, IsWaveFault, requests_of}
@@ -67,7 +67,7 @@ module _ (S : Nodes) (w : IsSound S) (entries : List Entry) (good : All (IsEntry
       ∙ ap (λ (c : Option Pair). cond (nat_eq (top S r) v) (cond b (unwrap_or (option_map (λ (p : Pair). p.1) c) r) (unwrap_or (option_map (λ (p : Pair). p.0) c) r)) r) (children_kept r h)
 
   child_same : (op : Op) (f g : Ref) → child_at U op f g ≡ child_at S op f g
-  child_same op f g = by (short_of op f g)
+  child_same op f g = by (terminal_of op f g)
     where
       by : (t : Option Ref) → answer_of U op f g t ≡ answer_of S op f g t
       by None = ap (λ n. child.Ask (level_at n (normal_of op f g).0) (normal_of op f g).0 (normal_of op f g).1) K.levels

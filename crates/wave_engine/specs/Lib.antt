@@ -1,4 +1,4 @@
-pub mod Marks
+pub mod LevelSet
 pub mod Places
 pub mod Down
 pub mod Up

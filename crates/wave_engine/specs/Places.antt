@@ -3,7 +3,7 @@ use Rattle.std.specs.Prelude.{◌≡◌, ℕ, ◌+◌, ◌*◌, ◌^◌, ◌<◌
 use Rattle.req_table.specs.declared.Key.{Key}
 use Rattle.req_table.specs.declared.Child.{Child}
 use Rattle.req_table.specs.declared.Child.TheVariants as child
-use Rattle.wave_engine.specs.Marks.{IsMarked}
+use Rattle.wave_engine.specs.LevelSet.{IsMember}
 use Rattle.req_table.specs.declared.placed.Placed.{Placed}
 use Rattle.req_table.specs.declared.placed.PlacedChild.TheVariants.{Done, Ask}
 
@@ -54,9 +54,9 @@ abbrev pub IsLastLevel : List (List Key) → ℕ → Option ℕ → Type 0
 IsLastLevel tables u None = AreNone tables 0 u
 IsLastLevel tables u (Some v) = (v < u) × (0 < length (row tables v)) × AreNone tables (v + 1) u
 
--- the levels that have requests are marked, and no others
-pub record AreMarked (marks : List ℕ) (tables : List (List Key)) : Type 0 where
-  pub room : length tables ≤ 64 * length marks
+-- the levels that have requests are in the set, and no others
+pub record AreMembers (asked : List ℕ) (tables : List (List Key)) : Type 0 where
+  pub room : length tables ≤ 64 * length asked
   pub few : length tables < 2 ^ 16
-  pub held : (w : ℕ) → IsMarked marks w → 0 < length (row tables w)
-  pub marked : (w q : ℕ) (k : Key) → StandsAt tables w q k → IsMarked marks w
+  pub held : (w : ℕ) → IsMember asked w → 0 < length (row tables w)
+  pub members : (w q : ℕ) (k : Key) → StandsAt tables w q k → IsMember asked w

@@ -114,7 +114,8 @@ fn most_at(limits: Limits, requests: &Requests, level: u16, count: usize) -> usi
 }
 
 /// Expands level after level, of those that have requests, and stops before the first with more than its limit, where the levels from
-/// there on are wide on average: all levels before the one that is answered are expanded. Where the levels that it comes to have more than the wave's limit together, it refuses.
+/// there on are wide on average: all levels before the one that is answered are expanded. Where the levels that it comes to have more
+/// than the wave's limit together, it refuses.
 pub(crate) fn expand(
     store: &Store,
     entries: &[(Op, Ref, Ref)],

@@ -1,7 +1,7 @@
 //! The engine of waves: what lasts from wave to wave.
 ghost use Rattle.std.specs.Prelude.{◌≡◌, ◌≢◌, ◌<◌, ◌≤◌, ◌+◌, ◌-◌, ◌%◌, ◌^◌, [], Err, All, IfOk, IfErr, OnOk, OnErr};
 ghost use Rattle.dd_store.specs.Nodes.{Nodes, IsSound, count_of};
-ghost use Rattle.req_table.specs.Memos.{IsRight};
+ghost use Rattle.req_table.specs.ComputedTables.{IsRight};
 ghost use Rattle.reduce_up.specs.Known.{unknown, IsKeptWave};
 ghost use Rattle.reduce_up.specs.Waves.{IsEntry, AnswersWave, requests_of};
 ghost use Rattle.expand_work.specs.Bounds.{most_of};
@@ -10,9 +10,9 @@ ghost use Rattle.wave_engine.specs.Bounds.{AreAtMost, ArePast};
 
 use crate::workspace::Workspace;
 use dd_store::{Ref, Store};
-use expand_work::{Crew, Gate, WaveFault};
+use expand_work::{Crew, Monitor, WaveFault};
 use reduce_up::Sought;
-use req_table::{Memo, Op};
+use req_table::{ComputedTable, Op};
 use std::alloc::{AllocError, Global};
 use std::marker::Model;
 use std::sync::Wait;
@@ -21,17 +21,17 @@ use std::thread::Threads;
 /// How many answers an engine holds.
 const CAPACITY: usize = 65_536;
 
-/// Does waves one after the other, each with a memo that is handed in.
+/// Does waves one after the other, each with a computed table that is handed in.
 #[derive(Drop)]
 pub(crate) struct Runner<'a, R, G> {
     workspace: Workspace<'a, R, G>,
     sought: Sought,
 }
 
-impl<'a, R: Threads + Wait + Sync, G: Gate> Runner<'a, R, G> {
+impl<'a, R: Threads + Wait + Sync, G: Monitor> Runner<'a, R, G> {
     /// A runner that has done no wave. It takes no memory yet.
     pub(crate) fn new(crew: &'a Crew<'a, R, G>) -> Self
-        ensures gate { result.workspace.crew.now.gate.now ≡ crew.entry.now.gate.now }
+        ensures monitor { result.workspace.crew.now.monitor.now ≡ crew.entry.now.monitor.now }
     {
         Runner {
             workspace: Workspace::new(crew),
@@ -39,33 +39,33 @@ impl<'a, R: Threads + Wait + Sync, G: Gate> Runner<'a, R, G> {
         }
     }
 
-    /// The diagram of each operation on its two operands, by what the memo holds and a wave over the others.
+    /// The diagram of each operation on its two operands, by what the computed table holds and a wave over the others.
     pub(crate) fn wave(
         &mut self,
         store: &mut Store,
-        memo: &mut Memo,
+        computed: &mut ComputedTable,
         entries: &[(Op, Ref, Ref)],
     ) -> Result<Vec<Ref>, WaveFault>
         requires operands { All (IsEntry store.old) entries.now }
-        requires right { IsRight store.old memo.old }
-        ensures wave { AnswersWave store.old entries.now (unknown memo.old entries.now) result store.new }
-        ensures past { result ≡ Err WaveFault.TooManyRequests → ArePast (G.bound self.old.workspace.crew.now.gate.now) store.old (unknown memo.old entries.now) }
-        ensures within_bound { most_of (G.bound self.old.workspace.crew.now.gate.now) < 2 ^ 64 - 1 → OnOk result (AreAtMost (most_of (G.bound self.old.workspace.crew.now.gate.now)) store.old (unknown memo.old entries.now)) }
-        ensures alone { most_of (G.bound self.old.workspace.crew.now.gate.now) < 2 ^ 64 - 1 → result ≢ Err WaveFault.NoWorker }
-        ensures expanded { OnOk result (HaveExpanded store.old 1 (requests_of (unknown memo.old entries.now)) (self.old.workspace.down.splits + self.old.workspace.rooms) (self.new.workspace.down.splits + self.new.workspace.rooms)) }
+        requires right { IsRight store.old computed.old }
+        ensures wave { AnswersWave store.old entries.now (unknown computed.old entries.now) result store.new }
+        ensures past { result ≡ Err WaveFault.TooManyRequests → ArePast (G.bound self.old.workspace.crew.now.monitor.now) store.old (unknown computed.old entries.now) }
+        ensures within_bound { most_of (G.bound self.old.workspace.crew.now.monitor.now) < 2 ^ 64 - 1 → OnOk result (AreAtMost (most_of (G.bound self.old.workspace.crew.now.monitor.now)) store.old (unknown computed.old entries.now)) }
+        ensures alone { most_of (G.bound self.old.workspace.crew.now.monitor.now) < 2 ^ 64 - 1 → result ≢ Err WaveFault.NoWorker }
+        ensures expanded { OnOk result (HaveExpanded store.old 1 (requests_of (unknown computed.old entries.now)) (self.old.workspace.down.splits + self.old.workspace.rooms) (self.new.workspace.down.splits + self.new.workspace.rooms)) }
         ensures memory { count_of store.old ≤ store.old.limit → result ≡ Err WaveFault.OutOfMemory → count_of store.new ≤ store.new.limit }
-        ensures gate { self.new.workspace.crew.now.gate ≡ self.old.workspace.crew.now.gate }
-        ensures kept { IfOk result (λ answers. IsKeptWave memo.old entries.now answers.items memo.new) }
-        ensures refused { OnErr result (memo.new ≡ memo.old) }
-        ensures right { IsRight store.new memo.new }
+        ensures monitor { self.new.workspace.crew.now.monitor ≡ self.old.workspace.crew.now.monitor }
+        ensures kept { IfOk result (λ answers. IsKeptWave computed.old entries.now answers.items computed.new) }
+        ensures refused { OnErr result (computed.new ≡ computed.old) }
+        ensures right { IsRight store.new computed.new }
     {
         let _ = store.levels();
         let alloc = self.workspace.alloc();
-        let Ok(_) = self.sought.seek(memo, entries) else {
+        let Ok(_) = self.sought.seek(computed, entries) else {
             return Err(WaveFault::OutOfMemory);
         };
         let found = self.workspace.wave(store, self.sought.requests())?;
-        match self.sought.settle(alloc, memo, found.as_slice()) {
+        match self.sought.settle(alloc, computed, found.as_slice()) {
             Ok(answers) => Ok(answers),
             Err(_) => Err(WaveFault::OutOfMemory),
         }
@@ -75,32 +75,32 @@ impl<'a, R: Threads + Wait + Sync, G: Gate> Runner<'a, R, G> {
 /// Does waves one after the other over one store. It keeps the memory that they take, holds answers of earlier waves, and counts the
 /// requests that those which were done have expanded.
 #[derive(Drop)]
-pub struct Engine<'a, R, G: Gate> {
+pub struct Engine<'a, R, G: Monitor> {
     runner: Runner<'a, R, G>,
-    memo: Memo,
+    computed: ComputedTable,
     expanded: u64,
 }
 
-impl<'a, R, G: Gate> Model for Engine<'a, R, G> {
+impl<'a, R, G: Monitor> Model for Engine<'a, R, G> {
     ghost use Rattle.wave_engine.specs.Resting.{AtRest};
 
     ghost Value = { AtRest };
 
-    ghost view = { λ e. record { held = e.memo; bound = G.bound e.runner.workspace.crew.now.gate.now; expanded = e.expanded } };
+    ghost view = { λ e. record { held = e.computed; bound = G.bound e.runner.workspace.crew.now.monitor.now; expanded = e.expanded } };
 }
 
-impl<'a, R: Threads + Wait + Sync, G: Gate> Engine<'a, R, G> {
+impl<'a, R: Threads + Wait + Sync, G: Monitor> Engine<'a, R, G> {
     /// An engine that has done no wave.
     pub fn new(crew: &'a Crew<'a, R, G>) -> Result<Self, AllocError>
         ensures empty { IfOk result (λ e. e.held.pairs ≡ []) }
         ensures right { IfOk result (λ e. (S : Nodes) → IsRight S e.held) }
-        ensures bound { IfOk result (λ e. e.bound ≡ G.bound crew.entry.now.gate.now) }
+        ensures bound { IfOk result (λ e. e.bound ≡ G.bound crew.entry.now.monitor.now) }
         ensures none { IfOk result (λ e. e.expanded ≡ 0) }
     {
-        let memo = Memo::new(crew.alloc, CAPACITY)?;
+        let computed = ComputedTable::new(crew.alloc, CAPACITY)?;
         Ok(Engine {
             runner: Runner::new(crew),
-            memo,
+            computed,
             expanded: 0,
         })
     }
@@ -113,7 +113,7 @@ impl<'a, R: Threads + Wait + Sync, G: Gate> Engine<'a, R, G> {
         ensures expanded { self.new.expanded ≡ self.old.expanded }
         ensures refused { OnErr result (self.new ≡ self.old) }
     {
-        self.memo = Memo::new(self.alloc(), CAPACITY)?;
+        self.computed = ComputedTable::new(self.alloc(), CAPACITY)?;
         Ok(())
     }
 
@@ -129,13 +129,18 @@ impl<'a, R: Threads + Wait + Sync, G: Gate> Engine<'a, R, G> {
         self.expanded
     }
 
+    /// How many requests the caller's thread has reduced, modulo 2^64: as many as were expanded, where no worker was called in.
+    pub fn reduced(&self) -> u64 {
+        self.runner.workspace.reduced()
+    }
+
     /// The diagram of each operation on its two operands.
     ///
-    /// What has a short answer, or was asked for in an earlier wave and is still held, is answered at once. The requests of all other
-    /// operations together are expanded on the caller's thread, down to the first level that has more of them than the gate lets the
+    /// What has a terminal case, or was asked for in an earlier wave and is still held, is answered at once. The requests of all other
+    /// operations together are expanded on the caller's thread, down to the first level that has more of them than the monitor lets the
     /// caller have; from there on they are the workers', in threads. They are reduced from the last level up. NoWorker is answered
     /// where a worker's thread could not be started; entries that are all answered at once start none. TooManyRequests is answered
-    /// where the requests are more than the gate allows; none of them are reduced then.
+    /// where the requests are more than the monitor allows; none of them are reduced then.
     pub fn wave(
         &mut self,
         store: &mut Store,
@@ -155,7 +160,7 @@ impl<'a, R: Threads + Wait + Sync, G: Gate> Engine<'a, R, G> {
         ensures bound { self.new.bound ≡ self.old.bound }
     {
         let before = self.runner.workspace.expanded();
-        match self.runner.wave(store, &mut self.memo, entries) {
+        match self.runner.wave(store, &mut self.computed, entries) {
             Ok(answers) => {
                 let more = self.runner.workspace.expanded().wrapping_sub(before);
                 self.expanded = self.expanded.wrapping_add(more);

@@ -11,7 +11,7 @@ ghost use Rattle.wave_engine.specs.Front.{keys_from, IsCopied, ArePut};
 use crate::lists::Answers;
 use crate::requests::Requests;
 use dd_store::{Ref, Store};
-use expand_work::{Crew, Gate, WaveFault};
+use expand_work::{Crew, Monitor, WaveFault};
 use reduce_up::{Rooms, shared_wave};
 use req_table::{Key, Op};
 use std::alloc::{AllocError, Global};
@@ -77,7 +77,7 @@ fn put_answers(
 
 /// Has the requests from a level on answered by the workers, in one wave, and puts the answers in their places. The workers work in
 /// the memory of an earlier wave as far as there is some. It answers how many requests they expanded.
-pub(crate) fn hand_over<R: Threads + Wait + Sync, G: Gate>(
+pub(crate) fn hand_over<R: Threads + Wait + Sync, G: Monitor>(
     crew: &Crew<'_, R, G>,
     rooms: &mut Rooms,
     store: &mut Store,

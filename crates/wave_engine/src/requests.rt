@@ -4,16 +4,16 @@ ghost use Rattle.slot_table.specs.Lists.{IsOnce};
 ghost use Rattle.req_table.specs.declared.Child.TheVariants as child;
 ghost use Rattle.wave_engine.specs.Places.{row, StandsAt, Admits, AreEmpty, IsNextLevel, IsLastLevel};
 
-use crate::marks::Marks;
+use crate::level_set::LevelSet;
 use req_table::{Key, Table};
 use std::alloc::{AllocError, Global};
 use std::marker::Model;
 
-/// The requests of each level, each once. A level that has some is marked, so that levels without are passed over.
+/// The requests of each level, each once. Those that have some are known, so that levels without are passed over.
 #[derive(Drop)]
 pub(crate) struct Requests {
     tables: Vec<Table>,
-    marks: Marks,
+    asked: LevelSet,
 }
 
 impl Model for Requests {
@@ -22,11 +22,11 @@ impl Model for Requests {
 
     ghost Value = { List (List Key) };
 
-    ghost use Rattle.wave_engine.specs.Places.{AreMarked};
+    ghost use Rattle.wave_engine.specs.Places.{AreMembers};
 
     ghost view = { λ r. r.tables.items };
 
-    ghost invariant = { λ r. AreMarked r.marks r.tables.items };
+    ghost invariant = { λ r. AreMembers r.asked r.tables.items };
 }
 
 /// So many empty tables.
@@ -47,7 +47,7 @@ impl Requests {
     {
         Requests {
             tables: Vec::new(alloc),
-            marks: Marks::new(alloc),
+            asked: LevelSet::new(alloc),
         }
     }
 
@@ -57,7 +57,7 @@ impl Requests {
     {
         Ok(Requests {
             tables: empty_tables(alloc, levels)?,
-            marks: Marks::with_room(alloc, levels)?,
+            asked: LevelSet::with_room(alloc, levels)?,
         })
     }
 
@@ -67,7 +67,7 @@ impl Requests {
         ensures { self.new ≡ set self.old level [] }
     {
         self.tables[level as usize].clear();
-        self.marks.unmark(level);
+        self.asked.remove(level);
     }
 
     /// Leaves so many levels without requests. Only levels that had some are come to.
@@ -95,7 +95,7 @@ impl Requests {
         let count = self.count(level);
         let (place, _) = self.tables[level as usize].admit(key)?;
         if count == 0 {
-            self.marks.mark(level);
+            self.asked.insert(level);
         }
         Ok(place)
     }
@@ -146,7 +146,7 @@ impl Requests {
     pub(crate) fn next_level(&self, from: u16) -> Option<u16>
         ensures { IsNextLevel self.now from result }
     {
-        match self.marks.next(from as usize) {
+        match self.asked.next(from as usize) {
             Some(level) => Some(level as u16),
             None => None,
         }
@@ -157,7 +157,7 @@ impl Requests {
         requires { end ≤ length self.now }
         ensures { IsLastLevel self.now end result }
     {
-        match self.marks.last(end as usize) {
+        match self.asked.last(end as usize) {
             Some(level) => Some(level as u16),
             None => None,
         }

@@ -2,7 +2,6 @@
 ghost use Rattle.std.specs.Prelude.{◌≡◌, ◌≢◌, ◌<◌, ◌≤◌, ℕ, length, All, Err, IfErr, OnOk};
 ghost use Rattle.dd_store.specs.declared.reference.Ref.{Ref as RefValue};
 ghost use Rattle.dd_store.specs.Nodes.{IsSound, count_of};
-ghost use Rattle.expand_work.specs.Fault.{wave_fault as wave_fault_of};
 ghost use Rattle.reduce_up.specs.Reducing.{AddsDescribed};
 ghost use Rattle.reduce_up.specs.Waves.{IsWanted, IsWaveFault, IsEntry};
 ghost use Rattle.wave_engine.specs.Down.{AreExpanded};
@@ -11,7 +10,7 @@ ghost use Rattle.wave_engine.specs.Up.{ComesTo, IsReadyAt, AskedAt, IsLevelReduc
 use crate::lists::Answers;
 use crate::requests::Requests;
 use crate::workspace::Down;
-use dd_store::{Ref, Store, StoreFault};
+use dd_store::{Ref, Store};
 use expand_work::WaveFault;
 use reduce_up::first_fault;
 use req_table::{Op, Placed, PlacedChild};
@@ -27,16 +26,6 @@ pub(crate) fn resolve(answers: &[Answers], child: Placed) -> Ref
         PlacedChild::Ask { level, place, mark } => answers[level as usize]
             .at(place as usize)
             .marked(mark),
-    }
-}
-
-/// The answer of a wave whose store refuses a node.
-fn wave_fault(fault: StoreFault) -> WaveFault
-    ensures { result ≡ wave_fault_of fault }
-{
-    match fault {
-        StoreFault::Full => WaveFault::Full,
-        StoreFault::OutOfMemory => WaveFault::OutOfMemory,
     }
 }
 
@@ -65,7 +54,7 @@ fn reduce_level(
         let high = resolve(answers, pair.1);
         let answer = match store.make(level, low, high) {
             Ok(answer) => answer,
-            Err(fault) => return Err(wave_fault(fault)),
+            Err(fault) => return Err(WaveFault::from(fault)),
         };
         if own.push(answer).is_err() {
             return Err(WaveFault::OutOfMemory);
@@ -74,14 +63,15 @@ fn reduce_level(
     Ok(())
 }
 
-/// Adds the answers of the levels before `from` that have requests, and sees after each that the store is within its limit.
+/// Adds the answers of the levels before `from` that have requests, and sees after each that the store is within its limit. It answers how
+/// many it has added.
 pub(crate) fn reduce(
     store: &mut Store,
     entries: &[(Op, Ref, Ref)],
     down: &Down,
     answers: &mut Vec<Answers>,
     from: u16,
-) -> Result<(), WaveFault>
+) -> Result<u64, WaveFault>
     requires held { IsSound store.old }
     requires operands { All (IsEntry store.old) entries.now }
     requires bound { from ≤ store.old.levels }
@@ -98,10 +88,12 @@ pub(crate) fn reduce(
     let _ = entries.len();
     let alloc = *answers.allocator();
     let mut end = from;
+    let mut added: u64 = 0;
     while let Some(level) = down.requests.last_level(end) {
         // the level's own list is taken out, since the lists below it are read meanwhile
         let mut own = mem::replace(&mut answers[level as usize], Answers::new(alloc));
         let pairs = down.rows[level as usize].pairs();
+        let before = own.put();
         match reduce_level(
             store,
             &down.requests,
@@ -113,11 +105,12 @@ pub(crate) fn reduce(
             Ok(()) => {}
             Err(fault) => return Err(first_fault(store, fault)),
         }
+        added = added.wrapping_add(own.put().wrapping_sub(before));
         answers[level as usize] = own;
         if store.count() > store.limit() {
             return Err(WaveFault::Full);
         }
         end = level;
     }
-    Ok(())
+    Ok(added)
 }

@@ -1,7 +1,7 @@
 //! Waves: the diagrams of a list of operations (Ochi, Yasuoka and Yajima 1993).
 ghost use Rattle.std.specs.Prelude.{◌≡◌, ◌≢◌, ◌<◌, ◌≤◌, ◌-◌, ◌^◌, Err, All, IfOk, IfErr, OnOk, OnErr};
 ghost use Rattle.dd_store.specs.Nodes.{IsSound, count_of};
-ghost use Rattle.req_table.specs.Memos.{IsRight};
+ghost use Rattle.req_table.specs.ComputedTables.{IsRight};
 ghost use Rattle.reduce_up.specs.Known.{unknown, IsKeptWave};
 ghost use Rattle.reduce_up.specs.Waves.{IsEntry, AnswersWave};
 ghost use Rattle.expand_work.specs.Bounds.{most_of};
@@ -9,29 +9,29 @@ ghost use Rattle.wave_engine.specs.Bounds.{AreAtMost, ArePast};
 
 use crate::engine::Runner;
 use dd_store::{Ref, Store};
-use expand_work::{Crew, Gate, WaveFault};
-use req_table::{Memo, Op};
+use expand_work::{Crew, Monitor, WaveFault};
+use req_table::{ComputedTable, Op};
 use std::sync::Wait;
 use std::thread::Threads;
 
-/// The diagram of each operation on its two operands, as an engine does it with a memo of its own: what has a short answer or is
-/// held in the memo is answered at once, and the memo then keeps the other entries with their answers.
-pub fn wave<R: Threads + Wait + Sync, G: Gate>(
+/// The diagram of each operation on its two operands, as an engine does it with a computed table of its own: what has a terminal case or is
+/// held in the computed table is answered at once, and the computed table then keeps the other entries with their answers.
+pub fn wave<R: Threads + Wait + Sync, G: Monitor>(
     crew: &Crew<'_, R, G>,
     store: &mut Store,
-    memo: &mut Memo,
+    computed: &mut ComputedTable,
     entries: &[(Op, Ref, Ref)],
 ) -> Result<Vec<Ref>, WaveFault>
     requires operands { All (IsEntry store.old) entries.now }
-    requires right { IsRight store.old memo.old }
-    ensures wave { AnswersWave store.old entries.now (unknown memo.old entries.now) result store.new }
-    ensures past { result ≡ Err WaveFault.TooManyRequests → ArePast (G.bound crew.now.gate.now) store.old (unknown memo.old entries.now) }
-    ensures within_bound { most_of (G.bound crew.now.gate.now) < 2 ^ 64 - 1 → OnOk result (AreAtMost (most_of (G.bound crew.now.gate.now)) store.old (unknown memo.old entries.now)) }
-    ensures alone { most_of (G.bound crew.now.gate.now) < 2 ^ 64 - 1 → result ≢ Err WaveFault.NoWorker }
+    requires right { IsRight store.old computed.old }
+    ensures wave { AnswersWave store.old entries.now (unknown computed.old entries.now) result store.new }
+    ensures past { result ≡ Err WaveFault.TooManyRequests → ArePast (G.bound crew.now.monitor.now) store.old (unknown computed.old entries.now) }
+    ensures within_bound { most_of (G.bound crew.now.monitor.now) < 2 ^ 64 - 1 → OnOk result (AreAtMost (most_of (G.bound crew.now.monitor.now)) store.old (unknown computed.old entries.now)) }
+    ensures alone { most_of (G.bound crew.now.monitor.now) < 2 ^ 64 - 1 → result ≢ Err WaveFault.NoWorker }
     ensures memory { count_of store.old ≤ store.old.limit → result ≡ Err WaveFault.OutOfMemory → count_of store.new ≤ store.new.limit }
-    ensures kept { IfOk result (λ answers. IsKeptWave memo.old entries.now answers.items memo.new) }
-    ensures refused { OnErr result (memo.new ≡ memo.old) }
-    ensures right { IsRight store.new memo.new }
+    ensures kept { IfOk result (λ answers. IsKeptWave computed.old entries.now answers.items computed.new) }
+    ensures refused { OnErr result (computed.new ≡ computed.old) }
+    ensures right { IsRight store.new computed.new }
 {
-    Runner::new(crew).wave(store, memo, entries)
+    Runner::new(crew).wave(store, computed, entries)
 }

@@ -1,4 +1,4 @@
-//! Waves without a memo, and the memory that lasts from wave to wave.
+//! Waves without a computed table, and the memory that lasts from wave to wave.
 ghost use Rattle.std.specs.Prelude.{◌≡◌, ◌≢◌, ◌<◌, ◌≤◌, ◌+◌, ◌-◌, ◌%◌, ◌^◌, ℕ, length, Err, All, IfOk, IfErr, OnOk};
 ghost use Rattle.std.specs.List.{AllZip};
 ghost use Rattle.dd_store.specs.declared.reference.Ref.{Ref as RefValue};
@@ -17,7 +17,7 @@ use crate::requests::Requests;
 use crate::sizes::Sizes;
 use crate::up::{reduce, resolve};
 use dd_store::{Ref, Store};
-use expand_work::{Crew, Gate, Splits, WaveFault};
+use expand_work::{Crew, Monitor, Splits, WaveFault};
 use reduce_up::Rooms;
 use req_table::{Op, Placed};
 use std::alloc::{AllocError, Global};
@@ -120,12 +120,13 @@ pub(crate) struct Workspace<'a, R, G> {
     pub(crate) rooms: Rooms,
     /// How large the waves before were, of those that came to be reduced.
     sizes: Sizes,
+    reduced: u64,
 }
 
-impl<'a, R: Threads + Wait + Sync, G: Gate> Workspace<'a, R, G> {
+impl<'a, R: Threads + Wait + Sync, G: Monitor> Workspace<'a, R, G> {
     /// A workspace that has done no wave. It takes no memory yet.
     pub(crate) fn new(crew: &'a Crew<'a, R, G>) -> Self
-        ensures gate { result.crew.now.gate.now ≡ crew.entry.now.gate.now }
+        ensures monitor { result.crew.now.monitor.now ≡ crew.entry.now.monitor.now }
     {
         let alloc = crew.alloc;
         Workspace {
@@ -139,6 +140,7 @@ impl<'a, R: Threads + Wait + Sync, G: Gate> Workspace<'a, R, G> {
             answers: Vec::new(alloc),
             rooms: Rooms::new(alloc),
             sizes: Sizes::new(),
+            reduced: 0,
         }
     }
 
@@ -156,12 +158,17 @@ impl<'a, R: Threads + Wait + Sync, G: Gate> Workspace<'a, R, G> {
             .wrapping_add(self.down.splits.count() as u64)
     }
 
+    /// How many requests the caller's thread has reduced in all its waves, modulo 2^64.
+    pub(crate) fn reduced(&self) -> u64 {
+        self.reduced
+    }
+
     /// The diagram of each operation on its two operands.
     ///
     /// The requests of all operations together are expanded on the caller's thread, down to the first level that has more of them
-    /// than the gate lets the caller have; from there on they are the workers', in threads. They are reduced from the last level
-    /// up. NoWorker is answered where a worker's thread could not be started; entries that all have short answers start none.
-    /// TooManyRequests is answered where the requests are more than the gate allows; none of them are reduced then.
+    /// than the monitor lets the caller have; from there on they are the workers', in threads. They are reduced from the last level
+    /// up. NoWorker is answered where a worker's thread could not be started; entries that all have terminal cases start none.
+    /// TooManyRequests is answered where the requests are more than the monitor allows; none of them are reduced then.
     pub(crate) fn wave(
         &mut self,
         store: &mut Store,
@@ -169,18 +176,18 @@ impl<'a, R: Threads + Wait + Sync, G: Gate> Workspace<'a, R, G> {
     ) -> Result<Vec<Ref>, WaveFault>
         requires operands { All (IsEntry store.old) entries.now }
         ensures wave { AnswersWave store.old entries.now entries.now result store.new }
-        ensures past { result ≡ Err WaveFault.TooManyRequests → ArePast (G.bound self.old.crew.now.gate.now) store.old entries.now }
-        ensures within_bound { most_of (G.bound self.old.crew.now.gate.now) < 2 ^ 64 - 1 → OnOk result (AreAtMost (most_of (G.bound self.old.crew.now.gate.now)) store.old entries.now) }
-        ensures alone { most_of (G.bound self.old.crew.now.gate.now) < 2 ^ 64 - 1 → result ≢ Err WaveFault.NoWorker }
+        ensures past { result ≡ Err WaveFault.TooManyRequests → ArePast (G.bound self.old.crew.now.monitor.now) store.old entries.now }
+        ensures within_bound { most_of (G.bound self.old.crew.now.monitor.now) < 2 ^ 64 - 1 → OnOk result (AreAtMost (most_of (G.bound self.old.crew.now.monitor.now)) store.old entries.now) }
+        ensures alone { most_of (G.bound self.old.crew.now.monitor.now) < 2 ^ 64 - 1 → result ≢ Err WaveFault.NoWorker }
         ensures expanded { OnOk result (HaveExpanded store.old 1 (requests_of entries.now) (self.old.down.splits + self.old.rooms) (self.new.down.splits + self.new.rooms)) }
         ensures memory { count_of store.old ≤ store.old.limit → result ≡ Err WaveFault.OutOfMemory → count_of store.new ≤ store.new.limit }
-        ensures gate { self.new.crew.now.gate ≡ self.old.crew.now.gate }
+        ensures monitor { self.new.crew.now.monitor ≡ self.old.crew.now.monitor }
     {
         let levels = store.levels();
         let alloc = self.crew.alloc;
         let limits = Limits {
             level: self.crew.most_alone(self.sizes.expected_over(levels)),
-            wave: self.crew.gate.most_requests(),
+            wave: self.crew.monitor.most_requests(),
         };
         let before = self.down.splits.count();
         let from = go_down(
@@ -192,7 +199,7 @@ impl<'a, R: Threads + Wait + Sync, G: Gate> Workspace<'a, R, G> {
             limits,
         )?;
         let alone = self.down.splits.count().wrapping_sub(before);
-        self.crew.gate.at_requests(alone);
+        self.crew.monitor.at_requests(alone);
         let frontier = Frontier {
             requests: &self.down.requests,
             from,
@@ -206,7 +213,8 @@ impl<'a, R: Threads + Wait + Sync, G: Gate> Workspace<'a, R, G> {
             &mut self.answers,
         )?;
         self.sizes = self.sizes.then(alone.saturating_add(shared));
-        reduce(store, entries, &self.down, &mut self.answers, from)?;
+        let reduced = reduce(store, entries, &self.down, &mut self.answers, from)?;
+        self.reduced = self.reduced.wrapping_add(reduced);
         match root_answers(alloc, self.down.roots.as_slice(), self.answers.as_slice()) {
             Ok(answers) => Ok(answers),
             Err(_) => Err(WaveFault::OutOfMemory),

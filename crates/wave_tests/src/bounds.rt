@@ -1,17 +1,18 @@
 //! Waves whose requests are bounded.
-ghost use Rattle.std.specs.Prelude.{Option, Some, ℕ, ◌<◌, ◌≤◌};
+ghost use Rattle.std.specs.Prelude.{Option, Some, ℕ, ◌<◌, ◌≤◌, All};
+ghost use Rattle.reduce_up.specs.Waves.{IsEntry};
 
 use crate::waves::{Way, crew_of, entries_of, run, start};
-use dd_store::{Store, Watch};
-use expand_work::{Gate, WaveFault};
-use req_table::{Memo, Op};
+use dd_store::{Ref, Store, Watch};
+use expand_work::{Free, Monitor, WaveFault};
+use req_table::{ComputedTable, Op};
 use std::alloc::Global;
 use std::process::Abort;
 use std::sync::Wait;
 use std::sync::atomic::{AtomicUsize, Ordering};
 use std::test::Fail;
 use std::thread::Threads;
-use wave_engine::wave;
+use wave_engine::{Engine, wave};
 
 /// Bounds a wave by so many requests, lets the caller's thread have so many of a level, and counts those that it is told of, and how
 /// often a worker comes to a level.
@@ -27,7 +28,7 @@ impl Watch for Bound {
     fn at_shard(&self, _shard: u8, _level: u16) {}
 }
 
-impl Gate for Bound {
+impl Monitor for Bound {
     ghost bound = { λ b. Some b.most };
 
     fn at_level(&self, _worker: u32, _level: u16) {
@@ -57,8 +58,24 @@ struct Seen {
     added: u64,
 }
 
-/// And of two sums of two variables each, which has one request at the first level, two at the second and four at the third: by so many
-/// workers, who are called in at a level of more requests than the caller's thread may have.
+/// The entry for And of two sums of two variables each, which has one request at the first level, two at the second and four at the third,
+/// in a store that gets the sums.
+fn product_of_sums<R: Threads + Wait + Abort + Sync>(
+    rt: &R,
+    alloc: Global,
+    store: &mut Store,
+) -> Vec<(Op, Ref, Ref)>
+    ensures { All (IsEntry store.new) result.items }
+{
+    let mut known = start(rt, alloc, store);
+    let sums = [(Op::Xor, 2, 4), (Op::Xor, 3, 5)];
+    let made = run(rt, alloc, store, &mut known, &sums, 1, Way::Threads);
+    assert!(rt; made.is_ok());
+    let steps = [(Op::And, 6, 7)];
+    entries_of(rt, alloc, store, known.as_slice(), &steps)
+}
+
+/// That wave by so many workers, who are called in at a level of more requests than the caller's thread may have.
 fn within<R: Threads + Wait + Abort + Sync>(
     rt: &R,
     alloc: Global,
@@ -69,27 +86,22 @@ fn within<R: Threads + Wait + Abort + Sync>(
     requires workers { (0 < workers) × (workers ≤ 16) }
 {
     let mut store = Store::new(alloc, 4, 100)?;
-    let mut known = start(rt, alloc, &mut store);
-    let sums = [(Op::Xor, 2, 4), (Op::Xor, 3, 5)];
-    let made = run(rt, alloc, &mut store, &mut known, &sums, 1, Way::Threads);
-    assert!(rt; made.is_ok());
-    let steps = [(Op::And, 6, 7)];
-    let entries = entries_of(rt, alloc, &store, known.as_slice(), &steps);
-    let gate = Bound {
+    let entries = product_of_sums(rt, alloc, &mut store);
+    let monitor = Bound {
         most,
         alone,
         told: AtomicUsize::new(0),
         workers: AtomicUsize::new(0),
     };
     let before = store.count();
-    let mut memo = Memo::new(alloc, 1)?;
+    let mut computed = ComputedTable::new(alloc, 1)?;
     let entries = entries.as_slice();
-    let crew = crew_of(rt, alloc, workers, &gate);
-    let answers = wave(&crew, &mut store, &mut memo, entries);
+    let crew = crew_of(rt, alloc, workers, &monitor);
+    let answers = wave(&crew, &mut store, &mut computed, entries);
     Ok(Seen {
         fault: answers.err(),
-        told: gate.told.load(Ordering::SeqCst),
-        workers: gate.workers.load(Ordering::SeqCst),
+        told: monitor.told.load(Ordering::SeqCst),
+        workers: monitor.workers.load(Ordering::SeqCst),
         added: store.count().saturating_sub(before),
     })
 }
@@ -108,7 +120,7 @@ fn bound_of_a_wave(rt: HostRuntime) -> Result<(), Fail> {
     Ok(())
 }
 
-// Whoever expands them, the gate is told of each of seven requests once: workers from the first, the second or the third level that has
+// Whoever expands them, the monitor is told of each of seven requests once: workers from the first, the second or the third level that has
 // any, or the caller's thread alone. One worker is called in for the whole wave or never.
 #[test]
 fn each_request_is_told_once(rt: HostRuntime) -> Result<(), Fail> {
@@ -121,5 +133,17 @@ fn each_request_is_told_once(rt: HostRuntime) -> Result<(), Fail> {
             assert!(rt; (done.workers > 0) == called);
         }
     }
+    Ok(())
+}
+
+// Where no worker is called in, the caller's thread reduces each of seven requests once.
+#[test]
+fn each_request_is_reduced_once(rt: HostRuntime) -> Result<(), Fail> {
+    let mut store = Store::new(rt.alloc(), 4, 100)?;
+    let entries = product_of_sums(&rt, rt.alloc(), &mut store);
+    let crew = crew_of(&rt, rt.alloc(), 4, &Free);
+    let mut engine = Engine::new(&crew)?;
+    assert!(rt; engine.wave(&mut store, entries.as_slice()).is_ok());
+    assert!(rt; engine.expanded() == 7 && engine.reduced() == 7);
     Ok(())
 }

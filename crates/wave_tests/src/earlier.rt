@@ -5,7 +5,7 @@ use crate::waves::{crew_of, start};
 use crate::wide::{pairs, products, sums};
 use crate::widths::run_engine;
 use dd_store::{Store, Watch};
-use expand_work::{Free, Gate};
+use expand_work::{Free, Monitor};
 use req_table::Op;
 use std::alloc::Global;
 use std::process::Abort;
@@ -25,7 +25,7 @@ impl Watch for Heard {
     fn at_shard(&self, _shard: u8, _level: u16) {}
 }
 
-impl Gate for Heard {
+impl Monitor for Heard {
     fn at_level(&self, _worker: u32, _level: u16) {
         self.called.store(true, Ordering::SeqCst);
     }
@@ -70,10 +70,10 @@ fn call_in<R: Threads + Wait + Abort + Sync>(
 ) -> Result<(), Fail>
     requires workers { (0 < workers) × (workers ≤ 16) }
 {
-    let gate = Heard {
+    let monitor = Heard {
         called: AtomicBool::new(false),
     };
-    let crew = crew_of(rt, alloc, workers, &gate);
+    let crew = crew_of(rt, alloc, workers, &monitor);
     let mut engine = Engine::new(&crew)?;
     let mut store = Store::new(alloc, 66, 1_000_000)?;
     let mut known = start(rt, alloc, &mut store);
@@ -84,11 +84,11 @@ fn call_in<R: Threads + Wait + Abort + Sync>(
     let made = run_engine(rt, &mut engine, &mut store, &mut known, terms.as_slice());
     assert!(rt; made.is_ok());
     for (behind, count, called) in waves {
-        gate.called.store(false, Ordering::SeqCst);
+        monitor.called.store(false, Ordering::SeqCst);
         let steps = pairs(rt, alloc, Op::Xor, SUMS + *behind as usize, *count);
         let made = run_engine(rt, &mut engine, &mut store, &mut known, steps.as_slice());
         assert!(rt; made.is_ok());
-        let heard = gate.called.load(Ordering::SeqCst);
+        let heard = monitor.called.load(Ordering::SeqCst);
         assert!(rt; heard == *called, "{behind} {count}");
     }
     Ok(())

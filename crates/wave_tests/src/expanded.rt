@@ -7,10 +7,10 @@ use crate::meeting::{Meeting, TURNS, wait_for};
 use crate::requests::{REACHED, five_roots, request, store_of, store_of_six, variable};
 use crate::waves::crew_of;
 use dd_store::{Ref, Store, Watch};
-use expand_work::{Free, Gate};
+use expand_work::{Free, Monitor};
 use lane_queue::Port;
 use req_table::requests::owner;
-use req_table::{Child, Key, Memo, Op, Record};
+use req_table::{Child, Key, ComputedTable, Op, Record};
 use std::alloc::Global;
 use std::process::Abort;
 use std::sync::atomic::{AtomicBool, Ordering};
@@ -100,7 +100,7 @@ impl Watch for AtFirst {
     fn at_shard(&self, _shard: u8, _level: u16) {}
 }
 
-impl Gate for AtFirst {
+impl Monitor for AtFirst {
     fn at_level(&self, _worker: u32, level: u16) {
         if level == 0 {
             self.0.come();
@@ -131,9 +131,9 @@ fn two_at_a_level(rt: HostRuntime) -> Result<(), Fail> {
     let roots = two_roots(&rt, &store);
     let [first, last] = roots;
     assert!(rt; owner(first, 2) == 0 && owner(last, 2) == 1);
-    let gate = AtFirst(Meeting::of(2));
-    let expanded = expand_all(&rt, rt.alloc(), &store, &roots, 2, &gate)?;
-    assert!(rt; gate.0.met() && put_by(expanded.ports()) == 16);
+    let monitor = AtFirst(Meeting::of(2));
+    let expanded = expand_all(&rt, rt.alloc(), &store, &roots, 2, &monitor)?;
+    assert!(rt; monitor.0.met() && put_by(expanded.ports()) == 16);
     let records = expanded.records();
     let c = variable(&rt, &store, 2);
     let d = variable(&rt, &store, 3);
@@ -147,11 +147,11 @@ fn two_at_a_level(rt: HostRuntime) -> Result<(), Fail> {
 fn two_at_a_level_of_a_wave(rt: HostRuntime) -> Result<(), Fail> {
     let mut store = store_of(&rt, rt.alloc(), 4);
     let entries = two_entries(&rt, &store);
-    let gate = AtFirst(Meeting::of(2));
-    let mut memo = Memo::new(rt.alloc(), 2)?;
-    let crew = crew_of(&rt, rt.alloc(), 2, &gate);
-    let answers = wave(&crew, &mut store, &mut memo, &entries)?;
-    assert!(rt; gate.0.met());
+    let monitor = AtFirst(Meeting::of(2));
+    let mut computed = ComputedTable::new(rt.alloc(), 2)?;
+    let crew = crew_of(&rt, rt.alloc(), 2, &monitor);
+    let answers = wave(&crew, &mut store, &mut computed, &entries)?;
+    assert!(rt; monitor.0.met());
     let first = store.find(0, Ref::FALSE, entries[0].2);
     let last = store.find(2, Ref::FALSE, entries[1].2);
     assert!(rt; first.is_some() && first == answers.first().copied());
@@ -172,7 +172,7 @@ impl Watch for Holder {
     fn at_shard(&self, _shard: u8, _level: u16) {}
 }
 
-impl Gate for Holder {
+impl Monitor for Holder {
     fn at_level(&self, worker: u32, level: u16) {
         if level > 0 {
             self.further.store(true, Ordering::SeqCst);
@@ -196,16 +196,16 @@ impl Gate for Holder {
 fn told_of_closed_levels(rt: HostRuntime) -> Result<(), Fail> {
     let store = store_of(&rt, rt.alloc(), 4);
     let roots = two_roots(&rt, &store);
-    let gate = Holder {
+    let monitor = Holder {
         other: AtomicBool::new(false),
         further: AtomicBool::new(false),
         held: AtomicBool::new(false),
         early: AtomicBool::new(false),
     };
-    let expanded = expand_all(&rt, rt.alloc(), &store, &roots, 2, &gate)?;
+    let expanded = expand_all(&rt, rt.alloc(), &store, &roots, 2, &monitor)?;
     assert!(rt; put_by(expanded.ports()) == 16);
-    assert!(rt; gate.held.load(Ordering::SeqCst) && gate.further.load(Ordering::SeqCst));
-    assert!(rt; !gate.early.load(Ordering::SeqCst));
+    assert!(rt; monitor.held.load(Ordering::SeqCst) && monitor.further.load(Ordering::SeqCst));
+    assert!(rt; !monitor.early.load(Ordering::SeqCst));
     Ok(())
 }
 

@@ -23,7 +23,7 @@ mod least;
 #[cfg(test)]
 mod meeting;
 #[cfg(test)]
-mod memos;
+mod computed_tables;
 #[cfg(test)]
 mod plans;
 #[cfg(test)]

@@ -6,7 +6,7 @@ ghost use Rattle.net_order.specs.Order.{first_level, second_level};
 
 use crate::waves::crew_of;
 use dd_store::{Ref, Store};
-use expand_work::{Free, Gate, WaveFault};
+use expand_work::{Free, Monitor, WaveFault};
 use gate_plan::{Built, Circuits, Plan, build};
 use net_bench::netlist::Signal;
 use net_bench::reader::{Netlist, parse_bench};
@@ -92,7 +92,7 @@ fn plan_of_c17(rt: HostRuntime) -> Result<(), Fail> {
 }
 
 /// Builds two netlists without a condition.
-pub(crate) fn built<'x, R: Threads + Wait + Sync, G: Gate>(
+pub(crate) fn built<'x, R: Threads + Wait + Sync, G: Monitor>(
     rt: &R,
     alloc: Global,
     store: &mut Store,
@@ -100,7 +100,7 @@ pub(crate) fn built<'x, R: Threads + Wait + Sync, G: Gate>(
     second: &'x Netlist,
     pairing: &'x Pairing,
     workers: u32,
-    gate: &G,
+    monitor: &G,
 ) -> Result<Built, WaveFault>
     requires paired { IsPaired (circuit first.now) (circuit second.now) None pairing.now }
     requires levels { store.old.levels ≡ length pairing.now.names }
@@ -108,7 +108,7 @@ pub(crate) fn built<'x, R: Threads + Wait + Sync, G: Gate>(
     ensures first { IfOk result (λ b. AreDiagrams (circuit first.now) (first_level pairing.now) store.new b.first) }
     ensures second { IfOk result (λ b. AreDiagrams (circuit second.now) (second_level pairing.now) store.new b.second) }
 {
-    let crew = crew_of(rt, alloc, workers, gate);
+    let crew = crew_of(rt, alloc, workers, monitor);
     let circuits = Circuits {
         first,
         second,

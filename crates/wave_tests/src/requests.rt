@@ -1,12 +1,12 @@
-//! Requests and their owners, the table of admitted keys, and a memo.
+//! Requests and their owners, the table of admitted keys, and a computed table.
 ghost use Rattle.std.specs.Prelude.{◌≡◌, ◌≤◌, ◌<◌, All};
 ghost use Rattle.dd_store.specs.View.{Has};
 ghost use Rattle.req_table.specs.Keys.{IsKey};
 ghost use Rattle.req_table.specs.Sizes.{sizes_of, IsKeyOf};
 
 use dd_store::{Ref, Store};
-use req_table::requests::{level_of, normal, owner, short};
-use req_table::{Key, Memo, Op, Table};
+use req_table::requests::{level_of, normal, owner, terminal_case};
+use req_table::{Key, ComputedTable, Op, Table};
 use std::alloc::Global;
 use std::process::Abort;
 use std::test::Fail;
@@ -33,14 +33,14 @@ pub fn variable(rt: &impl Abort, store: &Store, level: u16) -> Ref
         .expect(rt, "no such variable")
 }
 
-/// The request for an operation on two references, which has no short answer.
+/// The request for an operation on two references, which has no terminal case.
 pub fn request_for(rt: &impl Abort, store: &Store, op: Op, f: Ref, g: Ref) -> Key
     requires first { Has store.now f }
     requires second { Has store.now g }
     ensures key { IsKey store.now result }
     ensures sized { IsKeyOf (sizes_of store.now) result }
 {
-    assert!(rt; short(op, f, g).is_none());
+    assert!(rt; terminal_case(op, f, g).is_none());
     normal(op, f, g).0
 }
 
@@ -129,7 +129,7 @@ pub const REACHED: [usize; 4] = [3, 1, 1, 0];
 fn short_nand(rt: HostRuntime) {
     let store = store_of(&rt, rt.alloc(), 1);
     let a = variable(&rt, &store, 0);
-    assert!(rt; short(Op::Nand, a, a) == Some(a.negate()));
+    assert!(rt; terminal_case(Op::Nand, a, a) == Some(a.negate()));
 }
 
 /// Sees who owns the conjunction of two variables, whichever stands first.
@@ -177,10 +177,10 @@ fn memo_of_one(rt: HostRuntime) -> Result<(), Fail> {
     let store = store_of(&rt, rt.alloc(), 2);
     let both = request(&rt, &store, Op::And, 0, 1);
     let neither = request(&rt, &store, Op::Nor, 0, 1);
-    let mut memo = Memo::new(rt.alloc(), 1)?;
-    memo.keep(both, Ref::FALSE);
-    assert!(rt; memo.peek(&both) == Some(Ref::FALSE));
-    memo.keep(neither, Ref::TRUE);
-    assert!(rt; memo.peek(&both).is_none() && memo.peek(&neither) == Some(Ref::TRUE));
+    let mut computed = ComputedTable::new(rt.alloc(), 1)?;
+    computed.keep(both, Ref::FALSE);
+    assert!(rt; computed.peek(&both) == Some(Ref::FALSE));
+    computed.keep(neither, Ref::TRUE);
+    assert!(rt; computed.peek(&both).is_none() && computed.peek(&neither) == Some(Ref::TRUE));
     Ok(())
 }

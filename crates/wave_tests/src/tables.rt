@@ -1,5 +1,5 @@
 //! Items found by slots, and the number that spreads two words.
-use slot_table::{Placed, Refusal, SlotTable, mix};
+use slot_table::{Admission, Refusal, SlotTable, mix};
 use std::test::Fail;
 
 #[test]
@@ -8,7 +8,7 @@ fn doubled_many_times(rt: HostRuntime) -> Result<(), Fail> {
     for place in 0..3000 {
         assert!(rt; table.len() == place as usize);
         let added = table.find_or_add(place as u64 * 40503, 1);
-        assert!(rt; added == Ok(Placed::Added(place)));
+        assert!(rt; added == Ok(Admission::Added(place)));
     }
     assert!(rt; table.len() == 3000 && table.slots() == 8192);
     for place in 0..3000 {

@@ -8,10 +8,10 @@ ghost use Rattle.reduce_up.specs.Reducing.{HasAnswer};
 ghost use Rattle.reduce_up.specs.Waves.{IsEntry, IsClosureOf};
 
 use dd_store::{Ref, Store, Watch};
-use expand_work::{Crew, Free, Gate, WaveFault, Workers};
+use expand_work::{Crew, Free, Monitor, WaveFault, Workers};
 use gate_plan::conjoin;
-use req_table::requests::{normal, short};
-use req_table::{Key, Memo, Op};
+use req_table::requests::{normal, terminal_case};
+use req_table::{Key, ComputedTable, Op};
 use std::alloc::Global;
 use std::process::Abort;
 use std::sync::Wait;
@@ -66,7 +66,7 @@ impl Watch for Narrow {
     fn at_shard(&self, _shard: u8, _level: u16) {}
 }
 
-impl Gate for Narrow {
+impl Monitor for Narrow {
     fn at_level(&self, _worker: u32, _level: u16) {
         self.told.fetch_add(1, Ordering::SeqCst);
     }
@@ -137,12 +137,12 @@ pub(crate) fn entries_of<R: Abort>(
     entries
 }
 
-/// Who does a wave: so many workers at most, watched by a gate.
+/// Who does a wave: so many workers at most, watched by a monitor.
 pub(crate) fn crew_of<'a, R, G>(
     rt: &'a R,
     alloc: Global,
     workers: u32,
-    gate: &'a G,
+    monitor: &'a G,
 ) -> Crew<'a, R, G>
     requires { (0 < workers) × (workers ≤ 16) }
 {
@@ -150,7 +150,7 @@ pub(crate) fn crew_of<'a, R, G>(
         rt,
         alloc,
         workers: Workers::new(workers),
-        gate,
+        monitor,
     }
 }
 
@@ -168,20 +168,20 @@ fn answers_of<R: Threads + Wait + Sync>(
     ensures keeps { Keeps store.old store.new }
     ensures known { IfOk result (λ answers. All (Has store.new) answers.items) }
 {
-    let mut memo = Memo::new(alloc, 8)?;
+    let mut computed = ComputedTable::new(alloc, 8)?;
     match way {
         Way::Alone(choices) => {
             let crew = crew_of(rt, alloc, workers, &Free);
-            wave_one(&crew, store, &mut memo, entries, choices)
+            wave_one(&crew, store, &mut computed, entries, choices)
         }
         Way::Threads => {
             let crew = crew_of(rt, alloc, workers, &Free);
-            wave(&crew, store, &mut memo, entries)
+            wave(&crew, store, &mut computed, entries)
         }
         Way::Upto(most) => {
-            let gate = Narrow::new(most);
-            let crew = crew_of(rt, alloc, workers, &gate);
-            wave(&crew, store, &mut memo, entries)
+            let monitor = Narrow::new(most);
+            let crew = crew_of(rt, alloc, workers, &monitor);
+            wave(&crew, store, &mut computed, entries)
         }
     }
 }
@@ -209,7 +209,7 @@ pub(crate) fn run<R: Abort + Threads + Wait + Sync>(
     Ok(())
 }
 
-/// The request of a step, which has no short answer.
+/// The request of a step, which has no terminal case.
 pub(crate) fn request<R: Abort>(rt: &R, store: &Store, known: &[Ref], step: Step) -> Key
     requires { All (Has store.now) known.now }
     ensures { IsKey store.now result }
@@ -217,7 +217,7 @@ pub(crate) fn request<R: Abort>(rt: &R, store: &Store, known: &[Ref], step: Step
     let (op, first, second) = step;
     let f = known_at(rt, store, known, first);
     let g = known_at(rt, store, known, second);
-    assert!(rt; short(op, f, g).is_none());
+    assert!(rt; terminal_case(op, f, g).is_none());
     normal(op, f, g).0
 }
 
@@ -261,7 +261,7 @@ pub(crate) fn node<R: Abort>(rt: &R, store: &Store, level: u16, low: Ref, high: 
     store.find(level, low, high).expect(rt, "no such node")
 }
 
-// Two entries that ask for one request, and two that have a short answer.
+// Two entries that ask for one request, and two that have a terminal case.
 #[test]
 fn wave_entries(rt: HostRuntime) -> Result<(), Fail> {
     let steps = [

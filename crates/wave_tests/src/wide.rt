@@ -5,8 +5,8 @@ ghost use Rattle.reduce_up.specs.Waves.{IsEntry};
 use crate::meeting::Meeting;
 use crate::waves::{Narrow, Step, Way, crew_of, entries_of, run, start};
 use dd_store::{Ref, Store, Watch};
-use expand_work::{Gate, WaveFault};
-use req_table::{Memo, Op};
+use expand_work::{Monitor, WaveFault};
+use req_table::{ComputedTable, Op};
 use std::alloc::Global;
 use std::process::Abort;
 use std::sync::Wait;
@@ -143,20 +143,20 @@ fn combined<R: Threads + Wait + Abort + Sync>(
 }
 
 /// A wave of these entries by so many workers, of which nothing is known before.
-fn summed<R: Threads + Wait + Sync, G: Gate>(
+fn summed<R: Threads + Wait + Sync, G: Monitor>(
     rt: &R,
     alloc: Global,
     store: &mut Store,
     entries: &[(Op, Ref, Ref)],
     workers: u32,
-    gate: &G,
+    monitor: &G,
 ) -> Result<(), WaveFault>
     requires entries { All (IsEntry store.old) entries.now }
     requires workers { (0 < workers) × (workers ≤ 16) }
 {
-    let mut memo = Memo::new(alloc, 1)?;
-    let crew = crew_of(rt, alloc, workers, gate);
-    wave(&crew, store, &mut memo, entries)?;
+    let mut computed = ComputedTable::new(alloc, 1)?;
+    let crew = crew_of(rt, alloc, workers, monitor);
+    wave(&crew, store, &mut computed, entries)?;
     Ok(())
 }
 
@@ -177,7 +177,7 @@ impl Watch for Shards {
     }
 }
 
-impl Gate for Shards {
+impl Monitor for Shards {
     fn at_level(&self, _worker: u32, _level: u16) {}
 
     fn most_requests(&self) -> usize {
@@ -196,14 +196,14 @@ fn told_shards<R: Threads + Wait + Abort + Sync>(
 {
     let mut store = Store::new(alloc, MANY, 20_000)?;
     let entries = combined(rt, alloc, &mut store, records);
-    let gate = Shards {
+    let monitor = Shards {
         counts: AtomicU64::new(0),
         elsewhere: AtomicBool::new(false),
     };
-    summed(rt, alloc, &mut store, entries.as_slice(), workers, &gate)?;
+    summed(rt, alloc, &mut store, entries.as_slice(), workers, &monitor)?;
     Ok((
-        gate.counts.load(Ordering::SeqCst),
-        gate.elsewhere.load(Ordering::SeqCst),
+        monitor.counts.load(Ordering::SeqCst),
+        monitor.elsewhere.load(Ordering::SeqCst),
     ))
 }
 
@@ -226,8 +226,8 @@ fn refused_when_a_shared_level_is_done(rt: HostRuntime) -> Result<(), Fail> {
     let mut store = Store::new(rt.alloc(), MANY, 16_800)?;
     let entries = combined(&rt, rt.alloc(), &mut store, 8_325);
     assert!(rt; store.count() == 151);
-    let gate = Narrow::new(0);
-    let refused = summed(&rt, rt.alloc(), &mut store, entries.as_slice(), 3, &gate);
+    let monitor = Narrow::new(0);
+    let refused = summed(&rt, rt.alloc(), &mut store, entries.as_slice(), 3, &monitor);
     assert!(rt; refused == Err(WaveFault::Full));
     assert!(rt; store.count() == 16_801);
     Ok(())
@@ -263,7 +263,7 @@ impl Watch for AtShards {
     }
 }
 
-impl Gate for AtShards {
+impl Monitor for AtShards {
     fn at_level(&self, _worker: u32, _level: u16) {}
 
     fn most_requests(&self) -> usize {
@@ -277,17 +277,17 @@ fn workers_at_shards(rt: HostRuntime) -> Result<(), Fail> {
     for workers in [2, 4] {
         let mut store = Store::new(rt.alloc(), MANY, 20_000)?;
         let entries = combined(&rt, rt.alloc(), &mut store, 8_300);
-        let gate = AtShards::of(workers, workers as u64);
+        let monitor = AtShards::of(workers, workers as u64);
         summed(
             &rt,
             rt.alloc(),
             &mut store,
             entries.as_slice(),
             workers,
-            &gate,
+            &monitor,
         )?;
-        assert!(rt; gate.meeting.met());
-        assert!(rt; !gate.too_many.load(Ordering::SeqCst));
+        assert!(rt; monitor.meeting.met());
+        assert!(rt; !monitor.too_many.load(Ordering::SeqCst));
     }
     Ok(())
 }

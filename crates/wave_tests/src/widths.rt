@@ -1,12 +1,12 @@
 //! Waves that one engine does at every width, in stores that are large enough and in stores that are not.
 ghost use Rattle.std.specs.Prelude.{All, IfOk};
 ghost use Rattle.dd_store.specs.View.{Has, Keeps};
-ghost use Rattle.req_table.specs.Memos.{IsRight};
+ghost use Rattle.req_table.specs.ComputedTables.{IsRight};
 ghost use Rattle.reduce_up.specs.Waves.{IsEntry};
 
 use crate::waves::{Narrow, Step, Way, crew_of, entries_of, run, start};
 use dd_store::{Ref, Store};
-use expand_work::{Gate, WaveFault};
+use expand_work::{Monitor, WaveFault};
 use req_table::Op;
 use std::alloc::Global;
 use std::process::Abort;
@@ -55,7 +55,7 @@ fn random_steps<R: Abort>(rt: &R, alloc: Global, random: &mut Random, known: usi
 }
 
 /// The answers of a wave of the engine.
-fn answers_of<R: Threads + Wait + Sync, G: Gate>(
+fn answers_of<R: Threads + Wait + Sync, G: Monitor>(
     engine: &mut Engine<'_, R, G>,
     store: &mut Store,
     entries: &[(Op, Ref, Ref)],
@@ -70,7 +70,7 @@ fn answers_of<R: Threads + Wait + Sync, G: Gate>(
 }
 
 /// Runs a wave of steps by the engine, and adds its answers to the known references.
-pub(crate) fn run_engine<R: Abort + Threads + Wait + Sync, G: Gate>(
+pub(crate) fn run_engine<R: Abort + Threads + Wait + Sync, G: Monitor>(
     rt: &R,
     engine: &mut Engine<'_, R, G>,
     store: &mut Store,
@@ -133,18 +133,18 @@ fn waves_of<R: Abort + Threads + Wait + Sync>(
 fn at_each_width<R: Abort + Threads + Wait + Sync>(
     rt: &R,
     engine: &mut Engine<'_, R, Narrow>,
-    gate: &Narrow,
+    monitor: &Narrow,
     seed: u64,
 ) -> bool {
     let mut refused = false;
     for limit in [10_000, 40] {
-        gate.most.store(usize::MAX, Ordering::SeqCst);
-        let told = gate.told.load(Ordering::SeqCst);
+        monitor.most.store(usize::MAX, Ordering::SeqCst);
+        let told = monitor.told.load(Ordering::SeqCst);
         let wanted = waves_of(rt, engine, seed, limit);
         refused = refused || wanted.1;
-        assert!(rt; gate.told.load(Ordering::SeqCst) == told);
+        assert!(rt; monitor.told.load(Ordering::SeqCst) == told);
         for width in 0..6 {
-            gate.most.store(width, Ordering::SeqCst);
+            monitor.most.store(width, Ordering::SeqCst);
             assert!(rt; waves_of(rt, engine, seed, limit) == wanted);
         }
     }
@@ -155,14 +155,14 @@ fn at_each_width<R: Abort + Threads + Wait + Sync>(
 #[test]
 fn widths(rt: HostRuntime) -> Result<(), Fail> {
     for workers in [1, 2, 3] {
-        let gate = Narrow::new(0);
-        let crew = crew_of(&rt, rt.alloc(), workers, &gate);
+        let monitor = Narrow::new(0);
+        let crew = crew_of(&rt, rt.alloc(), workers, &monitor);
         let mut engine = Engine::new(&crew)?;
         let mut refused = false;
         for seed in 0..12 {
-            refused = at_each_width(&rt, &mut engine, &gate, seed) || refused;
+            refused = at_each_width(&rt, &mut engine, &monitor, seed) || refused;
         }
-        assert!(rt; refused && gate.told.load(Ordering::SeqCst) > 0);
+        assert!(rt; refused && monitor.told.load(Ordering::SeqCst) > 0);
     }
     Ok(())
 }

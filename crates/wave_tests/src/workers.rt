@@ -1,4 +1,4 @@
-//! One worker of a wave: its records, what it put, when it tells its gate, and where it stops.
+//! One worker of a wave: its records, what it put, when it tells its monitor, and where it stops.
 ghost use Rattle.std.specs.Prelude.{◌≡◌, ◌≤◌, ◌<◌, All, IfOk, length};
 ghost use Rattle.req_table.specs.Sizes.{sizes_of};
 ghost use Rattle.req_table.specs.Keys.{IsKey};
@@ -9,7 +9,7 @@ use crate::lanes::{end, open};
 use crate::meeting::{TURNS, wait_for};
 use crate::requests::{either, make_either, request, request_for, store_of, variable};
 use dd_store::{Ref, Store, Watch};
-use expand_work::{Free, Gate, Part, Site, Space, WorkFault, work};
+use expand_work::{Free, Monitor, Part, Site, Space, WorkFault, work};
 use lane_queue::{Lanes, Port};
 use req_table::{Key, Op, Placed, PlacedChild};
 use std::alloc::Global;
@@ -20,7 +20,7 @@ use std::test::Fail;
 use std::thread;
 use std::thread::Threads;
 
-/// A gate that sets the flag at one level, and remembers who told it what: of each call two digits, the worker's number
+/// A monitor that sets the flag at one level, and remembers who told it what: of each call two digits, the worker's number
 /// and one more than the level.
 #[derive(Drop)]
 struct Watcher<'a> {
@@ -33,7 +33,7 @@ impl<'a> Watch for Watcher<'a> {
     fn at_shard(&self, _shard: u8, _level: u16) {}
 }
 
-impl<'a> Gate for Watcher<'a> {
+impl<'a> Monitor for Watcher<'a> {
     fn at_level(&self, worker: u32, level: u16) {
         let seen = self.seen.load(Ordering::SeqCst);
         let call = worker as u64 * 10 + level as u64 + 1;
@@ -77,12 +77,12 @@ fn root_of(rt: &impl Abort, store: &Store) -> Key
 }
 
 /// Runs the worker of the first of so many ports alone, on one root.
-fn work_alone<R: Wait + Abort, G: Gate>(
+fn work_alone<R: Wait + Abort, G: Monitor>(
     rt: &R,
     alloc: Global,
     store: &Store,
     root: Key,
-    gate: &G,
+    monitor: &G,
     stop: &AtomicBool,
 ) -> Result<Part, WorkFault>
     requires { IsKey store.now root }
@@ -98,7 +98,7 @@ fn work_alone<R: Wait + Abort, G: Gate>(
         roots: &[root],
         stop,
     };
-    work(rt, site, port, None, gate)
+    work(rt, site, port, None, monitor)
 }
 
 /// Whether a level has this one request with these children.
@@ -144,7 +144,7 @@ fn one_worker_records_what_it_is_asked_for(rt: HostRuntime) -> Result<(), Fail> 
     Ok(())
 }
 
-/// Where the flag is set, what the gate is told, and whether the worker comes to its end.
+/// Where the flag is set, what the monitor is told, and whether the worker comes to its end.
 const STOPS: [(bool, u16, u64, bool); 5] = [
     (true, 9, 0, false),
     (false, 0, 1, false),
@@ -159,14 +159,14 @@ fn a_flag_is_read_where_a_level_begins(rt: HostRuntime) -> Result<(), Fail> {
     let root = root_of(&rt, &store);
     for (before, last, told, ends) in STOPS {
         let stop = AtomicBool::new(before);
-        let gate = Watcher {
+        let monitor = Watcher {
             seen: AtomicU64::new(0),
             stop: &stop,
             last,
         };
-        let fault = work_alone(&rt, rt.alloc(), &store, root, &gate, &stop).err();
+        let fault = work_alone(&rt, rt.alloc(), &store, root, &monitor, &stop).err();
         let want = if ends { None } else { Some(WorkFault::Stopped) };
-        assert!(rt; fault == want && gate.seen.load(Ordering::SeqCst) == told);
+        assert!(rt; fault == want && monitor.seen.load(Ordering::SeqCst) == told);
     }
     Ok(())
 }

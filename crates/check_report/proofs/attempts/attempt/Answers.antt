@@ -7,7 +7,7 @@ use Rattle.check_report.proofs.attempts.attempt.Goals as goal
 
 pub returns-in-Ok-cause_of-clause-ended : goal.returns-in-Ok-cause_of-clause-ended
 returns-in-Ok-cause_of-clause-ended g c =
-    given_up_for c.args.task.now c.args.budget (g.G.Gate.bound c.args.gate.now) c.in-Ok-cause_of.full c.args.trial.now.pairing
+    given_up_for c.args.task.now c.args.budget (g.G.Monitor.bound c.args.monitor.now) c.in-Ok-cause_of.full c.args.trial.now.pairing
     (λ e. c.in-Err.ensures.full (ap Err (c.in-Ok-cause_of.ensures.full e))) (λ e. c.in-Err.ensures.past (ap Err (c.in-Ok-cause_of.ensures.wide e)))
 
 pub returns-in-Err-cause_of-clause-fault : goal.returns-in-Err-cause_of-clause-fault

@@ -10,13 +10,13 @@ use Rattle.check_report.proofs.attempts.find_attempt.Goals as goal
 pub returns-in-Decided-clause-budget : goal.returns-in-Decided-clause-budget
 returns-in-Decided-clause-budget g c =
     let d : Decides c.args.task.now c.args.declared c.min-budget.result c.in-Decided.decided =
-    subst (IsRound c.args.task.now c.args.declared c.min-budget.result (g.G.Gate.bound c.args.gate.now) c.try_first.new.trials.items) c.in-Decided.is c.in_ok-decided.ensures.round in
+    subst (IsRound c.args.task.now c.args.declared c.min-budget.result (g.G.Monitor.bound c.args.monitor.now) c.try_first.new.trials.items) c.in-Decided.is c.in_ok-decided.ensures.round in
     first_is_one c.args.limit c.in-Decided.decided.budget (d.1 ∙ c.min-budget.ensures)
 
 pub returns-in-Decided-clause-passed : goal.returns-in-Decided-clause-passed
 returns-in-Decided-clause-passed g c =
     let task = c.args.task.now in
-    let bound = g.G.Gate.bound c.args.gate.now in
+    let bound = g.G.Monitor.bound c.args.monitor.now in
     let t = c.in-Decided.decided in
     let d : Decides task c.args.declared c.min-budget.result t =
     subst (IsRound task c.args.declared c.min-budget.result bound c.try_first.new.trials.items) c.in-Decided.is c.in_ok-decided.ensures.round in
@@ -27,7 +27,7 @@ returns-in-Decided-clause-passed g c =
 pub returns-in-GivenUp-clause-fault : goal.returns-in-GivenUp-clause-fault
 returns-in-GivenUp-clause-fault g c = λ told ga.
     let task = c.args.task.now in
-    let bound = g.G.Gate.bound c.args.gate.now in
+    let bound = g.G.Monitor.bound c.args.monitor.now in
     let r : ArePassed task c.min-budget.result bound c.in-GivenUp.full c.try_first.new.trials.items =
     subst (IsRound task c.args.declared c.min-budget.result bound c.try_first.new.trials.items) c.in-GivenUp.is c.in_ok-decided.ensures.round in
     (Interleave, given_up_fault task told ga (order_of Interleave) (r.each Interleave).pairing c.fault_of.result (r.each Interleave).paired c.fault_of.ensures.which)
@@ -35,7 +35,7 @@ returns-in-GivenUp-clause-fault g c = λ told ga.
 pub returns-in-GivenUp-clause-given_up : goal.returns-in-GivenUp-clause-given_up
 returns-in-GivenUp-clause-given_up g c = λ _.
     let task = c.args.task.now in
-    let bound = g.G.Gate.bound c.args.gate.now in
+    let bound = g.G.Monitor.bound c.args.monitor.now in
     let r : ArePassed task c.min-budget.result bound c.in-GivenUp.full c.try_first.new.trials.items =
     subst (IsRound task c.args.declared c.min-budget.result bound c.try_first.new.trials.items) c.in-GivenUp.is c.in_ok-decided.ensures.round in
     let few : c.args.limit ≤ 16384 = omega arith in

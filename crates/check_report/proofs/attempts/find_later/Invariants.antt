@@ -6,7 +6,7 @@ use Rattle.check_report.proofs.attempts.find_later.Given as goal
 abbrev pub invariant-loop-budget : goal.invariant-loop-budget
 invariant-loop-budget g l = record {
   trials : AreTrials l.task l.trials.items;
-  power : (k : ℕ) × (l.budget ≡ 16384 * 16 ^ k) × ((j : ℕ) → j < k → (c : Candidate) → IsPassed l.task (16384 * 16 ^ j) (g.G.Gate.bound l.gate) c);
+  power : (k : ℕ) × (l.budget ≡ 16384 * 16 ^ k) × ((j : ℕ) → j < k → (c : Candidate) → IsPassed l.task (16384 * 16 ^ j) (g.G.Monitor.bound l.monitor) c);
   more : 16384 < l.budget;
 }
 

@@ -13,7 +13,7 @@ loop-place-init g c = record {
 pub loop-place-preserved : goal.loop-place-preserved
 loop-place-preserved g c =
     let trials = c.loop-place.trials.items in
-    let bound = g.G.Gate.bound c.args.gate.now in
+    let bound = g.G.Monitor.bound c.args.monitor.now in
     let lt : c.loop-place.place < length trials = omega arith in
     let w : WasGivenUp c.args.task.now c.args.budget bound c.in-GivenUp.full c.index.result.now.pairing =
     subst (IsEnded c.args.task.now c.args.declared c.args.budget bound c.index.result.now) c.in-GivenUp.is c.in_ok-verdicts.ensures.ended in
@@ -25,5 +25,5 @@ loop-place-preserved g c =
 
 pub returns-clause-round : goal.returns-clause-round
 returns-clause-round g c =
-    whole_round c.args.task.now c.args.budget (g.G.Gate.bound c.args.gate.now) c.loop-place.all_full c.loop-place.trials.items c.loop-place.place (omega arith)
+    whole_round c.args.task.now c.args.budget (g.G.Monitor.bound c.args.monitor.now) c.loop-place.all_full c.loop-place.trials.items c.loop-place.place (omega arith)
     c.loop-place.invariant.trials c.loop-place.invariant.causes c.loop-place.invariant.nodes

@@ -6,6 +6,6 @@ use Rattle.check_report.proofs.attempts.try_again.Given as goal
 abbrev pub invariant-loop-place : goal.invariant-loop-place
 invariant-loop-place g l = record {
   trials : AreTrials l.task l.trials.items;
-  causes : All (λ (t : Trial). NeedsMore l.task l.budget t.pairing ⊎ AsksMore l.task l.budget (g.G.Gate.bound l.gate) t.pairing) (take l.place l.trials.items);
+  causes : All (λ (t : Trial). NeedsMore l.task l.budget t.pairing ⊎ AsksMore l.task l.budget (g.G.Monitor.bound l.monitor) t.pairing) (take l.place l.trials.items);
   nodes : l.all_full ≡ true → All (λ (t : Trial). NeedsMore l.task l.budget t.pairing) (take l.place l.trials.items);
 }

@@ -21,21 +21,21 @@ pub returns-then-is_tried-clause-turn : goal.returns-then-is_tried-clause-turn
 returns-then-is_tried-clause-turn g c =
     let task = c.args.task.now in
     let old = c.args.trials.now.items in
-    let bound = g.G.Gate.bound c.args.gate.now in
+    let bound = g.G.Monitor.bound c.args.monitor.now in
     let is : IsPairingIn task (order_of c.args.candidate) c.in_ok-pairing.pairing = subst (λ o. IsPairingIn task o c.in_ok-pairing.pairing) c.order.ensures c.in_ok-pairing.ensures.paired in
     let same : (t : Trial) × Contains old t × (t.pairing.names ≡ c.in_ok-pairing.pairing.names) = (let h = c.is_tried.ensures.tried c.if-is_tried.true in search rules) in
     (λ all gs. and_true task c.args.budget bound all old gs, tried_before task old c.args.candidate c.in_ok-pairing.pairing c.requires.own is same, λ k h. h)
 
 pub returns-in-Decided-clause-turn : goal.returns-in-Decided-clause-turn
 returns-in-Decided-clause-turn g c =
-    let bound = g.G.Gate.bound c.args.gate.now in
+    let bound = g.G.Monitor.bound c.args.monitor.now in
     ((subst (IsEnded c.args.task.now c.args.declared c.args.budget bound _) c.in-Decided.is c.in_ok-verdicts.ensures.ended, refl), refl)
 
 pub returns-in-Ok-clause-turn : goal.returns-in-Ok-clause-turn
 returns-in-Ok-clause-turn g c =
     let task = c.args.task.now in
     let old = c.args.trials.now.items in
-    let bound = g.G.Gate.bound c.args.gate.now in
+    let bound = g.G.Monitor.bound c.args.monitor.now in
     let is : IsPairingIn task (order_of c.args.candidate) c.in_ok-pairing.pairing = subst (λ o. IsPairingIn task o c.in_ok-pairing.pairing) c.order.ensures c.in_ok-pairing.ensures.paired in
     let kept = c.in-Ok.ensures in (
       λ all gs. subst (AreGivenUpTrials task c.args.budget bound _) (sym {A = List Trial} kept)

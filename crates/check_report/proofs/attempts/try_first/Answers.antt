@@ -10,7 +10,7 @@ use Rattle.check_report.proofs.attempts.try_first.Goals as goal
 pub returns-in-Decided-clause-first : goal.returns-in-Decided-clause-first
 returns-in-Decided-clause-first g c =
     let task = c.args.task.now in
-    let bound = g.G.Gate.bound c.args.gate.now in
+    let bound = g.G.Monitor.bound c.args.monitor.now in
     let here = c.loop-candidate.candidate-index in
     let old = c.loop-candidate.trials.items in
     let inv = c.loop-candidate.invariant in
@@ -24,7 +24,7 @@ returns-in-Decided-clause-first g c =
 pub loop-candidate-preserved : goal.loop-candidate-preserved
 loop-candidate-preserved g c =
     let task = c.args.task.now in
-    let bound = g.G.Gate.bound c.args.gate.now in
+    let bound = g.G.Monitor.bound c.args.monitor.now in
     let here = c.loop-candidate.candidate-index in
     let old = c.loop-candidate.trials.items in
     let new = c.try_candidate.new.trials.items in
@@ -38,5 +38,5 @@ loop-candidate-preserved g c =
 
 pub returns-clause-round : goal.returns-clause-round
 returns-clause-round g c =
-    all_passed c.args.task.now c.args.budget (g.G.Gate.bound c.args.gate.now) c.loop-candidate.all_full c.loop-candidate.trials.items c.loop-candidate.invariant.given_up
+    all_passed c.args.task.now c.args.budget (g.G.Monitor.bound c.args.monitor.now) c.loop-candidate.all_full c.loop-candidate.trials.items c.loop-candidate.invariant.given_up
     (each_at (IsTried c.args.task.now c.loop-candidate.trials.items) Interleave (λ j lt. c.loop-candidate.invariant.tried j (omega (arith, lt))))

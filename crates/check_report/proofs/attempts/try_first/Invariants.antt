@@ -6,6 +6,6 @@ use Rattle.check_report.proofs.attempts.try_first.Given as goal
 
 abbrev pub invariant-loop-candidate : goal.invariant-loop-candidate
 invariant-loop-candidate g l = record {
-  given_up : AreGivenUpTrials l.task l.budget (g.G.Gate.bound l.gate) l.all_full l.trials.items;
+  given_up : AreGivenUpTrials l.task l.budget (g.G.Monitor.bound l.monitor) l.all_full l.trials.items;
   tried : (j : ℕ) → j < l.candidate-index → IsTried l.task l.trials.items (get_or candidates j Interleave);
 }

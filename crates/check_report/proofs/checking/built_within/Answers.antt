@@ -65,9 +65,9 @@ returns-in-Ok-shown_of-clause-within g c =
 pub returns-in-Err-clause-past : goal.returns-in-Err-clause-past
 returns-in-Err-clause-past g c = λ e.
     let refused : c.in-Err.fault ≡ TooManyRequests = cc in
-    wide_build (circuit c.args.task.now.first.now) (circuit c.args.task.now.second.now) (condition c.args.task.now.given) c.args.pairing.now (g.G.Gate.bound c.args.gate.now) (c.build.ensures.past (c.in-Err.is ∙ ap Err refused))
+    wide_build (circuit c.args.task.now.first.now) (circuit c.args.task.now.second.now) (condition c.args.task.now.given) c.args.pairing.now (g.G.Monitor.bound c.args.monitor.now) (c.build.ensures.past (c.in-Err.is ∙ ap Err refused))
 
 pub returns-in-Err-shown_of-clause-past : goal.returns-in-Err-shown_of-clause-past
 returns-in-Err-shown_of-clause-past g c = λ e.
     let refused : c.in-Err-shown_of.fault ≡ Wave TooManyRequests = cc in
-    wide_compared (circuit c.args.task.now.first.now) (circuit c.args.task.now.second.now) (condition c.args.task.now.given) c.args.pairing.now (g.G.Gate.bound c.args.gate.now) (c.in-Err-shown_of.ensures.past (ap Err refused))
+    wide_compared (circuit c.args.task.now.first.now) (circuit c.args.task.now.second.now) (condition c.args.task.now.given) c.args.pairing.now (g.G.Monitor.bound c.args.monitor.now) (c.in-Err-shown_of.ensures.past (ap Err refused))

@@ -108,8 +108,8 @@ returns-in-Err-clause-past g c = λ e.
     let one : length k.outputs ≡ 1 = subst (λ o. IfSome (condition o) HasOneOutput) c.in-Some.is c.args.task.now.one_output in
     let some : 0 < length c.outputs.result.now = (let e = ap length c.outputs.ensures.value in omega (arith, one, e)) in
     let refused : c.in-Err.fault ≡ TooManyRequests = cc in
-    subst (λ o. IsSomeAnd (g.G.Gate.bound c.args.crew.now.gate.now) (λ n. IsSomeAnd (condition o) (λ x. IsWideWhere n a b x c.args.pairing.now))) (sym c.in-Some.is)
+    subst (λ o. IsSomeAnd (g.G.Monitor.bound c.args.crew.now.monitor.now) (λ n. IsSomeAnd (condition o) (λ x. IsWideWhere n a b x c.args.pairing.now))) (sym c.in-Some.is)
     (wide_where a b (circuit k) c.args.pairing.now c.args.store.now c.args.built.now c.levels.ensures.sound built of c.in-Ok.ensures c.as_slice-2.result.now
     (handed c.args.built.now c.in-Ok.subjects.items _ _ _ c.as_slice-2.ensures.value c.in-Ok-references_of.ensures c.as_slice.ensures.value) c.given-holds.result
     (given_is c.args.built.now.given c.outputs.result.now k.outputs c.index-outputs-0.result c.given-holds.result c.index-outputs-0.is c.outputs.ensures.value some c.given-holds.ensures)
-    (g.G.Gate.bound c.args.crew.now.gate.now) (c.conjoin.ensures.past (c.in-Err.is ∙ ap Err refused)))
+    (g.G.Monitor.bound c.args.crew.now.monitor.now) (c.conjoin.ensures.past (c.in-Err.is ∙ ap Err refused)))

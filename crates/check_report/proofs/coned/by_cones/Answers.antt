@@ -6,7 +6,7 @@ use Rattle.net_order.specs.Order.{condition}
 use Rattle.report_text.specs.Lines.{Found}
 use Rattle.check_report.specs.Asking.{unsized}
 use Rattle.check_report.specs.Comparing.{IsInside}
-use Rattle.check_report.specs.Cones.{IsLeft, IsTold}
+use Rattle.check_report.specs.Cones.{FitByCones, IsLeft, IsTold, cone_limit}
 use Rattle.check_report.proofs.ByCones.{picked_inside}
 use Rattle.check_report.proofs.Subjects.{all_signals}
 use Rattle.check_report.proofs.coned.by_cones.Goals as goal
@@ -38,7 +38,7 @@ returns-in-Ok-clause-told g c =
       verdicts = record {
         variables = ap (λ (f : Found). f.variables) c.of.ensures;
         of_pairs = c.in_ok-verdicts.verdicts.items;
-        told = subst (λ ss. AllZip (IsTold (unsized task.settings.now.assignment) (IsLeft task.settings.now.limit (g.G.Gate.bound c.args.gate.now) a b given p) a b given p) ss c.in_ok-verdicts.verdicts.items) c.as_slice.ensures.value c.in_ok-verdicts.ensures.told;
+        told = subst (λ ss. AllZip (IsTold (unsized task.settings.now.assignment) (FitByCones (cone_limit task.settings.now.limit) a b given p) (IsLeft task.settings.now.limit (g.G.Monitor.bound c.args.monitor.now) a b given p) a b given p) ss c.in_ok-verdicts.verdicts.items) c.as_slice.ensures.value c.in_ok-verdicts.ensures.told;
         all = ap (λ (f : Found). f.verdicts) c.of.ensures ∙ c.in-Ok.ensures;
       };
     }

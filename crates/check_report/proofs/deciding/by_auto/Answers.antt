@@ -30,8 +30,8 @@ returns-in-Ok-clause-found g c = λ told ga.
 pub returns-in-Ok-clause-passed : goal.returns-in-Ok-clause-passed
 returns-in-Ok-clause-passed g c = λ told ga.
     let t : Attempt = record { order = c.in-Ok.decided.trial.candidate; budget = c.in-Ok.decided.budget } in
-    subst (λ n. AreGivenUp told c.args.task.now.settings.now.matching n (g.G.Gate.bound c.args.gate.now) t) c.min-limit.ensures
-    (told_before c.args.task.now told ga c.min-limit.result (g.G.Gate.bound c.args.gate.now) t c.in-Ok.ensures.passed)
+    subst (λ n. AreGivenUp told c.args.task.now.settings.now.matching n (g.G.Monitor.bound c.args.monitor.now) t) c.min-limit.ensures
+    (told_before c.args.task.now told ga c.min-limit.result (g.G.Monitor.bound c.args.monitor.now) t c.in-Ok.ensures.passed)
 
 pub returns-in_err-declared-clause-fault : goal.returns-in_err-declared-clause-fault
 returns-in_err-declared-clause-fault g c = λ told ga.
@@ -46,7 +46,7 @@ returns-in_err-declared-clause-ends g c =
 pub returns-then-is_giving_up-clause-found : goal.returns-then-is_giving_up-clause-found
 returns-then-is_giving_up-clause-found g c = λ told ga.
     let task = c.args.task.now in
-    let bound = g.G.Gate.bound c.args.gate.now in
+    let bound = g.G.Monitor.bound c.args.monitor.now in
     c.by_cones_in.ensures.found told ga (auto_cause task told ga bound c.requires.auto (subst (λ n. AreAllPassed task n bound) c.min-limit.ensures (c.in-Err.ensures.given_up (c.is_giving_up.ensures.0 c.if-is_giving_up.true))))
 
 pub returns-then-is_giving_up-clause-fault : goal.returns-then-is_giving_up-clause-fault

@@ -16,7 +16,7 @@ returns-in-Err-clause-full g c = λ told ga e o allowed.
 pub returns-in-Err-clause-given_up : goal.returns-in-Err-clause-given_up
 returns-in-Err-clause-given_up g c = λ told ga e o allowed.
     let same : c.in-Err.fault ≡ GivenUp = cc in
-    subst (IsGivenUpWithin told c.args.task.now.settings.now.matching c.args.task.now.settings.now.limit (g.G.Gate.bound c.args.gate.now)) (sym allowed.1) (c.in-Err.ensures.given_up told ga (ap Err same) allowed.0)
+    subst (IsGivenUpWithin told c.args.task.now.settings.now.matching c.args.task.now.settings.now.limit (g.G.Monitor.bound c.args.monitor.now)) (sym allowed.1) (c.in-Err.ensures.given_up told ga (ap Err same) allowed.0)
 
 pub returns-in-Err-clause-fault : goal.returns-in-Err-clause-fault
 returns-in-Err-clause-fault g c = λ told ga.

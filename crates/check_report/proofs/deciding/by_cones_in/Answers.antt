@@ -5,7 +5,7 @@ use Rattle.check_report.proofs.Findings.{cones_end, cones_fault, found_by_cones}
 use Rattle.check_report.proofs.deciding.by_cones_in.Goals as goal
 
 pub returns-in-Ok-clause-found : goal.returns-in-Ok-clause-found
-returns-in-Ok-clause-found g c = λ told ga cause. found_by_cones c.args.task.now told ga (g.G.Gate.bound c.args.gate.now) c.args.declared c.in-Ok.verdicts c.requires.pairing cause c.in-Ok.ensures.told
+returns-in-Ok-clause-found g c = λ told ga cause. found_by_cones c.args.task.now told ga (g.G.Monitor.bound c.args.monitor.now) c.args.declared c.in-Ok.verdicts c.requires.pairing cause c.in-Ok.ensures.told
 
 pub returns-in-Err-clause-fault : goal.returns-in-Err-clause-fault
 returns-in-Err-clause-fault g c = λ told ga. cones_fault c.args.task.now told ga c.args.declared c.in-Err.fault c.requires.pairing c.in-Err.ensures.ends

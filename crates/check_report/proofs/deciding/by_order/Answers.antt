@@ -42,7 +42,7 @@ returns-in-Err-clause-past g c = λ told ga e.
       c.args.order.now,
       refl,
       wide_given told task.settings.now.matching c.args.order.now (circuit task.first.now) (circuit task.second.now) (condition task.given) c.in_ok-pairing.pairing
-          (record { netlists = ga; pairing = c.in_ok-pairing.ensures.paired }) (g.G.Gate.bound c.args.gate.now) (c.in-Err.ensures.past (ap Err same)),
+          (record { netlists = ga; pairing = c.in_ok-pairing.ensures.paired }) (g.G.Monitor.bound c.args.monitor.now) (c.in-Err.ensures.past (ap Err same)),
     )
 
 pub returns-in_err-pairing-clause-fault : goal.returns-in_err-pairing-clause-fault

@@ -8,7 +8,7 @@ use Rattle.check_report.proofs.deciding.decide.Goals as goal
 -- ---- one order
 
 pub returns-in-One-clause-found : goal.returns-in-One-clause-found
-returns-in-One-clause-found g c = λ told ga. found_in_order told c.args.task.now.settings.now (g.G.Gate.bound c.args.gate.now) _ c.in-One.is c.by_order.result (c.by_order.ensures.chosen told ga)
+returns-in-One-clause-found g c = λ told ga. found_in_order told c.args.task.now.settings.now (g.G.Monitor.bound c.args.monitor.now) _ c.in-One.is c.by_order.result (c.by_order.ensures.chosen told ga)
 
 pub returns-in-One-clause-full : goal.returns-in-One-clause-full
 returns-in-One-clause-full g c = λ told ga. rw c.in-One.is (c.by_order.ensures.full told ga)
@@ -37,7 +37,7 @@ returns-in-One-clause-hired g c = λ _. subst NamesOrder (sym c.in-One.is) tt
 -- ---- the best
 
 pub returns-in-Best-clause-found : goal.returns-in-Best-clause-found
-returns-in-Best-clause-found g c = λ told ga. found_in_order told c.args.task.now.settings.now (g.G.Gate.bound c.args.gate.now) _ c.in-Best.is c.by_best.result (c.by_best.ensures.chosen told ga)
+returns-in-Best-clause-found g c = λ told ga. found_in_order told c.args.task.now.settings.now (g.G.Monitor.bound c.args.monitor.now) _ c.in-Best.is c.by_best.result (c.by_best.ensures.chosen told ga)
 
 pub returns-in-Best-clause-full : goal.returns-in-Best-clause-full
 returns-in-Best-clause-full g c = λ told ga. rw c.in-Best.is (c.by_best.ensures.full told ga)

@@ -17,7 +17,7 @@ returns-in-Ok-clause-chosen g c = λ told ga.
     (refl, c.in-Ok.ensures.budget, within c.args.task.now told ga (order_of t.candidate) t.pairing c.in-Ok.decided.budget c.in-Ok.ensures.decided.paired c.in-Ok.ensures.decided.within)
 
 pub returns-in-Ok-clause-passed : goal.returns-in-Ok-clause-passed
-returns-in-Ok-clause-passed g c = λ told ga. told_before c.args.task.now told ga c.args.task.now.settings.now.limit (g.G.Gate.bound c.args.gate.now) _ c.in-Ok.ensures.passed
+returns-in-Ok-clause-passed g c = λ told ga. told_before c.args.task.now told ga c.args.task.now.settings.now.limit (g.G.Monitor.bound c.args.monitor.now) _ c.in-Ok.ensures.passed
 
 pub returns-in-Err-clause-full : goal.returns-in-Err-clause-full
 returns-in-Err-clause-full g c = λ told ga e k.
@@ -27,7 +27,7 @@ returns-in-Err-clause-full g c = λ told ga e k.
 pub returns-in-Err-clause-given_up : goal.returns-in-Err-clause-given_up
 returns-in-Err-clause-given_up g c = λ told ga e k.
     let same : c.in-Err.fault ≡ GivenUp = cc in
-    told_passed c.args.task.now told ga c.args.task.now.settings.now.limit (g.G.Gate.bound c.args.gate.now) k (c.in-Err.ensures.given_up (inr same) c.args.task.now.settings.now.limit (inr refl) k)
+    told_passed c.args.task.now told ga c.args.task.now.settings.now.limit (g.G.Monitor.bound c.args.monitor.now) k (c.in-Err.ensures.given_up (inr same) c.args.task.now.settings.now.limit (inr refl) k)
 
 pub returns-in-Ok-clause-names : goal.returns-in-Ok-clause-names
 returns-in-Ok-clause-names g c = ap (λ (f : Found). f.variables) c.of.ensures ∙ c.in-Ok.ensures.decided.paired.names

@@ -38,4 +38,4 @@ returns-clause-fault g c = λ told ga.
 pub returns-clause-given_up : goal.returns-clause-given_up
 returns-clause-given_up g c = λ told ga e o allowed.
     let same : c.in-Err.fault ≡ GivenUp = cc in
-    subst (IsGivenUpWithin told c.args.task.now.settings.now.matching c.args.task.now.settings.now.limit (g.G.Gate.bound c.args.gate.now)) (sym allowed.1) (c.in-Err.ensures.given_up told ga (ap Err same) allowed.0)
+    subst (IsGivenUpWithin told c.args.task.now.settings.now.matching c.args.task.now.settings.now.limit (g.G.Monitor.bound c.args.monitor.now)) (sym allowed.1) (c.in-Err.ensures.given_up told ga (ap Err same) allowed.0)

@@ -24,5 +24,5 @@ returns-in-Ok-told_over g c =
     subst (λ ps. c.in_ok-pairing.pairing.names ≡ map (variable_name w.pairing.now.names) ps) c.as_slice.ensures.value
     (subst (λ ns. c.in_ok-pairing.pairing.names ≡ map (variable_name ns) c.as_slice.result.now) c.names.ensures.value p.2) in
     judged_pair w c.args.subject.now c.args.cones.now task c.requires.ready c.requires.cones c.task_of-task.ensures c.inputs.ensures.sound c.inputs-2.ensures.sound c.in-Ok.places.items c.in_ok-pairing.pairing c.in-Ok.ensures.places
-    (p.0, p.1, named) c.args.budget (g.G.Gate.bound c.args.gate.now) c.in-Ok-try_cones.found c.in-Ok-told_over.told c.in-Ok-try_cones.ensures.decided (λ e. c.in-Ok-try_cones.ensures.left (ap Ok e))
+    (p.0, p.1, named) c.args.budget (g.G.Monitor.bound c.args.monitor.now) c.in-Ok-try_cones.found c.in-Ok-told_over.told c.in-Ok-try_cones.ensures.decided c.in-Ok-try_cones.ensures.within (λ e. c.in-Ok-try_cones.ensures.left (ap Ok e))
     (subst (λ ps. IsWidened w c.args.subject.now ps c.in-Ok-try_cones.found c.in-Ok-told_over.told) c.as_slice-2.ensures.value c.in-Ok-told_over.ensures)

@@ -1,7 +1,7 @@
 use Rattle.std.proofs.Common.{◌≡◌, ◌∙◌, ◌<◌, Vec, ap, arith, get_or, length}
 use Rattle.std.specs.declared.alloc.Global.{Global}
 use Rattle.check_report.specs.declared.subject.Subject.{Subject}
-use Rattle.report_text.specs.declared.outcome.Role.TheVariants.{Output}
+use Rattle.report_text.specs.declared.outcome.PairKind.TheVariants.{Output}
 use Rattle.gate_plan.proofs.Ranks.{any_default}
 use Rattle.check_report.proofs.Picks.{share_no, share_yes}
 use Rattle.check_report.proofs.picking.pairs_in.Goals as goal

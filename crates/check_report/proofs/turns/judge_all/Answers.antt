@@ -10,19 +10,19 @@ use Rattle.check_report.proofs.turns.judge_all.Goals as goal
 
 pub loop-budget-init : goal.loop-budget-init
 loop-budget-init g c = record {
-  power = (0, refl, none_yet c.args.whole.now (g.G.Gate.bound c.args.gate.now) c.args.subjects.now c.in-Ok.known.items c.in-Ok.ensures.each c.in-Ok.ensures.none);
+  power = (0, refl, none_yet c.args.whole.now c.cone_limit-limit.result (g.G.Monitor.bound c.args.monitor.now) c.args.subjects.now c.in-Ok.known.items c.in-Ok.ensures.each c.in-Ok.ensures.none);
   some = lit< tt;
 }
 
 pub judge_round-requires-clause-each : goal.judge_round-requires-clause-each
 judge_round-requires-clause-each g c κs within =
     let p = c.loop-budget.invariant.power in
-    length_known (IsToldIn c.args.whole.now) (λ s. (j : ℕ) → j < p.0 → IsLeftIn c.args.whole.now (16384 * 16 ^ j) (g.G.Gate.bound c.args.gate.now) s) c.args.subjects.now c.loop-budget.known.items p.2
+    length_known (IsToldIn c.args.whole.now c.cone_limit-limit.result) (λ s. (j : ℕ) → j < p.0 → IsLeftIn c.args.whole.now (16384 * 16 ^ j) (g.G.Monitor.bound c.args.monitor.now) s) c.args.subjects.now c.loop-budget.known.items p.2
 
 pub judge_round-requires-2-clause-each : goal.judge_round-requires-2-clause-each
 judge_round-requires-2-clause-each g c κs within =
     let p = c.loop-budget.invariant.power in
-    length_known (IsToldIn c.args.whole.now) (λ s. (j : ℕ) → j < p.0 → IsLeftIn c.args.whole.now (16384 * 16 ^ j) (g.G.Gate.bound c.args.gate.now) s) c.args.subjects.now c.loop-budget.known.items p.2
+    length_known (IsToldIn c.args.whole.now c.cone_limit-limit.result) (λ s. (j : ℕ) → j < p.0 → IsLeftIn c.args.whole.now (16384 * 16 ^ j) (g.G.Monitor.bound c.args.monitor.now) s) c.args.subjects.now c.loop-budget.known.items p.2
 
 pub loop-budget-preserved : goal.loop-budget-preserved
 loop-budget-preserved g c =
@@ -32,7 +32,7 @@ loop-budget-preserved g c =
       power = (
         suc p.0,
         next_budget p.0 c.loop-budget.budget p.1,
-        round_more c.args.whole.now (g.G.Gate.bound c.args.gate.now) c.args.subjects.now p.0 c.loop-budget.budget c.loop-budget.known.items c.in_ok-known.known.items p.1 p.2 c.in_ok-known.ensures.round,
+        round_more c.args.whole.now c.cone_limit-limit.result (g.G.Monitor.bound c.args.monitor.now) c.args.subjects.now p.0 c.loop-budget.budget c.loop-budget.known.items c.in_ok-known.known.items p.1 (let low = c.loop-budget-test.true in omega (arith, low)) p.2 c.in_ok-known.ensures.round,
       );
       some = omega (arith, some);
     }
@@ -40,9 +40,9 @@ loop-budget-preserved g c =
 pub returns-clause-known : goal.returns-clause-known
 returns-clause-known g c =
     let w = c.args.whole.now in
-    let bound = g.G.Gate.bound c.args.gate.now in
+    let bound = g.G.Monitor.bound c.args.monitor.now in
     let p = c.loop-budget.invariant.power in
     let limit = c.cone_limit-limit.result in
     let most : limit ≤ 16384 * 16 ^ p.0 = (let e = p.1 in let past = c.loop-budget-test.false in omega arith) in
-    subst (λ n. IfOk c.judge_round-2.result (λ v. AllZip (IsKnown (IsToldIn w) (λ s. (budget : ℕ) → IsBudget n budget → IsLeftIn w budget bound s)) c.args.subjects.now v.items)) c.cone_limit-limit.ensures
-    (IfOk-then c.judge_round-2.result _ _ c.judge_round-2.ensures.round (λ v r. round_last w bound c.args.subjects.now limit p.0 c.loop-budget.known.items v.items most p.2 r))
+    subst (λ n. IfOk c.judge_round-2.result (λ v. AllZip (IsKnown (IsToldIn w n) (λ s. (budget : ℕ) → IsBudget n budget → IsLeftIn w budget bound s)) c.args.subjects.now v.items)) c.cone_limit-limit.ensures
+    (IfOk-then c.judge_round-2.result _ _ c.judge_round-2.ensures.round (λ v r. round_last w limit bound c.args.subjects.now p.0 c.loop-budget.known.items v.items most p.2 r))

@@ -6,7 +6,7 @@ use Rattle.check_report.proofs.turns.judge_all.Given as goal
 abbrev pub invariant-loop-budget : goal.invariant-loop-budget
 invariant-loop-budget g l = record {
   power : (k : ℕ) × (l.budget ≡ 16384 * 16 ^ k)
-      × AllZip (IsKnown (IsToldIn l.whole) (λ s. (j : ℕ) → j < k → IsLeftIn l.whole (16384 * 16 ^ j) (g.G.Gate.bound l.gate) s)) l.subjects l.known.items;
+      × AllZip (IsKnown (IsToldIn l.whole l.limit) (λ s. (j : ℕ) → j < k → IsLeftIn l.whole (16384 * 16 ^ j) (g.G.Monitor.bound l.monitor) s)) l.subjects l.known.items;
   some : 0 < l.budget;
 }
 

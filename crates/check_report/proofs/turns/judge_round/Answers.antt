@@ -14,7 +14,7 @@ pub returns-in-Ok-fill-clause-round : goal.returns-in-Ok-fill-clause-round
 returns-in-Ok-fill-clause-round g c =
     let w = c.args.whole.now in
     let ss = c.args.subjects.now in
-    let bound = g.G.Gate.bound c.args.gate.now in
+    let bound = g.G.Monitor.bound c.args.monitor.now in
     let turns = c.in-Ok-take_turns.turns.items in
     let ended : AreEnded w c.args.budget bound (left_of ss c.args.known.items) turns =
     subst (λ ks. AreEnded w c.args.budget bound (left_of ss ks) turns) c.as_slice.ensures.value
@@ -24,4 +24,4 @@ returns-in-Ok-fill-clause-round g c =
 pub returns-in_err-found-clause-ends : goal.returns-in_err-found-clause-ends
 returns-in_err-found-clause-ends g c =
     let e = err_from_is_err_and c.from_residual.result c.from_residual.ensures.1 in
-    rw (e.1, e.2) (fault_of c.args.whole.now c.args.budget (g.G.Gate.bound c.args.gate.now) _ c.in-Ok-take_turns.turns.items c.in_err-found.field-0.0 c.in-Ok-take_turns.ensures c.in_err-found.ensures.fault)
+    rw (e.1, e.2) (fault_of c.args.whole.now c.args.budget (g.G.Monitor.bound c.args.monitor.now) _ c.in-Ok-take_turns.turns.items c.in_err-found.field-0.0 c.in-Ok-take_turns.ensures c.in_err-found.ensures.fault)

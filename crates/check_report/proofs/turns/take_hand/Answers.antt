@@ -8,5 +8,5 @@ returns g c =
     let long : vec_len c.args.hand.now ≡ length c.args.hand.now.items = search rules in
     let end : c.len-place-end.result ≡ length c.args.hand.now.items = search rules in
     let last = c.loop-place-test.false in
-    zip_of (IsTurned c.args.whole.now c.args.budget (g.G.Gate.bound c.args.gate.now)) c.args.hand.now.items c.loop-place.hand.items c.loop-place.invariant.each
+    zip_of (IsTurned c.args.whole.now c.args.budget (g.G.Monitor.bound c.args.monitor.now)) c.args.hand.now.items c.loop-place.hand.items c.loop-place.invariant.each
     (λ i t lt. c.loop-place.invariant.made i t (omega (arith, lt, end, last)))

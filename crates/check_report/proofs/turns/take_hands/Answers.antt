@@ -11,6 +11,6 @@ par_for_each_mut-requires-after_bounds g c κs within = λ i p lt e.
 
 pub returns : goal.returns
 returns g c =
-    let R : Turn → Turn → Type 0 = IsTurned c.args.whole.now c.args.budget (g.G.Gate.bound c.args.gate.now) in
+    let R : Turn → Turn → Type 0 = IsTurned c.args.whole.now c.args.budget (g.G.Monitor.bound c.args.monitor.now) in
     zip_in R c.args.hands.now c.par_for_each_mut.new.s c.par_for_each_mut.auto.s
     (λ i v lt. let at = (c.par_for_each_mut.ensures i v lt).1 in left_there R _ _ at.argument.now at.after_call.now at.argument_is at.left at.call)

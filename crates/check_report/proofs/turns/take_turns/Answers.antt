@@ -14,7 +14,7 @@ use Rattle.check_report.proofs.turns.take_turns.Goals as goal
 pub returns : goal.returns
 returns g c =
     let w = c.args.whole.now in
-    let bound = g.G.Gate.bound c.args.gate.now in
+    let bound = g.G.Monitor.bound c.args.monitor.now in
     let R : Turn → Turn → Type 0 = IsTurned w c.args.budget bound in
     let ns = c.as_slice-2.result.now in
     let n = length ns in

@@ -15,7 +15,7 @@ pub returns-clause-unwritten : goal.returns-clause-unwritten
 returns-clause-unwritten g c = λ e.
     let same : c.in-Err-checked.fault ≡ Write = cc in
     let w = c.in-Err-checked.ensures.unwritten (ap Err same) in
-    (Compared w.0 w.1, w.2, record { given = _; choice = _; picked = _; settings = c.settings_of-settings.result; conditioned = c.in_ok-given.ensures.given; ordered = c.in_ok-given.ensures.order; picks = c.in_ok-picked.ensures.picked; set = c.settings_of-settings.ensures; made = (c.if-options.false, report_unbound _ _ _ c.requires.unbounded _ _ _ w.3) }, w.4)
+    (Compared w.0 w.1 w.3, w.2, record { given = _; choice = _; picked = _; settings = c.settings_of-settings.result; conditioned = c.in_ok-given.ensures.given; ordered = c.in_ok-given.ensures.order; picks = c.in_ok-picked.ensures.picked; set = c.settings_of-settings.ensures; made = (c.if-options.false, report_unbound _ _ _ c.requires.unbounded _ _ _ _ w.4) }, w.5)
 
 pub returns-then-options-clause-unwritten : goal.returns-then-options-clause-unwritten
 returns-then-options-clause-unwritten g c = elim c.match-printed.branch [
@@ -87,8 +87,8 @@ returns-in-Ok-checked-clause-passed g c =
 
 pub returns-in-Ok-checked-clause-report : goal.returns-in-Ok-checked-clause-report
 returns-in-Ok-checked-clause-report g c =
-    let w = c.in-Ok-checked.ensures.report in
-    (w.0, record { given = _; choice = _; picked = _; settings = c.settings_of-settings.result; conditioned = c.in_ok-given.ensures.given; ordered = c.in_ok-given.ensures.order; picks = c.in_ok-picked.ensures.picked; set = c.settings_of-settings.ensures; made = (c.if-options.false, report_unbound _ _ _ c.requires.unbounded _ _ _ w.1) }, w.2)
+    let w = c.in-Ok-checked.ensures.vcd in
+    (w.0, record { given = _; choice = _; picked = _; settings = c.settings_of-settings.result; conditioned = c.in_ok-given.ensures.given; ordered = c.in_ok-given.ensures.order; picks = c.in_ok-picked.ensures.picked; set = c.settings_of-settings.ensures; made = (c.if-options.false, report_unbound _ _ _ c.requires.unbounded _ _ _ _ w.1) }, w.2)
 
 pub returns-clause-only : goal.returns-clause-only
 returns-clause-only g c = λ e.

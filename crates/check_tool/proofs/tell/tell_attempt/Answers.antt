@@ -1,15 +1,21 @@
-use Rattle.std.proofs.Common.{rules, ◌≡◌, inl, sym, subst}
-use Rattle.check_tool.specs.Ending.{Written, Says, MaySay, IsAttemptSaid, attempt_line}
+use Rattle.std.proofs.Common.{◌≡◌, ◌∙◌, ◌++◌, ℕ, List, [], ap, sym, subst}
+use Rattle.std.specs.Prelude.{codes, decimal}
+use Rattle.std.proofs.lemmas.List.{append_assoc}
+use Rattle.check_report.specs.Best.{candidate_text}
+use Rattle.check_tool.specs.Ending.{Written, Says, IsAttemptSaid}
 use Rattle.check_tool.proofs.tell.tell_attempt.Goals as goal
 
-pub returns-in-Ok : goal.returns-in-Ok
-returns-in-Ok g c =
+pub returns : goal.returns
+returns g c =
     let w : Written = record {
       held = g.E.Sink.contents c.args.errors.now;
-      holds = g.E.Sink.contents c.say.new.errors;
-      has_failed = g.E.Sink.has_failed c.say.new.errors;
-      has_stopped = g.E.Sink.has_stopped c.say.new.errors;
+      holds = g.E.Sink.contents c.say_parts.new.errors;
+      has_failed = g.E.Sink.has_failed c.say_parts.new.errors;
+      has_stopped = g.E.Sink.has_stopped c.say_parts.new.errors;
     } in
-    let same : c.as_bytes.result.now ≡ attempt_line c.in-Some.attempt = search rules in
-    let said : MaySay w (attempt_line c.in-Some.attempt) = inl (subst (λ l. Says w l) same c.say.ensures) in
-    subst (λ t. IsAttemptSaid t w) (sym c.in-Some.is) said
+    let t = c.in-Some.attempt in
+    let name = ap (λ n. codes "bddcheck: order " ++ (n ++ (codes ", budget " ++ (c.format.result.now ++ (codes "\n" ++ []))))) c.name.ensures in
+    let number = ap (λ n. codes "bddcheck: order " ++ (candidate_text t.order ++ (codes ", budget " ++ (n ++ codes "\n")))) c.format.ensures.text in
+    let front : List ℕ = candidate_text t.order ++ codes ", budget " in
+    let line = ap (λ l. codes "bddcheck: order " ++ l) (sym (append_assoc front (decimal t.budget) (codes "\n") ∙ append_assoc (candidate_text t.order) (codes ", budget ") (decimal t.budget ++ codes "\n"))) in
+    subst (λ a. IsAttemptSaid a w) (sym c.in-Some.is) (subst (Says w) (name ∙ number ∙ line) c.say_parts.ensures)

@@ -12,14 +12,15 @@ returns c =
     let six = c.in_ok-arg-6.ensures.shape c.only.ensures.local ∙ ap₂ with_rule five c.only.ensures.rule in
     let seven = c.in_ok-arg-7.ensures.shape c.share.ensures.local ∙ ap₂ with_rule six c.share.ensures.rule in
     let eight = c.in_ok-command.ensures.shape c.explain.ensures.local ∙ ap₂ with_rule seven c.explain.ensures.rule in
-    let nine = c.in_ok-arg-8.ensures.shape c.workers.ensures.local ∙ ap₂ with_rule eight c.workers.ensures.rule in
-    let ten = c.in_ok-arg-9.ensures.shape c.limit.ensures.local ∙ ap₂ with_rule nine c.limit.ensures.rule in
-    let eleven = c.in_ok-arg-10.ensures.shape c.memory.ensures.local ∙ ap₂ with_rule ten c.memory.ensures.rule in
-    let twelve = c.in_ok-arg-11.ensures.shape c.sizes.ensures.local ∙ ap₂ with_rule eleven c.sizes.ensures.rule in
-    let thirteen = c.in_ok-command-2.ensures.shape c.print_order.ensures.local ∙ ap₂ with_rule twelve c.print_order.ensures.rule in
-    let fourteen = c.in_ok-arg-12.ensures.shape c.format.ensures.local ∙ ap₂ with_rule thirteen c.format.ensures.rule in
-    let fifteen = c.in_ok-arg-13.ensures.shape c.assignment.ensures.local ∙ ap₂ with_rule fourteen c.assignment.ensures.rule in
-    let sixteen = c.in_ok-arg-14.ensures.shape c.verbose.ensures.local ∙ ap₂ with_rule fifteen c.verbose.ensures.rule in
-    let seventeen = c.in_ok-arg-15.ensures.shape c.first.ensures.local ∙ ap₂ with_rule sixteen c.first.ensures.rule in
-    let eighteen = c.in_ok-command-3.ensures.shape c.second.ensures.local ∙ ap₂ with_rule seventeen c.second.ensures.rule in
-    (c.matching.result.value_parser, c.order.result.value_parser, c.format.result.value_parser, c.assignment.result.value_parser, c.matching.ensures.parser, c.order.ensures.parser, c.format.ensures.parser, c.assignment.ensures.parser, eighteen)
+    let nine = c.in_ok-arg-8.ensures.shape c.vcd.ensures.local ∙ ap₂ with_rule eight c.vcd.ensures.rule in
+    let ten = c.in_ok-arg-9.ensures.shape c.workers.ensures.local ∙ ap₂ with_rule nine c.workers.ensures.rule in
+    let eleven = c.in_ok-arg-10.ensures.shape c.limit.ensures.local ∙ ap₂ with_rule ten c.limit.ensures.rule in
+    let twelve = c.in_ok-arg-11.ensures.shape c.memory.ensures.local ∙ ap₂ with_rule eleven c.memory.ensures.rule in
+    let thirteen = c.in_ok-arg-12.ensures.shape c.sizes.ensures.local ∙ ap₂ with_rule twelve c.sizes.ensures.rule in
+    let fourteen = c.in_ok-command-2.ensures.shape c.print_order.ensures.local ∙ ap₂ with_rule thirteen c.print_order.ensures.rule in
+    let fifteen = c.in_ok-arg-13.ensures.shape c.format.ensures.local ∙ ap₂ with_rule fourteen c.format.ensures.rule in
+    let sixteen = c.in_ok-arg-14.ensures.shape c.assignment.ensures.local ∙ ap₂ with_rule fifteen c.assignment.ensures.rule in
+    let seventeen = c.in_ok-arg-15.ensures.shape c.verbose.ensures.local ∙ ap₂ with_rule sixteen c.verbose.ensures.rule in
+    let eighteen = c.in_ok-arg-16.ensures.shape c.first.ensures.local ∙ ap₂ with_rule seventeen c.first.ensures.rule in
+    let nineteen = c.in_ok-command-3.ensures.shape c.second.ensures.local ∙ ap₂ with_rule eighteen c.second.ensures.rule in
+    (c.matching.result.value_parser, c.order.result.value_parser, c.format.result.value_parser, c.assignment.result.value_parser, c.matching.ensures.parser, c.order.ensures.parser, c.format.ensures.parser, c.assignment.ensures.parser, nineteen)

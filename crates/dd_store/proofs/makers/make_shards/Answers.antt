@@ -2,7 +2,7 @@ use Rattle.std.proofs.Common.{◌≡◌, ℕ, ◌+◌, length, get_or, set, refl
 use Rattle.std.proofs.lemmas.Bool.{cases_lt}
 use Rattle.std.proofs.lemmas.List.{get_or-set_other, get_or_default}
 use Rattle.std.proofs.lemmas.Grind.{get_or-set_at}
-use Rattle.dd_store.specs.declared.level.Slot.{Slot}
+use Rattle.dd_store.specs.declared.level.Shard.{Shard}
 use Rattle.dd_store.specs.Levels.{IsNoted, all_at}
 use Rattle.dd_store.proofs.makers.make_shards.Goals as goal
 
@@ -10,12 +10,12 @@ pub loop-place-preserved : goal.loop-place-preserved
 loop-place-preserved g c =
     let v = c.loop-place.invariant in
     let p = c.loop-place.place in
-    let e : Slot = c.index-slots-place.result in
-    let u : Slot = c.note_lists.new.slot in
+    let e : Shard = c.index-slots-place.result in
+    let u : Shard = c.note_lists.new.slot in
     let now : length c.loop-place.slots ≡ length c.args.slots.now = c.loop-place.auto.slots in
     let lt = c.loop-place-test.true in
-    let Noted : ℕ → Slot → Slot → Type 0 = λ i old new. IsNoted c.args.limit c.args.level (c.args.first + i) (all_at c.args.parts.now (c.args.first + i)) old new in
-    let at : (d : Slot) → Noted p (get_or c.args.slots.now p d) u = λ d.
+    let Noted : ℕ → Shard → Shard → Type 0 = λ i old new. IsNoted c.args.limit c.args.level (c.args.first + i) (all_at c.args.parts.now (c.args.first + i)) old new in
+    let at : (d : Shard) → Noted p (get_or c.args.slots.now p d) u = λ d.
     subst (λ z. Noted p z u) (get_or_default c.loop-place.slots p e d (omega (arith, now, lt)) ∙ v.rest p d (omega arith)) c.note_lists.ensures in
     record {
       made = λ i d le. elim (cases_lt i p) [

@@ -1,6 +1,6 @@
 use Rattle.std.proofs.Common.{rules, ◌≡◌, ◌<◌, ◌-◌, ◌^◌, ◌∙◌, List, Err, OnOk, ap, subst}
 use Rattle.std.proofs.lemmas.Result.{IfErr-weaker, IfOk-weaker, on_ok_weaker}
-use Rattle.req_table.specs.Memos.{Held}
+use Rattle.req_table.specs.ComputedTables.{Held}
 use Rattle.expand_work.specs.declared.fault.WaveFault.TheVariants.{TooManyRequests}
 use Rattle.expand_work.specs.Bounds.{most_of}
 use Rattle.wave_engine.specs.Bounds.{AreAtMost, ArePast}
@@ -27,7 +27,7 @@ returns-clause-within g c =
     on_ok_weaker c.wave.result
     (λ h.
     subst (λ z. IsWithinLimit c.args.store.now z c.wave.new.store) (c.as_slice.ensures.value ∙ c.in_ok-entries.ensures)
-    (within_all c.args.store.now c.wave.new.store c.in_ok-memo.memo c.as_slice.result.now (ap (λ (m : Held). m.pairs) c.in_ok-memo.ensures.empty) h))
+    (within_all c.args.store.now c.wave.new.store c.in_ok-computed.computed c.as_slice.result.now (ap (λ (m : Held). m.pairs) c.in_ok-computed.ensures.empty) h))
     c.wave.ensures.wave.within
 
 pub returns-clause-fault : goal.returns-clause-fault
@@ -35,22 +35,22 @@ returns-clause-fault g c =
     IfErr-weaker c.wave.result _ _
     (λ fault h.
     subst (λ z. IsWaveFault c.args.store.now z c.wave.new.store fault) (c.as_slice.ensures.value ∙ c.in_ok-entries.ensures)
-    (fault_of_all c.args.store.now c.wave.new.store c.in_ok-memo.memo c.as_slice.result.now fault h))
+    (fault_of_all c.args.store.now c.wave.new.store c.in_ok-computed.computed c.as_slice.result.now fault h))
     c.wave.ensures.wave.fault
 
 pub returns-clause-past : goal.returns-clause-past
 returns-clause-past g c =
-    let past : c.wave.result ≡ Err TooManyRequests → ArePast (g.G.Gate.bound c.args.crew.now.gate.now) c.args.store.now (conjunctions c.args.references.now c.args.given) = λ refused.
-    subst (ArePast (g.G.Gate.bound c.args.crew.now.gate.now) c.args.store.now) (c.as_slice.ensures.value ∙ c.in_ok-entries.ensures)
-    (past_all (g.G.Gate.bound c.args.crew.now.gate.now) c.args.store.now c.in_ok-memo.memo c.as_slice.result.now (c.wave.ensures.past refused)) in
+    let past : c.wave.result ≡ Err TooManyRequests → ArePast (g.G.Monitor.bound c.args.crew.now.monitor.now) c.args.store.now (conjunctions c.args.references.now c.args.given) = λ refused.
+    subst (ArePast (g.G.Monitor.bound c.args.crew.now.monitor.now) c.args.store.now) (c.as_slice.ensures.value ∙ c.in_ok-entries.ensures)
+    (past_all (g.G.Monitor.bound c.args.crew.now.monitor.now) c.args.store.now c.in_ok-computed.computed c.as_slice.result.now (c.wave.ensures.past refused)) in
     search (rules, past)
 
 pub returns-clause-within_bound : goal.returns-clause-within_bound
 returns-clause-within_bound g c =
-    let within : most_of (g.G.Gate.bound c.args.crew.now.gate.now) < 2 ^ 64 - 1 → OnOk c.wave.result (AreAtMost (most_of (g.G.Gate.bound c.args.crew.now.gate.now)) c.args.store.now (conjunctions c.args.references.now c.args.given)) = λ bounded.
+    let within : most_of (g.G.Monitor.bound c.args.crew.now.monitor.now) < 2 ^ 64 - 1 → OnOk c.wave.result (AreAtMost (most_of (g.G.Monitor.bound c.args.crew.now.monitor.now)) c.args.store.now (conjunctions c.args.references.now c.args.given)) = λ bounded.
     on_ok_weaker c.wave.result
     (λ h.
-    subst (AreAtMost (most_of (g.G.Gate.bound c.args.crew.now.gate.now)) c.args.store.now) (c.as_slice.ensures.value ∙ c.in_ok-entries.ensures)
-    (at_most_all (most_of (g.G.Gate.bound c.args.crew.now.gate.now)) c.args.store.now c.in_ok-memo.memo c.as_slice.result.now (ap (λ (m : Held). m.pairs) c.in_ok-memo.ensures.empty) h))
+    subst (AreAtMost (most_of (g.G.Monitor.bound c.args.crew.now.monitor.now)) c.args.store.now) (c.as_slice.ensures.value ∙ c.in_ok-entries.ensures)
+    (at_most_all (most_of (g.G.Monitor.bound c.args.crew.now.monitor.now)) c.args.store.now c.in_ok-computed.computed c.as_slice.result.now (ap (λ (m : Held). m.pairs) c.in_ok-computed.ensures.empty) h))
     (c.wave.ensures.within_bound bounded) in
     search (rules, within)

@@ -7,11 +7,11 @@ use Rattle.net_cone.proofs.cone.cone_of.Goals as goal
 
 pub netlist_of_parts-requires : goal.netlist_of_parts-requires
 netlist_of_parts-requires c =
-    net_of_cone c.args.net.now c.args.root (map (λ w. w.items) c.args.names.now) c.as_slice-marks.result.now c.in_ok-numbers.numbers (whole c.in_ok-parts.parts) record {
-      sound = c.marks_below.ensures.sound;
+    net_of_cone c.args.net.now c.args.root (map (λ w. w.items) c.args.names.now) c.as_slice-seen.result.now c.in_ok-numbers.numbers (whole c.in_ok-parts.parts) record {
+      sound = c.seen_below.ensures.sound;
       root_low = c.requires.inside;
       named = c.requires.names;
-      below = subst (AreBelow c.args.net.now c.args.root) (sym c.as_slice-marks.ensures.value) c.in_ok-below.ensures.below;
+      below = subst (AreBelow c.args.net.now c.args.root) (sym c.as_slice-seen.ensures.value) c.in_ok-below.ensures.below;
       numbered = c.in_ok-numbers.ensures.numbered;
       each = c.in_ok-numbers.ensures.each;
       variables = c.in_ok-numbers.ensures.variables;
@@ -22,11 +22,11 @@ netlist_of_parts-requires c =
 pub returns : goal.returns
 returns c =
     subst (λ m. IsCone c.args.net.now c.args.root (map (λ w. w.items) c.args.names.now) m c.in_ok-numbers.numbers.from.items) (sym c.in_ok-netlist_of_parts.ensures)
-    (cone_of_signal c.args.net.now c.args.root (map (λ w. w.items) c.args.names.now) c.as_slice-marks.result.now c.in_ok-numbers.numbers (whole c.in_ok-parts.parts) record {
-      sound = c.marks_below.ensures.sound;
+    (cone_of_signal c.args.net.now c.args.root (map (λ w. w.items) c.args.names.now) c.as_slice-seen.result.now c.in_ok-numbers.numbers (whole c.in_ok-parts.parts) record {
+      sound = c.seen_below.ensures.sound;
       root_low = c.requires.inside;
       named = c.requires.names;
-      below = subst (AreBelow c.args.net.now c.args.root) (sym c.as_slice-marks.ensures.value) c.in_ok-below.ensures.below;
+      below = subst (AreBelow c.args.net.now c.args.root) (sym c.as_slice-seen.ensures.value) c.in_ok-below.ensures.below;
       numbered = c.in_ok-numbers.ensures.numbered;
       each = c.in_ok-numbers.ensures.each;
       variables = c.in_ok-numbers.ensures.variables;

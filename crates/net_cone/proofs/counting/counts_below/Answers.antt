@@ -3,7 +3,7 @@ use Rattle.std.specs.List.{AllZip}
 use Rattle.std.proofs.lemmas.List.{take_more}
 use Rattle.net_bench.specs.Circuit.{circuit}
 use Rattle.net_cone.specs.Cones.{HasGates}
-use Rattle.net_cone.proofs.Unmarking.{zip_push}
+use Rattle.net_cone.proofs.Unvisiting.{zip_push}
 use Rattle.net_cone.proofs.counting.counts_below.Goals as goal
 
 pub loop-place-preserved : goal.loop-place-preserved

@@ -2,7 +2,8 @@ use Rattle.std.proofs.Common.{◌≡◌, ◌∙◌, ◌++◌, ◌+◌, ◌<◌, 
 use Rattle.std.specs.Prelude.{All, filter_map}
 use Rattle.std.proofs.lemmas.List.{length-map}
 use Rattle.net_explain.specs.Explaining.{inner_at, inner_to}
-use Rattle.net_explain.specs.Ranked.{AreRows, highest, rank_row}
+use Rattle.net_bench.specs.Circuit.{highest_rank}
+use Rattle.net_explain.specs.Ranked.{AreRows, rank_row}
 use Rattle.net_explain.specs.declared.differing.Inner.{Inner}
 use Rattle.net_explain.proofs.Inners.{all_first, all_second, row_added}
 use Rattle.net_explain.proofs.Rows.{row_is, row_low}
@@ -30,8 +31,8 @@ returns-clause-inner c =
     let rows : AreRows c.args.first.now (map (λ w. w.items) c.as_slice-rows.result.now) =
     subst (λ rs. AreRows c.args.first.now (map (λ w. w.items) rs)) (sym c.as_slice-rows.ensures.value) c.in_ok-table.ensures.rows in
     let spread : length (map (λ w. w.items) c.as_slice-rows.result.now) ≡ length c.as_slice-rows.result.now = length-map c.as_slice-rows.result.now (λ w. w.items) in
-    let count : length (map (λ w. w.items) c.as_slice-rows.result.now) ≡ highest c.args.first.now = rows.count in
-    let top : c.loop-place.place ≡ highest c.args.first.now = omega arith in
+    let count : length (map (λ w. w.items) c.as_slice-rows.result.now) ≡ highest_rank c.args.first.now = rows.count in
+    let top : c.loop-place.place ≡ highest_rank c.args.first.now = omega arith in
     c.loop-place.invariant ∙ ap (inner_to c.args.first.now c.args.second.now c.args.seen.now c.args.other.now) top
 
 pub returns-clause-first : goal.returns-clause-first

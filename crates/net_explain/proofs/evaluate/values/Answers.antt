@@ -2,7 +2,7 @@ use Rattle.std.proofs.Common.{◌∙◌, subst, sym}
 use Rattle.net_bench.specs.Circuit.{circuit}
 use Rattle.net_bench.specs.Labels.{IsLabelling}
 use Rattle.net_explain.specs.Values.{level_in}
-use Rattle.net_explain.proofs.Marking.{written}
+use Rattle.net_explain.proofs.Visiting.{written}
 use Rattle.net_explain.proofs.Setting.{function_value}
 use Rattle.net_explain.proofs.evaluate.values.Goals as goal
 

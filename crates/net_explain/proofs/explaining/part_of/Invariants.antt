@@ -6,7 +6,7 @@ use Rattle.net_explain.proofs.explaining.part_of.Given as goal
 abbrev pub invariant-loop-gate : goal.invariant-loop-gate
 invariant-loop-gate l = record {
   all : l.all ≡ count_by (λ g. bit_of l.seen.below g.out) (take l.gate-index l.gate-items);
-  behind : l.behind ≡ count_by (λ g. bit_of l.seen.below g.out && not (bit_of l.marks.items g.out)) (take l.gate-index l.gate-items);
+  behind : l.behind ≡ count_by (λ g. bit_of l.seen.below g.out && not (bit_of l.visited.items g.out)) (take l.gate-index l.gate-items);
   few : l.all ≤ l.gate-index;
   fewer : l.behind ≤ l.gate-index;
 }

@@ -1,7 +1,7 @@
 use Rattle.std.proofs.Common.{◌≡◌, ◌==◌, ◌+◌, ◌-◌, ◌<◌, ◌≤◌, ◌∷◌, ◌++◌, [], length, map, take, get_or, set, sym, ap, ◌∙◌, subst, arith}
 use Rattle.std.specs.Prelude.{Contains, filter}
 use Rattle.std.proofs.lemmas.List.{get_or-map, length-map, length-set, map-set, take_all}
-use Rattle.net_explain.specs.Ranked.{highest, rank_of}
+use Rattle.net_bench.specs.Circuit.{highest_rank, rank_of}
 use Rattle.net_explain.proofs.Lists.{taken_more}
 use Rattle.net_explain.proofs.Rows.{AreRowsOf, rank_low, rank_top, rows_more}
 use Rattle.net_explain.proofs.ranked.rows_of.Goals as goal
@@ -12,8 +12,8 @@ index_mut-requires c =
     let g = c.gate-item.result in
     let among : Contains net.gates g = subst (λ gs. Contains gs g) c.gates-gates.ensures.value (c.loop-gate.gate-index, c.loop-gate-test.true, sym c.gate-item.is) in
     let low : 0 < rank_of net g = rank_low net c.gates-gates.ensures.sound g among in
-    let high : rank_of net g ≤ highest net = rank_top net g among in
-    let count : length c.loop-gate.rows.items ≡ highest net = sym (length-map c.loop-gate.rows.items (λ w. w.items)) ∙ c.loop-gate.invariant.count in
+    let high : rank_of net g ≤ highest_rank net = rank_top net g among in
+    let count : length c.loop-gate.rows.items ≡ highest_rank net = sym (length-map c.loop-gate.rows.items (λ w. w.items)) ∙ c.loop-gate.invariant.count in
     omega arith
 
 pub loop-gate-preserved : goal.loop-gate-preserved
@@ -25,8 +25,8 @@ loop-gate-preserved c =
     let rows = c.loop-gate.rows.items in
     let among : Contains net.gates g = subst (λ gs. Contains gs g) c.gates-gates.ensures.value (i, c.loop-gate-test.true, sym c.gate-item.is) in
     let low : 0 < rank_of net g = rank_low net c.gates-gates.ensures.sound g among in
-    let high : rank_of net g ≤ highest net = rank_top net g among in
-    let count : length rows ≡ highest net = sym (length-map rows (λ w. w.items)) ∙ c.loop-gate.invariant.count in
+    let high : rank_of net g ≤ highest_rank net = rank_top net g among in
+    let count : length rows ≡ highest_rank net = sym (length-map rows (λ w. w.items)) ∙ c.loop-gate.invariant.count in
     let rank : c.rank-rank.result ≡ rank_of net g = c.rank-rank.ensures.value in
     let spread : length (map (λ w. w.items) rows) ≡ length rows = length-map rows (λ w. w.items) in
     let old : c.index_mut.result.now.items ≡ get_or (map (λ w. w.items) rows) (rank_of net g - 1) [] =

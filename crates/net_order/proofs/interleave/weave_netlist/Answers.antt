@@ -23,7 +23,7 @@ met_below-requires-clause-inside c =
 pub weave-requires-clause-low : goal.weave-requires-clause-low
 weave-requires-clause-low c =
     subst (λ k. All (λ s. slice_index c.args.variables.now s < k) c.as_slice-then-len-before.result.now) (sym c.loop-root.invariant.len)
-    (all_met (λ s. slice_index c.args.variables.now s < length c.args.marks.now.items) (circuit c.args.net.now) c.root-item.result c.as_slice-then-len-before.result.now c.requires.low
+    (all_met (λ s. slice_index c.args.variables.now s < length c.args.seen.now.items) (circuit c.args.net.now) c.root-item.result c.as_slice-then-len-before.result.now c.requires.low
     (c.as_slice-then-len-before.ensures.value ∙ c.in_ok-met.ensures ∙ ap (λ (w : Way). met_below w (circuit c.in_ok-paths.paths.net.now) c.number-then-len-before.result) c.in_ok-paths.ensures.way ∙
     ap (λ (n : Net). met_below ByRank (circuit n) c.number-then-len-before.result) c.in_ok-paths.ensures.net ∙ ap (met_below ByRank (circuit c.args.net.now)) c.number-then-len-before.ensures))
 
@@ -33,9 +33,9 @@ loop-root-preserved c =
     let variable = slice_index c.args.variables.now in
     let s = c.root-item.result in
     let now = c.walk_below.new.found.items in
-    let settled : IsSettled ByRank (circuit c.args.net.now) c.walk_below.new.found.items c.walk_below.new.marks.items =
-    subst (λ (m : Net). IsSettled ByRank (circuit m) c.walk_below.new.found.items c.walk_below.new.marks.items) c.in_ok-paths.ensures.net
-    (subst (λ (w : Way). IsSettled w (circuit c.in_ok-paths.paths.net.now) c.walk_below.new.found.items c.walk_below.new.marks.items) c.in_ok-paths.ensures.way c.in_ok-walk_below.ensures.settled) in
+    let settled : IsSettled ByRank (circuit c.args.net.now) c.walk_below.new.found.items c.walk_below.new.seen.items =
+    subst (λ (m : Net). IsSettled ByRank (circuit m) c.walk_below.new.found.items c.walk_below.new.seen.items) c.in_ok-paths.ensures.net
+    (subst (λ (w : Way). IsSettled w (circuit c.in_ok-paths.paths.net.now) c.walk_below.new.found.items c.walk_below.new.seen.items) c.in_ok-paths.ensures.way c.in_ok-walk_below.ensures.settled) in
     let is_now : c.walk_below.new.found.items ≡ fold with_number c.loop-root.found.items (below ByRank (circuit c.args.net.now) c.root-item.result) =
     c.in_ok-walk_below.ensures.found ∙ ap (λ (w : Way). fold with_number c.loop-root.found.items (below w (circuit c.in_ok-paths.paths.net.now) c.number.result)) c.in_ok-paths.ensures.way ∙
     ap (λ (m : Net). fold with_number c.loop-root.found.items (below ByRank (circuit m) c.number.result)) c.in_ok-paths.ensures.net ∙
@@ -47,9 +47,9 @@ loop-root-preserved c =
           ap (λ (m : Net). met_below ByRank (circuit m) w.number-then-len-before.result) c.in_ok-paths.ensures.net ∙ ap (met_below ByRank (circuit c.args.net.now)) w.number-then-len-before.ensures in
           let is_new : w.weave.new.order.items ≡ weave_below (circuit c.args.net.now) (slice_index c.args.variables.now) c.loop-root.order.items c.root-item.result =
           w.in_ok-weave.ensures.woven ∙ ap (λ xs. weave c.loop-root.order.items None (map (slice_index c.args.variables.now) xs)) is_met in
-          rw (w.order-is, w.marks-is) (record {
+          rw (w.order-is, w.seen-is) (record {
             settled = settled;
-            marked = w.in_ok-weave.ensures.marked;
+            visited = w.in_ok-weave.ensures.visited;
             len = w.in_ok-weave.ensures.len ∙ c.loop-root.invariant.len;
             held = more_in n variable c.loop-root.order.items w.weave.new.order.items c.loop-root.found.items now s c.loop-root.invariant.held is_now is_new;
             rest = next n variable c.as_slice-ranked.result.now c.loop-root.order.items w.weave.new.order.items _ c.loop-root.root-index s c.loop-root-test.true c.root-item.is is_new c.loop-root.invariant.rest;
@@ -57,9 +57,9 @@ loop-root-preserved c =
       | else-len-before w ↦
           let few : length c.walk_below.new.found.items ≤ length c.loop-root.found.items =
           omega (arith, w.if-len-before.false, c.len.ensures, c.len-before.ensures, c.walk_below.new.found.ok.0, c.loop-root.found.ok.0) in
-          rw (w.order-is, w.marks-is) (record {
+          rw (w.order-is, w.seen-is) (record {
             settled = settled;
-            marked = c.loop-root.invariant.marked;
+            visited = c.loop-root.invariant.visited;
             len = c.loop-root.invariant.len;
             held = still_in n variable c.loop-root.order.items c.loop-root.found.items now s c.loop-root.invariant.held is_now few;
             rest = next_still n variable c.as_slice-ranked.result.now c.loop-root.order.items c.loop-root.found.items now _ c.loop-root.root-index s c.loop-root-test.true c.root-item.is c.loop-root.invariant.held is_now few c.loop-root.invariant.rest;

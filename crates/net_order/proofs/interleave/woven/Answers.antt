@@ -8,12 +8,12 @@ use Rattle.net_order.proofs.interleave.woven.Goals as goal
 
 pub weave_netlist-requires-clause-low : goal.weave_netlist-requires-clause-low
 weave_netlist-requires-clause-low c =
-    levels_low c.args.variables.now c.index-sides-i.result c.in_ok-numbers.numbers (circuit c.net.result.now) (length c.loop-i.marks.items) c.net.ensures c.in_ok-numbers.ensures
+    levels_low c.args.variables.now c.index-sides-i.result c.in_ok-numbers.numbers (circuit c.net.result.now) (length c.loop-i.seen.items) c.net.ensures c.in_ok-numbers.ensures
     (known_at c.args.variables.now c.args.sides.now c.loop-i.i c.index-sides-i.result c.requires c.loop-i-test.true c.index-sides-i.is) c.loop-i.invariant.len
 
 pub loop-i-preserved : goal.loop-i-preserved
 loop-i-preserved c = record {
-  marked = c.in_ok-weave_netlist.ensures.marked;
+  visited = c.in_ok-weave_netlist.ensures.visited;
   len = c.in_ok-weave_netlist.ensures.len ∙ c.loop-i.invariant.len;
   rest = next_side c.args.variables.now c.args.sides.now c.loop-i.order.items c.weave_netlist.new.order.items (woven c.args.variables.now c.args.sides.now) c.loop-i.i c.index-sides-i.result c.loop-i-test.true c.index-sides-i.is
       (side_woven c.args.variables.now c.index-sides-i.result c.in_ok-numbers.numbers (circuit c.net.result.now) c.loop-i.order.items c.weave_netlist.new.order.items c.net.ensures c.in_ok-numbers.ensures c.in_ok-weave_netlist.ensures.woven)

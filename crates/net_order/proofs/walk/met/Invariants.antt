@@ -8,6 +8,6 @@ use Rattle.net_order.proofs.walk.met.Given as goal
 
 abbrev pub invariant-loop-root : goal.invariant-loop-root
 invariant-loop-root l = record {
-  settled : IsSettled Written (circuit l.net) l.found.items l.marks.items;
+  settled : IsSettled Written (circuit l.net) l.found.items l.seen.items;
   rest : fold with_number l.found.items (flat_map (below Written (circuit l.net)) (drop l.root-index l.roots)) ≡ met (circuit l.net);
 }

@@ -6,7 +6,7 @@ use Rattle.req_table.specs.declared.Op.{Op}
 use Rattle.req_table.specs.declared.Key.{Key}
 use Rattle.req_table.specs.declared.Child.{Child}
 use Rattle.req_table.specs.Keys.{level_of, child, child_of, IsDeeper, IsHalf}
-use Rattle.req_table.proofs.Memos.{cofactor_at}
+use Rattle.req_table.proofs.ComputedTables.{cofactor_at}
 use Rattle.req_table.proofs.Waved.{bounded, first_of, second_of, child_deeper, child_half}
 use Rattle.req_table.proofs.requests.split.Goals as goal
 use Rattle.req_table.proofs.requests.split.Goals.{After-cofactors-second}

@@ -2,8 +2,8 @@ use Rattle.std.proofs.Common.{◌≡◌, ℕ, ◌<◌, true, false, sym, subst}
 use Rattle.dd_store.specs.Nodes.{cofactor_of}
 use Rattle.dd_store.specs.View.{Has}
 use Rattle.req_table.specs.Keys.{level_of}
-use Rattle.req_table.proofs.Memos.{cofactor_at}
-use Rattle.wave_doors.proofs.Memos.{known_cofactors, known_half}
+use Rattle.req_table.proofs.ComputedTables.{cofactor_at}
+use Rattle.wave_doors.proofs.ComputedTables.{known_cofactors, known_half}
 use Rattle.req_table.proofs.Waved.{bounded, first_of, second_of}
 use Rattle.wave_doors.proofs.known.split_known.Goals as goal
 use Rattle.wave_doors.proofs.known.split_known.Goals.{After-cofactors-second}
@@ -41,11 +41,11 @@ child_known-requires-2-clause-second c = subst (Has c.args.store.now) (sym (seco
 pub returns-clause-low : goal.returns-clause-low
 returns-clause-low c =
     let w = (goal.at.returns-clause-low c).After-cofactors-second in
-    known_half c.args.store.now c.levels.ensures.sound c.args.memo.now c.requires.right c.args.key c.requires.key false c.child_known.result
-    (known_cofactors c.args.store.now c.args.memo.now c.args.key false c.op-op.ensures.value (first_low w) (second_low w) c.child_known.ensures.value)
+    known_half c.args.store.now c.levels.ensures.sound c.args.computed.now c.requires.right c.args.key c.requires.key false c.child_known.result
+    (known_cofactors c.args.store.now c.args.computed.now c.args.key false c.op-op.ensures.value (first_low w) (second_low w) c.child_known.ensures.value)
 
 pub returns-clause-high : goal.returns-clause-high
 returns-clause-high c =
     let w = (goal.at.returns-clause-high c).After-cofactors-second in
-    known_half c.args.store.now c.levels.ensures.sound c.args.memo.now c.requires.right c.args.key c.requires.key true c.child_known-2.result
-    (known_cofactors c.args.store.now c.args.memo.now c.args.key true c.op-op.ensures.value (first_high w) (second_high w) c.child_known-2.ensures.value)
+    known_half c.args.store.now c.levels.ensures.sound c.args.computed.now c.requires.right c.args.key c.requires.key true c.child_known-2.result
+    (known_cofactors c.args.store.now c.args.computed.now c.args.key true c.op-op.ensures.value (first_high w) (second_high w) c.child_known-2.ensures.value)

@@ -4,7 +4,7 @@ use Rattle.std.proofs.lemmas.List.Elements.{All-contains}
 use Rattle.std.proofs.lemmas.Slice.Zip.{all_zipped_more}
 use Rattle.dd_store.specs.declared.reference.Ref.{Ref}
 use Rattle.req_table.specs.Keys.{normal_of}
-use Rattle.req_table.specs.Short.{short_of}
+use Rattle.req_table.specs.TerminalCase.{terminal_of}
 use Rattle.reduce_up.specs.Reducing.{HasAnswer}
 use Rattle.reduce_up.specs.Waves.{Entry, requests_of, IsTakenFrom}
 use Rattle.reduce_up.proofs.Rooted.{to_request, item_at, item_next}
@@ -23,5 +23,5 @@ loop-entry-preserved c =
     let e : Entry = c.entry-item.result in
     let grown : c.push.new.self.items ≡ c.loop-entry.answers.items ++ c.answer_of.result ∷ [] = search rules in
     rw (item_next c.args.entries.now i e c.loop-entry-test.true c.entry-item.is)
-    (subst (AllZip (λ (e : Entry) (r : Ref). IsTakenFrom c.args.results.now (short_of e.0 e.1 e.2) e r) (take i c.args.entries.now ++ e ∷ [])) (sym grown)
-    (all_zipped_more (λ (e : Entry) (r : Ref). IsTakenFrom c.args.results.now (short_of e.0 e.1 e.2) e r) (take i c.args.entries.now) c.loop-entry.answers.items e c.answer_of.result c.loop-entry.invariant c.answer_of.ensures))
+    (subst (AllZip (λ (e : Entry) (r : Ref). IsTakenFrom c.args.results.now (terminal_of e.0 e.1 e.2) e r) (take i c.args.entries.now ++ e ∷ [])) (sym grown)
+    (all_zipped_more (λ (e : Entry) (r : Ref). IsTakenFrom c.args.results.now (terminal_of e.0 e.1 e.2) e r) (take i c.args.entries.now) c.loop-entry.answers.items e c.answer_of.result c.loop-entry.invariant c.answer_of.ensures))

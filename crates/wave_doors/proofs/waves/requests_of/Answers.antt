@@ -2,7 +2,7 @@ use Rattle.std.proofs.Common.{rules, ◌≡◌, ℕ, not, is_some, Option, [], �
 use Rattle.std.proofs.lemmas.List.{append-nil}
 use Rattle.dd_store.specs.declared.reference.Ref.{Ref}
 use Rattle.req_table.specs.Keys.{normal_of}
-use Rattle.req_table.specs.Short.{short_of}
+use Rattle.req_table.specs.TerminalCase.{terminal_of}
 use Rattle.reduce_up.specs.Waves.{Entry}
 use Rattle.wave_doors.proofs.Rooted.{request_none, request_some, requests_next}
 use Rattle.wave_doors.proofs.waves.requests_of.Goals.{then-is_none+in_ok-push, else-is_none}
@@ -12,8 +12,8 @@ pub loop-entry-preserved : goal.loop-entry-preserved
 loop-entry-preserved c =
     let i : ℕ = c.loop-entry.entry-index in
     let e : Entry = c.entry-item.result in
-    let o : Option Ref = short_of e.0 e.1 e.2 in
-    let s : is_some o ≡ not c.is_none.result = ap is_some (sym c.short.ensures.value) ∙ c.is_none.ensures in
+    let o : Option Ref = terminal_of e.0 e.1 e.2 in
+    let s : is_some o ≡ not c.is_none.result = ap is_some (sym c.terminal_case.ensures.value) ∙ c.is_none.ensures in
     elim c.if-is_none.branch [
       | then-is_none+in_ok-push w ↦
           let grown : w.push.new.self.items ≡ c.loop-entry.keys.items ++ w.normal-key.result.0 ∷ [] = search rules in

@@ -1,59 +1,59 @@
 use Rattle.std.proofs.Common.{◌≡◌, sym, subst}
 use Rattle.std.proofs.lemmas.Result.{err_from_is_err_and}
-use Rattle.req_table.specs.Memos.{IsRight}
+use Rattle.req_table.specs.ComputedTables.{IsRight}
 use Rattle.reduce_up.proofs.Known.{sought_good, sought_long, sought_count, sought_right, found_each, waved, sought_refused, sought_done, sought_given_up}
 use Rattle.wave_doors.proofs.waves.wave_one.Goals as goal
 
 pub wave_alone-requires-clause-operands : goal.wave_alone-requires-clause-operands
 wave_alone-requires-clause-operands g c κs within =
-    sought_good c.args.store.now c.levels.ensures.sound c.args.memo.now c.requires.right c.args.entries.now c.requires.operands c.seek.new.self c.in-Ok.ensures c.requests.result.now c.requests.ensures
+    sought_good c.args.store.now c.levels.ensures.sound c.args.computed.now c.requires.right c.args.entries.now c.requires.operands c.seek.new.self c.in-Ok.ensures c.requests.result.now c.requests.ensures
 
 pub returns-in_err-found-clause-right : goal.returns-in_err-found-clause-right
 returns-in_err-found-clause-right g c =
-    sought_right c.args.store.now c.levels.ensures.sound c.args.memo.now c.requires.right c.args.entries.now c.requires.operands c.seek.new.self c.in-Ok.ensures c.requests.result.now c.requests.ensures c.wave_alone.new.store c.wave_alone.ensures.wave.adds
+    sought_right c.args.store.now c.levels.ensures.sound c.args.computed.now c.requires.right c.args.entries.now c.requires.operands c.seek.new.self c.in-Ok.ensures c.requests.result.now c.requests.ensures c.wave_alone.new.store c.wave_alone.ensures.wave.adds
 
 pub settle-requires-clause-requests : goal.settle-requires-clause-requests
 settle-requires-clause-requests g c =
-    sought_long c.args.store.now c.levels.ensures.sound c.args.memo.now c.requires.right c.args.entries.now c.requires.operands c.seek.new.self c.in-Ok.ensures c.requests.result.now c.requests.ensures
+    sought_long c.args.store.now c.levels.ensures.sound c.args.computed.now c.requires.right c.args.entries.now c.requires.operands c.seek.new.self c.in-Ok.ensures c.requests.result.now c.requests.ensures
 
 pub settle-requires-clause-each : goal.settle-requires-clause-each
 settle-requires-clause-each g c =
-    found_each c.args.store.now c.levels.ensures.sound c.args.memo.now c.requires.right c.args.entries.now c.requires.operands c.seek.new.self c.in-Ok.ensures c.requests.result.now c.requests.ensures c.wave_alone.new.store c.in_ok-found.found.items c.as_slice.result.now c.as_slice.ensures.value c.in_ok-found.ensures.wave.answers
+    found_each c.args.store.now c.levels.ensures.sound c.args.computed.now c.requires.right c.args.entries.now c.requires.operands c.seek.new.self c.in-Ok.ensures c.requests.result.now c.requests.ensures c.wave_alone.new.store c.in_ok-found.found.items c.as_slice.result.now c.as_slice.ensures.value c.in_ok-found.ensures.wave.answers
 
 pub settle-requires-clause-known : goal.settle-requires-clause-known
 settle-requires-clause-known g c =
-    sought_count c.args.store.now c.levels.ensures.sound c.args.memo.now c.requires.right c.args.entries.now c.requires.operands c.seek.new.self c.in-Ok.ensures c.requests.result.now c.requests.ensures
+    sought_count c.args.store.now c.levels.ensures.sound c.args.computed.now c.requires.right c.args.entries.now c.requires.operands c.seek.new.self c.in-Ok.ensures c.requests.result.now c.requests.ensures
 
 pub returns-in-Ok-settle-clause-kept : goal.returns-in-Ok-settle-clause-kept
 returns-in-Ok-settle-clause-kept g c =
-    let done = waved c.args.store.now c.levels.ensures.sound c.args.memo.now c.requires.right c.args.entries.now c.requires.operands c.seek.new.self c.in-Ok.ensures c.requests.result.now c.requests.ensures c.wave_alone.new.store c.in_ok-found.found.items c.as_slice.result.now c.as_slice.ensures.value c.in_ok-found.ensures.wave.answers
-    c.in_ok-found.ensures.wave.sound c.in_ok-found.ensures.wave.adds c.in-Ok-settle.answers.items c.in-Ok-settle.ensures.answers c.settle.new.memo c.in-Ok-settle.ensures.kept in
+    let done = waved c.args.store.now c.levels.ensures.sound c.args.computed.now c.requires.right c.args.entries.now c.requires.operands c.seek.new.self c.in-Ok.ensures c.requests.result.now c.requests.ensures c.wave_alone.new.store c.in_ok-found.found.items c.as_slice.result.now c.as_slice.ensures.value c.in_ok-found.ensures.wave.answers
+    c.in_ok-found.ensures.wave.sound c.in_ok-found.ensures.wave.adds c.in-Ok-settle.answers.items c.in-Ok-settle.ensures.answers c.settle.new.computed c.in-Ok-settle.ensures.kept in
     done.kept
 
 pub returns-in-Ok-settle-clause-right : goal.returns-in-Ok-settle-clause-right
 returns-in-Ok-settle-clause-right g c =
-    let done = waved c.args.store.now c.levels.ensures.sound c.args.memo.now c.requires.right c.args.entries.now c.requires.operands c.seek.new.self c.in-Ok.ensures c.requests.result.now c.requests.ensures c.wave_alone.new.store c.in_ok-found.found.items c.as_slice.result.now c.as_slice.ensures.value c.in_ok-found.ensures.wave.answers
-    c.in_ok-found.ensures.wave.sound c.in_ok-found.ensures.wave.adds c.in-Ok-settle.answers.items c.in-Ok-settle.ensures.answers c.settle.new.memo c.in-Ok-settle.ensures.kept in
+    let done = waved c.args.store.now c.levels.ensures.sound c.args.computed.now c.requires.right c.args.entries.now c.requires.operands c.seek.new.self c.in-Ok.ensures c.requests.result.now c.requests.ensures c.wave_alone.new.store c.in_ok-found.found.items c.as_slice.result.now c.as_slice.ensures.value c.in_ok-found.ensures.wave.answers
+    c.in_ok-found.ensures.wave.sound c.in_ok-found.ensures.wave.adds c.in-Ok-settle.answers.items c.in-Ok-settle.ensures.answers c.settle.new.computed c.in-Ok-settle.ensures.kept in
     done.right
 
 pub returns-clause-right : goal.returns-clause-right
 returns-clause-right g c =
-    let same : c.settle.new.memo ≡ c.args.memo.now = c.in-Err.ensures.refused in
+    let same : c.settle.new.computed ≡ c.args.computed.now = c.in-Err.ensures.refused in
     subst (IsRight c.wave_alone.new.store) (sym same)
-    (sought_right c.args.store.now c.levels.ensures.sound c.args.memo.now c.requires.right c.args.entries.now c.requires.operands c.seek.new.self c.in-Ok.ensures c.requests.result.now c.requests.ensures c.wave_alone.new.store c.wave_alone.ensures.wave.adds)
+    (sought_right c.args.store.now c.levels.ensures.sound c.args.computed.now c.requires.right c.args.entries.now c.requires.operands c.seek.new.self c.in-Ok.ensures c.requests.result.now c.requests.ensures c.wave_alone.new.store c.wave_alone.ensures.wave.adds)
 
 pub returns-in_err-found-clause-wave : goal.returns-in_err-found-clause-wave
 returns-in_err-found-clause-wave g c =
     let p = err_from_is_err_and c.from_residual.result c.from_residual.ensures.1 in
-    let done = sought_refused c.args.store.now c.levels.ensures.sound c.args.memo.now c.requires.right c.args.entries.now c.requires.operands c.seek.new.self c.in-Ok.ensures c.requests.result.now c.requests.ensures c.wave_alone.new.store _ c.in_err-found.ensures.wave in
+    let done = sought_refused c.args.store.now c.levels.ensures.sound c.args.computed.now c.requires.right c.args.entries.now c.requires.operands c.seek.new.self c.in-Ok.ensures c.requests.result.now c.requests.ensures c.wave_alone.new.store _ c.in_err-found.ensures.wave in
     rw (p.1, p.2) done
 
 pub returns-in-Ok-settle-clause-wave : goal.returns-in-Ok-settle-clause-wave
 returns-in-Ok-settle-clause-wave g c =
-    let done = waved c.args.store.now c.levels.ensures.sound c.args.memo.now c.requires.right c.args.entries.now c.requires.operands c.seek.new.self c.in-Ok.ensures c.requests.result.now c.requests.ensures c.wave_alone.new.store c.in_ok-found.found.items c.as_slice.result.now c.as_slice.ensures.value c.in_ok-found.ensures.wave.answers
-    c.in_ok-found.ensures.wave.sound c.in_ok-found.ensures.wave.adds c.in-Ok-settle.answers.items c.in-Ok-settle.ensures.answers c.settle.new.memo c.in-Ok-settle.ensures.kept in
-    sought_done c.args.store.now c.levels.ensures.sound c.args.memo.now c.requires.right c.args.entries.now c.requires.operands c.seek.new.self c.in-Ok.ensures c.requests.result.now c.requests.ensures c.wave_alone.new.store c.in_ok-found.found c.in_ok-found.ensures.wave c.in-Ok-settle.answers done.answered
+    let done = waved c.args.store.now c.levels.ensures.sound c.args.computed.now c.requires.right c.args.entries.now c.requires.operands c.seek.new.self c.in-Ok.ensures c.requests.result.now c.requests.ensures c.wave_alone.new.store c.in_ok-found.found.items c.as_slice.result.now c.as_slice.ensures.value c.in_ok-found.ensures.wave.answers
+    c.in_ok-found.ensures.wave.sound c.in_ok-found.ensures.wave.adds c.in-Ok-settle.answers.items c.in-Ok-settle.ensures.answers c.settle.new.computed c.in-Ok-settle.ensures.kept in
+    sought_done c.args.store.now c.levels.ensures.sound c.args.computed.now c.requires.right c.args.entries.now c.requires.operands c.seek.new.self c.in-Ok.ensures c.requests.result.now c.requests.ensures c.wave_alone.new.store c.in_ok-found.found c.in_ok-found.ensures.wave c.in-Ok-settle.answers done.answered
 
 pub returns-clause-wave : goal.returns-clause-wave
 returns-clause-wave g c =
-    sought_given_up c.args.store.now c.levels.ensures.sound c.args.memo.now c.requires.right c.args.entries.now c.requires.operands c.seek.new.self c.in-Ok.ensures c.requests.result.now c.requests.ensures c.wave_alone.new.store c.in_ok-found.ensures.wave.sound c.in_ok-found.ensures.wave.adds _ tt
+    sought_given_up c.args.store.now c.levels.ensures.sound c.args.computed.now c.requires.right c.args.entries.now c.requires.operands c.seek.new.self c.in-Ok.ensures c.requests.result.now c.requests.ensures c.wave_alone.new.store c.in_ok-found.ensures.wave.sound c.in_ok-found.ensures.wave.adds _ tt

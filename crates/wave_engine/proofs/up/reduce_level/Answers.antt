@@ -98,7 +98,7 @@ returns-in-Err-clause-fault c =
     let k : Key = (here c.args.store.now c.requires.held c.args.requests.now c.args.pairs.now c.args.answers.now v c.requires.ready i c.loop-pair.store c.loop-pair.own c.loop-pair.invariant d at).0 in
     let r : IsRecordAt c.loop-pair.store v (rec k lo hi) = is_record c.args.store.now c.requires.held c.args.requests.now c.args.pairs.now c.args.answers.now v c.requires.ready i c.loop-pair.store c.loop-pair.own c.loop-pair.invariant d at lo hi
     c.resolve-low.ensures c.resolve-high.ensures in
-    subst (IsLevelFault c.make.new.self c.args.requests.now v) (sym c.wave_fault.ensures)
+    subst (IsLevelFault c.make.new.self c.args.requests.now v) (sym c.from.ensures)
     (one_fault c.args.store.now c.requires.held c.args.requests.now c.args.pairs.now c.args.answers.now v c.requires.ready i c.loop-pair.store c.loop-pair.own c.loop-pair.invariant d at c.make.new.self c.in-Err.fault
     (record_fault c.loop-pair.store c.make.new.self v k lo hi (Err c.in-Err.fault) c.loop-pair.invariant.held r.key r.low r.high c.in-Err.ensures.refused c.in-Err.ensures.full))
 

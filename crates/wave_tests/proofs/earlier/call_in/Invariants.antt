@@ -1,6 +1,6 @@
 use Rattle.std.proofs.Common.{All}
 use Rattle.dd_store.specs.View.{Has}
-use Rattle.req_table.specs.Memos.{IsRight}
+use Rattle.req_table.specs.ComputedTables.{IsRight}
 use Rattle.wave_tests.proofs.earlier.call_in.Given as goal
 
 abbrev pub invariant-loop-behind : goal.invariant-loop-behind

@@ -1,4 +1,4 @@
-use Rattle.req_table.proofs.Memos.{right_kept}
+use Rattle.req_table.proofs.ComputedTables.{right_kept}
 use Rattle.wave_tests.proofs.widths.waves_of.Goals as goal
 
 pub loop-preserved : goal.loop-preserved

@@ -2,7 +2,7 @@ use Rattle.std.proofs.Common.{◌≡◌, false, ◌<◌, ◌+◌, ◌*◌, Ok, E
 use Rattle.std.proofs.lemmas.Result.{err_from_is_err_and}
 use Rattle.dd_store.specs.declared.reference.NodeId.{NodeId}
 use Rattle.dd_store.specs.declared.reference.Reference.TheVariants.{Node}
-use Rattle.dd_store.specs.declared.level.Slot.{Slot}
+use Rattle.dd_store.specs.declared.level.Shard.{Shard}
 use Rattle.slot_table.specs.Placing.{IsPlaced}
 use Rattle.dd_store.specs.Fault.{fault_of}
 use Rattle.dd_store.specs.Nodes.{Nodes, Makes}
@@ -17,7 +17,7 @@ use Rattle.dd_store.proofs.store.Store.find_or_add.Goals.{After-find_or_add, in-
 abbrev old : After-find_or_add → Nodes
 old c = record { levels = c.self.inside.levels; limit = c.self.inside.limit; shards = pairs_of c.self.inside.slots.items }
 
-abbrev slot : After-find_or_add → Slot
+abbrev slot : After-find_or_add → Shard
 slot c = record { shard = c.find_or_add.new.self; fault = c.index_mut-slot.result.now.fault; found = c.index_mut-slot.result.now.found }
 
 abbrev new : After-find_or_add → Nodes

@@ -1,6 +1,6 @@
 use Rattle.std.proofs.Common.{◌≡◌, ◌<◌, ◌*◌, length, ℕ, ◌+◌, ◌-◌, List, sym, subst, ap, rules, arith}
 use Rattle.std.specs.Vec.{vec_len}
-use Rattle.dd_store.specs.declared.level.Slot.{Slot}
+use Rattle.dd_store.specs.declared.level.Shard.{Shard}
 use Rattle.dd_store.specs.Graph.{Pair}
 use Rattle.dd_store.specs.Nodes.{Nodes}
 use Rattle.dd_store.specs.Adding.{AreReady}
@@ -97,7 +97,7 @@ returns-clause-sound g c =
 pub returns-clause-sixteen : goal.returns-clause-sixteen
 returns-clause-sixteen g c =
     let w = (goal.at.returns-clause-sixteen g c).After-make_slots in
-    ap (λ z. length z) c.take_found.ensures.found ∙ length-map c.make_slots.new.slots (λ (z : Slot). z.found) ∙ sixteen g w
+    ap (λ z. length z) c.take_found.ensures.found ∙ length-map c.make_slots.new.slots (λ (z : Shard). z.found) ∙ sixteen g w
 
 pub returns-clause-answers : goal.returns-clause-answers
 returns-clause-answers g c =

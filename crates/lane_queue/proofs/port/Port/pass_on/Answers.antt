@@ -1,5 +1,5 @@
 use Rattle.std.proofs.Common.{sym, ap, subst, ◌∙◌}
-use Rattle.lane_queue.specs.declared.port.Line.{Line}
+use Rattle.lane_queue.specs.declared.line.Line.{Line}
 use Rattle.lane_queue.specs.declared.rule.Lane.{Lane}
 use Rattle.lane_queue.specs.Line.{line_view, IsLiveOn}
 use Rattle.lane_queue.specs.PortView.{IsKept}

@@ -1,6 +1,6 @@
 use Rattle.std.proofs.Common.{◌∙◌, ap, subst, arith}
 use Rattle.std.specs.Prelude.{◌<◌, List, length, slice_index_or}
-use Rattle.req_table.specs.Memos.{Keeps}
+use Rattle.req_table.specs.ComputedTables.{Keeps}
 use Rattle.reduce_up.specs.Waves.{Entry}
 use Rattle.reduce_up.proofs.Known.{kept_more}
 use Rattle.reduce_up.proofs.seeking.Sought.keep.Goals as goal
@@ -8,6 +8,6 @@ use Rattle.reduce_up.proofs.seeking.Sought.keep.Goals as goal
 pub loop-place-preserved : goal.loop-place-preserved
 loop-place-preserved c =
     let here = c.index.ensures ∙ ap (λ s. slice_index_or s.requests c.loop-place.place c.index.result.now) c.self.view_is in
-    let keeps = subst (λ r. Keeps c.loop-place.memo c.normal-key.result.0 r c.keep.new.self) c.marked.ensures c.keep.ensures in
-    λ new more. c.loop-place.invariant new (kept_more c.loop-place.memo c.keep.new.self new c.args.self.now.requests c.args.found.now c.loop-place.place
+    let keeps = subst (λ r. Keeps c.loop-place.computed c.normal-key.result.0 r c.keep.new.self) c.marked.ensures c.keep.ensures in
+    λ new more. c.loop-place.invariant new (kept_more c.loop-place.computed c.keep.new.self new c.args.self.now.requests c.args.found.now c.loop-place.place
     c.index.result.now c.index-found-place.result c.normal-key.result (subst (λ (r : List Entry). c.loop-place.place < length r) (ap (λ s. s.requests) c.self.view_is) (omega (arith, c.loop-place-test.true, c.len-place-end.ensures))) c.requires.each here c.index-found-place.is c.normal-key.ensures.key keeps more)

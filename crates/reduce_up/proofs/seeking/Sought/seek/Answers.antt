@@ -9,7 +9,7 @@ use Rattle.reduce_up.proofs.seeking.Sought.seek.Goals.{then-is_none+in_ok-push-2
 
 pub loop-entry-preserved : goal.loop-entry-preserved
 loop-entry-preserved c =
-    let m = c.args.memo.now in
+    let m = c.args.computed.now in
     let es = c.args.entries.now in
     let i = c.loop-entry.entry-index in
     let e : Entry = c.entry-item.result in

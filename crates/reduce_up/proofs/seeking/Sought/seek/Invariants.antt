@@ -4,6 +4,6 @@ use Rattle.reduce_up.proofs.seeking.Sought.seek.Given as goal
 
 abbrev pub invariant-loop-entry : goal.invariant-loop-entry
 invariant-loop-entry l = record {
-  known : l.self-inside.known.items ++ map (known_entry l.memo) (drop l.entry-index l.entries) ≡ map (known_entry l.memo) l.entries;
-  requests : l.self-inside.requests.items ++ unknown l.memo (drop l.entry-index l.entries) ≡ unknown l.memo l.entries;
+  known : l.self-inside.known.items ++ map (known_entry l.computed) (drop l.entry-index l.entries) ≡ map (known_entry l.computed) l.entries;
+  requests : l.self-inside.requests.items ++ unknown l.computed (drop l.entry-index l.entries) ≡ unknown l.computed l.entries;
 }

@@ -1,5 +1,5 @@
 use Rattle.std.proofs.Common.{◌≡◌, ◌+◌, ◌*◌, ◌<◌, [], ◌∷◌, ◌++◌, get_or, set, length, ap, sym, ◌∙◌, subst, mod-lt, arith}
-use Rattle.req_table.specs.Short.{owner_of}
+use Rattle.req_table.specs.TerminalCase.{owner_of}
 use Rattle.wave_core.specs.View.{View, owe_of}
 use Rattle.wave_core.proofs.Machines.{view_in}
 use Rattle.wave_core.proofs.Owes.{forgiven, owe_size}

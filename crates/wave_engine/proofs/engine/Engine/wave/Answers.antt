@@ -1,6 +1,6 @@
 use Rattle.std.proofs.Common.{◌<◌, ◌-◌, ◌^◌, refl, sym, subst}
 use Rattle.std.specs.Prelude.{Ok, Err}
-use Rattle.req_table.specs.Memos.{IsRight}
+use Rattle.req_table.specs.ComputedTables.{IsRight}
 use Rattle.reduce_up.specs.Known.{unknown}
 use Rattle.reduce_up.specs.Waves.{AnswersWave}
 use Rattle.expand_work.specs.Bounds.{most_of}

@@ -2,9 +2,9 @@ use Rattle.std.proofs.Common.{◌≡◌, ◌∙◌, ◌<◌, ℕ, List, [], leng
 use Rattle.std.proofs.lemmas.List.{set-get_or}
 use Rattle.req_table.specs.declared.Key.{Key}
 use Rattle.req_table.specs.declared.Child.TheVariants as child
-use Rattle.wave_engine.specs.Places.{row, AreMarked, Enters, Admits}
+use Rattle.wave_engine.specs.Places.{row, AreMembers, Enters, Admits}
 use Rattle.wave_engine.proofs.Placing.{ask_admits, ask_placed, none_admits, offered_enters, row_read}
-use Rattle.wave_engine.proofs.Marked.{marked_first, marked_more}
+use Rattle.wave_engine.proofs.Members.{member_first, member_more}
 use Rattle.wave_engine.proofs.requests.Requests.admit.Goals as goal
 
 pub invariant_of-self-then-count-eq0 : goal.invariant_of-self-then-count-eq0
@@ -16,7 +16,7 @@ invariant_of-self-then-count-eq0 c =
     let fits : l < length T = omega (arith, same, c.requires) in
     let read : c.index_mut.result.now ≡ row T l = row_read T l c.index_mut.result.now fits c.index_mut.ensures.value in
     let enters : Enters (row T l) c.args.key c.in_ok-place.place new = subst (λ (z : List Key). Enters z c.args.key c.in_ok-place.place new) read (offered_enters c.index_mut.result.now new c.args.key c.in_ok-place.place c.in_ok-place.field-0-1 c.in_ok-place.ensures.offers c.in_ok-place.ensures.stands) in
-    marked_first c.self.inside.marks c.mark.new.self T l c.args.key c.in_ok-place.place new c.self.invariant fits enters c.mark.ensures.room c.mark.ensures.own c.mark.ensures.others
+    member_first c.self.inside.asked c.insert.new.self T l c.args.key c.in_ok-place.place new c.self.invariant fits enters c.insert.ensures.room c.insert.ensures.own c.insert.ensures.others
 
 pub invariant_of-self-else-count-eq0 : goal.invariant_of-self-else-count-eq0
 invariant_of-self-else-count-eq0 c =
@@ -28,7 +28,7 @@ invariant_of-self-else-count-eq0 c =
     let read : c.index_mut.result.now ≡ row T l = row_read T l c.index_mut.result.now fits c.index_mut.ensures.value in
     let enters : Enters (row T l) c.args.key c.in_ok-place.place new = subst (λ (z : List Key). Enters z c.args.key c.in_ok-place.place new) read (offered_enters c.index_mut.result.now new c.args.key c.in_ok-place.place c.in_ok-place.field-0-1 c.in_ok-place.ensures.offers c.in_ok-place.ensures.stands) in
     let count : c.count-count.result ≡ length (row T l) = subst (λ (z : List (List Key)). c.count-count.result ≡ length (row z l)) (sym c.self.view_is) c.count-count.ensures.value in
-    marked_more c.self.inside.marks T l c.args.key c.in_ok-place.place new c.self.invariant fits (let ne : c.count-count.result ≡ 0 → ⊥ = c.if-count-eq0.false in omega (arith, count, ne)) enters
+    member_more c.self.inside.asked T l c.args.key c.in_ok-place.place new c.self.invariant fits (let ne : c.count-count.result ≡ 0 → ⊥ = c.if-count-eq0.false in omega (arith, count, ne)) enters
 
 pub returns-then-count-eq0-clause-admits : goal.returns-then-count-eq0-clause-admits
 returns-then-count-eq0-clause-admits c =
@@ -60,7 +60,7 @@ invariant_of-self c =
     let fits : l < length T = omega (arith, same, c.requires) in
     let read : c.index_mut.result.now ≡ row T l = row_read T l c.index_mut.result.now fits c.index_mut.ensures.value in
     let unchanged : set T l c.admit.new.self ≡ T = ap (set T l) (c.in_err-place.ensures.refused ∙ read) ∙ set-get_or T l [] in
-    subst (AreMarked c.self.inside.marks) (sym unchanged) c.self.invariant
+    subst (AreMembers c.self.inside.asked) (sym unchanged) c.self.invariant
 
 pub returns-in_err-place-clause-admits : goal.returns-in_err-place-clause-admits
 returns-in_err-place-clause-admits c =
@@ -73,8 +73,8 @@ returns-in_err-place-clause-admits c =
     λ m. subst (λ (z : List (List Key)). Admits z (child.Ask l c.args.key m) (set T l c.admit.new.self)) c.self.view_is
     (subst (Admits T (child.Ask l c.args.key m)) (sym unchanged) (none_admits T (child.Ask l c.args.key m)))
 
-pub mark-requires : goal.mark-requires
-mark-requires c =
+pub insert-requires : goal.insert-requires
+insert-requires c =
     let T : List (List Key) = c.self.inside.tables.items in
     let l : ℕ = c.args.level in
     let same : length T ≡ length c.args.self.now = ap length c.self.view_is in

@@ -33,14 +33,14 @@ returns-in_err-shared-clause-wave g c =
     let p = err_from_is_err_and c.from_residual-in_err-shared.result c.from_residual-in_err-shared.ensures.1 in
     rw (p.1, p.2) (wave_given_up c.args.store.now c.args.entries.now c.args.entries.now c.hand_over.new.store c.in_err-shared.field-0.0 c.hand_over.ensures.sound c.hand_over.ensures.adds c.in_err-shared.ensures.fault)
 
-pub returns-in_err-reduce-clause-wave : goal.returns-in_err-reduce-clause-wave
-returns-in_err-reduce-clause-wave g c =
+pub returns-in_err-reduced-clause-wave : goal.returns-in_err-reduced-clause-wave
+returns-in_err-reduced-clause-wave g c =
     let adds : AddsDescribed c.args.store.now c.reduce.new.store (IsWanted c.args.store.now c.args.entries.now) =
     adds_both c.args.store.now c.levels-levels.ensures.sound c.args.entries.now c.requires.operands c.hand_over.new.store c.hand_over.ensures.adds.keeps c.hand_over.ensures.sound c.reduce.new.store c.hand_over.ensures.adds c.reduce.ensures.adds in
-    let f : IsWaveFault c.args.store.now c.args.entries.now c.reduce.new.store c.in_err-reduce.field-0.0 =
-    fault_back c.args.store.now c.levels-levels.ensures.sound c.args.entries.now c.requires.operands c.hand_over.new.store c.hand_over.ensures.adds.keeps c.reduce.new.store c.in_err-reduce.field-0.0 c.in_err-reduce.ensures.fault in
-    let p = err_from_is_err_and c.from_residual-in_err-reduce.result c.from_residual-in_err-reduce.ensures.1 in
-    rw (p.1, p.2) (wave_given_up c.args.store.now c.args.entries.now c.args.entries.now c.reduce.new.store c.in_err-reduce.field-0.0 c.reduce.ensures.sound adds f)
+    let f : IsWaveFault c.args.store.now c.args.entries.now c.reduce.new.store c.in_err-reduced.field-0.0 =
+    fault_back c.args.store.now c.levels-levels.ensures.sound c.args.entries.now c.requires.operands c.hand_over.new.store c.hand_over.ensures.adds.keeps c.reduce.new.store c.in_err-reduced.field-0.0 c.in_err-reduced.ensures.fault in
+    let p = err_from_is_err_and c.from_residual-in_err-reduced.result c.from_residual-in_err-reduced.ensures.1 in
+    rw (p.1, p.2) (wave_given_up c.args.store.now c.args.entries.now c.args.entries.now c.reduce.new.store c.in_err-reduced.field-0.0 c.reduce.ensures.sound adds f)
 
 pub root_answers-requires : goal.root_answers-requires
 root_answers-requires g c =
@@ -48,7 +48,7 @@ root_answers-requires g c =
     let rows : List (List (Placed × Placed)) = c.go_down.new.down.rows.items in
     let ps : List Placed = c.go_down.new.down.roots.items in
     let D : IsDown c.args.store.now c.args.entries.now c.in_ok-from.from T rows ps c.go_down.new.answers.items = c.in_ok-from.ensures.down in
-    let R : AreReducedBelow c.hand_over.new.store c.args.entries.now T 0 c.reduce.new.store c.reduce.new.answers.items = c.in_ok-reduce.ensures.reduced in
+    let R : AreReducedBelow c.hand_over.new.store c.args.entries.now T 0 c.reduce.new.store c.reduce.new.answers.items = c.in_ok-reduced.ensures.reduced in
     subst (λ (z : List Placed). All (λ p. (r : Ref) × ComesTo c.as_slice-2.result.now p r) z) (sym c.as_slice.ensures.value)
     (subst (λ (z : List (List Ref)). All (λ p. (r : Ref) × ComesTo z p r) ps) (sym c.as_slice-2.ensures.value)
     (roots_come c.args.store.now c.levels-levels.ensures.sound c.args.entries.now c.requires.operands T c.reduce.new.answers.items (λ v q k h. R.counts v q k (omega arith) h) ps D.expanded.rooted))
@@ -59,7 +59,7 @@ returns-in-Ok-clause-wave g c =
     let rows : List (List (Placed × Placed)) = c.go_down.new.down.rows.items in
     let ps : List Placed = c.go_down.new.down.roots.items in
     let D : IsDown c.args.store.now c.args.entries.now c.in_ok-from.from T rows ps c.go_down.new.answers.items = c.in_ok-from.ensures.down in
-    let R : AreReducedBelow c.hand_over.new.store c.args.entries.now T 0 c.reduce.new.store c.reduce.new.answers.items = c.in_ok-reduce.ensures.reduced in
+    let R : AreReducedBelow c.hand_over.new.store c.args.entries.now T 0 c.reduce.new.store c.reduce.new.answers.items = c.in_ok-reduced.ensures.reduced in
     let come : AllZip (ComesTo c.reduce.new.answers.items) ps c.in-Ok.answers.items =
     subst (λ (z : List Placed). AllZip (ComesTo c.reduce.new.answers.items) z c.in-Ok.answers.items) c.as_slice.ensures.value
     (subst (λ (z : List (List Ref)). AllZip (ComesTo z) c.as_slice.result.now c.in-Ok.answers.items) c.as_slice-2.ensures.value c.in-Ok.ensures) in
@@ -90,7 +90,7 @@ returns-in-Err-clause-memory g c = λ old _.
     let T : List (List Key) = c.go_down.new.down.requests in
     let ps : List Placed = c.go_down.new.down.roots.items in
     let D : IsDown c.args.store.now c.args.entries.now c.in_ok-from.from T c.go_down.new.down.rows.items ps c.go_down.new.answers.items = c.in_ok-from.ensures.down in
-    let R : AreReducedBelow c.hand_over.new.store c.args.entries.now T 0 c.reduce.new.store c.reduce.new.answers.items = c.in_ok-reduce.ensures.reduced in
+    let R : AreReducedBelow c.hand_over.new.store c.args.entries.now T 0 c.reduce.new.store c.reduce.new.answers.items = c.in_ok-reduced.ensures.reduced in
     let first : IsWithinBelow c.args.store.now T c.in_ok-from.from c.hand_over.new.store = c.in_ok-shared.ensures.within in
     within_still c.args.store.now c.args.entries.now c.reduce.new.store
     (within_both c.args.store.now c.levels-levels.ensures.sound c.args.entries.now c.requires.operands T ps D.expanded.rooted c.in_ok-from.from c.hand_over.new.store c.reduce.new.store first R.within) old

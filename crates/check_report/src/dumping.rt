@@ -1,0 +1,77 @@
+//! The values of the first pair that differs, as a VCD.
+ghost use Rattle.std.specs.Prelude.{◌≡◌, IfOk, IfErr, option_map};
+ghost use Rattle.net_order.specs.declared.order.Order.{Order as OrderValue};
+ghost use Rattle.check_report.specs.Best.{IsAllowed};
+ghost use Rattle.check_report.specs.Check.{IsCheckFault};
+ghost use Rattle.check_report.specs.Dumping.{IsDump, IsVcdAt, bytes_in, first_at, told_at};
+ghost use Rattle.check_report.specs.Explaining.{told_order};
+ghost use Rattle.check_report.specs.Tasks.{OfTask};
+ghost use Rattle.check_report.specs.Trials.{EndsAtOnce, ordered_names};
+
+use crate::choice::Attempt;
+use crate::explaining::told_pairing;
+use crate::fault::CheckFault;
+use crate::task::Task;
+use net_explain::{Half, values, vcd_of};
+use net_order::pairing::Pairing;
+use report_text::{Verdict, Verdicts};
+use std::alloc::AllocError;
+
+/// The assignment that a verdict tells, where it tells one.
+fn told_at(verdict: &Verdict) -> Option<&[bool]>
+    ensures { option_map (λ bits. bits.now) result ≡ told_at verdict.now }
+{
+    match verdict {
+        Verdict::Differs { at, .. } => Some(at.as_slice()),
+        Verdict::Equal { .. } | Verdict::Lone { .. } | Verdict::Undecided { .. } => None,
+    }
+}
+
+/// The assignment of the first pair that differs, where one does.
+fn first_at(verdicts: &[Verdict]) -> Option<&[bool]>
+    ensures { option_map (λ bits. bits.now) result ≡ first_at verdicts.now }
+{
+    for place in 0..verdicts.len() {
+        if let Some(at) = told_at(&verdicts[place]) {
+            return Some(at);
+        }
+    }
+    None
+}
+
+/// The values of all signals of both netlists at an assignment.
+fn vcd_at<H>(task: &Task<'_, H>, pairing: &Pairing, at: &[bool]) -> Result<Vec<u8>, AllocError>
+    ensures { IfOk result (λ text. IsVcdAt task.now.first.now task.now.second.now pairing.now at.now text.items) }
+{
+    let bits = values(task.alloc, task.first, pairing, Half::First, at)?;
+    let others = values(task.alloc, task.second, pairing, Half::Second, at)?;
+    let (bits, others) = (bits.as_slice(), others.as_slice());
+    vcd_of(task.alloc, task.first, bits, task.second, others)
+}
+
+/// The values at the assignment of the first of these verdicts that tells one, where that is asked for.
+pub(crate) fn dump<H>(
+    task: &Task<'_, H>,
+    tried: Option<Attempt>,
+    verdicts: &Verdicts,
+) -> Result<Option<Vec<u8>>, CheckFault>
+    requires names { verdicts.now.variables ≡ ordered_names task.now (told_order task.now.settings.now.order tried) }
+    ensures dump { OfTask task.now (λ told s. IfOk result (λ vcd. IsDump s.vcd told s tried verdicts.now (bytes_in vcd))) }
+    ensures fault { OfTask task.now (λ told s. IfErr result (λ fault. (order : OrderValue) × IsAllowed s.order order × IsCheckFault told ⊥ ⊥ ⊥ s.matching order fault)) }
+    ensures ends { IfErr result EndsAtOnce }
+{
+    if !task.settings.vcd {
+        return Ok(None);
+    }
+    let Some(at) = first_at(verdicts.as_slice()) else {
+        return Ok(None);
+    };
+    let pairing = match told_pairing(task, tried) {
+        Ok(pairing) => pairing,
+        Err(fault) => return Err(fault),
+    };
+    match vcd_at(task, &pairing, at) {
+        Ok(text) => Ok(Some(text)),
+        Err(_) => Err(CheckFault::OutOfMemory),
+    }
+}

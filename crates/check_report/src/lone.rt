@@ -1,0 +1,85 @@
+//! The verdicts of outputs and registers that have no partner.
+ghost use Rattle.std.specs.Prelude.{◌≡◌, ◌++◌, ◌<◌, length, map, All, OnOk};
+ghost use Rattle.net_bench.specs.Circuit.{circuit};
+ghost use Rattle.net_order.specs.Order.{names_of};
+ghost use Rattle.check_report.specs.Report.{lone_side};
+
+use net_bench::netlist::Signal;
+use net_bench::reader::Netlist;
+use net_order::pairing::Pairing;
+use report_text::{Name, PairKind, Side, Verdict};
+use std::alloc::{AllocError, Global};
+
+/// Puts the verdicts of signals of one netlist that have no partner at the end.
+pub fn add_lone(
+    alloc: Global,
+    verdicts: &mut Vec<Verdict>,
+    side: Side,
+    role: PairKind,
+    net: &Netlist,
+    signals: &[Signal],
+) -> Result<(), AllocError>
+    requires { All (λ s. s < length net.now.names) signals.now }
+    ensures { OnOk result (verdicts.new.items ≡ verdicts.old.items ++ map (Verdict.Lone side role) (names_of (circuit net.now) signals.now)) }
+{
+    for signal in signals {
+        let name = Name::copied(alloc, net.name(*signal))?;
+        verdicts.push(Verdict::Lone { side, role, name })?;
+    }
+    Ok(())
+}
+
+/// Puts the verdicts of the first netlist's outputs that have no partner at the end, then of its registers.
+pub fn add_first_lone(
+    alloc: Global,
+    verdicts: &mut Vec<Verdict>,
+    net: &Netlist,
+    pairing: &Pairing,
+) -> Result<(), AllocError>
+    requires outputs { All (λ s. s < length net.now.names) pairing.now.outputs.only_first }
+    requires registers { All (λ s. s < length net.now.names) pairing.now.registers.only_first }
+    ensures { OnOk result (verdicts.new.items ≡ verdicts.old.items ++ lone_side Side.First (circuit net.now) pairing.now.outputs.only_first pairing.now.registers.only_first) }
+{
+    let outputs = pairing.only_first();
+    let registers = pairing.only_first_next();
+    add_lone(alloc, verdicts, Side::First, PairKind::Output, net, outputs)?;
+    add_lone(
+        alloc,
+        verdicts,
+        Side::First,
+        PairKind::NextState,
+        net,
+        registers,
+    )
+}
+
+/// Puts the verdicts of the second netlist's outputs that have no partner at the end, then of its registers.
+pub fn add_second_lone(
+    alloc: Global,
+    verdicts: &mut Vec<Verdict>,
+    net: &Netlist,
+    pairing: &Pairing,
+) -> Result<(), AllocError>
+    requires outputs { All (λ s. s < length net.now.names) pairing.now.outputs.only_second }
+    requires registers { All (λ s. s < length net.now.names) pairing.now.registers.only_second }
+    ensures { OnOk result (verdicts.new.items ≡ verdicts.old.items ++ lone_side Side.Second (circuit net.now) pairing.now.outputs.only_second pairing.now.registers.only_second) }
+{
+    let outputs = pairing.only_second();
+    let registers = pairing.only_second_next();
+    add_lone(
+        alloc,
+        verdicts,
+        Side::Second,
+        PairKind::Output,
+        net,
+        outputs,
+    )?;
+    add_lone(
+        alloc,
+        verdicts,
+        Side::Second,
+        PairKind::NextState,
+        net,
+        registers,
+    )
+}

@@ -1,0 +1,223 @@
+//! What helps against a fault.
+ghost use Rattle.std.specs.Prelude.{◌≡◌};
+ghost use Rattle.check_tool.specs.Helping.{text_help, order_help, wave_help, opening_help, fewer_nodes, check_help, fault_help, behind_equals, unindented, front_word, gate_word, word_help, names_gate, shown_help};
+
+use crate::fault::ToolFault;
+use crate::folder::Obstacle;
+use check_report::CheckFault;
+use command_line::OrderChoice;
+use expand_work::WaveFault;
+use net_bench::netlist::BenchFault;
+use net_order::order::OrderFault;
+
+/// What helps where a text is refused.
+fn help_in_text(fault: BenchFault) -> &'static str
+    ensures { result.now ≡ text_help fault }
+{
+    match fault {
+        BenchFault::TooLong => "a text has at most 67108864 bytes",
+        BenchFault::BadByte { .. } => "outside comments only printable ASCII stands",
+        BenchFault::BadStatement { .. } => "a statement is INPUT(a), OUTPUT(a) or a = GATE(b, c)",
+        BenchFault::UnknownGate { .. } => {
+            "gates are AND, NAND, OR, NOR, XOR, XNOR, NOT, BUFF and DFF; see docs/FLOWS.md"
+        }
+        BenchFault::WrongOperands { .. } => "NOT, BUFF and DFF take one operand",
+        BenchFault::Redefined { .. } => "a signal has one INPUT, gate or register",
+        BenchFault::TooMany { .. } => {
+            "at most 1000000 signals, 4000000 operands, and names of 255 bytes"
+        }
+        BenchFault::Undefined { .. } => "the signal has no INPUT, gate or register",
+        BenchFault::Cycle { .. } => "only through a register may a gate depend on itself",
+        BenchFault::Read => "the device failed, or is a folder",
+        BenchFault::OutOfMemory => "more memory, or a smaller netlist",
+    }
+}
+
+/// What helps where an order is refused.
+fn help_in_order(fault: OrderFault) -> &'static str
+    ensures { result.now ≡ order_help fault }
+{
+    match fault {
+        OrderFault::CountsDiffer => "--match name pairs by names",
+        OrderFault::NotAPermutation { .. } => {
+            "--extend takes the list as it is, --print-order writes one that fits"
+        }
+        OrderFault::TooManyInputs => "compare parts that have fewer inputs",
+        OrderFault::OutOfMemory => "more memory, or a smaller netlist",
+        OrderFault::BadName { .. } =>
+            "a list has names and blanks alone, as --print-order writes it",
+        OrderFault::TooLong => "a text has at most 67108864 bytes",
+        OrderFault::Read => "the device failed, or is a folder",
+    }
+}
+
+/// What helps where diagrams grow too large.
+fn help_by_order(choice: OrderChoice<'_>) -> &'static str
+    ensures { result.now ≡ fewer_nodes choice.entry }
+{
+    match choice {
+        OrderChoice::Best =>
+            "interleave, force, index, depth and declared are tried; a list by --order-file may need fewer nodes",
+        OrderChoice::Auto =>
+            "interleave, force, index, depth and declared are tried; another --memory, or a list by --order-file, may help",
+        OrderChoice::Cones =>
+            "each pair is judged by its cones; another --memory, or fewer --workers, may help",
+        _ => "another order may need fewer nodes: try --order auto",
+    }
+}
+
+/// What helps where the diagrams are not built.
+fn help_in_building(choice: OrderChoice<'_>, fault: WaveFault) -> &'static str
+    ensures { result.now ≡ wave_help choice.entry fault }
+{
+    match fault {
+        WaveFault::NoWorker => "--workers 1 starts none",
+        _ => help_by_order(choice),
+    }
+}
+
+/// What stands in the way of an opening, or of a writing.
+fn help_in_opening(obstacle: Obstacle) -> &'static str
+    ensures { result.now ≡ opening_help obstacle }
+{
+    match obstacle {
+        Obstacle::Missing => "no such file or folder",
+        Obstacle::Forbidden => "permission denied",
+        Obstacle::NoFolder => "a part of the path is no folder",
+        Obstacle::Links => "a loop of links",
+        Obstacle::Unwritten => "its device is full, or failed",
+        Obstacle::Other => "the system refused it",
+    }
+}
+
+/// What helps where a check has no report.
+fn help_in_check(choice: OrderChoice<'_>, fault: CheckFault) -> &'static str
+    ensures { result.now ≡ check_help choice.entry fault }
+{
+    match fault {
+        CheckFault::First(fault) | CheckFault::Second(fault) | CheckFault::Given(fault) => {
+            help_in_text(fault)
+        }
+        CheckFault::GivenOutputs => "a condition is a netlist of one output",
+        CheckFault::Order(fault) => help_in_order(fault),
+        CheckFault::Only => "an output or register of the first netlist",
+        CheckFault::Explain => {
+            "an output of the first netlist, or NEXT and the name of its register"
+        }
+        CheckFault::Wave(fault) => help_in_building(choice, fault),
+        CheckFault::Write => "standard output is full, or closed",
+        CheckFault::GivenUp | CheckFault::OutOfMemory => help_by_order(choice),
+    }
+}
+
+/// What helps against a fault.
+pub(crate) fn help_against(choice: OrderChoice<'_>, fault: ToolFault) -> &'static str
+    ensures { result.now ≡ fault_help choice.entry fault }
+{
+    match fault {
+        ToolFault::OneFile => "- as the other file is standard input",
+        ToolFault::InputTwice => "name a file as one of the two",
+        ToolFault::CannotOpen(_, obstacle) | ToolFault::CannotSave(obstacle) => {
+            help_in_opening(obstacle)
+        }
+        ToolFault::InputUnread => "the device failed, or is a folder",
+        ToolFault::InputTooLong => "a text has at most 67108864 bytes",
+        ToolFault::InputUndivided => {
+            "a line %% stands between two texts; one text beside a file is -"
+        }
+        ToolFault::BadOrder(fault) => help_in_order(fault),
+        ToolFault::Check(fault) => help_in_check(choice, fault),
+        ToolFault::OutOfMemory => "more memory",
+    }
+}
+
+/// What stands behind the first equals sign.
+fn behind_equals(line: &[u8]) -> &[u8]
+    ensures { result.now ≡ behind_equals line.now }
+{
+    for at in 0..line.len() {
+        if line[at] == b'=' {
+            return &line[at + 1..];
+        }
+    }
+    &[]
+}
+
+/// The bytes from the first one on that is no blank.
+fn unindented(bytes: &[u8]) -> &[u8]
+    ensures { result.now ≡ unindented bytes.now }
+{
+    for at in 0..bytes.len() {
+        if bytes[at] != b' ' {
+            return &bytes[at..];
+        }
+    }
+    &[]
+}
+
+/// The bytes before the first blank or parenthesis.
+fn front_word(bytes: &[u8]) -> &[u8]
+    ensures { result.now ≡ front_word bytes.now }
+{
+    for at in 0..bytes.len() {
+        if bytes[at] == b' ' || bytes[at] == b'(' {
+            return &bytes[..at];
+        }
+    }
+    bytes
+}
+
+/// The gate's word in a line, as it is shown.
+fn gate_word(shown: &[u8]) -> &[u8]
+    ensures { result.now ≡ gate_word shown.now }
+{
+    front_word(unindented(behind_equals(shown)))
+}
+
+/// What helps against a word that names no gate.
+fn help_by_word(word: &[u8]) -> &'static str
+    ensures { result.now ≡ word_help word.now }
+{
+    if word.eq_ignore_ascii_case(b"INV") {
+        return "the word of an inverter is NOT";
+    }
+    if word.eq_ignore_ascii_case(b"MUX") {
+        return "a multiplexer is made of NOT, AND and OR gates; see docs/FLOWS.md";
+    }
+    if word.eq_ignore_ascii_case(b"VDD") {
+        return "the constant 1 is XNOR(a, a) of any signal a; see docs/FLOWS.md";
+    }
+    if word.eq_ignore_ascii_case(b"GND") {
+        return "the constant 0 is XOR(a, a) of any signal a; see docs/FLOWS.md";
+    }
+    if word.eq_ignore_ascii_case(b"LATCH") {
+        return "a register is DFF, and no latch has a word; see docs/FLOWS.md";
+    }
+    if word.eq_ignore_ascii_case(b"LUT") {
+        return "abc writes no LUT lines by write_bench -l; see docs/FLOWS.md";
+    }
+    "gates are AND, NAND, OR, NOR, XOR, XNOR, NOT, BUFF and DFF; see docs/FLOWS.md"
+}
+
+/// Whether a fault is of a word that names no gate.
+fn names_gate(fault: ToolFault) -> bool
+    ensures { result ≡ names_gate fault }
+{
+    match fault {
+        ToolFault::Check(CheckFault::First(BenchFault::UnknownGate { .. }))
+        | ToolFault::Check(CheckFault::Second(BenchFault::UnknownGate { .. }))
+        | ToolFault::Check(CheckFault::Given(BenchFault::UnknownGate { .. })) => true,
+        _ => false,
+    }
+}
+
+/// What helps against a fault whose line is shown so.
+pub(crate) fn help_shown(choice: OrderChoice<'_>, fault: ToolFault, shown: &str) -> &'static str
+    ensures { result.now ≡ shown_help choice.entry fault shown.now }
+{
+    if names_gate(fault) {
+        help_by_word(gate_word(shown.as_bytes()))
+    } else {
+        help_against(choice, fault)
+    }
+}

@@ -1,0 +1,124 @@
+//! The nodes of many pairs of children at one level, made at once by threads that share its shards.
+ghost use Rattle.std.specs.Prelude.{None, Some, ◌≡◌, ◌<◌, ◌≤◌, ℕ, [], length, All, IfOk, IfErr, IfSome, IfNone, MatchResult, vec_capacity};
+ghost use Rattle.std.specs.List.{AllZip};
+ghost use Rattle.dd_store.specs.Levels.{list_at, all_at, refs_at, plain_lists};
+ghost use Rattle.dd_store.specs.Adding.{AreReady, GrowsLevel, IsLevelFault, IsMakeFault};
+ghost use Rattle.dd_store.specs.Nodes.{IsSound, IsThere, Extends};
+
+use crate::StoreFault;
+use crate::level::{Watch, add_lists, level_count, level_fault, take_found};
+use crate::makers::{Makers, make_slots};
+use crate::reference::{Ref, SHARDS};
+use crate::store::Store;
+use std::thread::Threads;
+
+impl Store {
+    /// Adds lists to the shards of a level, and says why pairs are missing.
+    fn grow_level<R: Threads + Sync, H: Watch + Sync>(
+        &mut self,
+        rt: &R,
+        level: u16,
+        lists: &[Vec<(Ref, Ref)>],
+        watch: &H,
+    ) -> Option<StoreFault>
+        requires lists { length lists.now ≡ 16 }
+        requires ready { AreReady self.old level (list_at lists.now) }
+        ensures grows { GrowsLevel self.old self.new level (plain_lists (list_at lists.now)) }
+        ensures sound { IsSound self.new }
+        ensures fault { IsLevelFault self.new level (plain_lists (list_at lists.now)) result }
+    {
+        let first = SHARDS * level as usize;
+        let limit = self.limit;
+        let slots = &mut self.slots[first..first + SHARDS];
+        let before = level_count(slots, limit);
+        add_lists(rt, slots, level, lists, limit, watch);
+        let after = level_count(slots, limit);
+        let fault = level_fault(slots);
+        self.count = self.count - before + after;
+        fault
+    }
+
+    /// Adds to a level a node for each pair of children that has none, by sixteen lists, one for each shard. Where a second child has a
+    /// mark, the node is that of both complements. Four threads share the shards. Full is answered only where a shard alone holds as
+    /// many nodes as the limit and lacks a pair of its list, and OutOfMemory only where a shard lacks one, also where both befall. After
+    /// a refusal some of the nodes may stand.
+    pub fn add_all<R: Threads + Sync, H: Watch + Sync>(
+        &mut self,
+        rt: &R,
+        level: u16,
+        lists: &[Vec<(Ref, Ref)>],
+        watch: &H,
+    ) -> Result<(), StoreFault>
+        requires lists { length lists.now ≡ 16 }
+        requires ready { AreReady self.old level (list_at lists.now) }
+        ensures grows { GrowsLevel self.old self.new level (plain_lists (list_at lists.now)) }
+        ensures sound { IsSound self.new }
+        ensures extends { Extends self.old self.new }
+        ensures answer { MatchResult result (λ _. IsLevelFault self.new level (plain_lists (list_at lists.now)) None) (λ f. IsLevelFault self.new level (plain_lists (list_at lists.now)) (Some f)) }
+    {
+        match self.grow_level(rt, level, lists, watch) {
+            None => Ok(()),
+            Some(fault) => Err(fault),
+        }
+    }
+
+    /// Adds the lists of several parts to the shards of a level, and says why references are missing.
+    fn make_level_by<R: Threads + Sync, H: Watch + Sync>(
+        &mut self,
+        makers: &Makers<'_, R, H>,
+        level: u16,
+        parts: &[Vec<Vec<(Ref, Ref)>>],
+        refs: &mut Vec<Vec<Ref>>,
+    ) -> Option<StoreFault>
+        requires lists { All (λ part. length part.items ≡ 16) parts.now }
+        requires ready { AreReady self.old level (all_at parts.now) }
+        requires empty { refs.old.items ≡ [] }
+        requires room { 16 ≤ vec_capacity refs.old }
+        ensures grows { GrowsLevel self.old self.new level (plain_lists (all_at parts.now)) }
+        ensures sound { IsSound self.new }
+        ensures sixteen { length refs.new.items ≡ 16 }
+        ensures answers { IfNone result ((s : ℕ) → s < 16 → AllZip (λ p r. IsThere self.new level p.0 p.1 r) (all_at parts.now s) (refs_at refs.new.items s)) }
+        ensures fault { IfSome result (λ f. IsMakeFault self.new level (plain_lists (all_at parts.now)) f) }
+    {
+        let first = SHARDS * level as usize;
+        let limit = self.limit;
+        let slots = &mut self.slots[first..first + SHARDS];
+        let before = level_count(slots, limit);
+        make_slots(makers, slots, parts, limit, level);
+        let after = level_count(slots, limit);
+        let halted = level_fault(slots);
+        take_found(self.alloc, slots, refs);
+        self.count = self.count - before + after;
+        halted
+    }
+
+    /// The references of pairs of different children at a level; missing nodes are made. Where a second child has a mark, the node is
+    /// that of both complements, and the reference has the mark. Each part has sixteen lists, one for each shard. The answer has a list
+    /// for each shard: the references of the first part's pairs, then those of the second's, and so on. The makers' threads share the
+    /// shards, each some neighbouring ones, where they stand; what no thread could be started for, the caller's does, and each pair is
+    /// sought once. Full is answered only where a shard alone holds as many nodes as the limit and lacks a pair of its lists. After a
+    /// refusal some of the nodes may stand.
+    pub fn make_by<R: Threads + Sync, H: Watch + Sync>(
+        &mut self,
+        makers: &Makers<'_, R, H>,
+        level: u16,
+        parts: &[Vec<Vec<(Ref, Ref)>>],
+    ) -> Result<Vec<Vec<Ref>>, StoreFault>
+        requires lists { All (λ part. length part.items ≡ 16) parts.now }
+        requires ready { AreReady self.old level (all_at parts.now) }
+        ensures grows { GrowsLevel self.old self.new level (plain_lists (all_at parts.now)) }
+        ensures sound { IsSound self.new }
+        ensures extends { Extends self.old self.new }
+        ensures sixteen { IfOk result (λ refs. length refs.items ≡ 16) }
+        ensures answers { IfOk result (λ refs. (s : ℕ) → s < 16 → AllZip (λ p r. IsThere self.new level p.0 p.1 r) (all_at parts.now s) (refs_at refs.items s)) }
+        ensures fault { IfErr result (λ f. IsMakeFault self.new level (plain_lists (all_at parts.now)) f) }
+    {
+        let Ok(mut refs) = Vec::with_capacity(self.alloc, SHARDS) else {
+            return Err(StoreFault::OutOfMemory);
+        };
+        match self.make_level_by(makers, level, parts, &mut refs) {
+            None => Ok(refs),
+            Some(stopped) => Err(stopped),
+        }
+    }
+}

@@ -1,0 +1,87 @@
+//! Whoever watches workers come to their levels, and threads to the shards of a level.
+ghost use Rattle.std.specs.Prelude.{◌≡◌, ℕ, Option, None};
+ghost use Rattle.expand_work.specs.Bounds.{most_of};
+
+use dd_store::Watch;
+
+/// How the attempts of a comparison within so many nodes have ended: one of the whole in an order, or a round of pairs by their cones.
+#[derive(Clone, Copy, Drop, Debug, PartialEq, Eq)]
+pub enum AttemptEnd {
+    /// The attempt in this order has decided.
+    Decided { order: &'static str },
+    /// It needs more nodes.
+    MoreNodes { order: &'static str },
+    /// One of its waves has too many requests.
+    TooManyRequests { order: &'static str },
+    /// So many of the pairs have no verdict yet.
+    Left { left: usize, pairs: usize },
+}
+
+/// Is told when a worker has closed a level and is about to expand it, and what a `Watch` is told.
+pub trait Monitor: Watch + Sync {
+    // The most requests that a wave of an engine may have, where they are bounded.
+    ghost bound: { Self → Option ℕ } = { λ _. None };
+
+    fn at_level(&self, worker: u32, level: u16);
+
+    /// The most requests that a level may have before a wave that began on the caller's thread calls in so many workers, where so many
+    /// requests are expected of the whole wave. 0, where a monitor does not say, leaves the whole wave to the workers.
+    fn most_alone(&self, _workers: u32, _expected: usize) -> usize {
+        0
+    }
+
+    /// The most requests that a wave of an engine may have. A wave that is bounded so is the caller's alone, so that no more than
+    /// three times as many are ever held; which waves are refused does not depend on the workers.
+    fn most_requests(&self) -> usize
+        ensures bound { result ≡ most_of (bound self.now) };
+
+    /// Is told of each rank of a build before it is built: its number, from 1 on, how many ranks the build has, and how many nodes the
+    /// store has so far.
+    fn at_rank(&self, _rank: u32, _ranks: u32, _nodes: u64) {}
+
+    /// Is told how many requests were expanded: by the caller's thread those of all its levels of a wave at once, by a worker those of a
+    /// level.
+    fn at_requests(&self, _requests: usize) {}
+
+    /// Is told by the caller's thread how an attempt within so many nodes has ended, or a round of pairs that were tried by their cones.
+    fn at_attempt(&self, _budget: u64, _end: AttemptEnd) {}
+}
+
+/// A wave of more requests is large. This and the numbers below are a choice between what was measured, which docs/PERFORMANCE.md has.
+const LARGE: usize = 1 << 14;
+
+/// Up to so many requests a level is the caller's where the wave is expected to be large.
+const WIDE_IN_LARGE: usize = 1 << 10;
+
+/// Up to so many requests a level of any other wave is the caller's.
+const WIDE: usize = 1 << 14;
+
+/// So many times these numbers hold for fewer than four workers, which gain less by a wave.
+const FOR_FEW: usize = 4;
+
+/// A monitor that does nothing. A wave is the caller's alone as long as that is known to be faster.
+#[derive(Clone, Copy, Drop, Debug, PartialEq, Eq)]
+pub struct Free;
+
+impl Watch for Free {
+    fn at_shard(&self, _shard: u8, _level: u16) {}
+}
+
+impl Monitor for Free {
+    fn at_level(&self, _worker: u32, _level: u16) {}
+
+    fn most_alone(&self, workers: u32, expected: usize) -> usize {
+        let times = if workers < 4 { FOR_FEW } else { 1 };
+        if workers <= 1 {
+            usize::MAX
+        } else if expected > LARGE * times {
+            WIDE_IN_LARGE * times
+        } else {
+            WIDE * times
+        }
+    }
+
+    fn most_requests(&self) -> usize {
+        usize::MAX
+    }
+}

@@ -1,0 +1,11 @@
+use Rattle.std.proofs.Common.{sym, arith, ap, length, ◌≡◌}
+use Rattle.gate_plan.specs.Plans.{copy_of}
+use Rattle.gate_plan.proofs.Picking.{no_picks}
+use Rattle.gate_plan.proofs.sides.PlannedNetlist.copies.Goals as goal
+
+pub returns-else-rank-ranks : goal.returns-else-rank-ranks
+returns-else-rank-ranks c =
+    let net = c.args.self.now.net in
+    let e = c.requires.plan.ranks in
+    let same : length c.self.inside.plan ≡ length c.args.self.now.plan = ap (λ s. length s.plan) c.self.view_is in
+    sym (no_picks net c.args.rank copy_of net.gates (omega arith))

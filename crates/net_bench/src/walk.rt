@@ -1,0 +1,184 @@
+// Heights of the gates, each 1 more than its rank, by one walk over the gates, on a stack of those that wait for an operand.
+ghost use Rattle.std.specs.Prelude.{◌≡◌, ℕ, ◌<◌, ◌≤◌, [], ◌∷◌, map, length, reverse, slice_get, slice_index, slice_index_or, All, OnOk, true, false};
+ghost use Rattle.net_bench.specs.Circuit.{greatest};
+ghost use Rattle.net_bench.specs.Heights.{all_ranked, gate_place, operands_at, out_at, steps_left, AreHeights, HasOneGateEach, IsDriven, IsRanking, IsSettled};
+
+use crate::netlist::{GateLine, Role, Signal};
+use crate::symbols::Symbol;
+use std::alloc::{AllocError, Global};
+
+/// The signal's height: 0, or 1 more than its rank.
+pub fn height_of(heights: &[u32], signal: Signal) -> u32
+    ensures { result ≡ slice_index heights.now signal }
+{
+    match heights.get(signal.number() as usize) {
+        Some(height) => *height,
+        None => 0,
+    }
+}
+
+/// The greatest height of these signals, 0 where there are none.
+fn greatest_height(heights: &[u32], signals: &[Signal]) -> u32
+    ensures { result ≡ greatest (map (slice_index heights.now) signals.now) }
+{
+    let mut most = 0;
+    let mut rest = signals;
+    while let Some((signal, after)) = rest.split_first() {
+        let height = height_of(heights, *signal);
+        if height > most {
+            most = height;
+        }
+        rest = after;
+    }
+    most
+}
+
+/// Heights the gate at this place, all of whose operands have heights, where it has none.
+#[tactic(auto, using(crate::proofs::Heights::small, crate::proofs::Heights::ranked_more))]
+fn rank_gate(gates: &[GateLine], place: usize, heights: &mut [u32])
+    requires inside { place < length gates.now }
+    requires few { length heights.old ≤ 1000000 }
+    requires outs { All (λ g. g.out < length heights.old) gates.now }
+    requires one_gate { HasOneGateEach gates.now }
+    requires sound { AreHeights gates.now heights.old }
+    requires all { all_ranked heights.old (operands_at gates.now place) ≡ true }
+    ensures sound { AreHeights gates.now heights.new }
+    ensures kept { (s : ℕ) → 0 < slice_index heights.old s → slice_index heights.new s ≡ slice_index heights.old s }
+    ensures ranked { 0 < slice_index heights.new (out_at gates.now place) }
+{
+    let gate = &gates[place];
+    if height_of(heights, gate.out) != 0 {
+        return;
+    }
+    let most = greatest_height(heights, gate.operands.as_slice());
+    heights[gate.out.number() as usize] = most + 1;
+}
+
+/// The place of the signal's gate, where it has one.
+fn gate_of(symbols: &[Symbol], signal: Signal) -> Option<usize>
+    ensures { result ≡ gate_place (slice_get symbols.now signal) }
+{
+    match symbols.get(signal.number() as usize) {
+        Some(
+            Symbol {
+                role: Role::Gate(place),
+                ..
+            },
+        ) => Some(*place as usize),
+        _ => None,
+    }
+}
+
+/// A gate that waits for an operand, and how many of its operands it has passed.
+#[derive(Clone, Copy, Debug)]
+pub struct Waiting {
+    pub place: usize,
+    pub passed: usize,
+}
+
+/// The gate passes its next operand, waits for that operand's gate, gets its height, or is left: where the operand's gate was begun
+/// before and has no height, neither will ever have one.
+fn advance(
+    gates: &[GateLine],
+    symbols: &[Symbol],
+    gate: Waiting,
+    heights: &mut [u32],
+    begun: &mut [bool],
+    waiting: &mut Vec<Waiting>,
+) -> Result<(), AllocError>
+    requires few { length heights.old ≤ 1000000 }
+    requires outs { All (λ g. g.out < length heights.old) gates.now }
+    requires operands { All (λ g. All (λ s. s < length heights.old) g.operands) gates.now }
+    requires one_gate { HasOneGateEach gates.now }
+    requires driven { (s : ℕ) → s < length heights.old → slice_index heights.old s ≡ 0 → IsDriven gates.now symbols.now s }
+    requires ranking { IsRanking gates.now heights.old begun.old (gate ∷ reverse waiting.old.items) }
+    ensures ranking { OnOk result (IsRanking gates.now heights.new begun.new (reverse waiting.new.items)) }
+    ensures kept { OnOk result ((s : ℕ) → 0 < slice_index heights.old s → slice_index heights.new s ≡ slice_index heights.old s) }
+    ensures still { OnOk result ((p : ℕ) → slice_index_or begun.old p false ≡ true → slice_index_or begun.new p false ≡ true) }
+    ensures fewer { OnOk result (steps_left gates.now begun.new (reverse waiting.new.items) < steps_left gates.now begun.old (gate ∷ reverse waiting.old.items)) }
+{
+    let Some(operand) = gates[gate.place].operands.as_slice().get(gate.passed) else {
+        rank_gate(gates, gate.place, heights);
+        return Ok(());
+    };
+    if height_of(heights, *operand) != 0 {
+        waiting.push(Waiting {
+            place: gate.place,
+            passed: gate.passed + 1,
+        })?;
+        return Ok(());
+    }
+    let Some(below) = gate_of(symbols, *operand) else {
+        return Ok(());
+    };
+    if begun[below] {
+        return Ok(());
+    }
+    begun[below] = true;
+    waiting.push(gate)?;
+    waiting.push(Waiting {
+        place: below,
+        passed: 0,
+    })?;
+    Ok(())
+}
+
+/// Heights the gate at this place, and those below it, each after its operands. A gate from which an endless chain starts gets no height.
+fn rank_below(
+    alloc: Global,
+    gates: &[GateLine],
+    symbols: &[Symbol],
+    start: usize,
+    heights: &mut [u32],
+    begun: &mut [bool],
+) -> Result<(), AllocError>
+    requires inside { start < length gates.now }
+    requires few { length heights.old ≤ 1000000 }
+    requires outs { All (λ g. g.out < length heights.old) gates.now }
+    requires operands { All (λ g. All (λ s. s < length heights.old) g.operands) gates.now }
+    requires one_gate { HasOneGateEach gates.now }
+    requires driven { (s : ℕ) → s < length heights.old → slice_index heights.old s ≡ 0 → IsDriven gates.now symbols.now s }
+    requires ranking { IsRanking gates.now heights.old begun.old [] }
+    ensures ranking { OnOk result (IsRanking gates.now heights.new begun.new []) }
+    ensures kept { OnOk result ((s : ℕ) → 0 < slice_index heights.old s → slice_index heights.new s ≡ slice_index heights.old s) }
+    ensures still { OnOk result ((p : ℕ) → slice_index_or begun.old p false ≡ true → slice_index_or begun.new p false ≡ true) }
+    ensures begun { OnOk result (slice_index_or begun.new start false ≡ true) }
+{
+    if begun[start] {
+        return Ok(());
+    }
+    begun[start] = true;
+    let mut waiting: Vec<Waiting> = Vec::new(alloc);
+    waiting.push(Waiting {
+        place: start,
+        passed: 0,
+    })?;
+    'steps: while let Some(gate) = waiting.pop() {
+        advance(gates, symbols, gate, heights, begun, &mut waiting)?;
+    }
+    Ok(())
+}
+
+/// Heights each gate from which no endless chain of operands starts: one walk over the gates, on a stack of those that wait.
+pub fn settle(
+    alloc: Global,
+    gates: &[GateLine],
+    symbols: &[Symbol],
+    heights: &mut [u32],
+) -> Result<(), AllocError>
+    requires few { length heights.old ≤ 1000000 }
+    requires outs { All (λ g. g.out < length heights.old) gates.now }
+    requires operands { All (λ g. All (λ s. s < length heights.old) g.operands) gates.now }
+    requires one_gate { HasOneGateEach gates.now }
+    requires driven { (s : ℕ) → s < length heights.old → slice_index heights.old s ≡ 0 → IsDriven gates.now symbols.now s }
+    requires sound { AreHeights gates.now heights.old }
+    ensures sound { OnOk result (AreHeights gates.now heights.new) }
+    ensures kept { OnOk result ((s : ℕ) → 0 < slice_index heights.old s → slice_index heights.new s ≡ slice_index heights.old s) }
+    ensures settled { OnOk result (All (IsSettled heights.new) gates.now) }
+{
+    let mut begun: Vec<bool> = vec![in alloc; false; gates.len()]?;
+    for place in 0..gates.len() {
+        rank_below(alloc, gates, symbols, place, heights, begun.as_mut_slice())?;
+    }
+    Ok(())
+}
