@@ -231,7 +231,10 @@ fn best_order(tried: Option<Attempt>) -> Order
 }
 
 /// The pairing over whose variables the report of an attempt is told.
-pub(crate) fn told_pairing<H>(task: &Task<'_, H>, tried: Option<Attempt>) -> Result<Pairing, CheckFault>
+pub(crate) fn told_pairing<H>(
+    task: &Task<'_, H>,
+    tried: Option<Attempt>,
+) -> Result<Pairing, CheckFault>
     ensures paired { IfOk result (IsPairingIn task.now (told_order task.now.settings.now.order tried)) }
     ensures fault { OfTask task.now (λ told s. IfErr result (IsCheckFault told ⊥ ⊥ ⊥ s.matching (told_order s.order tried))) }
     ensures refused { IfErr result (λ fault. (f : OrderFaultValue) × (fault ≡ CheckFault.Order f)) }

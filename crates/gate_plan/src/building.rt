@@ -15,7 +15,9 @@ ghost use Rattle.gate_plan.specs.Building.{Placed, IsPaired, AreDiagrams, AllRig
 
 use crate::circuits::Circuits;
 use crate::inputs::make_variables;
-use crate::sides::{Diagrams, PlannedNetlist, copy_rank, entries_of, last_rank, most_folds, sides_of, start};
+use crate::sides::{
+    Diagrams, PlannedNetlist, copy_rank, entries_of, last_rank, most_folds, sides_of, start,
+};
 use dd_store::{Ref, Store};
 use expand_work::{Crew, Monitor, WaveFault};
 use net_bench::netlist::Signal;

@@ -164,7 +164,10 @@ fn add_side<'a>(
 }
 
 /// The netlists of a pairing, each with the plan of its gates: the first, the second, and the condition where there is one.
-pub fn sides_of<'a>(alloc: Global, circuits: &Circuits<'a>) -> Result<Vec<PlannedNetlist<'a>>, AllocError>
+pub fn sides_of<'a>(
+    alloc: Global,
+    circuits: &Circuits<'a>,
+) -> Result<Vec<PlannedNetlist<'a>>, AllocError>
     ensures { let c = circuits_of circuits.now in IfOk result (λ sides. ArePlaced c.first c.second c.given c.pairing sides.items) }
 {
     let pairing = circuits.pairing;

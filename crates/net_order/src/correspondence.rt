@@ -91,11 +91,7 @@ impl<'a> Chosen<'a> {
         ensures { IfOk result (λ c. c ≡ record { net = circuit net.entry.now; signals = signals.entry.now }) }
     {
         let seen = visited(alloc, net.count(), signals)?;
-        Ok(Chosen {
-            net,
-            signals,
-            seen,
-        })
+        Ok(Chosen { net, signals, seen })
     }
 
     /// The signals.

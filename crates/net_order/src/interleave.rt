@@ -136,7 +136,11 @@ fn add_variables(
 }
 
 /// The numbers of the variables that walks meet, in interleaved order.
-fn woven(alloc: Global, sides: &[NamedNetlist<'_>], variables: &NameTable) -> Result<Vec<u32>, AllocError>
+fn woven(
+    alloc: Global,
+    sides: &[NamedNetlist<'_>],
+    variables: &NameTable,
+) -> Result<Vec<u32>, AllocError>
     requires { AreKnown variables.now sides.now }
     ensures woven { IfOk result (λ v. v.items ≡ woven variables.now sides.now) }
     ensures low { IfOk result (λ v. All (λ k. k < length variables.now) v.items) }

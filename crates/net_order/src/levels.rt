@@ -46,7 +46,11 @@ pub fn level_at(sides: &[Levels], place: usize, variable: Signal) -> u32
 }
 
 /// The levels of one side's variables.
-pub fn levels_on(alloc: Global, table: &NameTable, side: &NamedNetlist<'_>) -> Result<Levels, AllocError>
+pub fn levels_on(
+    alloc: Global,
+    table: &NameTable,
+    side: &NamedNetlist<'_>,
+) -> Result<Levels, AllocError>
     ensures { IfOk result (HasLevels table.now side.now) }
 {
     let net = side.net();

@@ -72,7 +72,11 @@ fn add_sides(
 }
 
 /// Puts all variables of sides into the table, as they are declared.
-fn add_declared(alloc: Global, table: &mut NameTable, sides: &[NamedNetlist<'_>]) -> Result<(), OrderFault>
+fn add_declared(
+    alloc: Global,
+    table: &mut NameTable,
+    sides: &[NamedNetlist<'_>],
+) -> Result<(), OrderFault>
     requires { length table.old ≤ MAX_VARIABLES }
     ensures ok { OnOk result (table.new ≡ with_names table.old (names_in sides.now)) }
     ensures few { OnOk result (length table.new ≤ MAX_VARIABLES) }

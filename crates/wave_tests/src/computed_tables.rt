@@ -115,7 +115,9 @@ fn told<R: Abort + Threads + Wait + Sync>(
     let pairing = pair(alloc, &first, &second, None, Match::Name, &Order::Declared)?;
     let mut store = Store::new(alloc, pairing.names().len() as u16, 100)?;
     let monitor = Narrow::new(0);
-    built(rt, alloc, &mut store, &first, &second, &pairing, 2, &monitor)?;
+    built(
+        rt, alloc, &mut store, &first, &second, &pairing, 2, &monitor,
+    )?;
     assert!(rt; store.count() == 13);
     Ok(monitor.told.load(Ordering::SeqCst))
 }

@@ -10,7 +10,7 @@ use dd_store::{Ref, Store, Watch};
 use expand_work::{Free, Monitor};
 use lane_queue::Port;
 use req_table::requests::owner;
-use req_table::{Child, Key, ComputedTable, Op, Record};
+use req_table::{Child, ComputedTable, Key, Op, Record};
 use std::alloc::Global;
 use std::process::Abort;
 use std::sync::atomic::{AtomicBool, Ordering};

@@ -11,6 +11,8 @@ mod bounds;
 #[cfg(test)]
 mod clocks;
 #[cfg(test)]
+mod computed_tables;
+#[cfg(test)]
 mod cores;
 #[cfg(test)]
 mod earlier;
@@ -22,8 +24,6 @@ mod lanes;
 mod least;
 #[cfg(test)]
 mod meeting;
-#[cfg(test)]
-mod computed_tables;
 #[cfg(test)]
 mod plans;
 #[cfg(test)]

@@ -6,7 +6,7 @@ ghost use Rattle.req_table.specs.Sizes.{sizes_of, IsKeyOf};
 
 use dd_store::{Ref, Store};
 use req_table::requests::{level_of, normal, owner, terminal_case};
-use req_table::{Key, ComputedTable, Op, Table};
+use req_table::{ComputedTable, Key, Op, Table};
 use std::alloc::Global;
 use std::process::Abort;
 use std::test::Fail;

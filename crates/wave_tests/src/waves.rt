@@ -11,7 +11,7 @@ use dd_store::{Ref, Store, Watch};
 use expand_work::{Crew, Free, Monitor, WaveFault, Workers};
 use gate_plan::conjoin;
 use req_table::requests::{normal, terminal_case};
-use req_table::{Key, ComputedTable, Op};
+use req_table::{ComputedTable, Key, Op};
 use std::alloc::Global;
 use std::process::Abort;
 use std::sync::Wait;
