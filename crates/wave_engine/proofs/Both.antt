@@ -1,5 +1,5 @@
--- What the caller's thread and the workers have expanded, taken together.
-use Rattle.std.proofs.Common.{◌≡◌, ◌∙◌, ℕ, ◌+◌, ◌-◌, ◌%◌, ◌^◌, ◌<◌, ◌≤◌, ◌⊎◌, inl, inr, Bool, List, ◌++◌, length, slice_get, Some, ap, subst, arith, Contains, All}
+-- What the caller's thread and the workers have expanded, taken together, and what of that the caller's thread has reduced.
+use Rattle.std.proofs.Common.{◌≡◌, ◌∙◌, ℕ, ◌+◌, ◌-◌, ◌%◌, ◌^◌, ◌<◌, ◌≤◌, inl, inr, List, ◌++◌, length, Some, ap, subst, arith, Contains, All}
 use Rattle.std.proofs.lemmas.List.{length-append}
 use Rattle.std.proofs.lemmas.List.Elements.{Contains-append_left, Contains-append_right, Contains-append_cases}
 use Rattle.std.proofs.lemmas.Option.{slice_get-get_or, slice_get_within, get_or_from_slice_get}
@@ -18,7 +18,8 @@ use Rattle.reduce_up.proofs.Closed.{reached_key}
 use Rattle.wave_engine.specs.Down.{AreExpanded, HaveSplit}
 use Rattle.wave_engine.specs.Front.{keys_from}
 use Rattle.wave_engine.specs.Places.{StandsAt}
-use Rattle.wave_engine.specs.Resting.{AtRest}
+use Rattle.wave_engine.specs.Resting.{AtRest, HaveReduced}
+use Rattle.wave_engine.specs.Up.{AreCounted}
 use Rattle.wave_engine.proofs.Counting.{reached_sorted}
 use Rattle.wave_engine.proofs.Fronting.{key_before, key_from, front_keys}
 
@@ -65,17 +66,49 @@ module _ (S : Nodes) (w : IsSound S) (entries : List Entry) (good : All (IsEntry
     count = let l : length (c.requests ++ h.requests) ≡ length c.requests + length h.requests = length-append c.requests h.requests in let a = c.count in let b = h.count in omega (arith, l, a, b);
   }
 
--- A count that grows by as much as another one has grown.
-pub counted_on : (S : Nodes) (n : ℕ) (roots : List Key) (before after : ℕ) → HaveExpanded S n roots before after → (told told' more old new : ℕ) →
-    told ≡ before % 2 ^ 64 → told' ≡ after % 2 ^ 64 → more ≡ (told' + (2 ^ 64 - told)) % 2 ^ 64 → new ≡ (old + more) % 2 ^ 64 → HaveExpanded S n roots old new
-counted_on S n roots before after h told told' more old new a b d e = record {
-  requests = h.requests;
-  once = h.once;
-  reached = h.reached;
-  all = h.all;
-  count = let c = h.count in omega (arith, a, b, c, d, e);
-}
+  -- what stands before level v was reduced: these are the requests above that level
+  pub have_reduced : (before after : ℕ) → AreCounted T 0 v before after → HaveReduced S (requests_of entries) v before after
+  have_reduced before after m = record {
+    requests = m.requests;
+    once = m.once;
+    reached = λ k i. let p = m.stands k (in_of m.requests k i) in (x.admitted.keys p.0 p.1 k p.4).reached;
+    above = λ k i. let p = m.stands k (in_of m.requests k i) in let at : level_of S k ≡ p.0 = (x.admitted.keys p.0 p.1 k p.4).level in let lt : p.0 < v = p.3 in omega (arith, at, lt);
+    all = λ k r lt.
+        elim (reached_sorted S entries roots T rows v x Over stands_over (λ k y b l m o e. child_from b l m o e) k r) [
+          | inl a ↦ contains_of m.requests k (m.whole a.0 a.1 k (omega arith) a.2 a.3)
+          | inr o ↦ absurd (let below = over_below k o in omega (arith, below, lt))
+        ];
+    count = m.count;
+  }
 
--- the same, of an engine that is seen in two ways
-pub counted_view : (S : Nodes) (entries : List Entry) (new : ℕ) (v w : AtRest) → v ≡ w → HaveExpanded S 1 (requests_of (unknown v.held entries)) v.expanded new → HaveExpanded S 1 (requests_of (unknown w.held entries)) w.expanded new
-counted_view S entries new v w e h = subst (λ (z : AtRest). HaveExpanded S 1 (requests_of (unknown z.held entries)) z.expanded new) e h
+-- A count that grows by as much as another one has grown.
+module _ (before after told told' more old new : ℕ) (a : told ≡ before % 2 ^ 64) (b : told' ≡ after % 2 ^ 64) (d : more ≡ (told' + (2 ^ 64 - told)) % 2 ^ 64) (e : new ≡ (old + more) % 2 ^ 64) where
+  count_on : (n : ℕ) → after % 2 ^ 64 ≡ (before + n) % 2 ^ 64 → new % 2 ^ 64 ≡ (old + n) % 2 ^ 64
+  count_on n c = omega (arith, a, b, c, d, e)
+
+  pub counted_on : (S : Nodes) (n : ℕ) (roots : List Key) → HaveExpanded S n roots before after → HaveExpanded S n roots old new
+  counted_on S n roots h = record {
+    requests = h.requests;
+    once = h.once;
+    reached = h.reached;
+    all = h.all;
+    count = count_on (length h.requests) h.count;
+  }
+
+  pub reduced_on : (S : Nodes) (roots : List Key) (v : ℕ) → HaveReduced S roots v before after → HaveReduced S roots v old new
+  reduced_on S roots v h = record {
+    requests = h.requests;
+    once = h.once;
+    reached = h.reached;
+    above = h.above;
+    all = h.all;
+    count = count_on (length h.requests) h.count;
+  }
+
+-- The same, of an engine that is seen in two ways.
+module _ (S : Nodes) (entries : List Entry) (new : ℕ) (v w : AtRest) (e : v ≡ w) where
+  pub counted_view : HaveExpanded S 1 (requests_of (unknown v.held entries)) v.expanded new → HaveExpanded S 1 (requests_of (unknown w.held entries)) w.expanded new
+  counted_view h = subst (λ (z : AtRest). HaveExpanded S 1 (requests_of (unknown z.held entries)) z.expanded new) e h
+
+  pub reduced_view : (from : ℕ) → HaveReduced S (requests_of (unknown v.held entries)) from v.reduced new → HaveReduced S (requests_of (unknown w.held entries)) from w.reduced new
+  reduced_view from h = subst (λ (z : AtRest). HaveReduced S (requests_of (unknown z.held entries)) from z.reduced new) e h

@@ -26,7 +26,7 @@ pub record IsCounted (s : Nodes) (entries : List Entry) (tables : List (List Key
   pub split : HaveSplit s entries tables v before after
   pub sum : bound < 2 ^ 64 - 1 → left + length split.requests ≡ bound
 
-in_back : {X : Type 0} (a b : List X) (x : X) → IsIn b x → IsIn (a ++ b) x
+pub in_back : {X : Type 0} (a b : List X) (x : X) → IsIn b x → IsIn (a ++ b) x
 in_back [] b x h = h
 in_back (y ∷ a) b x h = let w = in_back a b x h in (suc w.0, w.1)
 

@@ -6,4 +6,5 @@ pub mod Raising
 pub mod Fronting
 pub mod Whole
 pub mod Counting
+pub mod Reduced
 pub mod Both

@@ -1,5 +1,6 @@
 -- The reduction of requests by place, from the last level up.
-use Rattle.std.specs.Prelude.{◌≡◌, ℕ, ◌<◌, ◌≤◌, ◌⊎◌, Bool, true, false, List, length, slice_get, Some}
+use Rattle.std.specs.Prelude.{◌≡◌, ℕ, ◌+◌, ◌%◌, ◌^◌, ◌<◌, ◌≤◌, ◌⊎◌, Bool, true, false, List, length, slice_get, Some}
+use Rattle.slot_table.specs.Lists.{IsIn, IsOnce}
 use Rattle.dd_store.specs.declared.reference.Ref.{Ref}
 use Rattle.dd_store.specs.Functions.{Agree}
 use Rattle.dd_store.specs.Marks.{mark_by}
@@ -74,3 +75,17 @@ pub record AreReducedBelow (start : Nodes) (entries : List Entry) (tables : List
   pub counts : (w q : ℕ) (k : Key) → v ≤ w → StandsAt tables w q k → length (row answers w) ≡ length (row tables w)
   pub answered : (w q : ℕ) (k : Key) (r : Ref) → v ≤ w → StandsAt tables w q k → StandsAt answers w q r → IsAnswer s k r
   pub within : IsWithinBelow start tables v s
+
+-- ---- how many requests are reduced
+-- of level v, in which no request stands twice, each was reduced once, between two counts modulo 2^64
+pub record IsLevelCounted (tables : List (List Key)) (v : ℕ) (before after : ℕ) : Type 0 where
+  pub once : IsOnce (row tables v)
+  pub count : after % 2 ^ 64 ≡ (before + length (row tables v)) % 2 ^ 64
+
+-- between two counts modulo 2^64 exactly the requests from level u on that stand before level v were reduced, each once
+pub record AreCounted (tables : List (List Key)) (u v : ℕ) (before after : ℕ) : Type 0 where
+  pub requests : List Key
+  pub once : IsOnce requests
+  pub stands : (k : Key) → IsIn requests k → (w : ℕ) × (q : ℕ) × (u ≤ w) × (w < v) × StandsAt tables w q k
+  pub whole : (w q : ℕ) (k : Key) → u ≤ w → w < v → StandsAt tables w q k → IsIn requests k
+  pub count : after % 2 ^ 64 ≡ (before + length requests) % 2 ^ 64

@@ -1,5 +1,5 @@
 //! The engine of waves: what lasts from wave to wave.
-ghost use Rattle.std.specs.Prelude.{◌≡◌, ◌≢◌, ◌<◌, ◌≤◌, ◌+◌, ◌-◌, ◌%◌, ◌^◌, [], Err, All, IfOk, IfErr, OnOk, OnErr};
+ghost use Rattle.std.specs.Prelude.{◌≡◌, ◌≢◌, ◌<◌, ◌≤◌, ◌+◌, ◌-◌, ◌%◌, ◌^◌, ℕ, [], Err, All, IfOk, IfErr, OnOk, OnErr};
 ghost use Rattle.dd_store.specs.Nodes.{Nodes, IsSound, count_of};
 ghost use Rattle.req_table.specs.ComputedTables.{IsRight};
 ghost use Rattle.reduce_up.specs.Known.{unknown, IsKeptWave};
@@ -7,6 +7,7 @@ ghost use Rattle.reduce_up.specs.Waves.{IsEntry, AnswersWave, requests_of};
 ghost use Rattle.expand_work.specs.Bounds.{most_of};
 ghost use Rattle.expand_work.specs.Gathered.{HaveExpanded};
 ghost use Rattle.wave_engine.specs.Bounds.{AreAtMost, ArePast};
+ghost use Rattle.wave_engine.specs.Resting.{HaveReduced};
 
 use crate::workspace::Workspace;
 use dd_store::{Ref, Store};
@@ -53,6 +54,8 @@ impl<'a, R: Threads + Wait + Sync, G: Monitor> Runner<'a, R, G> {
         ensures within_bound { most_of (G.bound self.old.workspace.crew.now.monitor.now) < 2 ^ 64 - 1 → OnOk result (AreAtMost (most_of (G.bound self.old.workspace.crew.now.monitor.now)) store.old (unknown computed.old entries.now)) }
         ensures alone { most_of (G.bound self.old.workspace.crew.now.monitor.now) < 2 ^ 64 - 1 → result ≢ Err WaveFault.NoWorker }
         ensures expanded { OnOk result (HaveExpanded store.old 1 (requests_of (unknown computed.old entries.now)) (self.old.workspace.down.splits + self.old.workspace.rooms) (self.new.workspace.down.splits + self.new.workspace.rooms)) }
+        ensures reduced { OnOk result ((v : ℕ) × HaveReduced store.old (requests_of (unknown computed.old entries.now)) v self.old.workspace.up.reductions self.new.workspace.up.reductions) }
+        ensures all_reduced { most_of (G.bound self.old.workspace.crew.now.monitor.now) < 2 ^ 64 - 1 → OnOk result (HaveReduced store.old (requests_of (unknown computed.old entries.now)) store.old.levels self.old.workspace.up.reductions self.new.workspace.up.reductions) }
         ensures memory { count_of store.old ≤ store.old.limit → result ≡ Err WaveFault.OutOfMemory → count_of store.new ≤ store.new.limit }
         ensures monitor { self.new.workspace.crew.now.monitor ≡ self.old.workspace.crew.now.monitor }
         ensures kept { IfOk result (λ answers. IsKeptWave computed.old entries.now answers.items computed.new) }
@@ -73,12 +76,13 @@ impl<'a, R: Threads + Wait + Sync, G: Monitor> Runner<'a, R, G> {
 }
 
 /// Does waves one after the other over one store. It keeps the memory that they take, holds answers of earlier waves, and counts the
-/// requests that those which were done have expanded.
+/// requests that those which were done have expanded, and those of them that the caller's thread has reduced.
 #[derive(Drop)]
 pub struct Engine<'a, R, G: Monitor> {
     runner: Runner<'a, R, G>,
     computed: ComputedTable,
     expanded: u64,
+    reduced: u64,
 }
 
 impl<'a, R, G: Monitor> Model for Engine<'a, R, G> {
@@ -86,7 +90,7 @@ impl<'a, R, G: Monitor> Model for Engine<'a, R, G> {
 
     ghost Value = { AtRest };
 
-    ghost view = { λ e. record { held = e.computed; bound = G.bound e.runner.workspace.crew.now.monitor.now; expanded = e.expanded } };
+    ghost view = { λ e. record { held = e.computed; bound = G.bound e.runner.workspace.crew.now.monitor.now; expanded = e.expanded; reduced = e.reduced } };
 }
 
 impl<'a, R: Threads + Wait + Sync, G: Monitor> Engine<'a, R, G> {
@@ -96,12 +100,14 @@ impl<'a, R: Threads + Wait + Sync, G: Monitor> Engine<'a, R, G> {
         ensures right { IfOk result (λ e. (S : Nodes) → IsRight S e.held) }
         ensures bound { IfOk result (λ e. e.bound ≡ G.bound crew.entry.now.monitor.now) }
         ensures none { IfOk result (λ e. e.expanded ≡ 0) }
+        ensures none_reduced { IfOk result (λ e. e.reduced ≡ 0) }
     {
         let computed = ComputedTable::new(crew.alloc, CAPACITY)?;
         Ok(Engine {
             runner: Runner::new(crew),
             computed,
             expanded: 0,
+            reduced: 0,
         })
     }
 
@@ -111,6 +117,7 @@ impl<'a, R: Threads + Wait + Sync, G: Monitor> Engine<'a, R, G> {
         ensures right { OnOk result ((S : Nodes) → IsRight S self.new.held) }
         ensures bound { self.new.bound ≡ self.old.bound }
         ensures expanded { self.new.expanded ≡ self.old.expanded }
+        ensures reduced { self.new.reduced ≡ self.old.reduced }
         ensures refused { OnErr result (self.new ≡ self.old) }
     {
         self.computed = ComputedTable::new(self.alloc(), CAPACITY)?;
@@ -129,9 +136,12 @@ impl<'a, R: Threads + Wait + Sync, G: Monitor> Engine<'a, R, G> {
         self.expanded
     }
 
-    /// How many requests the caller's thread has reduced, modulo 2^64: as many as were expanded, where no worker was called in.
-    pub fn reduced(&self) -> u64 {
-        self.runner.workspace.reduced()
+    /// How many requests the caller's thread has reduced in the waves that were done, modulo 2^64: as many as were expanded, where no
+    /// worker was called in.
+    pub fn reduced(&self) -> u64
+        ensures { result ≡ self.now.reduced }
+    {
+        self.reduced
     }
 
     /// The diagram of each operation on its two operands.
@@ -153,6 +163,8 @@ impl<'a, R: Threads + Wait + Sync, G: Monitor> Engine<'a, R, G> {
         ensures within_bound { most_of self.old.bound < 2 ^ 64 - 1 → OnOk result (AreAtMost (most_of self.old.bound) store.old (unknown self.old.held entries.now)) }
         ensures alone { most_of self.old.bound < 2 ^ 64 - 1 → result ≢ Err WaveFault.NoWorker }
         ensures expanded { OnOk result (HaveExpanded store.old 1 (requests_of (unknown self.old.held entries.now)) self.old.expanded self.new.expanded) }
+        ensures reduced { OnOk result ((v : ℕ) × HaveReduced store.old (requests_of (unknown self.old.held entries.now)) v self.old.reduced self.new.reduced) }
+        ensures all_reduced { most_of self.old.bound < 2 ^ 64 - 1 → OnOk result (HaveReduced store.old (requests_of (unknown self.old.held entries.now)) store.old.levels self.old.reduced self.new.reduced) }
         ensures memory { count_of store.old ≤ store.old.limit → result ≡ Err WaveFault.OutOfMemory → count_of store.new ≤ store.new.limit }
         ensures kept { IfOk result (λ answers. IsKeptWave self.old.held entries.now answers.items self.new.held) }
         ensures refused { OnErr result (self.new ≡ self.old) }
@@ -160,10 +172,13 @@ impl<'a, R: Threads + Wait + Sync, G: Monitor> Engine<'a, R, G> {
         ensures bound { self.new.bound ≡ self.old.bound }
     {
         let before = self.runner.workspace.expanded();
+        let made = self.runner.workspace.reduced();
         match self.runner.wave(store, &mut self.computed, entries) {
             Ok(answers) => {
                 let more = self.runner.workspace.expanded().wrapping_sub(before);
                 self.expanded = self.expanded.wrapping_add(more);
+                let alone = self.runner.workspace.reduced().wrapping_sub(made);
+                self.reduced = self.reduced.wrapping_add(alone);
                 Ok(answers)
             }
             Err(fault) => Err(fault),

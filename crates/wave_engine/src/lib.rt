@@ -1,11 +1,13 @@
 //! Waves that begin on the caller's own thread, by places, and call in the workers where a level is wide.
 //!
 //! **Promises.** `Engine::wave` gives each entry its diagram, whatever is held and wherever workers are called in
-//! (`wave`); exactly the requests of which nothing is held were expanded, each once, modulo 2^64 (`expanded`). The computed table
-//! has then each request's answer (`kept`), a refused wave changes nothing (`refused`), and what is held stays right
-//! (`right`). Requests are refused only past the monitor's bound (`past`, `within_bound`), and with a bound no worker is
-//! wanted (`alone`); OutOfMemory leaves a store within its limit that was so (`memory`). `Engine::new` and `forget`
-//! hold nothing (`empty`, `right`). `wave` is one wave with a computed table of the caller's.
+//! (`wave`); exactly the requests of which nothing is held were expanded, each once, modulo 2^64 (`expanded`), and of these
+//! the caller's thread has reduced exactly those above some level, each once (`reduced`), with a bound all
+//! (`all_reduced`). The computed table has then each request's answer (`kept`), a refused wave changes nothing
+//! (`refused`), and what is held stays right (`right`). Requests are refused only past the monitor's bound (`past`,
+//! `within_bound`), and with a bound no worker is wanted (`alone`); OutOfMemory leaves a store within its limit that was
+//! so (`memory`). `Engine::new` and `forget` hold nothing (`empty`, `right`). `wave` is one wave with a computed table
+//! of the caller's.
 //!
 //! **Only tests show** that ample memory suffices, and when workers are called in: always, never, and at the levels
 //! that the numbers of `Free` say (`wave_tests`).
@@ -19,6 +21,7 @@ mod engine;
 mod front;
 mod level_set;
 mod lists;
+mod reductions;
 mod requests;
 mod sizes;
 mod up;

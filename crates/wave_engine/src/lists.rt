@@ -56,11 +56,10 @@ impl Row {
     }
 }
 
-/// The answers of a level's requests, by place, and how many were ever put here.
+/// The answers of a level's requests, by place.
 #[derive(Drop)]
 pub(crate) struct Answers {
     refs: Vec<Ref>,
-    put: u64,
 }
 
 impl Model for Answers {
@@ -79,7 +78,6 @@ impl Answers {
     {
         Answers {
             refs: Vec::new(alloc),
-            put: 0,
         }
     }
 
@@ -89,13 +87,7 @@ impl Answers {
         ensures refused { OnErr result (self.new ≡ self.old) }
     {
         self.refs.push(answer)?;
-        self.put = self.put.wrapping_add(1);
         Ok(())
-    }
-
-    /// How many answers were ever put here, modulo 2^64, those of earlier waves too.
-    pub(crate) fn put(&self) -> u64 {
-        self.put
     }
 
     /// The answer of a place.

@@ -8,11 +8,13 @@ ghost use Rattle.expand_work.specs.Bounds.{most_of};
 ghost use Rattle.expand_work.specs.Gathered.{HaveExpanded};
 ghost use Rattle.wave_engine.specs.Bounds.{AreMoreThan, AreAtMost, ArePast};
 ghost use Rattle.wave_engine.specs.Down.{IsDown, HaveSplit};
+ghost use Rattle.wave_engine.specs.Resting.{HaveReduced};
 ghost use Rattle.wave_engine.specs.Up.{ComesTo};
 
 use crate::down::{Limits, expand, place_roots};
 use crate::front::{Frontier, hand_over};
 use crate::lists::{Answers, Row};
+use crate::reductions::Reductions;
 use crate::requests::Requests;
 use crate::sizes::Sizes;
 use crate::up::{reduce, resolve};
@@ -32,6 +34,13 @@ pub(crate) struct Down {
     pub(crate) rows: Vec<Row>,
     pub(crate) roots: Vec<Placed>,
     pub(crate) splits: Splits,
+}
+
+/// What a wave's reduction leaves: the answers of the requests by level. All that the caller's thread ever reduces are counted.
+#[derive(Drop)]
+pub(crate) struct Up {
+    pub(crate) answers: Vec<Answers>,
+    pub(crate) reductions: Reductions,
 }
 
 /// Makes a row for each level.
@@ -115,12 +124,11 @@ fn root_answers(
 pub(crate) struct Workspace<'a, R, G> {
     pub(crate) crew: &'a Crew<'a, R, G>,
     pub(crate) down: Down,
-    answers: Vec<Answers>,
+    pub(crate) up: Up,
     /// The memory of the workers.
     pub(crate) rooms: Rooms,
     /// How large the waves before were, of those that came to be reduced.
     sizes: Sizes,
-    reduced: u64,
 }
 
 impl<'a, R: Threads + Wait + Sync, G: Monitor> Workspace<'a, R, G> {
@@ -137,10 +145,12 @@ impl<'a, R: Threads + Wait + Sync, G: Monitor> Workspace<'a, R, G> {
                 roots: Vec::new(alloc),
                 splits: Splits::new(),
             },
-            answers: Vec::new(alloc),
+            up: Up {
+                answers: Vec::new(alloc),
+                reductions: Reductions::new(),
+            },
             rooms: Rooms::new(alloc),
             sizes: Sizes::new(),
-            reduced: 0,
         }
     }
 
@@ -159,8 +169,10 @@ impl<'a, R: Threads + Wait + Sync, G: Monitor> Workspace<'a, R, G> {
     }
 
     /// How many requests the caller's thread has reduced in all its waves, modulo 2^64.
-    pub(crate) fn reduced(&self) -> u64 {
-        self.reduced
+    pub(crate) fn reduced(&self) -> u64
+        ensures { result ≡ self.now.up.reductions % 2 ^ 64 }
+    {
+        self.up.reductions.count()
     }
 
     /// The diagram of each operation on its two operands.
@@ -180,6 +192,8 @@ impl<'a, R: Threads + Wait + Sync, G: Monitor> Workspace<'a, R, G> {
         ensures within_bound { most_of (G.bound self.old.crew.now.monitor.now) < 2 ^ 64 - 1 → OnOk result (AreAtMost (most_of (G.bound self.old.crew.now.monitor.now)) store.old entries.now) }
         ensures alone { most_of (G.bound self.old.crew.now.monitor.now) < 2 ^ 64 - 1 → result ≢ Err WaveFault.NoWorker }
         ensures expanded { OnOk result (HaveExpanded store.old 1 (requests_of entries.now) (self.old.down.splits + self.old.rooms) (self.new.down.splits + self.new.rooms)) }
+        ensures reduced { OnOk result ((v : ℕ) × HaveReduced store.old (requests_of entries.now) v self.old.up.reductions self.new.up.reductions) }
+        ensures all_reduced { most_of (G.bound self.old.crew.now.monitor.now) < 2 ^ 64 - 1 → OnOk result (HaveReduced store.old (requests_of entries.now) store.old.levels self.old.up.reductions self.new.up.reductions) }
         ensures memory { count_of store.old ≤ store.old.limit → result ≡ Err WaveFault.OutOfMemory → count_of store.new ≤ store.new.limit }
         ensures monitor { self.new.crew.now.monitor ≡ self.old.crew.now.monitor }
     {
@@ -195,7 +209,7 @@ impl<'a, R: Threads + Wait + Sync, G: Monitor> Workspace<'a, R, G> {
             store,
             entries,
             &mut self.down,
-            &mut self.answers,
+            &mut self.up.answers,
             limits,
         )?;
         let alone = self.down.splits.count().wrapping_sub(before);
@@ -210,12 +224,12 @@ impl<'a, R: Threads + Wait + Sync, G: Monitor> Workspace<'a, R, G> {
             store,
             entries,
             &frontier,
-            &mut self.answers,
+            &mut self.up.answers,
         )?;
         self.sizes = self.sizes.then(alone.saturating_add(shared));
-        let reduced = reduce(store, entries, &self.down, &mut self.answers, from)?;
-        self.reduced = self.reduced.wrapping_add(reduced);
-        match root_answers(alloc, self.down.roots.as_slice(), self.answers.as_slice()) {
+        reduce(store, entries, &self.down, &mut self.up, from)?;
+        let answers = self.up.answers.as_slice();
+        match root_answers(alloc, self.down.roots.as_slice(), answers) {
             Ok(answers) => Ok(answers),
             Err(_) => Err(WaveFault::OutOfMemory),
         }

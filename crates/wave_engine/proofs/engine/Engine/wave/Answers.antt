@@ -6,7 +6,7 @@ use Rattle.reduce_up.specs.Waves.{AnswersWave}
 use Rattle.expand_work.specs.Bounds.{most_of}
 use Rattle.wave_engine.specs.Bounds.{AreAtMost}
 use Rattle.wave_engine.specs.Resting.{AtRest}
-use Rattle.wave_engine.proofs.Both.{counted_on, counted_view}
+use Rattle.wave_engine.proofs.Both.{counted_on, counted_view, reduced_on, reduced_view}
 use Rattle.wave_engine.proofs.engine.Engine.wave.Goals as goal
 
 pub wave-requires-clause-right : goal.wave-requires-clause-right
@@ -27,4 +27,18 @@ returns-in-Ok-clause-within_bound g c =
 pub returns-in-Ok-clause-expanded : goal.returns-in-Ok-clause-expanded
 returns-in-Ok-clause-expanded g c =
     counted_view c.args.store.now c.args.entries.now _ _ _ c.self.view_is
-    (counted_on c.args.store.now 1 _ _ _ c.in-Ok.ensures.expanded c.expanded-before.result c.expanded.result _ _ _ c.expanded-before.ensures c.expanded.ensures refl refl)
+    (counted_on _ _ c.expanded-before.result c.expanded.result _ _ _ c.expanded-before.ensures c.expanded.ensures refl refl c.args.store.now 1 _ c.in-Ok.ensures.expanded)
+
+pub returns-in-Ok-clause-reduced : goal.returns-in-Ok-clause-reduced
+returns-in-Ok-clause-reduced g c =
+    let made = c.in-Ok.ensures.reduced in (
+      made.0,
+      reduced_view c.args.store.now c.args.entries.now _ _ _ c.self.view_is made.0
+          (reduced_on _ _ c.reduced-made.result c.reduced.result _ _ _ c.reduced-made.ensures c.reduced.ensures refl refl c.args.store.now _ made.0 made.1),
+    )
+
+pub returns-in-Ok-clause-all_reduced : goal.returns-in-Ok-clause-all_reduced
+returns-in-Ok-clause-all_reduced g c = λ bounded.
+    let bounded' = subst (λ (e : AtRest). most_of e.bound < 2 ^ 64 - 1) (sym c.self.view_is) bounded in
+    reduced_view c.args.store.now c.args.entries.now _ _ _ c.self.view_is c.args.store.now.levels
+    (reduced_on _ _ c.reduced-made.result c.reduced.result _ _ _ c.reduced-made.ensures c.reduced.ensures refl refl c.args.store.now _ c.args.store.now.levels (c.in-Ok.ensures.all_reduced bounded'))

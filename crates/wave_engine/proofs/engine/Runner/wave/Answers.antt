@@ -4,6 +4,7 @@ use Rattle.req_table.specs.ComputedTables.{IsRight}
 use Rattle.expand_work.specs.Gathered.{HaveExpanded}
 use Rattle.reduce_up.specs.Waves.{Entry, requests_of}
 use Rattle.reduce_up.proofs.Known.{sought_good, sought_long, sought_count, sought_right, found_each, waved, sought_refused, sought_done, sought_given_up}
+use Rattle.wave_engine.specs.Resting.{HaveReduced}
 use Rattle.wave_engine.proofs.engine.Runner.wave.Goals as goal
 
 pub wave-requires-clause-operands : goal.wave-requires-clause-operands
@@ -64,3 +65,13 @@ pub returns-in-Ok-settle-clause-expanded : goal.returns-in-Ok-settle-clause-expa
 returns-in-Ok-settle-clause-expanded g c =
     subst (λ (es : List Entry). HaveExpanded c.args.store.now 1 (requests_of es) (c.args.self.now.workspace.down.splits + c.args.self.now.workspace.rooms) (c.wave.new.self.down.splits + c.wave.new.self.rooms))
     (c.requests.ensures ∙ c.in-Ok.ensures.requests) c.in_ok-found.ensures.expanded
+
+pub returns-in-Ok-settle-clause-reduced : goal.returns-in-Ok-settle-clause-reduced
+returns-in-Ok-settle-clause-reduced g c =
+    let made = c.in_ok-found.ensures.reduced in
+    (made.0, subst (λ (es : List Entry). HaveReduced c.args.store.now (requests_of es) made.0 c.args.self.now.workspace.up.reductions c.wave.new.self.up.reductions) (c.requests.ensures ∙ c.in-Ok.ensures.requests) made.1)
+
+pub returns-in-Ok-settle-clause-all_reduced : goal.returns-in-Ok-settle-clause-all_reduced
+returns-in-Ok-settle-clause-all_reduced g c = λ bounded.
+    subst (λ (es : List Entry). HaveReduced c.args.store.now (requests_of es) c.args.store.now.levels c.args.self.now.workspace.up.reductions c.wave.new.self.up.reductions) (c.requests.ensures ∙ c.in-Ok.ensures.requests)
+    (c.in_ok-found.ensures.all_reduced bounded)

@@ -1,15 +1,16 @@
-use Rattle.std.proofs.Common.{List, All, sym, subst, arith}
+use Rattle.std.proofs.Common.{◌≡◌, List, All, sym, subst, arith}
 use Rattle.std.specs.List.{AllZip}
 use Rattle.dd_store.specs.declared.reference.Ref.{Ref}
 use Rattle.req_table.specs.declared.Key.{Key}
 use Rattle.reduce_up.specs.Reducing.{AddsDescribed}
-use Rattle.reduce_up.specs.Waves.{IsWanted, AnswersEach, IsWaveFault}
+use Rattle.reduce_up.specs.Waves.{IsWanted, AnswersEach, IsWaveFault, requests_of}
 use Rattle.reduce_up.proofs.Waving.{not_full, wave_unchanged, wave_given_up, wave_done, within_still}
 use Rattle.std.proofs.lemmas.Result.{err_from_is_err_and}
 use Rattle.req_table.specs.declared.placed.Placed.{Placed}
 use Rattle.wave_engine.specs.Down.{AreExpanded, IsDown}
+use Rattle.wave_engine.specs.Resting.{HaveReduced}
 use Rattle.wave_engine.specs.Up.{ComesTo, AreReducedBelow, IsWithinBelow}
-use Rattle.wave_engine.proofs.Both.{have_both}
+use Rattle.wave_engine.proofs.Both.{have_both, have_reduced}
 use Rattle.wave_engine.proofs.Whole.{expanded_kept, adds_both, fault_back, roots_come, roots_answered, within_both}
 use Rattle.wave_engine.proofs.workspace.Workspace.wave.Goals as goal
 
@@ -33,14 +34,14 @@ returns-in_err-shared-clause-wave g c =
     let p = err_from_is_err_and c.from_residual-in_err-shared.result c.from_residual-in_err-shared.ensures.1 in
     rw (p.1, p.2) (wave_given_up c.args.store.now c.args.entries.now c.args.entries.now c.hand_over.new.store c.in_err-shared.field-0.0 c.hand_over.ensures.sound c.hand_over.ensures.adds c.in_err-shared.ensures.fault)
 
-pub returns-in_err-reduced-clause-wave : goal.returns-in_err-reduced-clause-wave
-returns-in_err-reduced-clause-wave g c =
+pub returns-in_err-reduce-clause-wave : goal.returns-in_err-reduce-clause-wave
+returns-in_err-reduce-clause-wave g c =
     let adds : AddsDescribed c.args.store.now c.reduce.new.store (IsWanted c.args.store.now c.args.entries.now) =
     adds_both c.args.store.now c.levels-levels.ensures.sound c.args.entries.now c.requires.operands c.hand_over.new.store c.hand_over.ensures.adds.keeps c.hand_over.ensures.sound c.reduce.new.store c.hand_over.ensures.adds c.reduce.ensures.adds in
-    let f : IsWaveFault c.args.store.now c.args.entries.now c.reduce.new.store c.in_err-reduced.field-0.0 =
-    fault_back c.args.store.now c.levels-levels.ensures.sound c.args.entries.now c.requires.operands c.hand_over.new.store c.hand_over.ensures.adds.keeps c.reduce.new.store c.in_err-reduced.field-0.0 c.in_err-reduced.ensures.fault in
-    let p = err_from_is_err_and c.from_residual-in_err-reduced.result c.from_residual-in_err-reduced.ensures.1 in
-    rw (p.1, p.2) (wave_given_up c.args.store.now c.args.entries.now c.args.entries.now c.reduce.new.store c.in_err-reduced.field-0.0 c.reduce.ensures.sound adds f)
+    let f : IsWaveFault c.args.store.now c.args.entries.now c.reduce.new.store c.in_err-reduce.field-0.0 =
+    fault_back c.args.store.now c.levels-levels.ensures.sound c.args.entries.now c.requires.operands c.hand_over.new.store c.hand_over.ensures.adds.keeps c.reduce.new.store c.in_err-reduce.field-0.0 c.in_err-reduce.ensures.fault in
+    let p = err_from_is_err_and c.from_residual-in_err-reduce.result c.from_residual-in_err-reduce.ensures.1 in
+    rw (p.1, p.2) (wave_given_up c.args.store.now c.args.entries.now c.args.entries.now c.reduce.new.store c.in_err-reduce.field-0.0 c.reduce.ensures.sound adds f)
 
 pub root_answers-requires : goal.root_answers-requires
 root_answers-requires g c =
@@ -48,10 +49,10 @@ root_answers-requires g c =
     let rows : List (List (Placed × Placed)) = c.go_down.new.down.rows.items in
     let ps : List Placed = c.go_down.new.down.roots.items in
     let D : IsDown c.args.store.now c.args.entries.now c.in_ok-from.from T rows ps c.go_down.new.answers.items = c.in_ok-from.ensures.down in
-    let R : AreReducedBelow c.hand_over.new.store c.args.entries.now T 0 c.reduce.new.store c.reduce.new.answers.items = c.in_ok-reduced.ensures.reduced in
-    subst (λ (z : List Placed). All (λ p. (r : Ref) × ComesTo c.as_slice-2.result.now p r) z) (sym c.as_slice.ensures.value)
-    (subst (λ (z : List (List Ref)). All (λ p. (r : Ref) × ComesTo z p r) ps) (sym c.as_slice-2.ensures.value)
-    (roots_come c.args.store.now c.levels-levels.ensures.sound c.args.entries.now c.requires.operands T c.reduce.new.answers.items (λ v q k h. R.counts v q k (omega arith) h) ps D.expanded.rooted))
+    let R : AreReducedBelow c.hand_over.new.store c.args.entries.now T 0 c.reduce.new.store c.reduce.new.up.answers.items = c.in_ok-reduce.ensures.reduced in
+    subst (λ (z : List Placed). All (λ p. (r : Ref) × ComesTo c.as_slice-answers.result.now p r) z) (sym c.as_slice.ensures.value)
+    (subst (λ (z : List (List Ref)). All (λ p. (r : Ref) × ComesTo z p r) ps) (sym c.as_slice-answers.ensures.value)
+    (roots_come c.args.store.now c.levels-levels.ensures.sound c.args.entries.now c.requires.operands T c.reduce.new.up.answers.items (λ v q k h. R.counts v q k (omega arith) h) ps D.expanded.rooted))
 
 pub returns-in-Ok-clause-wave : goal.returns-in-Ok-clause-wave
 returns-in-Ok-clause-wave g c =
@@ -59,13 +60,13 @@ returns-in-Ok-clause-wave g c =
     let rows : List (List (Placed × Placed)) = c.go_down.new.down.rows.items in
     let ps : List Placed = c.go_down.new.down.roots.items in
     let D : IsDown c.args.store.now c.args.entries.now c.in_ok-from.from T rows ps c.go_down.new.answers.items = c.in_ok-from.ensures.down in
-    let R : AreReducedBelow c.hand_over.new.store c.args.entries.now T 0 c.reduce.new.store c.reduce.new.answers.items = c.in_ok-reduced.ensures.reduced in
-    let come : AllZip (ComesTo c.reduce.new.answers.items) ps c.in-Ok.answers.items =
-    subst (λ (z : List Placed). AllZip (ComesTo c.reduce.new.answers.items) z c.in-Ok.answers.items) c.as_slice.ensures.value
-    (subst (λ (z : List (List Ref)). AllZip (ComesTo z) c.as_slice.result.now c.in-Ok.answers.items) c.as_slice-2.ensures.value c.in-Ok.ensures) in
+    let R : AreReducedBelow c.hand_over.new.store c.args.entries.now T 0 c.reduce.new.store c.reduce.new.up.answers.items = c.in_ok-reduce.ensures.reduced in
+    let come : AllZip (ComesTo c.reduce.new.up.answers.items) ps c.in-Ok.answers.items =
+    subst (λ (z : List Placed). AllZip (ComesTo c.reduce.new.up.answers.items) z c.in-Ok.answers.items) c.as_slice.ensures.value
+    (subst (λ (z : List (List Ref)). AllZip (ComesTo z) c.as_slice.result.now c.in-Ok.answers.items) c.as_slice-answers.ensures.value c.in-Ok.ensures) in
     let adds : AddsDescribed c.args.store.now c.reduce.new.store (IsWanted c.args.store.now c.args.entries.now) = adds_both c.args.store.now c.levels-levels.ensures.sound c.args.entries.now c.requires.operands c.hand_over.new.store c.hand_over.ensures.adds.keeps c.hand_over.ensures.sound c.reduce.new.store c.hand_over.ensures.adds c.reduce.ensures.adds in
     let answers : AnswersEach c.args.store.now c.args.entries.now c.reduce.new.store c.in-Ok.answers.items =
-    roots_answered c.args.store.now c.levels-levels.ensures.sound c.args.entries.now c.requires.operands T c.reduce.new.answers.items c.reduce.new.store D.expanded.admitted adds.keeps (λ v q k r h g. R.answered v q k r (omega arith) h g) c.args.entries.now c.requires.operands ps D.expanded.rooted c.in-Ok.answers.items come in
+    roots_answered c.args.store.now c.levels-levels.ensures.sound c.args.entries.now c.requires.operands T c.reduce.new.up.answers.items c.reduce.new.store D.expanded.admitted adds.keeps (λ v q k r h g. R.answered v q k r (omega arith) h g) c.args.entries.now c.requires.operands ps D.expanded.rooted c.in-Ok.answers.items come in
     let first : IsWithinBelow c.args.store.now T c.in_ok-from.from c.hand_over.new.store = c.in_ok-shared.ensures.within in
     wave_done c.args.store.now c.args.entries.now c.args.entries.now c.reduce.new.store c.in-Ok.answers c.reduce.ensures.sound adds answers
     (within_both c.args.store.now c.levels-levels.ensures.sound c.args.entries.now c.requires.operands T ps D.expanded.rooted c.in_ok-from.from c.hand_over.new.store c.reduce.new.store first R.within)
@@ -90,7 +91,25 @@ returns-in-Err-clause-memory g c = λ old _.
     let T : List (List Key) = c.go_down.new.down.requests in
     let ps : List Placed = c.go_down.new.down.roots.items in
     let D : IsDown c.args.store.now c.args.entries.now c.in_ok-from.from T c.go_down.new.down.rows.items ps c.go_down.new.answers.items = c.in_ok-from.ensures.down in
-    let R : AreReducedBelow c.hand_over.new.store c.args.entries.now T 0 c.reduce.new.store c.reduce.new.answers.items = c.in_ok-reduced.ensures.reduced in
+    let R : AreReducedBelow c.hand_over.new.store c.args.entries.now T 0 c.reduce.new.store c.reduce.new.up.answers.items = c.in_ok-reduce.ensures.reduced in
     let first : IsWithinBelow c.args.store.now T c.in_ok-from.from c.hand_over.new.store = c.in_ok-shared.ensures.within in
     within_still c.args.store.now c.args.entries.now c.reduce.new.store
     (within_both c.args.store.now c.levels-levels.ensures.sound c.args.entries.now c.requires.operands T ps D.expanded.rooted c.in_ok-from.from c.hand_over.new.store c.reduce.new.store first R.within) old
+
+pub returns-in-Ok-clause-reduced : goal.returns-in-Ok-clause-reduced
+returns-in-Ok-clause-reduced g c =
+    let T : List (List Key) = c.go_down.new.down.requests in
+    let rows : List (List (Placed × Placed)) = c.go_down.new.down.rows.items in
+    let ps : List Placed = c.go_down.new.down.roots.items in
+    let D : IsDown c.args.store.now c.args.entries.now c.in_ok-from.from T rows ps c.go_down.new.answers.items = c.in_ok-from.ensures.down in
+    (c.in_ok-from.from, have_reduced c.args.store.now c.levels-levels.ensures.sound c.args.entries.now c.requires.operands T rows ps c.in_ok-from.from D.expanded 1 c.args.self.now.up.reductions c.reduce.new.up.reductions c.in_ok-reduce.ensures.counted)
+
+pub returns-in-Ok-clause-all_reduced : goal.returns-in-Ok-clause-all_reduced
+returns-in-Ok-clause-all_reduced g c = λ bounded.
+    let T : List (List Key) = c.go_down.new.down.requests in
+    let rows : List (List (Placed × Placed)) = c.go_down.new.down.rows.items in
+    let ps : List Placed = c.go_down.new.down.roots.items in
+    let D : IsDown c.args.store.now c.args.entries.now c.in_ok-from.from T rows ps c.go_down.new.answers.items = c.in_ok-from.ensures.down in
+    let whole : c.in_ok-from.from ≡ c.args.store.now.levels = c.in_ok-from.ensures.alone (c.most_alone.ensures.bounded bounded) in
+    subst (λ z. HaveReduced c.args.store.now (requests_of c.args.entries.now) z c.args.self.now.up.reductions c.reduce.new.up.reductions) whole
+    (have_reduced c.args.store.now c.levels-levels.ensures.sound c.args.entries.now c.requires.operands T rows ps c.in_ok-from.from D.expanded 1 c.args.self.now.up.reductions c.reduce.new.up.reductions c.in_ok-reduce.ensures.counted)
