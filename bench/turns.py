@@ -1,11 +1,12 @@
 #!/usr/bin/env python3
 """Measures bddcheck by several numbers of workers against one, on pairs of netlists and on single waves.
 
-usage: bench/turns.py PROGRAM [FOLDER ..] [--before PROGRAM] [--workers N,N ..] [--repeats K] [--rest SECONDS] [--waves N,N ..] [--only WORD]
+usage: bench/turns.py PROGRAM [FOLDER ..] [--before PROGRAM] [--workers N,N ..] [--repeats K] [--rest SECONDS] [--waves N,N ..] [--busy N] [--only WORD]
 
 A FOLDER has folders NAME/ with a.bench, b.bench and order, as for peers.py. --waves adds netlists whose run is nearly one
 wave: the disjunction of two sums of N/2 products over variables of their own, all first factors before all second ones,
-which comes to 1.5 * 2^N requests. --before measures an older program beside the first one.
+which comes to nearly 2^(N + 1) requests. --before measures an older program beside the first one. --busy has N other processes run
+all the while, which never wait.
 
 Each pair is run K times (5), and within each time by each number of workers (1,2,4), one after the other and SECONDS (1)
 apart, since a host may take processors away after some seconds of full load. It prints a table in Markdown:
@@ -13,8 +14,10 @@ one worker's time on the clock, the least and the median, and for each other col
 processor time, the peak memory, and how much of the processors the host took meanwhile.
 """
 import argparse
+import contextlib
 import pathlib
 import statistics
+import subprocess
 import sys
 import tempfile
 import time
@@ -44,6 +47,18 @@ def taken():
     """The processor time that the host took, and all of it."""
     numbers = list(map(int, pathlib.Path("/proc/stat").read_text().split("\n")[0].split()[1:]))
     return numbers[7], sum(numbers)
+
+
+@contextlib.contextmanager
+def others(count):
+    """So many processes that never wait."""
+    running = [subprocess.Popen([sys.executable, "-c", "while True: pass"]) for _ in range(count)]
+    try:
+        yield
+    finally:
+        for one in running:
+            one.kill()
+            one.wait()
 
 
 def measured(folder, settings):
@@ -86,6 +101,7 @@ def settings_of():
     parser.add_argument("--repeats", type=int, default=5)
     parser.add_argument("--rest", type=float, default=1.0)
     parser.add_argument("--waves", type=numbers, default=[])
+    parser.add_argument("--busy", type=int, default=0)
     parser.add_argument("--only", default="")
     settings = parser.parse_args()
     programs = [("", settings.program)] + ([("before, ", settings.before)] if settings.before else [])
@@ -99,7 +115,7 @@ def main():
     head = ["pair", f"{names[0]} s"] + [f"{name} / {names[0]}" for name in names[1:]] + [f"work of {name}" for name in names[1:]]
     head += [f"MB of {name}" for name in names] + ["host took"]
     print("| " + " | ".join(head) + " |\n|" + " --- |" * len(head))
-    with tempfile.TemporaryDirectory() as room:
+    with tempfile.TemporaryDirectory() as room, others(settings.busy):
         pairs = [pair for folder in settings.folders for pair in sorted(folder.iterdir()) if (pair / "order").exists()]
         pairs += [write_wave(pathlib.Path(room) / f"wave{size}", size) for size in settings.waves]
         for pair in pairs:
