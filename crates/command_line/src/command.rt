@@ -3,6 +3,7 @@ ghost use Rattle.std.specs.Prelude.{◌≡◌, false, codes, IfOk};
 ghost use Rattle.clap.specs.Words.{app_of, new_rule, rule_of};
 ghost use Rattle.command_line.specs.Words.{TakesMatches, TakesOrders, match_rule, order_rule, order_file_rule, extend_rule, given_rule, only_rule, share_rule, explain_rule, vcd_rule, workers_rule, limit_rule, memory_rule, sizes_rule, print_order_rule, TakesFormats, format_rule, TakesAssignments, assignment_rule, verbose_rule, bare_app, IsTool};
 
+use crate::help::{ABOUT, MORE};
 use clap::{Arg, ArgAction, Command, value_parser};
 use std::alloc::{AllocError, Global};
 
@@ -22,22 +23,6 @@ static ORDERS: [&str; 8] = [
 static FORMATS: [&str; 2] = ["text", "json"];
 
 static ASSIGNMENTS: [&str; 3] = ["all", "support", "ones"];
-
-static ABOUT: &str =
-    "Decides for each pair of outputs and of registers of two bench netlists whether both compute the same Boolean function";
-
-static MORE: &str = "\
-For each pair of outputs a line EQUAL or DIFFER is printed, the latter with the least assignment on which the two differ;
-the next states of each pair of registers are compared in the same way (NEXT); then come the outputs and registers without
-a partner (ONLY), and last the counts. A pair that no attempt decides has a line UNDECIDED. Without FIRST and SECOND both netlists are read from standard input, with a line
-`%%` between them.
-
-Status:
-  0  all outputs and next states are paired and equal
-  1  some are different, or have no partner
-  2  the command line, a file, a netlist or the order was refused
-  3  some pairs are undecided, and none is different or has no partner; or out of memory, more nodes than the limit, no order
-     within it, no worker, or the report could not be written";
 
 fn matching<'a>(alloc: Global) -> Arg<'a>
     ensures rule { rule_of result ≡ match_rule result.value_parser }

@@ -13,6 +13,7 @@
 #![tactic(auto)]
 
 mod command;
+mod help;
 pub mod laws;
 mod matched;
 mod odds;

@@ -4,7 +4,7 @@ ghost use Rattle.report_text.specs.Lines.{line_text, variable_text, assignment_t
 
 use crate::assignment::{Assignment, is_told, mark_at};
 use crate::outcome::{Outcome, PairKind, Share, Side};
-use crate::verdict::{Extras, Verdict};
+use crate::verdict::{Extras, Name, Verdict};
 use net_order::names::Names;
 use std::alloc::{AllocError, Global};
 
@@ -13,6 +13,17 @@ use std::alloc::{AllocError, Global};
 struct Label<'a> {
     role: PairKind,
     name: &'a [u8],
+}
+
+/// The label of a role and a name.
+fn label_of(role: PairKind, name: &Name) -> Label<'_>
+    ensures role { result.role ≡ role }
+    ensures name { result.name.now ≡ name.now }
+{
+    Label {
+        role,
+        name: name.as_slice(),
+    }
 }
 
 /// The word of a bit.
@@ -193,11 +204,7 @@ pub fn add_line(
 {
     match verdict {
         Verdict::Equal { role, name, size } => {
-            let label = Label {
-                role: *role,
-                name: name.as_slice(),
-            };
-            add_equal(alloc, text, label, *size)
+            add_equal(alloc, text, label_of(*role, name), *size)
         }
         Verdict::Differs {
             role,
@@ -207,10 +214,6 @@ pub fn add_line(
             second,
             extras,
         } => {
-            let label = Label {
-                role: *role,
-                name: name.as_slice(),
-            };
             let at = Difference {
                 bits: at.as_slice(),
                 which,
@@ -218,22 +221,10 @@ pub fn add_line(
                 second: *second,
                 extras,
             };
-            add_different(alloc, text, names, label, at)
+            add_different(alloc, text, names, label_of(*role, name), at)
         }
-        Verdict::Lone { side, role, name } => {
-            let label = Label {
-                role: *role,
-                name: name.as_slice(),
-            };
-            add_lone(text, *side, label)
-        }
-        Verdict::Undecided { role, name } => {
-            let label = Label {
-                role: *role,
-                name: name.as_slice(),
-            };
-            add_undecided(text, label)
-        }
+        Verdict::Lone { side, role, name } => add_lone(text, *side, label_of(*role, name)),
+        Verdict::Undecided { role, name } => add_undecided(text, label_of(*role, name)),
     }
 }
 
