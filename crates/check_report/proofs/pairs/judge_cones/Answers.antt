@@ -8,9 +8,9 @@ pub try_cones-requires-clause-one : goal.try_cones-requires-clause-one
 try_cones-requires-clause-one g c κs within =
     let w = c.args.whole.now in
     let task = c.task_of-task.result in
-    let p = c.in_ok-pairing.ensures.paired in
-    let named : c.in_ok-pairing.pairing.names ≡ map (variable_name w.pairing.now.names) c.in-Ok.places.items =
-    subst (λ ps. c.in_ok-pairing.pairing.names ≡ map (variable_name w.pairing.now.names) ps) c.as_slice.ensures.value
+    let p = c.in_ok-cone_pairing.ensures.paired in
+    let named : c.in_ok-pairing.pairing.names ≡ map (variable_name w.naming.now.names) c.in-Ok.places.items =
+    subst (λ ps. c.in_ok-pairing.pairing.names ≡ map (variable_name w.naming.now.names) ps) c.as_slice.ensures.value
     (subst (λ ns. c.in_ok-pairing.pairing.names ≡ map (variable_name ns) c.as_slice.result.now) c.names.ensures.value p.2) in
     one_pair w c.args.subject.now c.args.cones.now task c.requires.ready c.requires.cones c.task_of-task.ensures c.inputs.ensures.sound c.inputs-2.ensures.sound c.in-Ok.places.items c.in_ok-pairing.pairing c.in-Ok.ensures.places
     (p.0, p.1, named)
@@ -19,9 +19,9 @@ pub returns-in-Ok-told_over : goal.returns-in-Ok-told_over
 returns-in-Ok-told_over g c =
     let w = c.args.whole.now in
     let task = c.task_of-task.result in
-    let p = c.in_ok-pairing.ensures.paired in
-    let named : c.in_ok-pairing.pairing.names ≡ map (variable_name w.pairing.now.names) c.in-Ok.places.items =
-    subst (λ ps. c.in_ok-pairing.pairing.names ≡ map (variable_name w.pairing.now.names) ps) c.as_slice.ensures.value
+    let p = c.in_ok-cone_pairing.ensures.paired in
+    let named : c.in_ok-pairing.pairing.names ≡ map (variable_name w.naming.now.names) c.in-Ok.places.items =
+    subst (λ ps. c.in_ok-pairing.pairing.names ≡ map (variable_name w.naming.now.names) ps) c.as_slice.ensures.value
     (subst (λ ns. c.in_ok-pairing.pairing.names ≡ map (variable_name ns) c.as_slice.result.now) c.names.ensures.value p.2) in
     judged_pair w c.args.subject.now c.args.cones.now task c.requires.ready c.requires.cones c.task_of-task.ensures c.inputs.ensures.sound c.inputs-2.ensures.sound c.in-Ok.places.items c.in_ok-pairing.pairing c.in-Ok.ensures.places
     (p.0, p.1, named) c.args.budget (g.G.Monitor.bound c.args.monitor.now) c.in-Ok-try_cones.found c.in-Ok-told_over.told c.in-Ok-try_cones.ensures.decided c.in-Ok-try_cones.ensures.within (λ e. c.in-Ok-try_cones.ensures.left (ap Ok e))
