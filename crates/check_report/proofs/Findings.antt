@@ -1,5 +1,5 @@
 -- What a comparison finds by its settings, and the faults that it does not end with.
-use Rattle.std.proofs.Common.{◌≡◌, ◌≢◌, ◌∙◌, sym, subst, inl, inr, ℕ, ◌<◌, length, Option, None, Result, Ok, Err, IfErr}
+use Rattle.std.proofs.Common.{◌≡◌, ◌≢◌, ◌∙◌, sym, subst, inl, inr, ℕ, ◌<◌, ◌≤◌, length, Option, None, Result, Ok, Err, IfErr}
 use Rattle.std.specs.Prelude.{IfOk}
 use Rattle.expand_work.specs.declared.fault.WaveFault.TheVariants.{Full, NoWorker, TooManyRequests}
 use Rattle.net_bench.specs.Circuit.{circuit}
@@ -24,7 +24,7 @@ use Rattle.check_report.specs.Coning.{EndsAuto, EndsCones, IsToldByCones}
 use Rattle.check_report.specs.Deciding.{HasCause, IsFoundBy}
 use Rattle.check_report.specs.Deciding.IsFoundBy.{by_cones, in_order}
 use Rattle.check_report.specs.Devices.{Told}
-use Rattle.check_report.specs.Trials.{AreAllPassed, EndsAtOnce, EndsSearch, IsGivingUp, IsNamingIn}
+use Rattle.check_report.specs.Trials.{AreAllPassed, EndsAtOnce, EndsSearch, IsGivingUp, IsNamingIn, IsPairingIn}
 use Rattle.check_report.proofs.Reporting.{any_for, late_fault, late_whole}
 use Rattle.check_report.proofs.Rounds.{accepted, told_passed}
 
@@ -61,6 +61,13 @@ module _ {H : Type 0} (task : Task H) (told : Told) (given : AreGiven told (circ
   many_cause bound p auto is many =
       let count = names_count task.settings.now.matching (circuit task.first.now) (circuit task.second.now) (condition task.given) orders.Declared p is in
       subst (HasCause told task.settings.now bound) (sym auto) (inr (circuit task.first.now, circuit task.second.now, condition task.given, given, subst (λ n. max_variables < n) count many))
+
+  -- a naming of few variables is a pairing
+  pub as_pairing : (p : Paired) → IsNamingIn task orders.Declared p → length p.names ≤ max_variables → IsPairingIn task orders.Declared p
+  as_pairing p is few = record {
+    naming = is;
+    few = subst (λ n. n ≤ max_variables) (names_count task.settings.now.matching (circuit task.first.now) (circuit task.second.now) (condition task.given) orders.Declared p is) few;
+  }
 
   of_cones : (p : Paired) → IsNamingIn task orders.Declared p → MayGoByCones task.settings.now.order → AreAccepted told task.settings.now.order task.settings.now.matching orders.Declared
   of_cones p is may =
@@ -109,7 +116,13 @@ pub not_giving_up : (fault : CheckFault) → EndsSearch fault → (IsGivingUp fa
 not_giving_up fault ends apart = inr (record { search = ends; nodes = λ e. apart (inl e); given_up = λ e. apart (inr e) })
 
 -- a fault in an order that is allowed
-pub allowed_fault : {A : Type 0} (told : Told) (how : Match) (choice : Choice) (order : Order) → IsAllowed choice order → (r : Result A CheckFault) → IfErr r (IsCheckFault told ⊥ ⊥ ⊥ choice how order) →
-    IfErr r (λ fault. (o : Order) × IsAllowed choice o × IsCheckFault told ⊥ ⊥ ⊥ choice how o fault)
-allowed_fault told how choice order allowed (Ok v) h = tt
-allowed_fault told how choice order allowed (Err fault) h = (order, allowed, h)
+pub allowed_fault : {A : Type 0} (told : Told) (how : Match) (own choice : Choice) (order : Order) → IsAllowed choice order → (r : Result A CheckFault) → IfErr r (IsCheckFault told ⊥ ⊥ ⊥ own how order) →
+    IfErr r (λ fault. (o : Order) × IsAllowed choice o × IsCheckFault told ⊥ ⊥ ⊥ own how o fault)
+allowed_fault told how own choice order allowed (Ok v) h = tt
+allowed_fault told how own choice order allowed (Err fault) h = (order, allowed, h)
+
+-- what a choice allows is allowed by the choice that it is
+pub same_allowed : {A : Type 0} (told : Told) (how : Match) (own choice : Choice) → own ≡ choice → (r : Result A CheckFault) → IfErr r (λ fault. (o : Order) × IsAllowed choice o × IsCheckFault told ⊥ ⊥ ⊥ own how o fault) →
+    IfErr r (λ fault. (o : Order) × IsAllowed own o × IsCheckFault told ⊥ ⊥ ⊥ own how o fault)
+same_allowed told how own choice same (Ok v) h = tt
+same_allowed told how own choice same (Err fault) h = (h.0, subst (λ c. IsAllowed c h.0) (sym same) h.1, h.2)

@@ -165,7 +165,10 @@ fn by_auto<H: Threads + Wait + Sync, G: Monitor>(
                 budget: decided.budget,
             };
             let Decided { verdicts, .. } = decided;
-            return Ok((Verdicts::of(declared.into_naming(), verdicts), Some(attempt)));
+            return Ok((
+                Verdicts::of(declared.into_naming(), verdicts),
+                Some(attempt),
+            ));
         }
         Err(fault) => fault,
     };

@@ -120,13 +120,6 @@ pub fn values(
 {
     let rows = rows_of(alloc, net)?;
     let mut bits = Vec::from_elem(alloc, false, net.count())?;
-    set_signals(
-        net,
-        naming,
-        which,
-        at,
-        rows.as_slice(),
-        bits.as_mut_slice(),
-    );
+    set_signals(net, naming, which, at, rows.as_slice(), bits.as_mut_slice());
     Ok(bits)
 }

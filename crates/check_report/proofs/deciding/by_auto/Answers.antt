@@ -47,7 +47,14 @@ returns-in-Err-clause-found g c = λ told ga.
 
 pub returns-in-Err-clause-fault : goal.returns-in-Err-clause-fault
 returns-in-Err-clause-fault g c = λ told ga.
-    rw c.requires.auto (allowed_fault told c.args.task.now.settings.now.matching Auto orders.Declared (Declared, refl) c.by_cones_in.result (rw ← c.requires.auto (c.by_cones_in.ensures.fault told ga)))
+    allowed_fault told c.args.task.now.settings.now.matching c.args.task.now.settings.now.order Auto orders.Declared (Declared, refl) c.by_cones_in.result (c.by_cones_in.ensures.fault told ga)
 
 pub returns-in-Err-clause-passed : goal.returns-in-Err-clause-passed
 returns-in-Err-clause-passed g c = λ told ga. never_tried _ c.by_cones_in.result c.by_cones_in.ensures.untried
+
+-- ---- the whole
+
+pub find_attempt-requires-clause-telling : goal.find_attempt-requires-clause-telling
+find_attempt-requires-clause-telling g c κs lives =
+    let task = c.args.task.now in
+    (orders.Declared, paired_of g c, task.settings.now.no_sizes c.requires.auto)
