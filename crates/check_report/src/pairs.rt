@@ -106,7 +106,8 @@ fn judge_cones<H: Threads + Wait + Sync, G: Monitor>(
         return Err(CheckFault::OutOfMemory);
     };
     let task = task_of(whole, cones);
-    let Some(pairing) = cone_pairing(&task, whole.naming.names(), places.as_slice())? else {
+    let paired = cone_pairing(&task, whole.naming.names(), places.as_slice())?;
+    let Some(pairing) = paired else {
         return Ok(None);
     };
     let found = match try_cones(&task, &pairing, budget, monitor) {

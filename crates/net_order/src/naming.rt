@@ -1,5 +1,5 @@
 //! What two netlists are told and compared over: their naming, which may have any number of variables.
-ghost use Rattle.std.specs.Prelude.{◌≡◌, ◌⊎◌, ◌↔◌, length, IfOk, IfErr, IsTrue, slice_index, ⊥};
+ghost use Rattle.std.specs.Prelude.{◌≡◌, ◌⊎◌, ◌↔◌, length, IfOk, IfErr, IsTrue, slice_index};
 ghost use Rattle.net_bench.specs.Circuit.{circuit};
 ghost use Rattle.net_order.specs.declared.order.Order.TheVariants.{Declared};
 ghost use Rattle.net_order.specs.Order.{AreAsMany, AreCounted, IsNaming, condition, correspondence, registers_of};

@@ -69,8 +69,7 @@ impl Pairing {
     pub fn into_naming(self) -> Naming
         ensures { result ≡ self }
     {
-        let Pairing { naming } = self;
-        naming
+        self.naming
     }
 }
 
