@@ -1,5 +1,5 @@
 -- Pairs that are judged by their cones: what a comparison of cones says of the whole.
-use Rattle.std.proofs.Common.{◌≡◌, ap, sym, refl, subst, arith, ◌⊎◌, ℕ, suc, ◌<◌, ◌≤◌, ◌*◌, Bool, true, false, List, [], ◌∷◌, map, length, get_or, All, Option, Some, None, Result, Ok, min}
+use Rattle.std.proofs.Common.{◌≡◌, ap, sym, refl, subst, arith, ◌⊎◌, inl, inr, ℕ, suc, ◌<◌, ◌≤◌, ◌*◌, Bool, true, false, List, [], ◌∷◌, map, length, get_or, All, Option, Some, None, Result, Ok, min}
 use Rattle.std.specs.Prelude.{◌==◌, IfSome, cond, filter, zip, option_map, slice_index}
 use Rattle.std.specs.List.{AllZip}
 use Rattle.std.proofs.lemmas.List.Elements.{All-cons, All-filter, All-head, All-nil, All-tail}
@@ -10,7 +10,7 @@ use Rattle.net_bench.specs.Labels.{IsFunctionOf}
 use Rattle.net_order.specs.declared.order.Match.{Match}
 use Rattle.net_order.specs.declared.order.Match.TheVariants.{Name}
 use Rattle.net_order.specs.declared.order.Order.{Order}
-use Rattle.net_order.specs.Order.{IsPairing, Paired, condition, name_of}
+use Rattle.net_order.specs.Order.{IsPairing, Paired, condition, max_variables, name_of, variables_in}
 use Rattle.report_text.specs.declared.verdict.Verdict.{Verdict}
 use Rattle.report_text.specs.declared.verdict.Verdict.TheVariants.{Undecided}
 use Rattle.report_text.specs.Lines.{Found}
@@ -36,7 +36,7 @@ use Rattle.check_report.specs.Picking.{ArePicked, is_pair_of, of_share}
 use Rattle.check_report.specs.Picking.ArePicked.{all, named, shared}
 use Rattle.check_report.specs.Report.{AreVerdicts, Compared, subjects}
 use Rattle.check_report.specs.Spreading.{IsConePairing, IsOfNet, widened_verdict}
-use Rattle.check_report.specs.Trials.{IsDecidedWithin, IsPassed}
+use Rattle.check_report.specs.Trials.{HasMany, IsDecidedWithin, IsPassed}
 use Rattle.check_report.specs.Widths.{IsTooWide}
 use Rattle.check_report.proofs.ConeVerdicts.{told_widened}
 
@@ -127,8 +127,17 @@ module _ {H : Type 0} (task : Task H) (k m : Circuit) (w : Option Circuit) (by_n
     second = m;
     condition = w;
     cones = cones;
-    each = λ x. as_cones (λ how a b g. (q : Paired) × IsPairing how a b g (order_of x) q × (Exceeds budget a b g q ⊎ IsTooWide (min (budget * 8) (most_of bound)) a b g q))
-        ((passed x).pairing, (passed x).paired, (passed x).cause);
+    cause = inr (λ x. as_cones (λ how a b g. (q : Paired) × IsPairing how a b g (order_of x) q × (Exceeds budget a b g q ⊎ IsTooWide (min (budget * 8) (most_of bound)) a b g q))
+        ((passed x).pairing, (passed x).paired, (passed x).cause));
+  }
+
+  pub many_by_cones : (a b : Circuit) (c : Option Circuit) (p : Paired) (s : Subject) → AreCones a b c p s k m w → (budget : ℕ) (bound : Option ℕ) → HasMany task → IsLeftWithin budget bound a b c p s
+  many_by_cones a b c p s cones budget bound many = record {
+    first = k;
+    second = m;
+    condition = w;
+    cones = cones;
+    cause = inl (as_cones (λ how a b g. max_variables < length (variables_in how a b g)) many);
   }
 
   pub within_by_cones : (a b : Circuit) (c : Option Circuit) (p : Paired) (s : Subject) → AreCones a b c p s k m w → (budget : ℕ) → IsDecidedWithin task budget → FitByCones budget a b c p s

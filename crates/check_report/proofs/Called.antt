@@ -12,7 +12,7 @@ use Rattle.net_cone.specs.Cones.{AreNames}
 use Rattle.net_order.specs.declared.order.Match.{Match}
 use Rattle.net_order.specs.declared.order.Match.TheVariants.{Name, Position}
 use Rattle.net_order.specs.declared.order.Order.{Order}
-use Rattle.net_order.specs.Order.{HasLevels, IsPairing, Paired, Sided, all_names, both, given_side, is_member, level_of, name_of, named, names_by, own, partner, registers_of}
+use Rattle.net_order.specs.Order.{HasLevels, IsNaming, Paired, Sided, all_names, both, given_side, is_member, level_of, name_of, named, names_by, own, partner, registers_of}
 use Rattle.net_order.specs.Tables.{IsKnown}
 use Rattle.net_order.proofs.AllNames.{known_given, known_sides}
 use Rattle.net_order.proofs.Members.{contains_member, equal_numbers, no_true}
@@ -83,7 +83,7 @@ partners_apart (x ∷ xs) (t ∷ ts) once long s u ms mu e =
 
 -- ---- a pairing's names
 
-module _ (how : Match) (a b : Circuit) (given : Option Circuit) (order : Order) (p : Paired) (h : IsPairing how a b given order p) where
+module _ (how : Match) (a b : Circuit) (given : Option Circuit) (order : Order) (p : Paired) (h : IsNaming how a b given order p) where
   -- the name at a variable's level is the variable's
   name_at : (side : Sided) (levels : List ℕ) → IsKnown (all_names (both how a b) (given_side given)) side → HasLevels (names_by how a b given order) side levels →
       (s : ℕ) → Contains (variables_of side.net) s → get_or p.names (slice_index levels s) [] ≡ named side s
@@ -103,7 +103,7 @@ module _ (how : Match) (a b : Circuit) (given : Option Circuit) (order : Order) 
       All-contains (λ u. get_or names u [] ≡ get_or p.names (slice_index levels u) []) (variables_of side.net) v are.variables cv ∙ name_at side levels known has v cv in
       apart s t cs ct (sym (called s cs) ∙ e ∙ called t ct)
 
-module _ (how : Match) (n m : Net) (given : Option Circuit) (order : Order) (p : Paired) (h : IsPairing how (circuit n) (circuit m) given order p) where
+module _ (how : Match) (n m : Net) (given : Option Circuit) (order : Order) (p : Paired) (h : IsNaming how (circuit n) (circuit m) given order p) where
   pub first_names : IsNet n → (names : List (List ℕ)) → AreNamed (circuit n) p.first p names → AreNames n names
   first_names sound names are = record {
     each = are.each;
@@ -121,7 +121,7 @@ module _ (how : Match) (n m : Net) (given : Option Circuit) (order : Order) (p :
       }
 
 -- the names of the second netlist's variables, by the way of matching
-second_apart : (how : Match) (n m : Net) (given : Option Circuit) (order : Order) (p : Paired) → IsPairing how (circuit n) (circuit m) given order p → IsNet n → IsNet m →
+second_apart : (how : Match) (n m : Net) (given : Option Circuit) (order : Order) (p : Paired) → IsNaming how (circuit n) (circuit m) given order p → IsNet n → IsNet m →
     (s t : ℕ) → Contains (variables_of (circuit m)) s → Contains (variables_of (circuit m)) t →
     named (record { how = how; namer = circuit n; net = circuit m }) s ≡ named (record { how = how; namer = circuit n; net = circuit m }) t → s ≡ t
 second_apart Name n m given order p h first second s t cs ct e = own_apart m second s t cs ct e
@@ -137,7 +137,7 @@ second_apart Position n m given order p h first second s t cs ct e =
     as_many : (n m : Net) → length n.inputs ≡ length m.inputs → length (registers_of (circuit n)) ≡ length (registers_of (circuit m)) → length (variables_of (circuit m)) ≡ length (variables_of (circuit n))
     as_many n m inputs registers = omega (arith, inputs, registers, length-append m.inputs (registers_of (circuit m)), length-append n.inputs (registers_of (circuit n)))
 
-pub second_names : (how : Match) (n m : Net) (given : Option Circuit) (order : Order) (p : Paired) → IsPairing how (circuit n) (circuit m) given order p → IsNet n → IsNet m →
+pub second_names : (how : Match) (n m : Net) (given : Option Circuit) (order : Order) (p : Paired) → IsNaming how (circuit n) (circuit m) given order p → IsNet n → IsNet m →
     (names : List (List ℕ)) → AreNamed (circuit m) p.second p names → AreNames m names
 second_names how n m given order p h first second names are = record {
   each = are.each;

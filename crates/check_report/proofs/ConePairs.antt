@@ -19,7 +19,7 @@ use Rattle.net_cone.proofs.Spreading.{widened_where}
 use Rattle.net_order.specs.declared.order.Match.{Match}
 use Rattle.net_order.specs.declared.order.Match.TheVariants.{Name}
 use Rattle.net_order.specs.declared.order.Order.{Order}
-use Rattle.net_order.specs.Order.{HasLevels, Paired, IsPairing, Sided, all_names, both, given_side, level_of, name_of, named, names_by, pairs_by_name, registers_of, signal_named, unmatched, where_among, with_pair, without_pair}
+use Rattle.net_order.specs.Order.{HasLevels, Paired, IsNaming, Sided, all_names, both, given_side, level_of, name_of, named, names_by, pairs_by_name, registers_of, signal_named, unmatched, where_among, with_pair, without_pair}
 use Rattle.net_order.specs.Tables.{IsKnown}
 use Rattle.net_order.proofs.Members.{contains_member, member_head}
 use Rattle.net_order.proofs.Orders.{ordered_all, ordered_different}
@@ -46,10 +46,10 @@ found_there names apart n u low at =
     let (i, found) = found_of names n (contained_in names n (subst (Contains names) at (Contains-get_or names u [] low))) in
     found ∙ ap (λ v. Some v) (one_place names apart i u (found_low names n i found) low (found_at names n i found ∙ sym at))
 
--- ---- pairings
+-- ---- namings
 
-module _ (how : Match) (a b : Circuit) (given : Option Circuit) (order : Order) (p : Paired) (h : IsPairing how a b given order p) where
-  -- the names of a pairing are apart
+module _ (how : Match) (a b : Circuit) (given : Option Circuit) (order : Order) (p : Paired) (h : IsNaming how a b given order p) where
+  -- the names of a naming are apart
   pub names_apart : AreApart p.names
   names_apart u v less low e =
       let distinct : IsDistinct bytes_eq p.names = subst (IsDistinct bytes_eq) (sym h.names) (ordered_different (both how a b) (given_side given) order h.fit) in
@@ -151,7 +151,7 @@ module _ (a b : Circuit) (s t : ℕ) (found : find b.names (name_of a s) ≡ Som
   none_lone : unmatched a b (t ∷ []) (s ∷ []) ≡ []
   none_lone = ap (λ o. without_pair s o []) signal_there
 
-module _ (k m : Circuit) (w : Option Circuit) (order : Order) (q : Paired) (h : IsPairing Name k m w order q) (s t : ℕ) (first : k.outputs ≡ s ∷ []) (second : m.outputs ≡ t ∷ [])
+module _ (k m : Circuit) (w : Option Circuit) (order : Order) (q : Paired) (h : IsNaming Name k m w order q) (s t : ℕ) (first : k.outputs ≡ s ∷ []) (second : m.outputs ≡ t ∷ [])
     (first_none : registers_of k ≡ []) (second_none : registers_of m ≡ []) (there : find m.names (name_of k s) ≡ Some t) (back : find k.names (name_of m t) ≡ Some s) where
   output_pairs : q.outputs.pairs ≡ (s, t) ∷ []
   output_pairs = ap (λ c. c.pairs) h.outputs ∙ ap (λ os. pairs_by_name k m os k.outputs) second ∙ ap (pairs_by_name k m (t ∷ [])) first ∙ one_pair k m s t there

@@ -20,8 +20,8 @@ use Rattle.check_report.specs.declared.task.Task.{Task}
 use Rattle.check_report.specs.Coning.{AreConesOf, FitIn, IsConeTask, IsJudgedIn, IsLeftIn, IsReady, IsWidened, circuit_of}
 use Rattle.check_report.specs.Report.{AreVerdicts}
 use Rattle.check_report.specs.Spreading.{ArePlaces, IsConePairing}
-use Rattle.check_report.specs.Trials.{IsDecidedWithin, IsPairingIn, IsPassed}
-use Rattle.check_report.proofs.ByCones.{known_by_cones, left_by_cones, pairing_of_cones, verdicts_of_cones, within_by_cones}
+use Rattle.check_report.specs.Trials.{HasMany, IsDecidedWithin, IsPairingIn, IsPassed}
+use Rattle.check_report.proofs.ByCones.{known_by_cones, left_by_cones, many_by_cones, pairing_of_cones, verdicts_of_cones, within_by_cones}
 use Rattle.check_report.proofs.ConeVerdicts.{one_verdict}
 
 abbrev asked : (sizes support : Bool) → Asked
@@ -46,14 +46,20 @@ module _ {H : Type 0} (whole : Whole H) (s : Subject) (cones : Cones) (task : Ta
   second_is : circuit task.second.now ≡ circuit cones.second.net
   second_is = ap circuit of.second
 
-  module _ (one : IsNet whole.task.now.first.now) (two : IsNet whole.task.now.second.now) (places : List ℕ) (q : Paired) (in_order : ArePlaces (length whole.pairing.now.names) places)
-      (paired : (o : Order) × IsPairingIn task o q × (q.names ≡ map (variable_name whole.pairing.now.names) places)) where
-    pub cone_pair : IsConePairing (circuit whole.task.now.first.now) (circuit whole.task.now.second.now) (condition whole.task.now.given) whole.pairing.now s (circuit cones.first.net) (circuit cones.second.net) (circuit_of whole.given) places q
+  -- it is left where its cones have too many variables
+  pub many_pair : (budget : ℕ) (bound : Option ℕ) → HasMany task → IsJudgedIn whole budget bound s None
+  many_pair budget bound many =
+      many_by_cones task (circuit cones.first.net) (circuit cones.second.net) (circuit_of whole.given) by_name first_is second_is of.given (circuit whole.task.now.first.now) (circuit whole.task.now.second.now)
+      (condition whole.task.now.given) whole.naming.now s are budget bound many
+
+  module _ (one : IsNet whole.task.now.first.now) (two : IsNet whole.task.now.second.now) (places : List ℕ) (q : Paired) (in_order : ArePlaces (length whole.naming.now.names) places)
+      (paired : (o : Order) × IsPairingIn task o q × (q.names ≡ map (variable_name whole.naming.now.names) places)) where
+    pub cone_pair : IsConePairing (circuit whole.task.now.first.now) (circuit whole.task.now.second.now) (condition whole.task.now.given) whole.naming.now s (circuit cones.first.net) (circuit cones.second.net) (circuit_of whole.given) places q
     cone_pair = record {
       first = record { net = whole.task.now.first.now; sound = one; is_circuit = refl };
       second = record { net = whole.task.now.second.now; sound = two; is_circuit = refl };
       condition = ready.conditional_net;
-      whole = (whole.task.now.settings.now.matching, Declared, ready.pairing);
+      whole = (whole.task.now.settings.now.matching, Declared, ready.naming);
       cones = are;
       in_order = in_order;
       order = paired.0;
@@ -70,7 +76,7 @@ module _ {H : Type 0} (whole : Whole H) (s : Subject) (cones : Cones) (task : Ta
     -- it is one pair
     pub one_pair : (found : Found) → AreVerdicts (asked_in task.settings.now) (circuit task.first.now) (circuit task.second.now) (condition task.given) q found → length found.verdicts ≡ 1
     one_pair found verdicts =
-        one_verdict (circuit whole.task.now.first.now) (circuit whole.task.now.second.now) (condition whole.task.now.given) whole.pairing.now s (circuit cones.first.net) (circuit cones.second.net) (circuit_of whole.given) places q
+        one_verdict (circuit whole.task.now.first.now) (circuit whole.task.now.second.now) (condition whole.task.now.given) whole.naming.now s (circuit cones.first.net) (circuit cones.second.net) (circuit_of whole.given) places q
         cone_pair whole.task.now.settings.now.assignment found (of_cones found verdicts)
 
     as_decided : (found : Option Verdict) → IfSome found (λ v. AreVerdicts (asked_in task.settings.now) (circuit task.first.now) (circuit task.second.now) (condition task.given) q (record { variables = q.names; verdicts = v ∷ [] })) →
@@ -82,14 +88,14 @@ module _ {H : Type 0} (whole : Whole H) (s : Subject) (cones : Cones) (task : Ta
     as_within budget None h = tt
     as_within budget (Some v) h =
         within_by_cones task (circuit cones.first.net) (circuit cones.second.net) (circuit_of whole.given) by_name first_is second_is of.given (circuit whole.task.now.first.now) (circuit whole.task.now.second.now)
-        (condition whole.task.now.given) whole.pairing.now s are budget h
+        (condition whole.task.now.given) whole.naming.now s are budget h
 
     -- and what it comes to is what the pair comes to
     pub judged_pair : (budget : ℕ) (bound : Option ℕ) (found told : Option Verdict) →
         IfSome found (λ v. AreVerdicts (asked_in task.settings.now) (circuit task.first.now) (circuit task.second.now) (condition task.given) q (record { variables = q.names; verdicts = v ∷ [] })) →
         IfSome found (λ v. IsDecidedWithin task budget) → (found ≡ None → (c : Candidate) → IsPassed task budget bound c) → IsWidened whole s places found told → IsJudgedIn whole budget bound s told
     judged_pair budget bound found told decided few left widened =
-        known_by_cones whole.task.now.settings.now.assignment (circuit whole.task.now.first.now) (circuit whole.task.now.second.now) (condition whole.task.now.given) whole.pairing.now s (circuit cones.first.net) (circuit cones.second.net) (circuit_of whole.given) places q
+        known_by_cones whole.task.now.settings.now.assignment (circuit whole.task.now.first.now) (circuit whole.task.now.second.now) (condition whole.task.now.given) whole.naming.now s (circuit cones.first.net) (circuit cones.second.net) (circuit_of whole.given) places q
         cone_pair (FitIn whole budget) (IsLeftIn whole budget bound) found told widened (as_decided found decided) (as_within budget found few)
         (λ e. left_by_cones task (circuit cones.first.net) (circuit cones.second.net) (circuit_of whole.given) by_name first_is second_is of.given (circuit whole.task.now.first.now) (circuit whole.task.now.second.now)
-        (condition whole.task.now.given) whole.pairing.now s are budget bound (left e))
+        (condition whole.task.now.given) whole.naming.now s are budget bound (left e))

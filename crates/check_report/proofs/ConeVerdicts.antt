@@ -1,4 +1,4 @@
--- The verdict of a pair by its cones, over the variables of its pairing.
+-- The verdict of a pair by its cones, over the variables of its naming.
 use Rattle.std.proofs.Common.{◌≡◌, ◌∙◌, ap, sym, refl, subst, arith, inl, inr, ℕ, ◌+◌, ◌<◌, Bool, true, false, List, [], ◌∷◌, ◌++◌, length, get_or, Option, Some, None}
 use Rattle.std.specs.Prelude.{IfSome, slice_index}
 use Rattle.std.specs.List.{AllZip}
@@ -116,12 +116,12 @@ module _ (a b : Circuit) (given : Option Circuit) (p : Paired) (s : Subject) (k 
 
   one_compared : subjects k m q ≡ own_subject ∷ []
   one_compared =
-      one_subject k m w is.order q is.paired first_out second_out (one_output a p.first p s.first k is.cones.first) (one_output b p.second p s.second m is.cones.second)
+      one_subject k m w is.order q is.paired.naming first_out second_out (one_output a p.first p s.first k is.cones.first) (one_output b p.second p s.second m is.cones.second)
       (no_registers a p.first p s.first k is.cones.first) (no_registers b p.second p s.second m is.cones.second) there back
 
   none_lone : lone_verdicts k m q ≡ []
   none_lone =
-      no_lone k m w is.order q is.paired first_out second_out (one_output a p.first p s.first k is.cones.first) (one_output b p.second p s.second m is.cones.second)
+      no_lone k m w is.order q is.paired.naming first_out second_out (one_output a p.first p s.first k is.cones.first) (one_output b p.second p s.second m is.cones.second)
       (no_registers a p.first p s.first k is.cones.first) (no_registers b p.second p s.second m is.cones.second) there back
 
   size : length q.names ≡ length places
@@ -140,13 +140,13 @@ module _ (a b : Circuit) (given : Option Circuit) (p : Paired) (s : Subject) (k 
   first_function f h =
       let (how, order, whole) = is.whole in
       function_widened a p.first p s.first k is.cones.first places is.in_order.below (names_apart how a b given order p whole) (first_below how a b given order p whole) q.names q.first is.names
-      (name_at Name k m w is.order q is.paired (own k) q.first (known_sides (both Name k m) (given_side w)).0 is.paired.first) is.first (length p.names) (length q.names) size f h
+      (name_at Name k m w is.order q is.paired.naming (own k) q.first (known_sides (both Name k m) (given_side w)).0 is.paired.naming.first) is.first (length p.names) (length q.names) size f h
 
   second_function : (f : List Bool → Bool) → IsFunctionOf m (slice_index q.second) (length q.names) second_out f → IsFunctionOf b (slice_index p.second) (length p.names) s.second (λ x. f (pick places x))
   second_function f h =
       let (how, order, whole) = is.whole in
       function_widened b p.second p s.second m is.cones.second places is.in_order.below (names_apart how a b given order p whole) (second_below how a b given order p whole) q.names q.second is.names
-      (name_at Name k m w is.order q is.paired (record { how = Name; namer = k; net = m }) q.second (known_sides (both Name k m) (given_side w)).1.0 is.paired.second) is.second (length p.names)
+      (name_at Name k m w is.order q is.paired.naming (record { how = Name; namer = k; net = m }) q.second (known_sides (both Name k m) (given_side w)).1.0 is.paired.naming.second) is.second (length p.names)
       (length q.names) size f h
 
   -- where the condition holds
@@ -158,10 +158,10 @@ module _ (a b : Circuit) (given : Option Circuit) (p : Paired) (s : Subject) (k 
       let (how, order, whole) = is.whole in
       let known : IsKnown (all_names (both Name k m) (given_side w)) (own v) =
       subst (λ o. IsKnown (all_names (both Name k m) (given_side o)) (own v)) also (known_given (both Name k m) (given_side (Some v))).0 in
-      let has = subst (λ o. IfSome o (λ d. HasLevels (names_by Name k m w is.order) (own d) q.given)) (sym also) is.paired.conditional in
+      let has = subst (λ o. IfSome o (λ d. HasLevels (names_by Name k m w is.order) (own d) q.given)) (sym also) is.paired.naming.conditional in
       let net = subst (λ o. IfSome o IsOfNet) (sym same) is.condition in
       function_widened c p.given p (output_of c) v cone places is.in_order.below (names_apart how a b given order p whole) (given_below how a b given order p whole c (sym same)) q.names q.given
-      is.names (name_at Name k m w is.order q is.paired (own v) q.given known has) net (length p.names) (length q.names) size holds
+      is.names (name_at Name k m w is.order q is.paired.naming (own v) q.given known has) net (length p.names) (length q.names) size holds
       (subst (λ o. IsFunctionOf v (slice_index q.given) (length q.names) o holds) (out_of c p.given p (output_of c) v cone) h)
 
   -- ---- the verdict, over all variables

@@ -10,7 +10,7 @@ use Rattle.net_bench.specs.Labels.{IsLabelling, IsFunctionOf, bit_of}
 use Rattle.net_bench.proofs.Built.{same_labelling}
 use Rattle.net_order.specs.declared.order.Match.{Match}
 use Rattle.net_order.specs.declared.order.Order.{Order}
-use Rattle.net_order.specs.Order.{Paired, IsPairing}
+use Rattle.net_order.specs.Order.{Paired, IsNaming, IsPairing}
 use Rattle.report_text.specs.declared.outcome.Outcome.{Outcome}
 use Rattle.report_text.specs.declared.verdict.Verdict.{Verdict}
 use Rattle.report_text.specs.declared.verdict.Verdict.TheVariants.{Equal, Differs}
@@ -174,8 +174,8 @@ module _ (n : ℕ) (asked : Asked) (one two : Net) (sound : IsNet one) (sound' :
 pub output_inside : (net : Net) → IsNet net → HasOneOutput (circuit net) → output_of (circuit net) < length net.names
 output_inside net sound one = sound.outputs 0 0 (omega (arith, one))
 
--- two pairings give the condition's variables the same levels
-conditional_same : (how : Match) (a b : Circuit) (given : Option Net) (order : Order) (p q : Paired) → IsPairing how a b (option_map circuit given) order p → IsPairing how a b (option_map circuit given) order q →
+-- two namings give the condition's variables the same levels
+conditional_same : (how : Match) (a b : Circuit) (given : Option Net) (order : Order) (p q : Paired) → IsNaming how a b (option_map circuit given) order p → IsNaming how a b (option_map circuit given) order q →
     (net : Net) → given ≡ Some net → All (λ s. slice_index p.given s ≡ slice_index q.given s) (variables_of (circuit net))
 conditional_same how a b None order p q h k net e = cc
 conditional_same how a b (Some other) order p q h k net e =
@@ -194,7 +194,7 @@ one_condition (Some net) sound p q size same holds holds' h k =
     (subst (λ z. IsFunctionOf (circuit net) (slice_index p.given) z (output_of (circuit net)) holds) size h) k
 
 -- what two comparisons of two netlists in one order find is the same
-pub one_found : (one two : Net) (given : Option Net) → IsNet one → IsNet two → IfSome given (λ net. IsNet net × HasOneOutput (circuit net)) → (how : Match) (order : Order) (p q : Paired) → IsPairing how (circuit one) (circuit two) (option_map circuit given) order p → IsPairing how (circuit one) (circuit two) (option_map circuit given) order q
+pub one_found : (one two : Net) (given : Option Net) → IsNet one → IsNet two → IfSome given (λ net. IsNet net × HasOneOutput (circuit net)) → (how : Match) (order : Order) (p q : Paired) → IsNaming how (circuit one) (circuit two) (option_map circuit given) order p → IsNaming how (circuit one) (circuit two) (option_map circuit given) order q
     → (asked : Asked) (found more : Found) → AreVerdicts asked (circuit one) (circuit two) (option_map circuit given) p found → AreVerdicts asked (circuit one) (circuit two) (option_map circuit given) q more → found ≡ more
 one_found one two given sound sound' sound_given how order p q h k asked found more r t =
     let names : p.names ≡ q.names = h.names ∙ sym k.names in
@@ -218,5 +218,5 @@ pub one_report : (one two : Net) (given : Option Net) → IsNet one → IsNet tw
     → (form : Found → List ℕ) (asked : Asked) (o more : Outcome) (bytes text : List ℕ) → IsReport form asked (circuit one) (circuit two) (option_map circuit given) p o bytes → IsReport form asked (circuit one) (circuit two) (option_map circuit given) q more text
     → (o ≡ more) × (bytes ≡ text)
 one_report one two given sound sound' sound_given how order p q h k form asked o more bytes text r t =
-    let found : r.found ≡ t.found = one_found one two given sound sound' sound_given how order p q h k asked r.found t.found r.verdicts t.verdicts in
+    let found : r.found ≡ t.found = one_found one two given sound sound' sound_given how order p q h.naming k.naming asked r.found t.found r.verdicts t.verdicts in
     (r.counts ∙ ap (λ (f : Found). counted f.verdicts) found ∙ sym t.counts, r.text ∙ ap form found ∙ sym t.text)

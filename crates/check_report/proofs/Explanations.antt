@@ -105,11 +105,11 @@ condition_some (Some net) = refl
 -- ---- faults
 
 module _ (told : Told) (first second third : Type 0) (s : Settings) where
-  pub early_report_fault : (fault : CheckFault) (order : Order) → IsAllowed s.order order → IsCheckFault told first second third s.matching order fault → IsReportFault told first second third s fault
+  pub early_report_fault : (fault : CheckFault) (order : Order) → IsAllowed s.order order → IsCheckFault told first second third s.order s.matching order fault → IsReportFault told first second third s fault
   early_report_fault fault order allowed c = inr (order, allowed, c)
 
   -- a fault for which no device had to fail
   pub none_failed_report : {T : Type 0} (r : Result T CheckFault) → IfErr r (IsReportFault told ⊥ ⊥ ⊥ s) → IfErr r (IsReportFault told first second third s)
   none_failed_report (Ok v) h = tt
   none_failed_report (Err fault) (inl unknown) = inl unknown
-  none_failed_report (Err fault) (inr h) = inr (h.0, h.1, none_failed told first second third s.matching h.0 fault h.2)
+  none_failed_report (Err fault) (inr h) = inr (h.0, h.1, none_failed told first second third s.order s.matching h.0 fault h.2)

@@ -1,29 +1,31 @@
 -- What a comparison finds by its settings, and the faults that it does not end with.
-use Rattle.std.proofs.Common.{◌≡◌, ◌≢◌, ◌∙◌, sym, subst, inl, inr, ℕ, Option, None, Result, Ok, Err, IfErr}
+use Rattle.std.proofs.Common.{◌≡◌, ◌≢◌, ◌∙◌, sym, subst, inl, inr, ℕ, ◌<◌, ◌≤◌, length, Option, None, Result, Ok, Err, IfErr}
 use Rattle.std.specs.Prelude.{IfOk}
 use Rattle.expand_work.specs.declared.fault.WaveFault.TheVariants.{Full, NoWorker, TooManyRequests}
 use Rattle.net_bench.specs.Circuit.{circuit}
 use Rattle.net_order.specs.declared.order.Order.{Order}
 use Rattle.net_order.specs.declared.order.Order.TheVariants as orders
-use Rattle.net_order.specs.Order.{Paired, condition}
+use Rattle.net_order.specs.declared.order.OrderFault.TheVariants.{TooManyInputs}
+use Rattle.net_order.specs.Order.{Paired, condition, max_variables}
+use Rattle.net_order.proofs.InputLevels.{names_count}
 use Rattle.report_text.specs.Lines.{Found}
 use Rattle.check_report.specs.Asking.{asked_in}
 use Rattle.check_report.specs.declared.choice.Attempt.{Attempt}
 use Rattle.check_report.specs.declared.choice.Choice.{Choice}
 use Rattle.check_report.specs.declared.choice.Choice.TheVariants.{Auto}
 use Rattle.check_report.specs.declared.fault.CheckFault.{CheckFault}
-use Rattle.check_report.specs.declared.fault.CheckFault.TheVariants.{GivenUp, Only, Wave, Write}
+use Rattle.check_report.specs.declared.fault.CheckFault.TheVariants.{GivenUp, Only, Order as OrderRefused, Wave, Write}
 use Rattle.check_report.specs.declared.settings.Settings.{Settings}
 use Rattle.check_report.specs.declared.task.Task.{Task}
 use Rattle.net_order.specs.declared.order.Match.{Match}
-use Rattle.check_report.specs.Best.{IsAllowed, IsChosen, whole_limit}
-use Rattle.check_report.specs.Check.{AreGiven, IsCheckFault, IsJudged}
+use Rattle.check_report.specs.Best.{IsAllowed, IsChosen, MayGoByCones, whole_limit}
+use Rattle.check_report.specs.Check.{AreAccepted, AreGiven, IsCheckFault, IsJudged}
 use Rattle.check_report.specs.Coning.{EndsAuto, EndsCones, IsToldByCones}
 use Rattle.check_report.specs.Deciding.{HasCause, IsFoundBy}
 use Rattle.check_report.specs.Deciding.IsFoundBy.{by_cones, in_order}
 use Rattle.check_report.specs.Devices.{Told}
-use Rattle.check_report.specs.Trials.{AreAllPassed, EndsAtOnce, EndsSearch, IsGivingUp, IsPairingIn}
-use Rattle.check_report.proofs.Reporting.{late_fault}
+use Rattle.check_report.specs.Trials.{AreAllPassed, EndsAtOnce, EndsSearch, IsGivingUp, IsNamingIn, IsPairingIn}
+use Rattle.check_report.proofs.Reporting.{any_for, late_fault, late_whole}
 use Rattle.check_report.proofs.Rounds.{accepted, told_passed}
 
 -- ---- what is found
@@ -36,14 +38,14 @@ found_in_order told s bound choice same (Err e) w = tt
 
 module _ {H : Type 0} (task : Task H) (told : Told) (given : AreGiven told (circuit task.first.now) (circuit task.second.now) (condition task.given)) where
   -- by cones
-  pub found_by_cones : (bound : Option ℕ) (p : Paired) (found : Found) → IsPairingIn task orders.Declared p → HasCause told task.settings.now bound task.settings.now.order →
+  pub found_by_cones : (bound : Option ℕ) (p : Paired) (found : Found) → IsNamingIn task orders.Declared p → HasCause told task.settings.now bound task.settings.now.order →
       IsToldByCones task bound p found → IsFoundBy told task.settings.now bound found None
   found_by_cones bound p found is cause t = by_cones cause (record {
     a = circuit task.first.now;
     b = circuit task.second.now;
     c = condition task.given;
     p = p;
-    paired = record { netlists = given; pairing = is };
+    named = record { netlists = given; naming = is };
     pairs = t.pairs;
     lone = t.lone;
     picked = t.picked;
@@ -52,18 +54,41 @@ module _ {H : Type 0} (task : Task H) (told : Told) (given : AreGiven told (circ
 
   -- the cause for cones where the whole was tried
   pub auto_cause : (bound : Option ℕ) → task.settings.now.order ≡ Auto → AreAllPassed task (whole_limit task.settings.now.limit) bound → HasCause told task.settings.now bound task.settings.now.order
-  auto_cause bound auto passed = subst (HasCause told task.settings.now bound) (sym auto) (λ budget is c. told_passed task told given budget bound c (passed budget is c))
+  auto_cause bound auto passed = subst (HasCause told task.settings.now bound) (sym auto) (inl (λ budget is c. told_passed task told given budget bound c (passed budget is c)))
+
+  -- and where it has too many variables
+  pub many_cause : (bound : Option ℕ) (p : Paired) → task.settings.now.order ≡ Auto → IsNamingIn task orders.Declared p → max_variables < length p.names → HasCause told task.settings.now bound task.settings.now.order
+  many_cause bound p auto is many =
+      let count = names_count task.settings.now.matching (circuit task.first.now) (circuit task.second.now) (condition task.given) orders.Declared p is in
+      subst (HasCause told task.settings.now bound) (sym auto) (inr (circuit task.first.now, circuit task.second.now, condition task.given, given, subst (λ n. max_variables < n) count many))
+
+  -- a naming of few variables is a pairing
+  pub as_pairing : (p : Paired) → IsNamingIn task orders.Declared p → length p.names ≤ max_variables → IsPairingIn task orders.Declared p
+  as_pairing p is few = record {
+    naming = is;
+    few = subst (λ n. n ≤ max_variables) (names_count task.settings.now.matching (circuit task.first.now) (circuit task.second.now) (condition task.given) orders.Declared p is) few;
+  }
+
+  of_cones : (p : Paired) → IsNamingIn task orders.Declared p → MayGoByCones task.settings.now.order → AreAccepted told task.settings.now.order task.settings.now.matching orders.Declared
+  of_cones p is may =
+      accepted task told given task.settings.now.order orders.Declared p is (any_for task.settings.now.order task.settings.now.matching (circuit task.first.now) (circuit task.second.now) (condition task.given) may)
 
   -- a fault of cones has its cause
-  pub cones_fault : (p : Paired) (fault : CheckFault) → IsPairingIn task orders.Declared p → EndsCones fault → IsCheckFault told ⊥ ⊥ ⊥ task.settings.now.matching orders.Declared fault
-  cones_fault p fault is (inl only) = subst (IsCheckFault told ⊥ ⊥ ⊥ task.settings.now.matching orders.Declared) (sym only) (accepted task told given orders.Declared p is)
-  cones_fault p fault is (inr ends) = late_fault told ⊥ ⊥ ⊥ task.settings.now.matching orders.Declared fault (accepted task told given orders.Declared p is) ends.0
+  pub cones_fault : (p : Paired) (fault : CheckFault) → IsNamingIn task orders.Declared p → MayGoByCones task.settings.now.order → EndsCones fault →
+      IsCheckFault told ⊥ ⊥ ⊥ task.settings.now.order task.settings.now.matching orders.Declared fault
+  cones_fault p fault is may (inl only) = subst (IsCheckFault told ⊥ ⊥ ⊥ task.settings.now.order task.settings.now.matching orders.Declared) (sym only) (of_cones p is may)
+  cones_fault p fault is may (inr ends) = late_fault told ⊥ ⊥ ⊥ task.settings.now.order task.settings.now.matching orders.Declared fault (of_cones p is may) ends.0
 
 -- ---- faults
 
 pub cones_end : (fault : CheckFault) → EndsCones fault → EndsAuto fault
 cones_end fault (inl only) = inl only
 cones_end fault (inr ends) = inr ends.1
+
+-- and not that the variables are too many
+pub cones_whole : (fault : CheckFault) → EndsCones fault → fault ≢ OrderRefused TooManyInputs
+cones_whole fault (inl only) e = let never : Only ≡ OrderRefused TooManyInputs = sym only ∙ e in cc
+cones_whole fault (inr ends) e = late_whole fault ends.0 e
 
 -- a comparison by cones does not end with what an attempt at once does not
 pub never : {A : Type 0} (X : CheckFault) → X ≢ Only → ((f : CheckFault) → EndsAtOnce f → f ≢ X) → (r : Result A CheckFault) → IfErr r EndsAuto → r ≢ Err X
@@ -91,7 +116,13 @@ pub not_giving_up : (fault : CheckFault) → EndsSearch fault → (IsGivingUp fa
 not_giving_up fault ends apart = inr (record { search = ends; nodes = λ e. apart (inl e); given_up = λ e. apart (inr e) })
 
 -- a fault in an order that is allowed
-pub allowed_fault : {A : Type 0} (told : Told) (how : Match) (choice : Choice) (order : Order) → IsAllowed choice order → (r : Result A CheckFault) → IfErr r (IsCheckFault told ⊥ ⊥ ⊥ how order) →
-    IfErr r (λ fault. (o : Order) × IsAllowed choice o × IsCheckFault told ⊥ ⊥ ⊥ how o fault)
-allowed_fault told how choice order allowed (Ok v) h = tt
-allowed_fault told how choice order allowed (Err fault) h = (order, allowed, h)
+pub allowed_fault : {A : Type 0} (told : Told) (how : Match) (own choice : Choice) (order : Order) → IsAllowed choice order → (r : Result A CheckFault) → IfErr r (IsCheckFault told ⊥ ⊥ ⊥ own how order) →
+    IfErr r (λ fault. (o : Order) × IsAllowed choice o × IsCheckFault told ⊥ ⊥ ⊥ own how o fault)
+allowed_fault told how own choice order allowed (Ok v) h = tt
+allowed_fault told how own choice order allowed (Err fault) h = (order, allowed, h)
+
+-- what a choice allows is allowed by the choice that it is
+pub same_allowed : {A : Type 0} (told : Told) (how : Match) (own choice : Choice) → own ≡ choice → (r : Result A CheckFault) → IfErr r (λ fault. (o : Order) × IsAllowed choice o × IsCheckFault told ⊥ ⊥ ⊥ own how o fault) →
+    IfErr r (λ fault. (o : Order) × IsAllowed own o × IsCheckFault told ⊥ ⊥ ⊥ own how o fault)
+same_allowed told how own choice same (Ok v) h = tt
+same_allowed told how own choice same (Err fault) h = (h.0, subst (λ c. IsAllowed c h.0) (sym same) h.1, h.2)

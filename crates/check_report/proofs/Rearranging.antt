@@ -206,27 +206,27 @@ module _ (how : Match) (a b : Circuit) (given : Option Circuit) (q p : Paired) (
   is_paired = (how, h.first_order, h.first)
 
   pub apart : IsDistinct bytes_eq p.names
-  apart = subst (IsDistinct bytes_eq) (sym h.second.names) (ordered_different (both how a b) (given_side given) h.second_order h.second.fit)
+  apart = subst (IsDistinct bytes_eq) (sym h.second.naming.names) (ordered_different (both how a b) (given_side given) h.second_order h.second.naming.fit)
 
   apart_first : IsDistinct bytes_eq q.names
-  apart_first = subst (IsDistinct bytes_eq) (sym h.first.names) (ordered_different (both how a b) (given_side given) h.first_order h.first.fit)
+  apart_first = subst (IsDistinct bytes_eq) (sym h.first.naming.names) (ordered_different (both how a b) (given_side given) h.first_order h.first.naming.fit)
 
   many : length q.names ≡ length p.names
   many =
-      ap length h.first.names ∙ ordered_count (both how a b) (given_side given) h.first_order h.first.fit ∙
-      sym (ap length h.second.names ∙ ordered_count (both how a b) (given_side given) h.second_order h.second.fit)
+      ap length h.first.naming.names ∙ ordered_count (both how a b) (given_side given) h.first_order h.first.naming.fit ∙
+      sym (ap length h.second.naming.names ∙ ordered_count (both how a b) (given_side given) h.second_order h.second.naming.fit)
 
   -- what a variable's name is, it is one of the names
   all_first : AmongNames (all_names (both how a b) (given_side given)) q.names
   all_first n e =
-      ap (λ ns. is_name_in ns n) h.first.names ∙
-      ordered_all (both how a b) (given_side given) h.first_order h.first.fit n (in_distinct (all_names (both how a b) (given_side given)) n ∙ e)
+      ap (λ ns. is_name_in ns n) h.first.naming.names ∙
+      ordered_all (both how a b) (given_side given) h.first_order h.first.naming.fit n (in_distinct (all_names (both how a b) (given_side given)) n ∙ e)
 
   among : AmongNames q.names p.names
   among n e =
-      ap (λ ns. is_name_in ns n) h.second.names ∙
-      ordered_all (both how a b) (given_side given) h.second_order h.second.fit n
-      (ordered_known (both how a b) (given_side given) h.first_order h.first.fit n (ap (λ ns. is_name_in ns n) (sym h.first.names) ∙ e))
+      ap (λ ns. is_name_in ns n) h.second.naming.names ∙
+      ordered_all (both how a b) (given_side given) h.second_order h.second.naming.fit n
+      (ordered_known (both how a b) (given_side given) h.first_order h.first.naming.fit n (ap (λ ns. is_name_in ns n) (sym h.first.naming.names) ∙ e))
 
   pub is_order : IsOrder (length p.names) (places_among p.names q.names)
   is_order = places_order p.names q.names apart_first many among
@@ -241,7 +241,7 @@ module _ (how : Match) (a b : Circuit) (given : Option Circuit) (q p : Paired) (
 
     side_is : (i d : ℕ) → i < length (variables_of side.net) →
         get_or levels (get_or (variables_of side.net) i d) 0 ≡ level_of q.names (named side (get_or (variables_of side.net) i d))
-    side_is i d lt = has i d lt ∙ ap (λ ns. level_of ns (named side (get_or (variables_of side.net) i d))) (sym h.first.names)
+    side_is i d lt = has i d lt ∙ ap (λ ns. level_of ns (named side (get_or (variables_of side.net) i d))) (sym h.first.naming.names)
 
     side_low : All (λ s. slice_index levels s < length p.names) (variables_of side.net)
     side_low i d lt =
@@ -253,20 +253,20 @@ module _ (how : Match) (a b : Circuit) (given : Option Circuit) (q p : Paired) (
         let n = named side (get_or (variables_of side.net) i d) in
         ap (λ k. get_or (places_among p.names q.names) k 0) (side_is i d lt) ∙
         place_at p.names q.names (level_of q.names n) (number_low q.names n (side_there i d lt)) ∙
-        ap (level_of p.names) (number_at q.names n [] (side_there i d lt)) ∙ ap (λ ns. level_of ns n) h.second.names ∙ sym (also i d lt)
+        ap (level_of p.names) (number_at q.names n [] (side_there i d lt)) ∙ ap (λ ns. level_of ns n) h.second.naming.names ∙ sym (also i d lt)
 
   -- ---- what is compared
 
   -- the same outputs and registers are compared, whatever the order
   same_subjects : subjects a b q ≡ subjects a b p
   same_subjects =
-      ap (λ c. map output_subject c.pairs ++ map (next_subject a b) q.registers.pairs) (h.first.outputs ∙ sym h.second.outputs) ∙
-      ap (λ c. map output_subject p.outputs.pairs ++ map (next_subject a b) c.pairs) (h.first.registers ∙ sym h.second.registers)
+      ap (λ c. map output_subject c.pairs ++ map (next_subject a b) q.registers.pairs) (h.first.naming.outputs ∙ sym h.second.naming.outputs) ∙
+      ap (λ c. map output_subject p.outputs.pairs ++ map (next_subject a b) c.pairs) (h.first.naming.registers ∙ sym h.second.naming.registers)
 
   same_signals : AreSignals a b q → AreSignals a b p
   same_signals signals =
-      let outputs : q.outputs ≡ p.outputs = h.first.outputs ∙ sym h.second.outputs in
-      let registers : q.registers ≡ p.registers = h.first.registers ∙ sym h.second.registers in
+      let outputs : q.outputs ≡ p.outputs = h.first.naming.outputs ∙ sym h.second.naming.outputs in
+      let registers : q.registers ≡ p.registers = h.first.naming.registers ∙ sym h.second.naming.registers in
       record {
         compared = subst (All (IsInside a b)) same_subjects signals.compared;
         only_first = subst (λ c. All (λ s. s < length a.names) c.only_first) outputs signals.only_first;
@@ -282,8 +282,8 @@ module _ (how : Match) (a b : Circuit) (given : Option Circuit) (q p : Paired) (
   holds_arranged (Some c) e holds is =
       let known : IsKnown (all_names (both how a b) (given_side given)) (own c) =
       subst (λ g. IsKnown (all_names (both how a b) (given_side g)) (own c)) e (known_given (both how a b) (given_side (Some c))).0 in
-      let has = subst (λ o. IfSome o (λ d. HasLevels (names_by how a b given h.first_order) (own d) q.given)) (sym e) h.first.conditional in
-      let also = subst (λ o. IfSome o (λ d. HasLevels (names_by how a b given h.second_order) (own d) p.given)) (sym e) h.second.conditional in
+      let has = subst (λ o. IfSome o (λ d. HasLevels (names_by how a b given h.first_order) (own d) q.given)) (sym e) h.first.naming.conditional in
+      let also = subst (λ o. IfSome o (λ d. HasLevels (names_by how a b given h.second_order) (own d) p.given)) (sym e) h.second.naming.conditional in
       function_arranged (length p.names) (places_among p.names q.names) is_order.each_level c (slice_index q.given) (slice_index p.given) (output_of c) holds
       (side_low (own c) q.given p.given known has also) (side_at (own c) q.given p.given known has also)
       (subst (λ m. IsFunctionOf c (slice_index q.given) m (output_of c) holds) many is)
@@ -304,12 +304,12 @@ module _ (how : Match) (a b : Circuit) (given : Option Circuit) (q p : Paired) (
           each = c.shown.each;
           first = λ i lt.
               denotes_arranged (length p.names) order is_order.each_level a (first_level q) (first_level p) S (subject_at of i).first
-              (reference_of refs i) c.shown.holds levels_are (side_low (own a) q.first p.first known.0 h.first.first h.second.first)
-              (side_at (own a) q.first p.first known.0 h.first.first h.second.first) (c.shown.first i lt);
+              (reference_of refs i) c.shown.holds levels_are (side_low (own a) q.first p.first known.0 h.first.naming.first h.second.naming.first)
+              (side_at (own a) q.first p.first known.0 h.first.naming.first h.second.naming.first) (c.shown.first i lt);
           second = λ i lt.
               denotes_arranged (length p.names) order is_order.each_level b (second_level q) (second_level p) S (subject_at of i).second
-              (reference_of refs (length of + i)) c.shown.holds levels_are (side_low second q.second p.second known.1.0 h.first.second h.second.second)
-              (side_at second q.second p.second known.1.0 h.first.second h.second.second) (c.shown.second i lt);
+              (reference_of refs (length of + i)) c.shown.holds levels_are (side_low second q.second p.second known.1.0 h.first.naming.second h.second.naming.second)
+              (side_at second q.second p.second known.1.0 h.first.naming.second h.second.naming.second) (c.shown.second i lt);
         }
 
     pub compared_arranged : (order : List ℕ) → order ≡ places_among p.names q.names → AreCompared (by_declared order) a b given p S of refs

@@ -14,35 +14,41 @@ use Rattle.check_report.specs.Asking.{asked_in}
 use Rattle.check_report.specs.declared.choice.Attempt.{Attempt}
 use Rattle.check_report.specs.declared.choice.Candidate.{Candidate}
 use Rattle.check_report.specs.declared.choice.Candidate.TheVariants.{Interleave, Force, Index, Depth, Declared}
+use Rattle.check_report.specs.declared.choice.Choice.{Choice}
 use Rattle.check_report.specs.declared.fault.CheckFault.{CheckFault}
 use Rattle.check_report.specs.declared.fault.CheckFault.TheVariants.{Order as OrderRefused, Wave, GivenUp, OutOfMemory}
 use Rattle.check_report.specs.declared.task.Task.{Task}
 use Rattle.check_report.specs.declared.trials.Trial.{Trial}
 use Rattle.check_report.specs.Best.{AllBefore, AreGivenUp, IsGivenUpWithin, first_budget, order_of}
 use Rattle.report_text.specs.Lines.{Found}
-use Rattle.check_report.specs.Check.{AreAccepted, AreGiven, IsCheckFault, IsJudged, IsLate}
+use Rattle.check_report.specs.Check.{AreAccepted, AreFewFor, AreGiven, IsCheckFault, IsJudged, IsLate}
 use Rattle.check_report.specs.Report.{AreVerdicts}
 use Rattle.check_report.specs.Devices.{Told}
 use Rattle.check_report.specs.Limits.{AreBeyond, AreWithin, Exceeds, FitsWithin}
 use Rattle.check_report.proofs.Budgets.{each_smaller}
-use Rattle.check_report.specs.Trials.{AreGivenUpTrials, ArePassed, ArePassedBefore, AreTrials, AsksMore, EndsAtOnce, IsFull, IsPairingIn, IsPassed, IsTrial, IsTried, NeedsMore, WasGivenUp}
+use Rattle.check_report.proofs.Reporting.{few_for}
+use Rattle.check_report.specs.Trials.{AreGivenUpTrials, ArePassed, ArePassedBefore, AreTrials, AsksMore, EndsAtOnce, IsFull, IsNamingIn, IsPairingIn, IsPassed, IsTrial, IsTried, NeedsMore, WasGivenUp}
 
 -- ---- orders
 
 -- a pairing that has the names of one in another order is the pairing in that order
 pub same_pairing : (how : Match) (a b : Circuit) (given : Option Circuit) (o k : Order) (p q : Paired) → IsPairing how a b given o p → IsPairing how a b given k q → p.names ≡ q.names → IsPairing how a b given k p
 same_pairing how a b given o k p q one other same =
-    let e : names_by how a b given o ≡ names_by how a b given k = sym one.names ∙ same ∙ other.names in
+    let is = one.naming in
+    let of = other.naming in
+    let e : names_by how a b given o ≡ names_by how a b given k = sym is.names ∙ same ∙ of.names in
     record {
-      counted = other.counted;
+      naming = record {
+        counted = of.counted;
+        fit = of.fit;
+        names = same ∙ of.names;
+        first = subst (λ n. HasLevels n (own a) p.first) e is.first;
+        second = subst (λ n. HasLevels n (record { how = how; namer = a; net = b }) p.second) e is.second;
+        conditional = subst (λ n. IfSome given (λ c. HasLevels n (own c) p.given)) e is.conditional;
+        outputs = is.outputs;
+        registers = is.registers;
+      };
       few = other.few;
-      fit = other.fit;
-      names = same ∙ other.names;
-      first = subst (λ n. HasLevels n (own a) p.first) e one.first;
-      second = subst (λ n. HasLevels n (record { how = how; namer = a; net = b }) p.second) e one.second;
-      conditional = subst (λ n. IfSome given (λ c. HasLevels n (own c) p.given)) e one.conditional;
-      outputs = one.outputs;
-      registers = one.registers;
     }
 
 -- ---- candidates in turn
@@ -80,8 +86,12 @@ before_at P (suc (suc (suc (suc (suc k))))) d lt h = absurd (omega (arith, lt))
 -- ---- given up
 
 module _ {H : Type 0} (task : Task H) (told : Told) (given : AreGiven told (circuit task.first.now) (circuit task.second.now) (condition task.given)) where
-  pub accepted : (o : Order) (p : Paired) → IsPairingIn task o p → AreAccepted told task.settings.now.matching o
-  accepted o p is = (circuit task.first.now, circuit task.second.now, condition task.given, p, record { netlists = given; pairing = is })
+  pub accepted : (choice : Choice) (o : Order) (p : Paired) → IsNamingIn task o p → AreFewFor choice task.settings.now.matching (circuit task.first.now) (circuit task.second.now) (condition task.given) →
+      AreAccepted told choice task.settings.now.matching o
+  accepted choice o p is few = (circuit task.first.now, circuit task.second.now, condition task.given, p, record { netlists = given; naming = is }, few)
+
+  pub accepted_paired : (choice : Choice) (o : Order) (p : Paired) → IsPairingIn task o p → AreAccepted told choice task.settings.now.matching o
+  accepted_paired choice o p is = accepted choice o p is.naming (few_for choice task.settings.now.matching (circuit task.first.now) (circuit task.second.now) (condition task.given) is.few)
 
   pub judged : (o : Order) (p : Paired) (found verdicts : Found) → IsPairingIn task o p → found ≡ verdicts →
       AreVerdicts (asked_in task.settings.now) (circuit task.first.now) (circuit task.second.now) (condition task.given) p verdicts → IsJudged told task.settings.now.matching o (asked_in task.settings.now) found
@@ -100,9 +110,9 @@ module _ {H : Type 0} (task : Task H) (told : Told) (given : AreGiven told (circ
   pub beyond : (o : Order) (p : Paired) (budget : ℕ) → IsPairingIn task o p → Exceeds budget (circuit task.first.now) (circuit task.second.now) (condition task.given) p → AreBeyond told task.settings.now.matching o budget
   beyond o p budget is more = (circuit task.first.now, circuit task.second.now, condition task.given, p, record { netlists = given; pairing = is }, more)
 
-  pub given_up_fault : (o : Order) (p : Paired) (fault : CheckFault) → IsPairingIn task o p → (fault ≡ Wave Full) ⊎ (fault ≡ GivenUp) → IsCheckFault told ⊥ ⊥ ⊥ task.settings.now.matching o fault
-  given_up_fault o p fault is (inl e) = subst (IsCheckFault told ⊥ ⊥ ⊥ task.settings.now.matching o) (sym e) (accepted o p is)
-  given_up_fault o p fault is (inr e) = subst (IsCheckFault told ⊥ ⊥ ⊥ task.settings.now.matching o) (sym e) (accepted o p is)
+  pub given_up_fault : (o : Order) (p : Paired) (fault : CheckFault) → IsPairingIn task o p → (fault ≡ Wave Full) ⊎ (fault ≡ GivenUp) → IsCheckFault told ⊥ ⊥ ⊥ task.settings.now.order task.settings.now.matching o fault
+  given_up_fault o p fault is (inl e) = subst (IsCheckFault told ⊥ ⊥ ⊥ task.settings.now.order task.settings.now.matching o) (sym e) (accepted_paired task.settings.now.order o p is)
+  given_up_fault o p fault is (inr e) = subst (IsCheckFault told ⊥ ⊥ ⊥ task.settings.now.order task.settings.now.matching o) (sym e) (accepted_paired task.settings.now.order o p is)
 
   pub told_passed : (budget : ℕ) (bound : Option ℕ) (c : Candidate) → IsPassed task budget bound c → IsGivenUpWithin told task.settings.now.matching budget bound (order_of c)
   told_passed budget bound c p = by p.cause

@@ -12,9 +12,9 @@ use Rattle.check_report.specs.declared.choice.Choice.TheVariants.{One, Best, Aut
 use Rattle.check_report.specs.declared.fault.CheckFault.{CheckFault}
 use Rattle.check_report.specs.declared.fault.CheckFault.TheVariants.{First, Second, Given, GivenOutputs, Order as OrderRefused, Only, Explain, Wave, GivenUp, Write, OutOfMemory}
 use Rattle.check_report.specs.declared.choice.Attempt.{Attempt}
-use Rattle.check_report.specs.Best.{IsAllowed, IsChosen}
+use Rattle.check_report.specs.Best.{IsAllowed, IsChosen, MayGoByCones}
 use Rattle.net_bench.specs.Circuit.{Circuit, Net, circuit}
-use Rattle.net_order.specs.Order.{condition}
+use Rattle.net_order.specs.Order.{Paired, condition}
 use Rattle.check_report.specs.Devices.{Told, told_by}
 use Rattle.report_text.specs.declared.kind.OrderKind.{OrderKind}
 use Rattle.report_text.specs.declared.outcome.Share.{Share}
@@ -25,8 +25,9 @@ use Rattle.net_bench.specs.declared.netlist.BenchFault.{BenchFault}
 use Rattle.check_report.specs.declared.settings.Settings.{Settings}
 use Rattle.check_report.specs.Deciding.{HasCause, IsFoundBy}
 use Rattle.check_report.specs.Deciding.IsFoundBy.{by_cones, in_order}
-use Rattle.check_report.specs.Check.{AreAccepted, AreGiven, Gives, IsCondition, IsUnread, IsConditionFault, IsCheckFault}
+use Rattle.check_report.specs.Check.{AreAccepted, AreGiven, ArePaired, Gives, IsCondition, IsUnread, IsConditionFault, IsCheckFault}
 use Rattle.check_report.specs.Conditions.{HasOneOutput}
+use Rattle.check_report.proofs.Reporting.{any_for, few_for}
 
 -- each choice allows some order
 pub some_order : (choice : Choice) → (order : Order) × IsAllowed choice order
@@ -43,39 +44,40 @@ uncondition : (given : Option (Option (List ℕ))) (failed : Type 0) (fault : Be
 uncondition None failed fault u = absurd u
 uncondition (Some told) failed fault u = unread told failed fault u
 
-pub none_failed : (told : Told) (first second third : Type 0) (how : Match) (order : Order) (fault : CheckFault) → IsCheckFault told ⊥ ⊥ ⊥ how order fault → IsCheckFault told first second third how order fault
-none_failed told first second third how order (First fault) c = unread told.first first fault c
-none_failed told first second third how order (Second fault) c = (c.0, c.1, unread told.second second fault c.2)
-none_failed told first second third how order (Given fault) c = (c.0, c.1, c.2, c.3, uncondition told.given third fault c.4)
-none_failed told first second third how order GivenOutputs c = c
-none_failed told first second third how order (OrderRefused fault) c = c
-none_failed told first second third how order Only c = c
-none_failed told first second third how order Explain c = c
-none_failed told first second third how order (Wave fault) c = c
-none_failed told first second third how order GivenUp c = c
-none_failed told first second third how order Write c = c
-none_failed told first second third how order OutOfMemory c = c
+pub none_failed : (told : Told) (first second third : Type 0) (choice : Choice) (how : Match) (order : Order) (fault : CheckFault) → IsCheckFault told ⊥ ⊥ ⊥ choice how order fault →
+    IsCheckFault told first second third choice how order fault
+none_failed told first second third choice how order (First fault) c = unread told.first first fault c
+none_failed told first second third choice how order (Second fault) c = (c.0, c.1, unread told.second second fault c.2)
+none_failed told first second third choice how order (Given fault) c = (c.0, c.1, c.2, c.3, uncondition told.given third fault c.4)
+none_failed told first second third choice how order GivenOutputs c = c
+none_failed told first second third choice how order (OrderRefused fault) c = c
+none_failed told first second third choice how order Only c = c
+none_failed told first second third choice how order Explain c = c
+none_failed told first second third choice how order (Wave fault) c = c
+none_failed told first second third choice how order GivenUp c = c
+none_failed told first second third choice how order Write c = c
+none_failed told first second third choice how order OutOfMemory c = c
 
 module _ (told : Told) (first second third : Type 0) (how : Match) (choice : Choice) where
-  pub none_failed_in : {T : Type 0} (r : Result T CheckFault) → IfErr r (λ fault. (order : Order) × IsAllowed choice order × IsCheckFault told ⊥ ⊥ ⊥ how order fault)
-      → IfErr r (λ fault. (order : Order) × IsAllowed choice order × IsCheckFault told first second third how order fault)
+  pub none_failed_in : {T : Type 0} (r : Result T CheckFault) → IfErr r (λ fault. (order : Order) × IsAllowed choice order × IsCheckFault told ⊥ ⊥ ⊥ choice how order fault)
+      → IfErr r (λ fault. (order : Order) × IsAllowed choice order × IsCheckFault told first second third choice how order fault)
   none_failed_in (Ok v) h = tt
-  none_failed_in (Err fault) h = (h.0, h.1, none_failed told first second third how h.0 fault h.2)
+  none_failed_in (Err fault) h = (h.0, h.1, none_failed told first second third choice how h.0 fault h.2)
 
 -- why there is no condition, where both texts were accepted
-pub condition_fault : (told : Told) (a b : Circuit) (first second third : Type 0) (how : Match) (order : Order) (fault : CheckFault) → Gives told.first a → Gives told.second b →
-    IsConditionFault told.given third fault → IsCheckFault told first second third how order fault
-condition_fault told a b first second third how order (First fault) ga gb f = absurd f
-condition_fault told a b first second third how order (Second fault) ga gb f = absurd f
-condition_fault told a b first second third how order (Given fault) ga gb f = (a, b, ga, gb, f)
-condition_fault told a b first second third how order GivenOutputs ga gb f = (a, b, ga, gb, f)
-condition_fault told a b first second third how order (OrderRefused fault) ga gb f = absurd f
-condition_fault told a b first second third how order Only ga gb f = absurd f
-condition_fault told a b first second third how order Explain ga gb f = absurd f
-condition_fault told a b first second third how order (Wave fault) ga gb f = absurd f
-condition_fault told a b first second third how order GivenUp ga gb f = absurd f
-condition_fault told a b first second third how order Write ga gb f = absurd f
-condition_fault told a b first second third how order OutOfMemory ga gb f = absurd f
+pub condition_fault : (told : Told) (a b : Circuit) (first second third : Type 0) (choice : Choice) (how : Match) (order : Order) (fault : CheckFault) → Gives told.first a → Gives told.second b →
+    IsConditionFault told.given third fault → IsCheckFault told first second third choice how order fault
+condition_fault told a b first second third choice how order (First fault) ga gb f = absurd f
+condition_fault told a b first second third choice how order (Second fault) ga gb f = absurd f
+condition_fault told a b first second third choice how order (Given fault) ga gb f = (a, b, ga, gb, f)
+condition_fault told a b first second third choice how order GivenOutputs ga gb f = (a, b, ga, gb, f)
+condition_fault told a b first second third choice how order (OrderRefused fault) ga gb f = absurd f
+condition_fault told a b first second third choice how order Only ga gb f = absurd f
+condition_fault told a b first second third choice how order Explain ga gb f = absurd f
+condition_fault told a b first second third choice how order (Wave fault) ga gb f = absurd f
+condition_fault told a b first second third choice how order GivenUp ga gb f = absurd f
+condition_fault told a b first second third choice how order Write ga gb f = absurd f
+condition_fault told a b first second third choice how order OutOfMemory ga gb f = absurd f
 
 -- a condition that is borrowed
 pub as_condition : (o : Option Net) (r : Option (Bor Net)) → option_copied r ≡ o → option_map circuit o ≡ condition r
@@ -112,14 +114,25 @@ chosen_allowed told how Auto limit None order c = absurd c
 chosen_allowed told how Auto limit (Some t) order c = (Declared, c.0)
 chosen_allowed told how Cones limit tried order c = absurd c
 
+-- what has a pairing is accepted, for any choice
+pub accepted_in : (choice : Choice) (told : Told) (how : Match) (order : Order) (a b : Circuit) (c : Option Circuit) (p : Paired) → ArePaired told how order a b c p → AreAccepted told choice how order
+accepted_in choice told how order a b c p paired =
+    (a, b, c, p, record { netlists = paired.netlists; naming = paired.pairing.naming }, few_for choice how a b c paired.pairing.few)
+
 -- what is found is accepted, in an order that is allowed
 pub found_accepted : (told : Told) (s : Settings) (bound : Option ℕ) (found : Found) (tried : Option Attempt) → IsFoundBy told s bound found tried →
-    (order : Order) × IsAllowed s.order order × AreAccepted told s.matching order
-found_accepted told s bound found tried (in_order order j chosen) = (order, chosen_allowed told s.matching s.order s.limit tried order chosen, (j.a, j.b, j.c, j.p, j.paired))
-found_accepted told s bound found None (by_cones cause j) = (orders.Declared, declared_allowed s.order cause, (j.a, j.b, j.c, j.p, j.paired))
+    (order : Order) × IsAllowed s.order order × AreAccepted told s.order s.matching order
+found_accepted told s bound found tried (in_order order j chosen) = (order, chosen_allowed told s.matching s.order s.limit tried order chosen, accepted_in s.order told s.matching order j.a j.b j.c j.p j.paired)
+found_accepted told s bound found None (by_cones cause j) = (orders.Declared, declared_allowed s.order cause, (j.a, j.b, j.c, j.p, j.named, any_for s.order s.matching j.a j.b j.c (may_go s.order cause)))
   where
     declared_allowed : (choice : Choice) → HasCause told s bound choice → IsAllowed choice orders.Declared
     declared_allowed (One o) cause = absurd cause
     declared_allowed Best cause = absurd cause
     declared_allowed Auto cause = (Declared, refl)
     declared_allowed Cones cause = refl
+
+    may_go : (choice : Choice) → HasCause told s bound choice → MayGoByCones choice
+    may_go (One o) cause = absurd cause
+    may_go Best cause = absurd cause
+    may_go Auto cause = tt
+    may_go Cones cause = tt

@@ -59,8 +59,8 @@ module _ {H : Type 0} (whole : Whole H) (limit : ℕ) (bound : Option ℕ) (ss :
   wider budget le (t ∷ ts) [] h = absurd h
   wider budget le (t ∷ ts) (None ∷ os) h = (h.0, wider budget le ts os h.1)
   wider budget le (t ∷ ts) (Some v ∷ os) h = (
-    told_yes (unsized whole.task.now.settings.now.assignment) (FitIn whole budget) (FitIn whole limit) (λ s. ⊥) (circuit whole.task.now.first.now) (circuit whole.task.now.second.now) (condition whole.task.now.given) whole.pairing.now t v
-        (more_nodes budget limit (circuit whole.task.now.first.now) (circuit whole.task.now.second.now) (condition whole.task.now.given) whole.pairing.now t le) h.0,
+    told_yes (unsized whole.task.now.settings.now.assignment) (FitIn whole budget) (FitIn whole limit) (λ s. ⊥) (circuit whole.task.now.first.now) (circuit whole.task.now.second.now) (condition whole.task.now.given) whole.naming.now t v
+        (more_nodes budget limit (circuit whole.task.now.first.now) (circuit whole.task.now.second.now) (condition whole.task.now.given) whole.naming.now t le) h.0,
     wider budget le ts os h.1,
   )
 

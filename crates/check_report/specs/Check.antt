@@ -1,5 +1,5 @@
 -- What a check has done: the report that it wrote, or why it wrote none.
-use Rattle.std.specs.Prelude.{◌≡◌, ◌⊎◌, ℕ, Bool, List, Option, Some, None, IfSome, IsSomeAnd}
+use Rattle.std.specs.Prelude.{◌≡◌, ◌⊎◌, ℕ, ◌<◌, ◌≤◌, Bool, List, Option, Some, None, IfSome, IsSomeAnd, length, ⊤}
 use Rattle.net_bench.specs.Circuit.{Circuit}
 use Rattle.net_bench.specs.Fault.{MakesNetlist, IsRefused as IsTextRefused}
 use Rattle.net_bench.specs.declared.netlist.BenchFault.{BenchFault}
@@ -7,8 +7,10 @@ use Rattle.net_bench.specs.declared.netlist.BenchFault.TheVariants.{Read as Read
 use Rattle.net_order.specs.declared.order.Match.{Match}
 use Rattle.net_order.specs.declared.order.Order.{Order}
 use Rattle.net_order.specs.declared.order.OrderFault.TheVariants.{OutOfMemory as NoOrderMemory}
-use Rattle.net_order.specs.Order.{Paired, IsPairing, IsRefused}
+use Rattle.net_order.specs.Order.{Paired, IsNaming, IsPairing, IsRefused, max_variables, variables_in}
 use Rattle.check_report.specs.Devices.{Told}
+use Rattle.check_report.specs.declared.choice.Choice.{Choice}
+use Rattle.check_report.specs.declared.choice.Choice.TheVariants.{One, Best, Auto, Cones}
 use Rattle.check_report.specs.declared.fault.CheckFault.{CheckFault}
 use Rattle.check_report.specs.declared.fault.CheckFault.TheVariants.{First, Second, Given, GivenOutputs, Order as OrderRefused, Only, Explain, Wave, GivenUp, Write, OutOfMemory}
 use Rattle.check_report.specs.Conditions.{HasOneOutput}
@@ -33,7 +35,12 @@ pub record AreGiven (told : Told) (a b : Circuit) (c : Option Circuit) : Type 0 
   pub second : Gives told.second b
   pub condition : IsCondition told.given c
 
--- the devices gave two netlists and the condition, where there is one, and this is their pairing
+-- the devices gave two netlists and the condition, where there is one, and this is their naming
+pub record HaveNaming (told : Told) (how : Match) (order : Order) (a b : Circuit) (c : Option Circuit) (p : Paired) : Type 0 where
+  pub netlists : AreGiven told a b c
+  pub naming : IsNaming how a b c order p
+
+-- the same, and this is their pairing
 pub record ArePaired (told : Told) (how : Match) (order : Order) (a b : Circuit) (c : Option Circuit) (p : Paired) : Type 0 where
   pub netlists : AreGiven told a b c
   pub pairing : IsPairing how a b c order p
@@ -66,9 +73,20 @@ IsConditionFault given has_failed GivenUp = ⊥
 IsConditionFault given has_failed Write = ⊥
 IsConditionFault given has_failed OutOfMemory = ⊥
 
--- the devices gave netlists that have a pairing
-abbrev pub AreAccepted : Told → Match → Order → Type 0
-AreAccepted told how order = (a b : Circuit) × (c : Option Circuit) × (p : Paired) × ArePaired told how order a b c p
+-- the devices gave netlists that have more variables than a pairing has
+abbrev pub HaveMany : Told → Match → Type 0
+HaveMany told how = (a b : Circuit) × (c : Option Circuit) × AreGiven told a b c × (max_variables < length (variables_in how a b c))
+
+-- the variables are few, as a pairing's are, unless the choice lets pairs be judged by their cones
+abbrev pub AreFewFor : Choice → Match → Circuit → Circuit → Option Circuit → Type 0
+AreFewFor (One o) how a b c = length (variables_in how a b c) ≤ max_variables
+AreFewFor Best how a b c = length (variables_in how a b c) ≤ max_variables
+AreFewFor Auto how a b c = ⊤
+AreFewFor Cones how a b c = ⊤
+
+-- the devices gave netlists that have a naming, and a pairing unless the choice lets pairs be judged by their cones
+abbrev pub AreAccepted : Told → Choice → Match → Order → Type 0
+AreAccepted told choice how order = (a b : Circuit) × (c : Option Circuit) × (p : Paired) × HaveNaming told how order a b c p × AreFewFor choice how a b c
 
 -- a fault before the pairing: one of the reading
 abbrev pub IsEarly : CheckFault → Type 0
@@ -98,21 +116,22 @@ IsLate GivenUp = ⊥
 IsLate Write = ⊥
 IsLate OutOfMemory = Unit {0}
 
--- Why there is no report, where this says that the first device has failed, that the second has, and that the condition's has. What
--- comes before was accepted: the first text, the second, the condition's, its outputs, the pairing. What is to be explained is looked for
+-- Why there is no report by this choice, where this says that the first device has failed, that the second has, and that the condition's has.
+-- What comes before was accepted: the first text, the second, the condition's, its outputs, the pairing, or the naming where pairs may be
+-- judged by their cones. What is to be explained is looked for
 -- apart, before anything is compared.
-abbrev pub IsCheckFault : Told → (first_failed second_failed given_failed : Type 0) → Match → Order → CheckFault → Type 0
-IsCheckFault told first_failed second_failed given_failed how order (First fault) = IsUnread told.first first_failed fault
-IsCheckFault told first_failed second_failed given_failed how order (Second fault) = (a : Circuit) × Gives told.first a × IsUnread told.second second_failed fault
-IsCheckFault told first_failed second_failed given_failed how order (Given fault) =
+abbrev pub IsCheckFault : Told → (first_failed second_failed given_failed : Type 0) → Choice → Match → Order → CheckFault → Type 0
+IsCheckFault told first_failed second_failed given_failed choice how order (First fault) = IsUnread told.first first_failed fault
+IsCheckFault told first_failed second_failed given_failed choice how order (Second fault) = (a : Circuit) × Gives told.first a × IsUnread told.second second_failed fault
+IsCheckFault told first_failed second_failed given_failed choice how order (Given fault) =
     (a b : Circuit) × Gives told.first a × Gives told.second b × IsConditionFault told.given given_failed (Given fault)
-IsCheckFault told first_failed second_failed given_failed how order GivenOutputs =
+IsCheckFault told first_failed second_failed given_failed choice how order GivenOutputs =
     (a b : Circuit) × Gives told.first a × Gives told.second b × IsConditionFault told.given given_failed GivenOutputs
-IsCheckFault told first_failed second_failed given_failed how order (OrderRefused fault) =
+IsCheckFault told first_failed second_failed given_failed choice how order (OrderRefused fault) =
     (a b : Circuit) × (c : Option Circuit) × AreGiven told a b c × ((fault ≡ NoOrderMemory) ⊎ IsRefused how a b c order fault)
-IsCheckFault told first_failed second_failed given_failed how order Only = AreAccepted told how order
-IsCheckFault told first_failed second_failed given_failed how order Explain = ⊥
-IsCheckFault told first_failed second_failed given_failed how order (Wave fault) = AreAccepted told how order
-IsCheckFault told first_failed second_failed given_failed how order GivenUp = AreAccepted told how order
-IsCheckFault told first_failed second_failed given_failed how order Write = AreAccepted told how order
-IsCheckFault told first_failed second_failed given_failed how order OutOfMemory = AreAccepted told how order
+IsCheckFault told first_failed second_failed given_failed choice how order Only = AreAccepted told choice how order
+IsCheckFault told first_failed second_failed given_failed choice how order Explain = ⊥
+IsCheckFault told first_failed second_failed given_failed choice how order (Wave fault) = AreAccepted told choice how order
+IsCheckFault told first_failed second_failed given_failed choice how order GivenUp = AreAccepted told choice how order
+IsCheckFault told first_failed second_failed given_failed choice how order Write = AreAccepted told choice how order
+IsCheckFault told first_failed second_failed given_failed choice how order OutOfMemory = AreAccepted told choice how order

@@ -1,11 +1,11 @@
 -- Pairs that are judged alone, each by its cones.
-use Rattle.std.specs.Prelude.{◌≡◌, ◌/◌, ◌⊎◌, ◌↔◌, ℕ, min, max, ◌*◌, ◌++◌, Bool, List, [], Option, Some, None, length, slice_index, All, ⊤}
+use Rattle.std.specs.Prelude.{◌≡◌, ◌<◌, ◌/◌, ◌⊎◌, ◌↔◌, ℕ, min, max, ◌*◌, ◌++◌, Bool, List, [], Option, Some, None, length, slice_index, All, ⊤}
 use Rattle.std.specs.List.{AllZip, slice_index_or}
 use Rattle.expand_work.specs.Bounds.{most_of}
 use Rattle.net_bench.specs.Circuit.{Circuit, Net, circuit, variables_of}
 use Rattle.net_cone.specs.Cones.{IsCone}
 use Rattle.net_order.specs.declared.order.Match.TheVariants.{Name}
-use Rattle.net_order.specs.Order.{Paired, IsPairing}
+use Rattle.net_order.specs.Order.{Paired, IsPairing, max_variables, variables_in}
 use Rattle.report_text.specs.declared.verdict.Verdict.{Verdict}
 use Rattle.report_text.specs.declared.verdict.Verdict.TheVariants.{Undecided}
 use Rattle.report_text.specs.Lines.{Found}
@@ -20,12 +20,12 @@ use Rattle.check_report.specs.Widths.{IsTooWide}
 
 -- ---- cones
 
--- the names of a netlist's variables, by signal, are those that a pairing gives to their levels
+-- the names of a netlist's variables, by signal, are those that a naming gives to their levels
 pub record AreNamed (c : Circuit) (levels : List ℕ) (p : Paired) (names : List (List ℕ)) : Type 0 where
   pub each : length names ≡ length c.names
   pub variables : All (λ s. slice_index_or names s [] ≡ slice_index_or p.names (slice_index levels s) []) (variables_of c)
 
--- This is the cone of a signal, whose variables have the names of a pairing.
+-- This is the cone of a signal, whose variables have the names of a naming.
 pub record IsConeIn (c : Circuit) (levels : List ℕ) (p : Paired) (root : ℕ) (cone : Circuit) : Type 0 where
   pub whole : Net
   pub part : Net
@@ -55,15 +55,19 @@ pub record AreCones (a b : Circuit) (given : Option Circuit) (p : Paired) (s : S
 abbrev pub cone_limit : (limit : ℕ) → ℕ
 cone_limit limit = max 1 (limit / 4)
 
--- Within so many nodes a pair is not decided by its cones: in each candidate's order of their variables an attempt was given up, as they
--- need more, or one wave reaches more requests than eight for each of these nodes, or than the monitor's bound where that is less.
+-- in each candidate's order of their variables an attempt of the cones was given up, as they need more nodes than so many, or one wave
+-- reaches more requests than eight for each of these nodes, or than the monitor's bound where that is less
+abbrev pub AreGivenUpIn : (budget : ℕ) → (bound : Option ℕ) → (first second : Circuit) → (condition : Option Circuit) → Type 0
+AreGivenUpIn budget bound first second condition = (c : Candidate) → (q : Paired) × IsPairing Name first second condition (order_of c) q
+    × (Exceeds budget first second condition q ⊎ IsTooWide (min (budget * 8) (most_of bound)) first second condition q)
+
+-- Within so many nodes a pair is not decided by its cones: they have more variables together than a pairing has, or each attempt was given up.
 pub record IsLeftWithin (budget : ℕ) (bound : Option ℕ) (a b : Circuit) (given : Option Circuit) (p : Paired) (s : Subject) : Type 0 where
   pub first : Circuit
   pub second : Circuit
   pub condition : Option Circuit
   pub cones : AreCones a b given p s first second condition
-  pub each : (c : Candidate) → (q : Paired) × IsPairing Name first second condition (order_of c) q
-      × (Exceeds budget first second condition q ⊎ IsTooWide (min (budget * 8) (most_of bound)) first second condition q)
+  pub cause : (max_variables < length (variables_in Name first second condition)) ⊎ AreGivenUpIn budget bound first second condition
 
 -- No budget up to the cones' limit decides a pair.
 abbrev pub IsLeft : (limit : ℕ) → (bound : Option ℕ) → Circuit → Circuit → Option Circuit → Paired → Subject → Type 0
@@ -82,7 +86,7 @@ pub record FitByCones (limit : ℕ) (a b : Circuit) (given : Option Circuit) (p 
 
 -- ---- verdicts
 
--- The verdict of a pair over the variables of the pairing: that of its functions where the condition holds, where this says that its cones
+-- The verdict of a pair over the variables of the naming: that of its functions where the condition holds, where this says that its cones
 -- are within their limit, or Undecided where that says that no attempt decides it.
 pub data IsToldOf (n : ℕ) (asked : Asked) (within left : Type 0) (holds : List Bool → Bool) (c : Compared) : Verdict → Type 0 where
   decided : {v : Verdict} → within → IsVerdictOf n asked holds c v → (CallsEqual v ↔ AgreeWhere n holds c.first c.second) → IsToldOf n asked within left holds c v

@@ -28,11 +28,11 @@ use Rattle.check_report.specs.Comparing.{IsInside}
 use Rattle.check_report.specs.Cones.{AreCones, AreNamed, AreTold, FitByCones, IsConditionCone, IsLeft, IsLeftWithin, IsTold, cone_limit}
 use Rattle.check_report.specs.Picking.{ArePicked}
 use Rattle.check_report.specs.Spreading.{IsOfNet, widened_verdict}
-use Rattle.check_report.specs.Trials.{EndsAtOnce, IsPairingIn}
+use Rattle.check_report.specs.Trials.{EndsAtOnce, IsNamingIn}
 
 -- ---- names
 
--- the levels of a netlist's variables in a pairing, by signal
+-- the levels of a netlist's variables in a naming, by signal
 abbrev pub levels_in : Whose → Paired → List ℕ
 levels_in First p = p.first
 levels_in Second p = p.second
@@ -53,16 +53,16 @@ abbrev pub circuit_in : Option Cone → Option Circuit
 circuit_in None = None
 circuit_in (Some cone) = Some (circuit cone.net)
 
--- the netlists and their pairing in declared order, the names of their variables by it, the signals of their gates, and the condition's cone
+-- the netlists and their naming in declared order, the names of their variables by it, the signals of their gates, and the condition's cone
 pub record IsReady {H : Type 0} (whole : Whole H) : Type 0 where
-  pub pairing : IsPairingIn whole.task.now Declared whole.pairing.now
-  pub first : AreNamed (circuit whole.task.now.first.now) whole.pairing.now.first whole.pairing.now (texts whole.first.now)
+  pub naming : IsNamingIn whole.task.now Declared whole.naming.now
+  pub first : AreNamed (circuit whole.task.now.first.now) whole.naming.now.first whole.naming.now (texts whole.first.now)
   pub first_apart : AreNames whole.task.now.first.now (texts whole.first.now)
-  pub second : AreNamed (circuit whole.task.now.second.now) whole.pairing.now.second whole.pairing.now (texts whole.second.now)
+  pub second : AreNamed (circuit whole.task.now.second.now) whole.naming.now.second whole.naming.now (texts whole.second.now)
   pub second_apart : AreNames whole.task.now.second.now (texts whole.second.now)
   pub first_gates : whole.first_gates.now ≡ gate_signals whole.task.now.first.now
   pub second_gates : whole.second_gates.now ≡ gate_signals whole.task.now.second.now
-  pub conditional : IsConditionCone (condition whole.task.now.given) whole.pairing.now (circuit_of whole.given)
+  pub conditional : IsConditionCone (condition whole.task.now.given) whole.naming.now (circuit_of whole.given)
   pub conditional_net : IfSome (condition whole.task.now.given) IsOfNet
   pub by_name : whole.settings.now.matching ≡ Name
   pub no_sizes : whole.settings.now.sizes ≡ false
@@ -74,7 +74,7 @@ IsOf whole s = IsInside (circuit whole.task.now.first.now) (circuit whole.task.n
 
 -- the cones of a pair, and of the condition
 abbrev pub AreConesOf : {H : Type 0} → Whole H → Subject → Cones → Type 0
-AreConesOf whole s cones = AreCones (circuit whole.task.now.first.now) (circuit whole.task.now.second.now) (condition whole.task.now.given) whole.pairing.now s
+AreConesOf whole s cones = AreCones (circuit whole.task.now.first.now) (circuit whole.task.now.second.now) (condition whole.task.now.given) whole.naming.now s
     (circuit cones.first.net) (circuit cones.second.net) (circuit_of whole.given)
 
 -- the comparison of a pair's cones
@@ -88,15 +88,15 @@ pub record IsConeTask {H : Type 0} (whole : Whole H) (cones : Cones) (task : Tas
 
 -- the cones of the pair need so many nodes at most
 abbrev pub FitIn : {H : Type 0} → Whole H → (budget : ℕ) → Subject → Type 0
-FitIn whole budget s = FitByCones budget (circuit whole.task.now.first.now) (circuit whole.task.now.second.now) (condition whole.task.now.given) whole.pairing.now s
+FitIn whole budget s = FitByCones budget (circuit whole.task.now.first.now) (circuit whole.task.now.second.now) (condition whole.task.now.given) whole.naming.now s
 
 -- the pair is decided within so many nodes, and this is its verdict
 abbrev pub IsToldIn : {H : Type 0} → Whole H → (budget : ℕ) → Subject → Verdict → Type 0
-IsToldIn whole budget s v = IsTold (unsized whole.task.now.settings.now.assignment) (FitIn whole budget) (λ t. ⊥) (circuit whole.task.now.first.now) (circuit whole.task.now.second.now) (condition whole.task.now.given) whole.pairing.now s v
+IsToldIn whole budget s v = IsTold (unsized whole.task.now.settings.now.assignment) (FitIn whole budget) (λ t. ⊥) (circuit whole.task.now.first.now) (circuit whole.task.now.second.now) (condition whole.task.now.given) whole.naming.now s v
 
 -- the pair is left within so many nodes
 abbrev pub IsLeftIn : {H : Type 0} → Whole H → (budget : ℕ) → (bound : Option ℕ) → Subject → Type 0
-IsLeftIn whole budget bound s = IsLeftWithin budget bound (circuit whole.task.now.first.now) (circuit whole.task.now.second.now) (condition whole.task.now.given) whole.pairing.now s
+IsLeftIn whole budget bound s = IsLeftWithin budget bound (circuit whole.task.now.first.now) (circuit whole.task.now.second.now) (condition whole.task.now.given) whole.naming.now s
 
 -- the pair has this verdict, or none where it is left
 abbrev pub IsKnown : (told : Subject → Verdict → Type 0) (left : Subject → Type 0) → Subject → Option Verdict → Type 0
@@ -106,7 +106,7 @@ IsKnown told left s (Some v) = told s v
 -- a verdict over the variables at these levels, where there is one, told over all variables
 abbrev pub IsWidened : {H : Type 0} → Whole H → Subject → (places : List ℕ) → (found told : Option Verdict) → Type 0
 IsWidened whole s places found told =
-    told ≡ option_map (widened_verdict s.role (name_of (circuit whole.task.now.first.now) s.named) (length whole.pairing.now.names) places) found
+    told ≡ option_map (widened_verdict s.role (name_of (circuit whole.task.now.first.now) s.named) (length whole.naming.now.names) places) found
 
 -- what the attempts within so many nodes came to for a pair
 abbrev pub IsJudgedIn : {H : Type 0} → Whole H → (budget : ℕ) → (bound : Option ℕ) → Subject → Option Verdict → Type 0
@@ -163,12 +163,12 @@ pub record IsRoundOf {H : Type 0} (whole : Whole H) (budget : ℕ) (bound : Opti
 -- a pair that no budget up to the cones' limit decides
 abbrev pub IsLeftOut : {H : Type 0} → Whole H → (bound : Option ℕ) → Subject → Type 0
 IsLeftOut whole bound s =
-    IsLeft whole.task.now.settings.now.limit bound (circuit whole.task.now.first.now) (circuit whole.task.now.second.now) (condition whole.task.now.given) whole.pairing.now s
+    IsLeft whole.task.now.settings.now.limit bound (circuit whole.task.now.first.now) (circuit whole.task.now.second.now) (condition whole.task.now.given) whole.naming.now s
 
 -- the same, and its verdict
 abbrev pub IsToldOut : {H : Type 0} → Whole H → (bound : Option ℕ) → Subject → Verdict → Type 0
 IsToldOut whole bound s v =
-    IsTold (unsized whole.task.now.settings.now.assignment) (FitIn whole (cone_limit whole.task.now.settings.now.limit)) (IsLeftOut whole bound) (circuit whole.task.now.first.now) (circuit whole.task.now.second.now) (condition whole.task.now.given) whole.pairing.now s v
+    IsTold (unsized whole.task.now.settings.now.assignment) (FitIn whole (cone_limit whole.task.now.settings.now.limit)) (IsLeftOut whole bound) (circuit whole.task.now.first.now) (circuit whole.task.now.second.now) (condition whole.task.now.given) whole.naming.now s v
 
 -- the verdict of a pair: Undecided, where there is none
 abbrev pub told_of : Circuit → Subject → Option Verdict → Verdict
@@ -181,7 +181,7 @@ all_told a [] known = []
 all_told a (s ∷ ss) [] = []
 all_told a (s ∷ ss) (o ∷ known) = told_of a s o ∷ all_told a ss known
 
--- What a comparison of a task by cones finds, over the variables of its pairing.
+-- What a comparison of a task by cones finds, over the variables of its naming.
 pub record IsToldByCones {H : Type 0} (task : Task H) (bound : Option ℕ) (p : Paired) (found : Found) : Type 0 where
   pub pairs : List Subject
   pub lone : List Verdict

@@ -1,5 +1,5 @@
 -- How a comparison is decided: the whole in one order, or each pair by its cones.
-use Rattle.std.specs.Prelude.{◌≡◌, ◌++◌, ℕ, List, Option, None, is_some, ⊤}
+use Rattle.std.specs.Prelude.{◌≡◌, ◌⊎◌, ◌++◌, ℕ, List, Option, None, is_some, ⊤}
 use Rattle.net_bench.specs.Circuit.{Circuit}
 use Rattle.net_order.specs.declared.order.Order.{Order}
 use Rattle.net_order.specs.declared.order.Order.TheVariants as orders
@@ -17,7 +17,7 @@ use Rattle.check_report.specs.declared.settings.Settings.{Settings}
 use Rattle.check_report.specs.declared.subject.Subject.{Subject}
 use Rattle.check_report.specs.Asking.{asked_in, unsized}
 use Rattle.check_report.specs.Best.{IsBudget, IsChosen, IsGivenUpWithin, order_of, told_kind, whole_limit}
-use Rattle.check_report.specs.Check.{ArePaired, Gives, IsJudged}
+use Rattle.check_report.specs.Check.{Gives, HaveMany, HaveNaming, IsJudged}
 use Rattle.check_report.specs.Cones.{AreTold, FitByCones, IsLeft, cone_limit}
 use Rattle.check_report.specs.Devices.{Told}
 use Rattle.check_report.specs.Explaining.{IsBehind}
@@ -29,17 +29,18 @@ pub record IsJudgedByCones (told : Told) (s : Settings) (bound : Option ℕ) (fo
   pub b : Circuit
   pub c : Option Circuit
   pub p : Paired
-  pub paired : ArePaired told s.matching orders.Declared a b c p
+  pub named : HaveNaming told s.matching orders.Declared a b c p
   pub pairs : List Subject
   pub lone : List Verdict
   pub picked : ArePicked a b p s.picked pairs lone
   pub verdicts : AreTold (unsized s.assignment) (FitByCones (cone_limit s.limit) a b c p) (IsLeft s.limit bound a b c p) a b c p pairs lone found
 
--- Cones may be taken: they are asked for, or each attempt of the whole was given up.
+-- Cones may be taken: they are asked for, or each attempt of the whole was given up, or it has more variables than a pairing has.
 abbrev pub HasCause : Told → Settings → (bound : Option ℕ) → Choice → Type 0
 HasCause told s bound (One o) = ⊥
 HasCause told s bound Best = ⊥
-HasCause told s bound Auto = (budget : ℕ) → IsBudget (whole_limit s.limit) budget → (c : Candidate) → IsGivenUpWithin told s.matching budget bound (order_of c)
+HasCause told s bound Auto =
+    ((budget : ℕ) → IsBudget (whole_limit s.limit) budget → (c : Candidate) → IsGivenUpWithin told s.matching budget bound (order_of c)) ⊎ HaveMany told s.matching
 HasCause told s bound Cones = ⊤
 
 -- What a comparison finds by its settings, and the attempt that it is told with.

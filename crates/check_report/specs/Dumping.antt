@@ -14,7 +14,7 @@ use Rattle.report_text.specs.declared.verdict.Verdict.TheVariants.{Equal, Differ
 use Rattle.report_text.specs.Lines.{Found}
 use Rattle.check_report.specs.declared.choice.Attempt.{Attempt}
 use Rattle.check_report.specs.declared.settings.Settings.{Settings}
-use Rattle.check_report.specs.Check.{ArePaired}
+use Rattle.check_report.specs.Check.{HaveNaming}
 use Rattle.check_report.specs.Deciding.{IsReportBy}
 use Rattle.check_report.specs.Devices.{Told}
 use Rattle.check_report.specs.Explaining.{told_order}
@@ -34,7 +34,7 @@ first_at (Differs role name at first second extras ∷ vs) = Some at
 first_at (Lone side role name ∷ vs) = first_at vs
 first_at (Undecided role name ∷ vs) = first_at vs
 
--- The bytes are the values of all signals of two netlists as a VCD, at an assignment of the variables of their pairing.
+-- The bytes are the values of all signals of two netlists as a VCD, at an assignment of the variables of their naming.
 pub record IsVcdAt (a b : Net) (p : Paired) (at : List Bool) (bytes : List ℕ) : Type 0 where
   pub values : List Bool
   pub others : List Bool
@@ -48,8 +48,8 @@ pub record HasVcd (told : Told) (s : Settings) (tried : Option Attempt) (found :
   pub b : Net
   pub c : Option Circuit
   pub p : Paired
-  pub paired : ArePaired told s.matching (told_order s.order tried) (circuit a) (circuit b) c p
-  -- the bits of the assignment are those of the variables of this pairing
+  pub named : HaveNaming told s.matching (told_order s.order tried) (circuit a) (circuit b) c p
+  -- the bits of the assignment are those of the variables of this naming
   pub variables : found.variables ≡ p.names
   pub vcd : IsVcdAt a b p at bytes
 

@@ -20,7 +20,7 @@ use Rattle.check_report.specs.declared.settings.Settings.{Settings}
 use Rattle.check_report.specs.declared.subject.Subject.{Subject}
 use Rattle.check_report.specs.declared.target.Target.{Target}
 use Rattle.check_report.specs.Best.{IsAllowed, order_of}
-use Rattle.check_report.specs.Check.{AreGiven, ArePaired, IsCheckFault}
+use Rattle.check_report.specs.Check.{AreGiven, HaveNaming, IsCheckFault}
 use Rattle.check_report.specs.Devices.{Told}
 use Rattle.check_report.specs.Picking.{is_among}
 use Rattle.check_report.specs.Report.{subjects}
@@ -115,8 +115,8 @@ pub record HaveExplanations (told : Told) (s : Settings) (tried : Option Attempt
   pub b : Net
   pub c : Option Circuit
   pub p : Paired
-  pub paired : ArePaired told s.matching (told_order s.order tried) (circuit a) (circuit b) c p
-  -- the bits of an assignment are those of the variables of this pairing
+  pub named : HaveNaming told s.matching (told_order s.order tried) (circuit a) (circuit b) c p
+  -- the bits of an assignment are those of the variables of this naming
   pub variables : found.variables ≡ p.names
   pub known : AreTargetsIn (circuit a) s.explain.items
   pub explained : AreExplained a b p found.verdicts s.explain.items bytes
@@ -140,4 +140,4 @@ pub record IsUnexplained (told : Told) (targets : List Target) (fault : CheckFau
 -- why there is no report: what is asked for is refused, or there is another cause, where this says that the devices have failed
 abbrev pub IsReportFault : Told → (first_failed second_failed given_failed : Type 0) → Settings → CheckFault → Type 0
 IsReportFault told first_failed second_failed given_failed s fault =
-    IsUnexplained told s.explain.items fault ⊎ ((order : Order) × IsAllowed s.order order × IsCheckFault told first_failed second_failed given_failed s.matching order fault)
+    IsUnexplained told s.explain.items fault ⊎ ((order : Order) × IsAllowed s.order order × IsCheckFault told first_failed second_failed given_failed s.order s.matching order fault)

@@ -1,11 +1,11 @@
--- What is found of a pair by its cones, told over all variables of its pairing.
+-- What is found of a pair by its cones, told over all variables of its naming.
 use Rattle.std.specs.Prelude.{◌≡◌, ◌<◌, ℕ, Bool, false, List, fold, map, length, replicate, zip, Option, Some, None, IfSome, slice_index, slice_set, All}
 use Rattle.net_bench.specs.Circuit.{Circuit, Net, IsNet, circuit}
 use Rattle.net_cone.specs.Cones.{variable_name}
 use Rattle.net_order.specs.declared.order.Match.TheVariants.{Name}
 use Rattle.net_order.specs.declared.order.Order.{Order}
-use Rattle.net_order.specs.Order.{Paired, IsPairing}
-use Rattle.gate_plan.specs.Building.{IsPaired}
+use Rattle.net_order.specs.declared.order.Match.{Match}
+use Rattle.net_order.specs.Order.{Paired, IsNaming, IsPairing}
 use Rattle.report_text.specs.declared.outcome.PairKind.{PairKind}
 use Rattle.report_text.specs.declared.verdict.Verdict.{Verdict}
 use Rattle.report_text.specs.declared.verdict.Verdict.TheVariants.{Equal, Differs, Lone, Undecided}
@@ -49,13 +49,17 @@ pub record IsOfNet (c : Circuit) : Type 0 where
   pub sound : IsNet net
   pub is_circuit : circuit net ≡ c
 
--- Two netlists are paired, and the cones of a pair of their signals are paired by name: their variables are those at these places of the
--- whole pairing, in its order, by its names behind a 'v'.
+-- p is the naming of the two netlists, with this condition or none, for some way of matching and some order
+abbrev pub IsNamed : Circuit → Circuit → Option Circuit → Paired → Type 0
+IsNamed a b given p = (how : Match) × (order : Order) × IsNaming how a b given order p
+
+-- Two netlists have a naming, and the cones of a pair of their signals are paired by name: their variables are those at these places of the
+-- naming, in its order, by its names behind a 'v'.
 pub record IsConePairing (a b : Circuit) (given : Option Circuit) (p : Paired) (s : Subject) (k m : Circuit) (w : Option Circuit) (places : List ℕ) (q : Paired) : Type 0 where
   pub first : IsOfNet a
   pub second : IsOfNet b
   pub condition : IfSome given IsOfNet
-  pub whole : IsPaired a b given p
+  pub whole : IsNamed a b given p
   pub cones : AreCones a b given p s k m w
   pub in_order : ArePlaces (length p.names) places
   pub order : Order

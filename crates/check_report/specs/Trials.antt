@@ -1,11 +1,11 @@
 -- What a search among the candidates has found out: which attempts were given up, and the one that decides.
-use Rattle.std.specs.Prelude.{◌≡◌, ◌≢◌, ◌⊎◌, ℕ, min, ◌*◌, ◌<◌, Bool, true, false, ◌&&◌, List, Option, Some, None, All, Contains, ⊤}
+use Rattle.std.specs.Prelude.{◌≡◌, ◌≢◌, ◌⊎◌, ℕ, min, ◌*◌, ◌<◌, ◌≤◌, Bool, true, false, ◌&&◌, List, Option, Some, None, All, Contains, length, ⊤}
 use Rattle.std.specs.Borrow.{Bor}
 use Rattle.expand_work.specs.Bounds.{most_of}
 use Rattle.expand_work.specs.declared.fault.WaveFault.TheVariants.{Full, TooManyRequests, NoWorker}
 use Rattle.net_bench.specs.Circuit.{circuit}
 use Rattle.net_order.specs.declared.order.Order.{Order}
-use Rattle.net_order.specs.Order.{Paired, IsPairing, condition, names_by}
+use Rattle.net_order.specs.Order.{Paired, IsNaming, IsPairing, condition, max_variables, names_by, variables_in}
 use Rattle.report_text.specs.declared.verdict.Verdict.{Verdict}
 use Rattle.check_report.specs.declared.attempts.Decided.{Decided as DecidedValue}
 use Rattle.check_report.specs.declared.attempts.Ended.{Ended}
@@ -24,11 +24,23 @@ use Rattle.check_report.specs.Asking.{asked_in}
 use Rattle.check_report.specs.Report.{AreVerdicts}
 use Rattle.check_report.specs.Widths.{IsTooWide}
 
--- ---- pairings of a task's netlists
+-- ---- namings and pairings of a task's netlists
 
 -- the pairing in this order
 abbrev pub IsPairingIn : {H : Type 0} → Task H → Order → Paired → Type 0
 IsPairingIn task order p = IsPairing task.settings.now.matching (circuit task.first.now) (circuit task.second.now) (condition task.given) order p
+
+-- the naming in this order
+abbrev pub IsNamingIn : {H : Type 0} → Task H → Order → Paired → Type 0
+IsNamingIn task order p = IsNaming task.settings.now.matching (circuit task.first.now) (circuit task.second.now) (condition task.given) order p
+
+-- a task's netlists have no more variables than a pairing may have
+abbrev pub HasFew : {H : Type 0} → Task H → Type 0
+HasFew task = length (variables_in task.settings.now.matching (circuit task.first.now) (circuit task.second.now) (condition task.given)) ≤ max_variables
+
+-- a task's netlists have more
+abbrev pub HasMany : {H : Type 0} → Task H → Type 0
+HasMany task = max_variables < length (variables_in task.settings.now.matching (circuit task.first.now) (circuit task.second.now) (condition task.given))
 
 -- the names of the variables in this order
 abbrev pub ordered_names : {H : Type 0} → Task H → Order → List (List ℕ)

@@ -107,7 +107,7 @@ fn attempt<H: Threads + Wait + Sync, G: Monitor>(
     requires telling { IsTelling task.now declared }
     requires trial { IsTrial task.now trial.now }
     ensures ended { IfOk result (IsEnded task.now declared.entry budget (G.bound monitor.now) trial.now) }
-    ensures fault { OfTask task.now (λ told s. IfErr result (λ fault. (c : CandidateValue) × IsCheckFault told ⊥ ⊥ ⊥ s.matching (order_of c) fault)) }
+    ensures fault { OfTask task.now (λ told s. IfErr result (λ fault. (c : CandidateValue) × IsCheckFault told ⊥ ⊥ ⊥ s.order s.matching (order_of c) fault)) }
     ensures ends { IfErr result EndsAtOnce }
 {
     let bounded = Bounded {
@@ -144,7 +144,7 @@ fn try_candidate<H: Threads + Wait + Sync, G: Monitor>(
     requires telling { IsTelling task.now declared }
     requires own { All (IsTrial task.now) trials.old.items }
     ensures turn { IfOk result (IsTurn task.now declared.entry budget (G.bound monitor.now) candidate trials.old.items trials.new.items) }
-    ensures fault { OfTask task.now (λ told s. IfErr result (λ fault. (c : CandidateValue) × IsCheckFault told ⊥ ⊥ ⊥ s.matching (order_of c) fault)) }
+    ensures fault { OfTask task.now (λ told s. IfErr result (λ fault. (c : CandidateValue) × IsCheckFault told ⊥ ⊥ ⊥ s.order s.matching (order_of c) fault)) }
     ensures ends { IfErr result EndsAtOnce }
 {
     let pairing = paired(task, &candidate.order())?;
@@ -185,7 +185,7 @@ pub fn try_first<H: Threads + Wait + Sync, G: Monitor>(
     requires none { trials.old.items ≡ [] }
     ensures round { IfOk result (IsRound task.now declared.entry budget (G.bound monitor.now) trials.new.items) }
     ensures first { IfOk result (IsFirstRound task.now budget (G.bound monitor.now)) }
-    ensures fault { OfTask task.now (λ told s. IfErr result (λ fault. (c : CandidateValue) × IsCheckFault told ⊥ ⊥ ⊥ s.matching (order_of c) fault)) }
+    ensures fault { OfTask task.now (λ told s. IfErr result (λ fault. (c : CandidateValue) × IsCheckFault told ⊥ ⊥ ⊥ s.order s.matching (order_of c) fault)) }
     ensures ends { IfErr result EndsAtOnce }
 {
     let mut all_full = true;
@@ -210,7 +210,7 @@ fn try_again<H: Threads + Wait + Sync, G: Monitor>(
     requires telling { IsTelling task.now declared }
     requires trials { AreTrials task.now trials.old.items }
     ensures round { IfOk result (IsRound task.now declared.entry budget (G.bound monitor.now) trials.new.items) }
-    ensures fault { OfTask task.now (λ told s. IfErr result (λ fault. (c : CandidateValue) × IsCheckFault told ⊥ ⊥ ⊥ s.matching (order_of c) fault)) }
+    ensures fault { OfTask task.now (λ told s. IfErr result (λ fault. (c : CandidateValue) × IsCheckFault told ⊥ ⊥ ⊥ s.order s.matching (order_of c) fault)) }
     ensures ends { IfErr result EndsAtOnce }
 {
     put_furthest_first(trials);
@@ -249,7 +249,7 @@ fn find_later<H: Threads + Wait + Sync, G: Monitor>(
     ensures passed { IfOk result (λ d. ArePassedBefore task.now limit (G.bound monitor.now) (record { order = d.trial.candidate; budget = d.budget })) }
     ensures full { result ≡ Err (CheckFault.Wave WaveFault.Full) → (c : CandidateValue) → IsFull task.now limit c }
     ensures given_up { IfErr result (λ fault. IsGivingUp fault → AreAllPassed task.now limit (G.bound monitor.now)) }
-    ensures fault { OfTask task.now (λ told s. IfErr result (λ fault. (c : CandidateValue) × IsCheckFault told ⊥ ⊥ ⊥ s.matching (order_of c) fault)) }
+    ensures fault { OfTask task.now (λ told s. IfErr result (λ fault. (c : CandidateValue) × IsCheckFault told ⊥ ⊥ ⊥ s.order s.matching (order_of c) fault)) }
     ensures ends { IfErr result EndsSearch }
 {
     let mut budget = FIRST_BUDGET * GROWTH;
@@ -281,7 +281,7 @@ pub fn find_attempt<H: Threads + Wait + Sync, G: Monitor>(
     ensures passed { IfOk result (λ d. ArePassedBefore task.now limit (G.bound monitor.now) (record { order = d.trial.candidate; budget = d.budget })) }
     ensures full { result ≡ Err (CheckFault.Wave WaveFault.Full) → (c : CandidateValue) → IsFull task.now limit c }
     ensures given_up { IfErr result (λ fault. IsGivingUp fault → AreAllPassed task.now limit (G.bound monitor.now)) }
-    ensures fault { OfTask task.now (λ told s. IfErr result (λ fault. (c : CandidateValue) × IsCheckFault told ⊥ ⊥ ⊥ s.matching (order_of c) fault)) }
+    ensures fault { OfTask task.now (λ told s. IfErr result (λ fault. (c : CandidateValue) × IsCheckFault told ⊥ ⊥ ⊥ s.order s.matching (order_of c) fault)) }
     ensures ends { IfErr result EndsSearch }
 {
     let mut trials = Vec::new(task.alloc);

@@ -171,7 +171,8 @@ pub fn verdicts_of(alloc: Global, of: &Comparison<'_>) -> Result<Vec<Verdict>, A
     ensures { IfOk result (λ v. AreVerdicts (asked_of of.now.telling) (circuit of.now.first.now) (circuit of.now.second.now) (condition of.now.given) of.now.pairing.now (record { variables = of.now.pairing.now.names; verdicts = v.items })) }
 {
     let mut verdicts = verdicts_of_pairs(alloc, of)?;
-    add_first_lone(alloc, &mut verdicts, of.first, of.pairing)?;
-    add_second_lone(alloc, &mut verdicts, of.second, of.pairing)?;
+    let naming = of.pairing.naming();
+    add_first_lone(alloc, &mut verdicts, of.first, naming)?;
+    add_second_lone(alloc, &mut verdicts, of.second, naming)?;
     Ok(verdicts)
 }

@@ -21,6 +21,7 @@ use expand_work::{Crew, Monitor, WaveFault};
 use gate_plan::{Built, conjoin};
 use net_bench::netlist::Signal;
 use net_bench::reader::Netlist;
+use net_order::naming::Naming;
 use net_order::pairing::Pairing;
 use report_text::PairKind;
 use std::alloc::{AllocError, Global};
@@ -48,10 +49,10 @@ fn next_state(net: &Netlist, register: Signal) -> Signal
 }
 
 /// Puts the pairs of outputs at the end.
-fn add_outputs(pairing: &Pairing, subjects: &mut Vec<Subject>) -> Result<(), AllocError>
-    ensures { OnOk result (subjects.new.items ≡ subjects.old.items ++ map output_subject pairing.now.outputs.pairs) }
+fn add_outputs(naming: &Naming, subjects: &mut Vec<Subject>) -> Result<(), AllocError>
+    ensures { OnOk result (subjects.new.items ≡ subjects.old.items ++ map output_subject naming.now.outputs.pairs) }
 {
-    let pairs = pairing.output_pairs();
+    let pairs = naming.output_pairs();
     for i in 0..pairs.len() {
         let (first, second) = pairs[i];
         subjects.push(Subject {
@@ -68,12 +69,12 @@ fn add_outputs(pairing: &Pairing, subjects: &mut Vec<Subject>) -> Result<(), All
 fn add_next_states(
     one: &Netlist,
     two: &Netlist,
-    pairing: &Pairing,
+    naming: &Naming,
     subjects: &mut Vec<Subject>,
 ) -> Result<(), AllocError>
-    ensures { OnOk result (subjects.new.items ≡ subjects.old.items ++ map (next_subject (circuit one.now) (circuit two.now)) pairing.now.registers.pairs) }
+    ensures { OnOk result (subjects.new.items ≡ subjects.old.items ++ map (next_subject (circuit one.now) (circuit two.now)) naming.now.registers.pairs) }
 {
-    let pairs = pairing.next_pairs();
+    let pairs = naming.next_pairs();
     for i in 0..pairs.len() {
         let (first, second) = pairs[i];
         subjects.push(Subject {
@@ -91,13 +92,13 @@ pub fn subjects_of(
     alloc: Global,
     first: &Netlist,
     second: &Netlist,
-    pairing: &Pairing,
+    naming: &Naming,
 ) -> Result<Vec<Subject>, AllocError>
-    ensures { IfOk result (λ v. v.items ≡ subjects (circuit first.now) (circuit second.now) pairing.now) }
+    ensures { IfOk result (λ v. v.items ≡ subjects (circuit first.now) (circuit second.now) naming.now) }
 {
     let mut subjects = Vec::new(alloc);
-    add_outputs(pairing, &mut subjects)?;
-    add_next_states(first, second, pairing, &mut subjects)?;
+    add_outputs(naming, &mut subjects)?;
+    add_next_states(first, second, naming, &mut subjects)?;
     Ok(subjects)
 }
 
@@ -167,7 +168,7 @@ pub fn shown_of<H: Threads + Wait + Sync, G: Monitor>(
     let _ = store.levels();
     let _ = task.first.inputs();
     let _ = task.second.inputs();
-    let Ok(subjects) = subjects_of(task.alloc, task.first, task.second, pairing) else {
+    let Ok(subjects) = subjects_of(task.alloc, task.first, task.second, pairing.naming()) else {
         return Err(CheckFault::OutOfMemory);
     };
     let Ok(references) = references_of(task.alloc, built, subjects.as_slice()) else {

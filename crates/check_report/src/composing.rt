@@ -23,6 +23,7 @@ use crate::fault::CheckFault;
 use crate::report::text_of;
 use crate::task::Task;
 use expand_work::{Monitor, WaveFault};
+use net_order::order::OrderFault;
 use report_text::{Outcome, Verdicts};
 use std::sync::Wait;
 use std::thread::Threads;
@@ -43,11 +44,12 @@ fn whole_text<H>(
 ) -> Result<Vec<u8>, CheckFault>
     requires names { verdicts.now.variables ≡ ordered_names task.now (told_order task.now.settings.now.order tried) }
     requires known { AreTargetsIn (circuit task.now.first.now) task.now.settings.now.explain.items }
-    requires accepted { OfTask task.now (λ told s. (order : OrderValue) × IsAllowed s.order order × AreAccepted told s.matching order) }
+    requires accepted { OfTask task.now (λ told s. (order : OrderValue) × IsAllowed s.order order × AreAccepted told s.order s.matching order) }
     ensures text { OfTask task.now (λ told s. IfOk result (λ text. (explanations : List ℕ) × IsBehind s.explain.items told s tried verdicts.now explanations
         × (text.items ≡ form_text s.json s.assignment s.matching (told_kind s.order tried) (is_some told.given) (share_of s.picked) verdicts.now ++ explanations))) }
-    ensures fault { OfTask task.now (λ told s. IfErr result (λ fault. (order : OrderValue) × IsAllowed s.order order × IsCheckFault told ⊥ ⊥ ⊥ s.matching order fault)) }
+    ensures fault { OfTask task.now (λ told s. IfErr result (λ fault. (order : OrderValue) × IsAllowed s.order order × IsCheckFault told ⊥ ⊥ ⊥ s.order s.matching order fault)) }
     ensures ends { IfErr result EndsAtOnce }
+    ensures whole { MayGoByCones task.now.settings.now.order → result ≢ Err (CheckFault.Order OrderFault.TooManyInputs) }
 {
     let given = task.given.is_some();
     let Ok(mut text) = text_of(task.alloc, task.settings, tried, given, verdicts) else {
@@ -75,6 +77,7 @@ pub(crate) fn task_report<H: Threads + Wait + Sync, G: Monitor>(
     ensures given_up { OfTask task.now (λ told s.
         result ≡ Err CheckFault.GivenUp → AreTried s.order × ((order : OrderValue) → IsAllowed s.order order → IsGivenUpWithin told s.matching s.limit (G.bound monitor.now) order)) }
     ensures by_cones { MayGoByCones task.now.settings.now.order → (result ≢ Err (CheckFault.Wave WaveFault.Full)) × (result ≢ Err CheckFault.GivenUp) }
+    ensures whole { MayGoByCones task.now.settings.now.order → result ≢ Err (CheckFault.Order OrderFault.TooManyInputs) }
     ensures only { OfTask task.now (λ told s. result ≡ Err CheckFault.Only → IsUnknown told s.picked) }
     ensures fault { OfTask task.now (λ told s. IfErr result (IsReportFault told ⊥ ⊥ ⊥ s)) }
     ensures unwritten { result ≢ Err CheckFault.Write }

@@ -11,7 +11,7 @@ ghost use Rattle.check_report.specs.Cones.{FitByCones, IsConditionCone, IsLeft, 
 ghost use Rattle.check_report.specs.Coning.{EndsCones, EndsPairs, IsOf, IsReady, IsToldByCones, IsToldOut, all_told, circuit_in, told_of};
 ghost use Rattle.check_report.specs.Picking.{HasUnknown};
 ghost use Rattle.check_report.specs.Spreading.{IsOfNet};
-ghost use Rattle.check_report.specs.Trials.{IsPairingIn};
+ghost use Rattle.check_report.specs.Trials.{IsNamingIn};
 
 use crate::choice::Choice;
 use crate::coning::Whole;
@@ -26,8 +26,8 @@ use crate::turns::judge_all;
 use expand_work::Monitor;
 use net_bench::reader::Netlist;
 use net_cone::{Cone, cone_of, gate_signals};
+use net_order::naming::Naming;
 use net_order::order::Match;
-use net_order::pairing::Pairing;
 use report_text::{Name, Verdict, Verdicts};
 use std::alloc::{AllocError, Global};
 use std::sync::Wait;
@@ -54,9 +54,9 @@ fn alone(alloc: Global, settings: &Settings) -> Settings
 }
 
 /// The cone of the condition's output, where there is one.
-fn given_cone<H>(task: &Task<'_, H>, pairing: &Pairing) -> Result<Option<Cone>, AllocError>
-    requires { IsPairingIn task.now Declared pairing.now }
-    ensures cone { IfOk result (λ cone. IsConditionCone (condition task.now.given) pairing.now (circuit_in cone)) }
+fn given_cone<H>(task: &Task<'_, H>, naming: &Naming) -> Result<Option<Cone>, AllocError>
+    requires { IsNamingIn task.now Declared naming.now }
+    ensures cone { IfOk result (λ cone. IsConditionCone (condition task.now.given) naming.now (circuit_in cone)) }
     ensures net { IfOk result (λ cone. IfSome (condition task.now.given) IsOfNet) }
 {
     let _ = task.first.inputs();
@@ -64,7 +64,7 @@ fn given_cone<H>(task: &Task<'_, H>, pairing: &Pairing) -> Result<Option<Cone>, 
     let Some(given) = task.given else {
         return Ok(None);
     };
-    let names = names_in(task.alloc, given, pairing, Whose::Given)?;
+    let names = names_in(task.alloc, given, naming, Whose::Given)?;
     let gates = gate_signals(task.alloc, given)?;
     let root = given.outputs()[0];
     let cone = cone_of(task.alloc, given, root, names.as_slice(), gates.as_slice())?;
@@ -143,22 +143,22 @@ fn and_lone(mut verdicts: Vec<Verdict>, mut lone: Vec<Verdict>) -> Result<Vec<Ve
 /// What is told of these pairs by their cones.
 fn judge_picks<H: Threads + Wait + Sync, G: Monitor>(
     task: &Task<'_, H>,
-    pairing: &Pairing,
+    naming: &Naming,
     subjects: &[Subject],
     monitor: &G,
 ) -> Result<Vec<Verdict>, CheckFault>
-    requires pairing { IsPairingIn task.now Declared pairing.now }
+    requires naming { IsNamingIn task.now Declared naming.now }
     requires inside { All (IsInside (circuit task.now.first.now) (circuit task.now.second.now)) subjects.now }
-    ensures told { IfOk result (λ v. AllZip (IsTold (unsized task.now.settings.now.assignment) (FitByCones (cone_limit task.now.settings.now.limit) (circuit task.now.first.now) (circuit task.now.second.now) (condition task.now.given) pairing.now) (IsLeft task.now.settings.now.limit (G.bound monitor.now) (circuit task.now.first.now) (circuit task.now.second.now) (condition task.now.given) pairing.now)
-        (circuit task.now.first.now) (circuit task.now.second.now) (condition task.now.given) pairing.now) subjects.now v.items) }
+    ensures told { IfOk result (λ v. AllZip (IsTold (unsized task.now.settings.now.assignment) (FitByCones (cone_limit task.now.settings.now.limit) (circuit task.now.first.now) (circuit task.now.second.now) (condition task.now.given) naming.now) (IsLeft task.now.settings.now.limit (G.bound monitor.now) (circuit task.now.first.now) (circuit task.now.second.now) (condition task.now.given) naming.now)
+        (circuit task.now.first.now) (circuit task.now.second.now) (condition task.now.given) naming.now) subjects.now v.items) }
     ensures ends { IfErr result EndsPairs }
 {
     let _ = task.first.inputs();
     let _ = task.second.inputs();
-    let Ok(first) = names_in(task.alloc, task.first, pairing, Whose::First) else {
+    let Ok(first) = names_in(task.alloc, task.first, naming, Whose::First) else {
         return Err(CheckFault::OutOfMemory);
     };
-    let Ok(second) = names_in(task.alloc, task.second, pairing, Whose::Second) else {
+    let Ok(second) = names_in(task.alloc, task.second, naming, Whose::Second) else {
         return Err(CheckFault::OutOfMemory);
     };
     let Ok(first_gates) = gate_signals(task.alloc, task.first) else {
@@ -167,13 +167,13 @@ fn judge_picks<H: Threads + Wait + Sync, G: Monitor>(
     let Ok(second_gates) = gate_signals(task.alloc, task.second) else {
         return Err(CheckFault::OutOfMemory);
     };
-    let Ok(given) = given_cone(task, pairing) else {
+    let Ok(given) = given_cone(task, naming) else {
         return Err(CheckFault::OutOfMemory);
     };
     let settings = alone(task.alloc, task.settings);
     let whole = Whole {
         task,
-        pairing,
+        naming,
         first: first.as_slice(),
         second: second.as_slice(),
         first_gates: first_gates.as_slice(),
@@ -184,23 +184,23 @@ fn judge_picks<H: Threads + Wait + Sync, G: Monitor>(
     judged(&whole, subjects, monitor)
 }
 
-/// Judges each pair that is picked by its cones, and tells what is found over the variables of the pairing in declared order.
+/// Judges each pair that is picked by its cones, and tells what is found over the variables of the naming in declared order.
 pub fn by_cones<H: Threads + Wait + Sync, G: Monitor>(
     task: &Task<'_, H>,
-    pairing: Pairing,
+    naming: Naming,
     monitor: &G,
 ) -> Result<Verdicts, CheckFault>
-    requires { IsPairingIn task.now Declared pairing }
-    ensures told { IfOk result (IsToldByCones task.now (G.bound monitor.now) pairing) }
+    requires { IsNamingIn task.now Declared naming }
+    ensures told { IfOk result (IsToldByCones task.now (G.bound monitor.now) naming) }
     ensures unknown { result ≡ Err CheckFault.Only → HasUnknown (circuit task.now.first.now) task.now.settings.now.picked }
     ensures ends { IfErr result EndsCones }
 {
     let _ = task.first.inputs();
     let _ = task.second.inputs();
-    let Selection { subjects, lone } = picks_of(task, &pairing)?;
-    let verdicts = judge_picks(task, &pairing, subjects.as_slice(), monitor)?;
+    let Selection { subjects, lone } = picks_of(task, &naming)?;
+    let verdicts = judge_picks(task, &naming, subjects.as_slice(), monitor)?;
     match and_lone(verdicts, lone) {
-        Ok(verdicts) => Ok(Verdicts::of(pairing, verdicts)),
+        Ok(verdicts) => Ok(Verdicts::of(naming, verdicts)),
         Err(_) => Err(CheckFault::OutOfMemory),
     }
 }

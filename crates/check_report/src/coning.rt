@@ -1,12 +1,12 @@
 //! The cones of one pair, and the comparison that they make.
-ghost use Rattle.std.specs.Prelude.{◌≡◌, ◌<◌, ◌≤◌, ◌∷◌, length, map, All, IfOk, IfErr};
+ghost use Rattle.std.specs.Prelude.{◌≡◌, ◌<◌, ◌≤◌, ◌∷◌, length, map, None, Ok, All, IfOk, IfErr, IfSome};
 ghost use Rattle.net_bench.specs.Circuit.{circuit};
 ghost use Rattle.net_cone.specs.Cones.{variable_name};
 ghost use Rattle.net_order.specs.declared.order.Order.{Order as OrderValue};
 ghost use Rattle.net_order.specs.Order.{condition};
 ghost use Rattle.check_report.specs.Coning.{AreConesOf, EndsPairs, IsConeTask, IsOf, IsReady, circuit_of};
 ghost use Rattle.check_report.specs.Spreading.{ArePlaces};
-ghost use Rattle.check_report.specs.Trials.{EndsAtOnce, IsPairingIn};
+ghost use Rattle.check_report.specs.Trials.{EndsAtOnce, HasMany, IsPairingIn};
 
 use crate::fault::CheckFault;
 use crate::naming::{Whose, level_in};
@@ -17,8 +17,9 @@ use crate::trials::paired;
 use net_bench::netlist::Signal;
 use net_bench::reader::Netlist;
 use net_cone::{Cone, cone_of};
-use net_order::names::Names;
-use net_order::order::Order;
+use net_order::names::{MAX_NAMES, Names};
+use net_order::naming::Naming;
+use net_order::order::{Order, OrderFault};
 use net_order::pairing::Pairing;
 use std::alloc::{AllocError, Global};
 
@@ -26,9 +27,9 @@ use std::alloc::{AllocError, Global};
 #[derive(Drop)]
 pub struct Whole<'a, H> {
     pub task: &'a Task<'a, H>,
-    /// The pairing of the netlists in declared order.
-    pub pairing: &'a Pairing,
-    /// The names of the first netlist's variables by signal, as the pairing has them.
+    /// The naming of the netlists in declared order.
+    pub naming: &'a Naming,
+    /// The names of the first netlist's variables by signal, as the naming has them.
     pub first: &'a [Vec<u8>],
     /// Those of the second's.
     pub second: &'a [Vec<u8>],
@@ -65,9 +66,9 @@ pub fn cones_of<H>(whole: &Whole<'_, H>, subject: &Subject) -> Result<Cones, All
 }
 
 /// Marks the levels of the variables that a cone has.
-fn mark(marks: &mut [bool], pairing: &Pairing, part: Whose, cone: &Cone) {
+fn mark(marks: &mut [bool], naming: &Naming, part: Whose, cone: &Cone) {
     for (source, _) in cone.sources().iter().zip(cone.net.inputs()) {
-        let level = level_in(pairing, part, *source) as usize;
+        let level = level_in(naming, part, *source) as usize;
         if level < marks.len() {
             marks[level] = true;
         }
@@ -75,31 +76,31 @@ fn mark(marks: &mut [bool], pairing: &Pairing, part: Whose, cone: &Cone) {
 }
 
 /// The places of what is marked, rising.
-fn marked(alloc: Global, marks: &[bool]) -> Result<Vec<u16>, AllocError>
-    requires { length marks.now ≤ 4096 }
+fn marked(alloc: Global, marks: &[bool]) -> Result<Vec<u32>, AllocError>
+    requires { length marks.now ≤ MAX_NAMES }
     ensures places { IfOk result (λ v. ArePlaces (length marks.now) v.items) }
     ensures few { IfOk result (λ v. length v.items ≤ length marks.now) }
 {
     let mut places = Vec::new(alloc);
     for place in 0..marks.len() {
         if marks[place] {
-            places.push(place as u16)?;
+            places.push(place as u32)?;
         }
     }
     Ok(places)
 }
 
-/// The levels of the variables that the cones of a pair and of the condition have, rising.
-pub fn places_of<H>(whole: &Whole<'_, H>, cones: &Cones) -> Result<Vec<u16>, AllocError>
-    ensures places { IfOk result (λ v. ArePlaces (length whole.now.pairing.now.names) v.items) }
-    ensures few { IfOk result (λ v. length v.items ≤ length whole.now.pairing.now.names) }
+/// The levels of the variables that the cones of a pair and of the condition have, rising. Time is linear in the levels and in the cones.
+pub fn places_of<H>(whole: &Whole<'_, H>, cones: &Cones) -> Result<Vec<u32>, AllocError>
+    ensures places { IfOk result (λ v. ArePlaces (length whole.now.naming.now.names) v.items) }
+    ensures few { IfOk result (λ v. length v.items ≤ MAX_NAMES) }
 {
-    let pairing = whole.pairing;
-    let mut marks = Vec::from_elem(whole.task.alloc, false, pairing.names().len())?;
-    mark(marks.as_mut_slice(), pairing, Whose::First, &cones.first);
-    mark(marks.as_mut_slice(), pairing, Whose::Second, &cones.second);
+    let naming = whole.naming;
+    let mut marks = Vec::from_elem(whole.task.alloc, false, naming.names().len())?;
+    mark(marks.as_mut_slice(), naming, Whose::First, &cones.first);
+    mark(marks.as_mut_slice(), naming, Whose::Second, &cones.second);
     if let Some(given) = whole.given {
-        mark(marks.as_mut_slice(), pairing, Whose::Given, given);
+        mark(marks.as_mut_slice(), naming, Whose::Given, given);
     }
     marked(whole.task.alloc, marks.as_slice())
 }
@@ -115,9 +116,9 @@ fn cone_name(alloc: Global, name: &[u8]) -> Result<Vec<u8>, AllocError>
 }
 
 /// The names in cones of the variables at these levels.
-fn names_at(alloc: Global, names: &Names, places: &[u16]) -> Result<Names, AllocError>
+fn names_at(alloc: Global, names: &Names, places: &[u32]) -> Result<Names, AllocError>
     requires low { All (λ place. place < length names.now) places.now }
-    requires few { length places.now ≤ 4096 }
+    requires few { length places.now ≤ MAX_NAMES }
     ensures { IfOk result (λ list. list ≡ map (variable_name names.now) places.now) }
 {
     let mut list = Vec::new(alloc);
@@ -153,8 +154,8 @@ pub fn task_of<'a, H>(whole: &Whole<'a, H>, cones: &'a Cones) -> Task<'a, H>
     }
 }
 
-/// A fault of a pair's comparison as it is told. The variables of cones are some of the whole's, so their pairing can fail for want of
-/// memory alone.
+/// A fault of a comparison as it is told, where its netlists are known to be counted and their variables few: their pairing can then fail
+/// for want of memory alone.
 pub fn as_late(fault: CheckFault) -> CheckFault
     requires { EndsAtOnce fault }
     ensures { EndsPairs result }
@@ -165,22 +166,25 @@ pub fn as_late(fault: CheckFault) -> CheckFault
     }
 }
 
-/// The pairing of a pair's cones whose variables stand as in the whole's.
+/// The pairing of a pair's cones whose variables stand as in the whole's. There is none where the cones have more variables together than
+/// a pairing has.
 pub fn cone_pairing<H>(
     task: &Task<'_, H>,
     names: &Names,
-    places: &[u16],
-) -> Result<Pairing, CheckFault>
+    places: &[u32],
+) -> Result<Option<Pairing>, CheckFault>
     requires low { All (λ place. place < length names.now) places.now }
-    requires few { length places.now ≤ 4096 }
-    ensures paired { IfOk result (λ q. (order : OrderValue) × IsPairingIn task.now order q × (q.names ≡ map (variable_name names.now) places.now)) }
+    requires few { length places.now ≤ MAX_NAMES }
+    ensures paired { IfOk result (λ o. IfSome o (λ q. (order : OrderValue) × IsPairingIn task.now order q × (q.names ≡ map (variable_name names.now) places.now))) }
+    ensures many { result ≡ Ok None → HasMany task.now }
     ensures ends { IfErr result EndsPairs }
 {
     let Ok(list) = names_at(task.alloc, names, places) else {
         return Err(CheckFault::OutOfMemory);
     };
     match paired(task, &Order::Listed(list)) {
-        Ok(pairing) => Ok(pairing),
+        Ok(pairing) => Ok(Some(pairing)),
+        Err(CheckFault::Order(OrderFault::TooManyInputs)) => Ok(None),
         Err(fault) => Err(as_late(fault)),
     }
 }

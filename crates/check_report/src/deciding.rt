@@ -13,18 +13,20 @@ ghost use Rattle.check_report.specs.Deciding.{HasCause, IsFoundBy, IsUnknown};
 ghost use Rattle.check_report.specs.Explaining.{told_order};
 ghost use Rattle.check_report.specs.Limits.{AreBeyond};
 ghost use Rattle.check_report.specs.Tasks.{OfTask};
-ghost use Rattle.check_report.specs.Trials.{IsGivingUp, IsPairingIn, ordered_names};
+ghost use Rattle.check_report.specs.Trials.{IsGivingUp, IsNamingIn, ordered_names};
 ghost use Rattle.check_report.specs.Widths.{AreTooWide};
 
 use crate::attempts::{Decided, find_attempt};
 use crate::checking::compare;
 use crate::choice::{Attempt, Choice};
 use crate::coned::by_cones;
+use crate::coning::as_late;
 use crate::fault::CheckFault;
 use crate::task::Task;
-use crate::trials::{Trial, paired};
+use crate::trials::{Trial, named, paired};
 use expand_work::{Monitor, WaveFault};
-use net_order::order::Order;
+use net_order::naming::Naming;
+use net_order::order::{Order, OrderFault};
 use net_order::pairing::Pairing;
 use report_text::Verdicts;
 use std::sync::Wait;
@@ -46,7 +48,7 @@ fn by_order<H: Threads + Wait + Sync, G: Monitor>(
         result ≡ Err (CheckFault.Wave WaveFault.Full) → (o : OrderValue) → IsAllowed (Choice.One order.now) o → AreBeyond told s.matching o s.limit) }
     ensures kept { result ≢ Err CheckFault.GivenUp }
     ensures fault { OfTask task.now (λ told s.
-        IfErr result (λ fault. (o : OrderValue) × IsAllowed (Choice.One order.now) o × IsCheckFault told ⊥ ⊥ ⊥ s.matching o fault)) }
+        IfErr result (λ fault. (o : OrderValue) × IsAllowed (Choice.One order.now) o × IsCheckFault told ⊥ ⊥ ⊥ s.order s.matching o fault)) }
     ensures unwritten { result ≢ Err CheckFault.Write }
     ensures others { result ≢ Err CheckFault.Only }
     ensures past { OfTask task.now (λ told s.
@@ -57,7 +59,7 @@ fn by_order<H: Threads + Wait + Sync, G: Monitor>(
 {
     let pairing = paired(task, order)?;
     match compare(task, &pairing, task.settings.limit, monitor) {
-        Ok(verdicts) => Ok((Verdicts::of(pairing, verdicts), None)),
+        Ok(verdicts) => Ok((Verdicts::of(pairing.into_naming(), verdicts), None)),
         Err(fault) => Err(fault),
     }
 }
@@ -75,7 +77,7 @@ pub fn find_best<H: Threads + Wait + Sync, G: Monitor>(
     ensures given_up { OfTask task.now (λ told s.
         result ≡ Err CheckFault.GivenUp → (c : CandidateValue) → IsGivenUpWithin told s.matching s.limit (G.bound monitor.now) (order_of c)) }
     ensures fault { OfTask task.now (λ told s.
-        IfErr result (λ fault. (c : CandidateValue) × IsCheckFault told ⊥ ⊥ ⊥ s.matching (order_of c) fault)) }
+        IfErr result (λ fault. (c : CandidateValue) × IsCheckFault told ⊥ ⊥ ⊥ s.order s.matching (order_of c) fault)) }
     ensures unwritten { result ≢ Err CheckFault.Write }
     ensures others { result ≢ Err CheckFault.Only }
     ensures unbounded { result ≢ Err (CheckFault.Wave WaveFault.TooManyRequests) }
@@ -96,7 +98,7 @@ pub fn find_best<H: Threads + Wait + Sync, G: Monitor>(
                 ..
             } = trial;
             let found = Attempt { order, budget };
-            Ok((Verdicts::of(pairing, verdicts), found))
+            Ok((Verdicts::of(pairing.into_naming(), verdicts), found))
         }
         Err(fault) => Err(fault),
     }
@@ -105,14 +107,16 @@ pub fn find_best<H: Threads + Wait + Sync, G: Monitor>(
 /// Compares each pair that is picked by its cones, over the variables as they are declared.
 fn by_cones_in<H: Threads + Wait + Sync, G: Monitor>(
     task: &Task<'_, H>,
-    declared: Pairing,
+    declared: Naming,
     monitor: &G,
 ) -> Result<(Verdicts, Option<Attempt>), CheckFault>
-    requires pairing { IsPairingIn task.now orders.Declared declared }
+    requires naming { IsNamingIn task.now orders.Declared declared }
+    requires may { MayGoByCones task.now.settings.now.order }
     ensures found { OfTask task.now (λ told s. HasCause told s (G.bound monitor.now) s.order → IfOk result (λ r. IsFoundBy told s (G.bound monitor.now) r.0 r.1)) }
-    ensures fault { OfTask task.now (λ told s. IfErr result (IsCheckFault told ⊥ ⊥ ⊥ s.matching orders.Declared)) }
+    ensures fault { OfTask task.now (λ told s. IfErr result (IsCheckFault told ⊥ ⊥ ⊥ s.order s.matching orders.Declared)) }
     ensures only { OfTask task.now (λ told s. result ≡ Err CheckFault.Only → IsUnknown told s.picked) }
     ensures ends { IfErr result EndsAuto }
+    ensures whole { result ≢ Err (CheckFault.Order OrderFault.TooManyInputs) }
     ensures untried { IfOk result (λ r. r.1 ≡ None) }
     ensures names { IfOk result (λ r. r.0.variables ≡ ordered_names task.now orders.Declared) }
 {
@@ -132,8 +136,8 @@ fn is_giving_up(fault: CheckFault) -> bool
     )
 }
 
-/// Compares two netlists within small budgets as `find_best` does, and where each attempt was given up, each pair by its cones. The
-/// verdicts are told in declared order.
+/// Compares two netlists within small budgets as `find_best` does, and where each attempt was given up, each pair by its cones. Where
+/// there are more variables than a pairing has, nothing of the whole is tried. The verdicts are told in declared order.
 fn by_auto<H: Threads + Wait + Sync, G: Monitor>(
     task: &Task<'_, H>,
     monitor: &G,
@@ -141,13 +145,18 @@ fn by_auto<H: Threads + Wait + Sync, G: Monitor>(
     requires auto { task.now.settings.now.order ≡ ChoiceValue.Auto }
     ensures found { OfTask task.now (λ told s. IfOk result (λ r. IsFoundBy told s (G.bound monitor.now) r.0 r.1)) }
     ensures fault { OfTask task.now (λ told s.
-        IfErr result (λ fault. (o : OrderValue) × IsAllowed Choice.Auto o × IsCheckFault told ⊥ ⊥ ⊥ s.matching o fault)) }
+        IfErr result (λ fault. (o : OrderValue) × IsAllowed Choice.Auto o × IsCheckFault told ⊥ ⊥ ⊥ s.order s.matching o fault)) }
     ensures only { OfTask task.now (λ told s. result ≡ Err CheckFault.Only → IsUnknown told s.picked) }
     ensures ends { IfErr result EndsAuto }
+    ensures whole { result ≢ Err (CheckFault.Order OrderFault.TooManyInputs) }
     ensures passed { OfTask task.now (λ told s. IfOk result (λ r. IfSome r.1 (AreGivenUp told s.matching (whole_limit s.limit) (G.bound monitor.now)))) }
     ensures names { IfOk result (λ r. r.0.variables ≡ ordered_names task.now orders.Declared) }
 {
-    let declared = paired(task, &Order::Declared)?;
+    let declared = named(task)?;
+    let declared = match Pairing::of(declared) {
+        Ok(pairing) => pairing,
+        Err(naming) => return by_cones_in(task, naming, monitor),
+    };
     let limit = WHOLE_LIMIT.min(task.settings.limit);
     let fault = match find_attempt(task, Some(&declared), limit, monitor) {
         Ok(decided) => {
@@ -156,14 +165,17 @@ fn by_auto<H: Threads + Wait + Sync, G: Monitor>(
                 budget: decided.budget,
             };
             let Decided { verdicts, .. } = decided;
-            return Ok((Verdicts::of(declared, verdicts), Some(attempt)));
+            return Ok((
+                Verdicts::of(declared.into_naming(), verdicts),
+                Some(attempt),
+            ));
         }
         Err(fault) => fault,
     };
     if is_giving_up(fault) {
-        return by_cones_in(task, declared, monitor);
+        return by_cones_in(task, declared.into_naming(), monitor);
     }
-    Err(fault)
+    Err(as_late(fault))
 }
 
 /// Compares each pair that is picked by its cones.
@@ -173,13 +185,14 @@ fn by_each<H: Threads + Wait + Sync, G: Monitor>(
 ) -> Result<(Verdicts, Option<Attempt>), CheckFault>
     requires cones { task.now.settings.now.order ≡ ChoiceValue.Cones }
     ensures found { OfTask task.now (λ told s. IfOk result (λ r. IsFoundBy told s (G.bound monitor.now) r.0 r.1)) }
-    ensures fault { OfTask task.now (λ told s. IfErr result (IsCheckFault told ⊥ ⊥ ⊥ s.matching orders.Declared)) }
+    ensures fault { OfTask task.now (λ told s. IfErr result (IsCheckFault told ⊥ ⊥ ⊥ s.order s.matching orders.Declared)) }
     ensures only { OfTask task.now (λ told s. result ≡ Err CheckFault.Only → IsUnknown told s.picked) }
     ensures ends { IfErr result EndsAuto }
+    ensures whole { result ≢ Err (CheckFault.Order OrderFault.TooManyInputs) }
     ensures untried { IfOk result (λ r. r.1 ≡ None) }
     ensures names { IfOk result (λ r. r.0.variables ≡ ordered_names task.now orders.Declared) }
 {
-    match paired(task, &Order::Declared) {
+    match named(task) {
         Ok(declared) => by_cones_in(task, declared, monitor),
         Err(fault) => Err(fault),
     }
@@ -198,7 +211,7 @@ fn by_best<H: Threads + Wait + Sync, G: Monitor>(
     ensures given_up { OfTask task.now (λ told s.
         result ≡ Err CheckFault.GivenUp → (o : OrderValue) → IsAllowed Choice.Best o → IsGivenUpWithin told s.matching s.limit (G.bound monitor.now) o) }
     ensures fault { OfTask task.now (λ told s.
-        IfErr result (λ fault. (o : OrderValue) × IsAllowed Choice.Best o × IsCheckFault told ⊥ ⊥ ⊥ s.matching o fault)) }
+        IfErr result (λ fault. (o : OrderValue) × IsAllowed Choice.Best o × IsCheckFault told ⊥ ⊥ ⊥ s.order s.matching o fault)) }
     ensures unwritten { result ≢ Err CheckFault.Write }
     ensures others { result ≢ Err CheckFault.Only }
     ensures unbounded { result ≢ Err (CheckFault.Wave WaveFault.TooManyRequests) }
@@ -223,9 +236,10 @@ pub fn decide<H: Threads + Wait + Sync, G: Monitor>(
     ensures given_up { OfTask task.now (λ told s.
         result ≡ Err CheckFault.GivenUp → AreTried s.order × ((order : OrderValue) → IsAllowed s.order order → IsGivenUpWithin told s.matching s.limit (G.bound monitor.now) order)) }
     ensures by_cones { MayGoByCones task.now.settings.now.order → (result ≢ Err (CheckFault.Wave WaveFault.Full)) × (result ≢ Err CheckFault.GivenUp) }
+    ensures whole { MayGoByCones task.now.settings.now.order → result ≢ Err (CheckFault.Order OrderFault.TooManyInputs) }
     ensures only { OfTask task.now (λ told s. result ≡ Err CheckFault.Only → IsUnknown told s.picked) }
     ensures fault { OfTask task.now (λ told s.
-        IfErr result (λ fault. (order : OrderValue) × IsAllowed s.order order × IsCheckFault told ⊥ ⊥ ⊥ s.matching order fault)) }
+        IfErr result (λ fault. (order : OrderValue) × IsAllowed s.order order × IsCheckFault told ⊥ ⊥ ⊥ s.order s.matching order fault)) }
     ensures unwritten { result ≢ Err CheckFault.Write }
     ensures past { OfTask task.now (λ told s.
         result ≡ Err (CheckFault.Wave WaveFault.TooManyRequests) → (o : OrderValue) × IsAllowed s.order o × IsSomeAnd (G.bound monitor.now) (AreTooWide told s.matching o)) }

@@ -1,7 +1,7 @@
 //! The values of the first pair that differs, as a VCD.
-ghost use Rattle.std.specs.Prelude.{◌≡◌, IfOk, IfErr, option_map};
+ghost use Rattle.std.specs.Prelude.{◌≡◌, ◌≢◌, Err, IfOk, IfErr, option_map};
 ghost use Rattle.net_order.specs.declared.order.Order.{Order as OrderValue};
-ghost use Rattle.check_report.specs.Best.{IsAllowed};
+ghost use Rattle.check_report.specs.Best.{IsAllowed, MayGoByCones};
 ghost use Rattle.check_report.specs.Check.{IsCheckFault};
 ghost use Rattle.check_report.specs.Dumping.{IsDump, IsVcdAt, bytes_in, first_at, told_at};
 ghost use Rattle.check_report.specs.Explaining.{told_order};
@@ -9,11 +9,12 @@ ghost use Rattle.check_report.specs.Tasks.{OfTask};
 ghost use Rattle.check_report.specs.Trials.{EndsAtOnce, ordered_names};
 
 use crate::choice::Attempt;
-use crate::explaining::told_pairing;
+use crate::explaining::told_naming;
 use crate::fault::CheckFault;
 use crate::task::Task;
 use net_explain::{Half, values, vcd_of};
-use net_order::pairing::Pairing;
+use net_order::naming::Naming;
+use net_order::order::OrderFault;
 use report_text::{Verdict, Verdicts};
 use std::alloc::AllocError;
 
@@ -40,11 +41,11 @@ fn first_at(verdicts: &[Verdict]) -> Option<&[bool]>
 }
 
 /// The values of all signals of both netlists at an assignment.
-fn vcd_at<H>(task: &Task<'_, H>, pairing: &Pairing, at: &[bool]) -> Result<Vec<u8>, AllocError>
-    ensures { IfOk result (λ text. IsVcdAt task.now.first.now task.now.second.now pairing.now at.now text.items) }
+fn vcd_at<H>(task: &Task<'_, H>, naming: &Naming, at: &[bool]) -> Result<Vec<u8>, AllocError>
+    ensures { IfOk result (λ text. IsVcdAt task.now.first.now task.now.second.now naming.now at.now text.items) }
 {
-    let bits = values(task.alloc, task.first, pairing, Half::First, at)?;
-    let others = values(task.alloc, task.second, pairing, Half::Second, at)?;
+    let bits = values(task.alloc, task.first, naming, Half::First, at)?;
+    let others = values(task.alloc, task.second, naming, Half::Second, at)?;
     let (bits, others) = (bits.as_slice(), others.as_slice());
     vcd_of(task.alloc, task.first, bits, task.second, others)
 }
@@ -57,8 +58,9 @@ pub(crate) fn dump<H>(
 ) -> Result<Option<Vec<u8>>, CheckFault>
     requires names { verdicts.now.variables ≡ ordered_names task.now (told_order task.now.settings.now.order tried) }
     ensures dump { OfTask task.now (λ told s. IfOk result (λ vcd. IsDump s.vcd told s tried verdicts.now (bytes_in vcd))) }
-    ensures fault { OfTask task.now (λ told s. IfErr result (λ fault. (order : OrderValue) × IsAllowed s.order order × IsCheckFault told ⊥ ⊥ ⊥ s.matching order fault)) }
+    ensures fault { OfTask task.now (λ told s. IfErr result (λ fault. (order : OrderValue) × IsAllowed s.order order × IsCheckFault told ⊥ ⊥ ⊥ s.order s.matching order fault)) }
     ensures ends { IfErr result EndsAtOnce }
+    ensures whole { MayGoByCones task.now.settings.now.order → result ≢ Err (CheckFault.Order OrderFault.TooManyInputs) }
 {
     if !task.settings.vcd {
         return Ok(None);
@@ -66,11 +68,11 @@ pub(crate) fn dump<H>(
     let Some(at) = first_at(verdicts.as_slice()) else {
         return Ok(None);
     };
-    let pairing = match told_pairing(task, tried) {
-        Ok(pairing) => pairing,
+    let naming = match told_naming(task, tried) {
+        Ok(naming) => naming,
         Err(fault) => return Err(fault),
     };
-    match vcd_at(task, &pairing, at) {
+    match vcd_at(task, &naming, at) {
         Ok(text) => Ok(Some(text)),
         Err(_) => Err(CheckFault::OutOfMemory),
     }

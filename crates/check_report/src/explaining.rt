@@ -1,19 +1,20 @@
 //! What stands behind a report: an explanation of each pair that is asked for.
-ghost use Rattle.std.specs.Prelude.{◌≡◌, ◌++◌, ◌∷◌, ◌↔◌, ◌<◌, true, false, length, find, All, Contains, IfOk, IfErr, IsTrue, OnOk};
+ghost use Rattle.std.specs.Prelude.{◌≡◌, ◌≢◌, ◌++◌, ◌∷◌, ◌↔◌, ◌<◌, true, false, length, find, All, Contains, Err, IfOk, IfErr, IsTrue, OnOk};
 ghost use Rattle.net_bench.specs.Circuit.{circuit};
 ghost use Rattle.net_explain.specs.Explaining.{Explained, IsExplanation};
 ghost use Rattle.net_explain.specs.Text.{explanation_text};
 ghost use Rattle.net_order.specs.declared.order.Order.{Order as OrderValue};
 ghost use Rattle.net_order.specs.declared.order.OrderFault.{OrderFault as OrderFaultValue};
+ghost use Rattle.net_order.specs.Order.{condition};
 ghost use Rattle.report_text.specs.Lines.{subject_text};
 ghost use Rattle.check_report.specs.declared.choice.Choice.{Choice as ChoiceValue};
-ghost use Rattle.check_report.specs.Best.{IsAllowed};
-ghost use Rattle.check_report.specs.Check.{IsCheckFault};
+ghost use Rattle.check_report.specs.Best.{IsAllowed, MayGoByCones};
+ghost use Rattle.check_report.specs.Check.{AreFewFor, IsCheckFault};
 ghost use Rattle.check_report.specs.Comparing.{IsInside};
 ghost use Rattle.check_report.specs.Explaining.{AreExplained, AreTargetsIn, ExplainsPair, ExplainsTarget, ExplainsVerdict, HasUnknownTarget, IsBehind, IsTargetIn, is_same_role, is_subject_of, is_target, is_verdict_on, said_text, told_order};
 ghost use Rattle.check_report.specs.Report.{subjects};
 ghost use Rattle.check_report.specs.Tasks.{OfTask};
-ghost use Rattle.check_report.specs.Trials.{EndsAtOnce, IsPairingIn, ordered_names};
+ghost use Rattle.check_report.specs.Trials.{EndsAtOnce, IsNamingIn, ordered_names};
 
 use crate::choice::{Attempt, Choice};
 use crate::compared::subjects_of;
@@ -22,11 +23,11 @@ use crate::picking::{has_name, registers_of};
 use crate::subject::Subject;
 use crate::target::Target;
 use crate::task::Task;
-use crate::trials::{is_same, paired};
+use crate::trials::{is_same, named, named_in};
 use net_bench::reader::Netlist;
 use net_explain::{explain, explanation_of};
-use net_order::order::Order;
-use net_order::pairing::Pairing;
+use net_order::naming::Naming;
+use net_order::order::{Order, OrderFault};
 use report_text::{PairKind, Verdict, Verdicts};
 use std::alloc::{AllocError, Global};
 
@@ -101,36 +102,36 @@ fn said(alloc: Global, target: &Target, said: &[u8]) -> Result<Vec<u8>, AllocErr
 /// What explains that a pair differs at an assignment.
 fn difference<H>(
     task: &Task<'_, H>,
-    pairing: &Pairing,
+    naming: &Naming,
     target: &Target,
     subject: Subject,
     at: &[bool],
 ) -> Result<Vec<u8>, AllocError>
     requires { IsInside (circuit task.now.first.now) (circuit task.now.second.now) subject }
-    ensures { IfOk result (λ text. (e : Explained) × IsExplanation task.now.first.now task.now.second.now pairing.now (subject.first, subject.second) at.now e
+    ensures { IfOk result (λ text. (e : Explained) × IsExplanation task.now.first.now task.now.second.now naming.now (subject.first, subject.second) at.now e
         × (text.items ≡ explanation_text (subject_text target.now.role target.now.name) task.now.first.now.names e)) }
 {
     let mut name = Vec::new(task.alloc);
     add_subject(&mut name, target)?;
     let pair = (subject.first, subject.second);
-    let explanation = explain(task.alloc, task.first, task.second, pairing, pair, at)?;
+    let explanation = explain(task.alloc, task.first, task.second, naming, pair, at)?;
     explanation_of(task.alloc, name.as_slice(), task.first, &explanation)
 }
 
 /// What is said of a pair with this verdict.
 fn explained<H>(
     task: &Task<'_, H>,
-    pairing: &Pairing,
+    naming: &Naming,
     target: &Target,
     subject: Subject,
     verdict: &Verdict,
 ) -> Result<Vec<u8>, AllocError>
     requires { IsInside (circuit task.now.first.now) (circuit task.now.second.now) subject }
-    ensures { IfOk result (λ text. ExplainsVerdict task.now.first.now task.now.second.now pairing.now target.now subject verdict.now text.items) }
+    ensures { IfOk result (λ text. ExplainsVerdict task.now.first.now task.now.second.now naming.now target.now subject verdict.now text.items) }
 {
     match verdict {
         Verdict::Equal { .. } => said(task.alloc, target, b"equal"),
-        Verdict::Differs { at, .. } => difference(task, pairing, target, subject, at.as_slice()),
+        Verdict::Differs { at, .. } => difference(task, naming, target, subject, at.as_slice()),
         Verdict::Lone { .. } => said(task.alloc, target, b"no partner"),
         Verdict::Undecided { .. } => said(task.alloc, target, b"undecided"),
     }
@@ -151,18 +152,18 @@ fn is_verdict_on(target: &Target, verdict: &Verdict) -> bool
 /// What is said of a pair, by its verdict among these.
 fn explained_pair<H>(
     task: &Task<'_, H>,
-    pairing: &Pairing,
+    naming: &Naming,
     target: &Target,
     subject: Subject,
     verdicts: &[Verdict],
 ) -> Result<Vec<u8>, AllocError>
     requires { IsInside (circuit task.now.first.now) (circuit task.now.second.now) subject }
-    ensures { IfOk result (λ text. ExplainsPair task.now.first.now task.now.second.now pairing.now target.now subject (find (is_verdict_on target.now) verdicts.now) text.items) }
+    ensures { IfOk result (λ text. ExplainsPair task.now.first.now task.now.second.now naming.now target.now subject (find (is_verdict_on target.now) verdicts.now) text.items) }
 {
     for place in 0..verdicts.len() {
         let verdict = &verdicts[place];
         if is_verdict_on(target, verdict) {
-            return explained(task, pairing, target, subject, verdict);
+            return explained(task, naming, target, subject, verdict);
         }
     }
     said(task.alloc, target, b"not compared")
@@ -185,17 +186,17 @@ fn subject_of(net: &Netlist, target: &Target, subjects: &[Subject]) -> Option<Su
 /// The explanation of what is asked for, by its pair among these and its verdict among these.
 fn explanation<H>(
     task: &Task<'_, H>,
-    pairing: &Pairing,
+    naming: &Naming,
     target: &Target,
     subjects: &[Subject],
     verdicts: &[Verdict],
 ) -> Result<Vec<u8>, AllocError>
     requires { All (IsInside (circuit task.now.first.now) (circuit task.now.second.now)) subjects.now }
-    ensures { IfOk result (λ text. ExplainsTarget task.now.first.now task.now.second.now pairing.now target.now
+    ensures { IfOk result (λ text. ExplainsTarget task.now.first.now task.now.second.now naming.now target.now
         (find (is_subject_of (circuit task.now.first.now) target.now) subjects.now) (find (is_verdict_on target.now) verdicts.now) text.items) }
 {
     match subject_of(task.first, target, subjects) {
-        Some(subject) => explained_pair(task, pairing, target, subject, verdicts),
+        Some(subject) => explained_pair(task, naming, target, subject, verdicts),
         None => said(task.alloc, target, b"no partner"),
     }
 }
@@ -203,18 +204,18 @@ fn explanation<H>(
 /// The explanations of all that is asked for, one behind the other.
 fn explanations<H>(
     task: &Task<'_, H>,
-    pairing: &Pairing,
+    naming: &Naming,
     pairs: &[Subject],
     verdicts: &[Verdict],
 ) -> Result<Vec<u8>, AllocError>
-    requires all { pairs.now ≡ subjects (circuit task.now.first.now) (circuit task.now.second.now) pairing.now }
+    requires all { pairs.now ≡ subjects (circuit task.now.first.now) (circuit task.now.second.now) naming.now }
     requires inside { All (IsInside (circuit task.now.first.now) (circuit task.now.second.now)) pairs.now }
-    ensures { IfOk result (λ text. AreExplained task.now.first.now task.now.second.now pairing.now verdicts.now task.now.settings.now.explain.items text.items) }
+    ensures { IfOk result (λ text. AreExplained task.now.first.now task.now.second.now naming.now verdicts.now task.now.settings.now.explain.items text.items) }
 {
     let targets = task.settings.explain.as_slice();
     let mut text = Vec::new(task.alloc);
     for place in 0..targets.len() {
-        let one = explanation(task, pairing, &targets[place], pairs, verdicts)?;
+        let one = explanation(task, naming, &targets[place], pairs, verdicts)?;
         text.extend_from_slice(one.as_slice())?;
     }
     Ok(text)
@@ -230,20 +231,22 @@ fn best_order(tried: Option<Attempt>) -> Order
     }
 }
 
-/// The pairing over whose variables the report of an attempt is told.
-pub(crate) fn told_pairing<H>(
+/// The naming over whose variables the report of an attempt is told.
+pub(crate) fn told_naming<H>(
     task: &Task<'_, H>,
     tried: Option<Attempt>,
-) -> Result<Pairing, CheckFault>
-    ensures paired { IfOk result (IsPairingIn task.now (told_order task.now.settings.now.order tried)) }
-    ensures fault { OfTask task.now (λ told s. IfErr result (IsCheckFault told ⊥ ⊥ ⊥ s.matching (told_order s.order tried))) }
+) -> Result<Naming, CheckFault>
+    ensures named { IfOk result (IsNamingIn task.now (told_order task.now.settings.now.order tried)) }
+    ensures few { IfOk result (λ _. AreFewFor task.now.settings.now.order task.now.settings.now.matching (circuit task.now.first.now) (circuit task.now.second.now) (condition task.now.given)) }
+    ensures fault { OfTask task.now (λ told s. IfErr result (IsCheckFault told ⊥ ⊥ ⊥ s.order s.matching (told_order s.order tried))) }
     ensures refused { IfErr result (λ fault. (f : OrderFaultValue) × (fault ≡ CheckFault.Order f)) }
+    ensures whole { MayGoByCones task.now.settings.now.order → result ≢ Err (CheckFault.Order OrderFault.TooManyInputs) }
 {
     match &task.settings.order {
-        Choice::One(order) => paired(task, order),
-        Choice::Best => paired(task, &best_order(tried)),
-        Choice::Auto => paired(task, &Order::Declared),
-        Choice::Cones => paired(task, &Order::Declared),
+        Choice::One(order) => named_in(task, order),
+        Choice::Best => named_in(task, &best_order(tried)),
+        Choice::Auto => named(task),
+        Choice::Cones => named(task),
     }
 }
 
@@ -256,8 +259,9 @@ pub(crate) fn behind<H>(
     requires names { verdicts.now.variables ≡ ordered_names task.now (told_order task.now.settings.now.order tried) }
     requires known { AreTargetsIn (circuit task.now.first.now) task.now.settings.now.explain.items }
     ensures behind { OfTask task.now (λ told s. IfOk result (λ text. IsBehind s.explain.items told s tried verdicts.now text.items)) }
-    ensures fault { OfTask task.now (λ told s. IfErr result (λ fault. (order : OrderValue) × IsAllowed s.order order × IsCheckFault told ⊥ ⊥ ⊥ s.matching order fault)) }
+    ensures fault { OfTask task.now (λ told s. IfErr result (λ fault. (order : OrderValue) × IsAllowed s.order order × IsCheckFault told ⊥ ⊥ ⊥ s.order s.matching order fault)) }
     ensures ends { IfErr result EndsAtOnce }
+    ensures whole { MayGoByCones task.now.settings.now.order → result ≢ Err (CheckFault.Order OrderFault.TooManyInputs) }
 {
     let targets = task.settings.explain.as_slice();
     if targets.is_empty() {
@@ -265,14 +269,14 @@ pub(crate) fn behind<H>(
     }
     let _ = task.first.inputs();
     let _ = task.second.inputs();
-    let pairing = match told_pairing(task, tried) {
-        Ok(pairing) => pairing,
+    let naming = match told_naming(task, tried) {
+        Ok(naming) => naming,
         Err(fault) => return Err(fault),
     };
-    let Ok(subjects) = subjects_of(task.alloc, task.first, task.second, &pairing) else {
+    let Ok(subjects) = subjects_of(task.alloc, task.first, task.second, &naming) else {
         return Err(CheckFault::OutOfMemory);
     };
-    match explanations(task, &pairing, subjects.as_slice(), verdicts.as_slice()) {
+    match explanations(task, &naming, subjects.as_slice(), verdicts.as_slice()) {
         Ok(text) => Ok(text),
         Err(_) => Err(CheckFault::OutOfMemory),
     }

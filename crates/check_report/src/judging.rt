@@ -23,6 +23,7 @@ use crate::reading::{Netlists, read_netlists};
 use crate::task::{Context, Task};
 use expand_work::{Monitor, WaveFault};
 use net_bench::device::{Sink, Source};
+use net_order::order::OrderFault;
 use report_text::{Outcome, Verdicts, write_whole};
 use std::sync::Wait;
 use std::thread::Threads;
@@ -38,8 +39,8 @@ pub fn judge<H: Threads + Wait + Sync, R1: Source, R2: Source, R3: Source, G: Mo
 ) -> Result<(Verdicts, Option<Attempt>), CheckFault>
     // The verdicts are those of what was read, in an order that the settings allow, or of each pair by its cones. In them two outputs, or
     // the next states of two registers, are called equal exactly where their functions agree wherever the condition holds. The nodes that
-    // are needed in this order are within the limit, and within the budget of the attempt. A pair is undecided only where each attempt
-    // of its cones was given up.
+    // are needed in this order are within the limit, and within the budget of the attempt. A pair is undecided only where its
+    // cones have more variables than a pairing has, or each attempt of them was given up.
     ensures verdicts { let told = told_of (R1.remaining first.old) (R2.remaining second.old) (told_by R3.remaining given.old) in
         let s = context.now.settings.now in
         IfOk result (λ r. IsFoundBy told s (G.bound context.now.monitor.now) r.0 r.1) }
@@ -57,6 +58,8 @@ pub fn judge<H: Threads + Wait + Sync, R1: Source, R2: Source, R3: Source, G: Mo
         result ≡ Err CheckFault.GivenUp → AreTried s.order × ((order : OrderValue) → IsAllowed s.order order → IsGivenUpWithin told s.matching s.limit (G.bound context.now.monitor.now) order) }
     // Where pairs may be judged by their cones, no nodes and no requests are wanted.
     ensures by_cones { MayGoByCones context.now.settings.now.order → (result ≢ Err (CheckFault.Wave WaveFault.Full)) × (result ≢ Err CheckFault.GivenUp) }
+    // There the whole may have any number of variables.
+    ensures whole { MayGoByCones context.now.settings.now.order → result ≢ Err (CheckFault.Order OrderFault.TooManyInputs) }
     // A name that is picked is refused only where the first netlist has no such output or register.
     ensures only { result ≡ Err CheckFault.Only → IsUnknown (told_of (R1.remaining first.old) (R2.remaining second.old) (told_by R3.remaining given.old)) context.now.settings.now.picked }
     // TooManyRequests comes only where one wave reaches more than the monitor allows, in an order that the settings allow.
@@ -69,7 +72,7 @@ pub fn judge<H: Threads + Wait + Sync, R1: Source, R2: Source, R3: Source, G: Mo
     // A fault has its cause, and what comes before it was accepted.
     ensures fault { let told = told_of (R1.remaining first.old) (R2.remaining second.old) (told_by R3.remaining given.old) in
         let s = context.now.settings.now in
-        IfErr result (λ fault. (order : OrderValue) × IsAllowed s.order order × IsCheckFault told (IsTrue (R1.has_failed first.new)) (IsTrue (R2.has_failed second.new)) (HasFailedIn R3.has_failed given.new) s.matching order fault) }
+        IfErr result (λ fault. (order : OrderValue) × IsAllowed s.order order × IsCheckFault told (IsTrue (R1.has_failed first.new)) (IsTrue (R2.has_failed second.new)) (HasFailedIn R3.has_failed given.new) s.order s.matching order fault) }
     ensures unwritten { result ≢ Err CheckFault.Write }
     ensures origins { (R1.origin first.new ≡ R1.origin first.old) × (R2.origin second.new ≡ R2.origin second.old) × (told_by R3.origin given.new ≡ told_by R3.origin given.old) }
 {
@@ -112,6 +115,8 @@ fn reported<H: Threads + Wait + Sync, R1: Source, R2: Source, R3: Source, G: Mon
         result ≡ Err CheckFault.GivenUp → AreTried s.order × ((order : OrderValue) → IsAllowed s.order order → IsGivenUpWithin told s.matching s.limit (G.bound context.now.monitor.now) order) }
     // Where pairs may be judged by their cones, no nodes and no requests are wanted.
     ensures by_cones { MayGoByCones context.now.settings.now.order → (result ≢ Err (CheckFault.Wave WaveFault.Full)) × (result ≢ Err CheckFault.GivenUp) }
+    // There the whole may have any number of variables.
+    ensures whole { MayGoByCones context.now.settings.now.order → result ≢ Err (CheckFault.Order OrderFault.TooManyInputs) }
     // A name that is picked is refused only where the first netlist has no such output or register.
     ensures only { result ≡ Err CheckFault.Only → IsUnknown (told_of (R1.remaining first.old) (R2.remaining second.old) (told_by R3.remaining given.old)) context.now.settings.now.picked }
     ensures past { let told = told_of (R1.remaining first.old) (R2.remaining second.old) (told_by R3.remaining given.old) in
@@ -156,7 +161,7 @@ pub fn check<H: Threads + Wait + Sync, R1: Source, R2: Source, R3: Source, G: Mo
     // What was written is the report of what was read, in an order that the settings allow, or of each pair by its cones, and nothing
     // else. In it two outputs, or the next states of two registers, are called equal exactly where their functions agree wherever the
     // condition holds. The nodes that are needed in this order are within the limit, and within the budget of the attempt. A pair is
-    // undecided only where each attempt of its cones was given up.
+    // undecided only where its cones have more variables than a pairing has, or each attempt of them was given up.
     ensures report { let told = told_of (R1.remaining first.old) (R2.remaining second.old) (told_by R3.remaining given.old) in
         let s = context.now.settings.now in
         IfOk result (λ r. (bytes : List ℕ) × IsReportBy told s (G.bound context.now.monitor.now) r.1 r.0 bytes × Appends (W.contents out.old) (W.contents out.new) bytes) }
@@ -179,6 +184,8 @@ pub fn check<H: Threads + Wait + Sync, R1: Source, R2: Source, R3: Source, G: Mo
         result ≡ Err CheckFault.GivenUp → AreTried s.order × ((order : OrderValue) → IsAllowed s.order order → IsGivenUpWithin told s.matching s.limit (G.bound context.now.monitor.now) order) }
     // Where pairs may be judged by their cones, no nodes and no requests are wanted.
     ensures by_cones { MayGoByCones context.now.settings.now.order → (result ≢ Err (CheckFault.Wave WaveFault.Full)) × (result ≢ Err CheckFault.GivenUp) }
+    // There the whole may have any number of variables.
+    ensures whole { MayGoByCones context.now.settings.now.order → result ≢ Err (CheckFault.Order OrderFault.TooManyInputs) }
     // A name that is picked is refused only where the first netlist has no such output or register.
     ensures only { result ≡ Err CheckFault.Only → IsUnknown (told_of (R1.remaining first.old) (R2.remaining second.old) (told_by R3.remaining given.old)) context.now.settings.now.picked }
     // TooManyRequests comes only where one wave reaches more than the monitor allows, in an order that the settings allow.

@@ -44,7 +44,7 @@ fn text_of(alloc: Global, names: &Names) -> Result<Vec<u8>, CheckFault>
 /// The order file of the variables of two netlists, in this order.
 fn text_by<H>(task: &Task<'_, H>, order: &Order) -> Result<Vec<u8>, CheckFault>
     ensures text { OfTask task.now (λ told s. IfOk result (λ text. IsOrderPrinted told s.matching order.now text.items)) }
-    ensures fault { OfTask task.now (λ told s. IfErr result (IsCheckFault told ⊥ ⊥ ⊥ s.matching order.now)) }
+    ensures fault { OfTask task.now (λ told s. IfErr result (IsCheckFault told ⊥ ⊥ ⊥ s.order s.matching order.now)) }
     ensures unbuilt { result ≢ Err (CheckFault.Wave Full) }
     ensures kept { result ≢ Err CheckFault.GivenUp }
     ensures unbounded { result ≢ Err (CheckFault.Wave TooManyRequests) }
@@ -75,7 +75,7 @@ fn given_text<H>(
         × IsFound told s.matching (Choice.One order.now) s.limit r.1 o)) }
     ensures untried { IfOk result (λ r. r.1 ≡ None) }
     ensures fault { OfTask task.now (λ told s.
-        IfErr result (λ fault. (o : OrderValue) × IsAllowed (Choice.One order.now) o × IsCheckFault told ⊥ ⊥ ⊥ s.matching o fault)) }
+        IfErr result (λ fault. (o : OrderValue) × IsAllowed (Choice.One order.now) o × IsCheckFault told ⊥ ⊥ ⊥ s.order s.matching o fault)) }
     ensures unbuilt { result ≢ Err (CheckFault.Wave Full) }
     ensures kept { result ≢ Err CheckFault.GivenUp }
     ensures unbounded { result ≢ Err (CheckFault.Wave TooManyRequests) }
@@ -95,7 +95,7 @@ fn auto_text<H>(task: &Task<'_, H>) -> Result<(Vec<u8>, Option<Attempt>), CheckF
         IfOk result (λ r. (o : OrderValue) × IsOrderPrinted told s.matching o r.0.items
         × IsFound told s.matching Choice.Auto s.limit r.1 o)) }
     ensures untried { IfOk result (λ r. r.1 ≡ None) }
-    ensures fault { OfTask task.now (λ told s. IfErr result (IsCheckFault told ⊥ ⊥ ⊥ s.matching Declared)) }
+    ensures fault { OfTask task.now (λ told s. IfErr result (IsCheckFault told ⊥ ⊥ ⊥ s.order s.matching Declared)) }
     ensures unbuilt { result ≢ Err (CheckFault.Wave Full) }
     ensures kept { result ≢ Err CheckFault.GivenUp }
     ensures unbounded { result ≢ Err (CheckFault.Wave TooManyRequests) }
@@ -115,7 +115,7 @@ fn cones_text<H>(task: &Task<'_, H>) -> Result<(Vec<u8>, Option<Attempt>), Check
         IfOk result (λ r. (o : OrderValue) × IsOrderPrinted told s.matching o r.0.items
         × IsFound told s.matching Choice.Cones s.limit r.1 o)) }
     ensures untried { IfOk result (λ r. r.1 ≡ None) }
-    ensures fault { OfTask task.now (λ told s. IfErr result (IsCheckFault told ⊥ ⊥ ⊥ s.matching Declared)) }
+    ensures fault { OfTask task.now (λ told s. IfErr result (IsCheckFault told ⊥ ⊥ ⊥ s.order s.matching Declared)) }
     ensures unbuilt { result ≢ Err (CheckFault.Wave Full) }
     ensures kept { result ≢ Err CheckFault.GivenUp }
     ensures unbounded { result ≢ Err (CheckFault.Wave TooManyRequests) }
@@ -139,7 +139,7 @@ fn best_text<H: Threads + Wait + Sync, G: Monitor>(
     ensures given_up { OfTask task.now (λ told s.
         result ≡ Err CheckFault.GivenUp → (o : OrderValue) → IsAllowed Choice.Best o → IsGivenUpWithin told s.matching s.limit (G.bound monitor.now) o) }
     ensures fault { OfTask task.now (λ told s.
-        IfErr result (λ fault. (o : OrderValue) × IsAllowed Choice.Best o × IsCheckFault told ⊥ ⊥ ⊥ s.matching o fault)) }
+        IfErr result (λ fault. (o : OrderValue) × IsAllowed Choice.Best o × IsCheckFault told ⊥ ⊥ ⊥ s.order s.matching o fault)) }
     ensures unwritten { result ≢ Err CheckFault.Write }
     ensures unbounded { result ≢ Err (CheckFault.Wave TooManyRequests) }
     ensures passed { OfTask task.now (λ told s. IfOk result (λ r. IfSome r.1 (AreGivenUp told s.matching s.limit (G.bound monitor.now)))) }
@@ -169,7 +169,7 @@ fn text_for<H: Threads + Wait + Sync, G: Monitor>(
         result ≡ Err CheckFault.GivenUp → AreTried s.order × ((order : OrderValue) → IsAllowed s.order order → IsGivenUpWithin told s.matching s.limit (G.bound monitor.now) order)) }
     ensures by_cones { MayGoByCones task.now.settings.now.order → (result ≢ Err (CheckFault.Wave Full)) × (result ≢ Err CheckFault.GivenUp) }
     ensures fault { OfTask task.now (λ told s.
-        IfErr result (λ fault. (order : OrderValue) × IsAllowed s.order order × IsCheckFault told ⊥ ⊥ ⊥ s.matching order fault)) }
+        IfErr result (λ fault. (order : OrderValue) × IsAllowed s.order order × IsCheckFault told ⊥ ⊥ ⊥ s.order s.matching order fault)) }
     ensures unwritten { result ≢ Err CheckFault.Write }
     ensures unbounded { result ≢ Err (CheckFault.Wave TooManyRequests) }
     ensures passed { OfTask task.now (λ told s.
@@ -210,7 +210,7 @@ fn listed<H: Threads + Wait + Sync, R1: Source, R2: Source, R3: Source, G: Monit
     ensures others { result ≢ Err CheckFault.Only }
     ensures fault { let told = told_of (R1.remaining first.old) (R2.remaining second.old) (told_by R3.remaining given.old) in
         let s = context.now.settings.now in
-        IfErr result (λ fault. (order : OrderValue) × IsAllowed s.order order × IsCheckFault told (IsTrue (R1.has_failed first.new)) (IsTrue (R2.has_failed second.new)) (HasFailedIn R3.has_failed given.new) s.matching order fault) }
+        IfErr result (λ fault. (order : OrderValue) × IsAllowed s.order order × IsCheckFault told (IsTrue (R1.has_failed first.new)) (IsTrue (R2.has_failed second.new)) (HasFailedIn R3.has_failed given.new) s.order s.matching order fault) }
     ensures unwritten { result ≢ Err CheckFault.Write }
     ensures origins { (R1.origin first.new ≡ R1.origin first.old) × (R2.origin second.new ≡ R2.origin second.old) × (told_by R3.origin given.new ≡ told_by R3.origin given.old) }
 {
@@ -276,7 +276,7 @@ pub fn print_order<
     // A fault has its cause, and what comes before it was accepted.
     ensures fault { let told = told_of (R1.remaining first.old) (R2.remaining second.old) (told_by R3.remaining given.old) in
         let s = context.now.settings.now in
-        IfErr result (λ fault. (order : OrderValue) × IsAllowed s.order order × IsCheckFault told (IsTrue (R1.has_failed first.new)) (IsTrue (R2.has_failed second.new)) (HasFailedIn R3.has_failed given.new) s.matching order fault) }
+        IfErr result (λ fault. (order : OrderValue) × IsAllowed s.order order × IsCheckFault told (IsTrue (R1.has_failed first.new)) (IsTrue (R2.has_failed second.new)) (HasFailedIn R3.has_failed given.new) s.order s.matching order fault) }
     // Where the writing failed, a front part of the order was written, and the device has failed or taken nothing of the rest.
     ensures unwritten { let told = told_of (R1.remaining first.old) (R2.remaining second.old) (told_by R3.remaining given.old) in
         let s = context.now.settings.now in

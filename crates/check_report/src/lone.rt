@@ -6,7 +6,7 @@ ghost use Rattle.check_report.specs.Report.{lone_side};
 
 use net_bench::netlist::Signal;
 use net_bench::reader::Netlist;
-use net_order::pairing::Pairing;
+use net_order::naming::Naming;
 use report_text::{Name, PairKind, Side, Verdict};
 use std::alloc::{AllocError, Global};
 
@@ -34,14 +34,14 @@ pub fn add_first_lone(
     alloc: Global,
     verdicts: &mut Vec<Verdict>,
     net: &Netlist,
-    pairing: &Pairing,
+    naming: &Naming,
 ) -> Result<(), AllocError>
-    requires outputs { All (λ s. s < length net.now.names) pairing.now.outputs.only_first }
-    requires registers { All (λ s. s < length net.now.names) pairing.now.registers.only_first }
-    ensures { OnOk result (verdicts.new.items ≡ verdicts.old.items ++ lone_side Side.First (circuit net.now) pairing.now.outputs.only_first pairing.now.registers.only_first) }
+    requires outputs { All (λ s. s < length net.now.names) naming.now.outputs.only_first }
+    requires registers { All (λ s. s < length net.now.names) naming.now.registers.only_first }
+    ensures { OnOk result (verdicts.new.items ≡ verdicts.old.items ++ lone_side Side.First (circuit net.now) naming.now.outputs.only_first naming.now.registers.only_first) }
 {
-    let outputs = pairing.only_first();
-    let registers = pairing.only_first_next();
+    let outputs = naming.only_first();
+    let registers = naming.only_first_next();
     add_lone(alloc, verdicts, Side::First, PairKind::Output, net, outputs)?;
     add_lone(
         alloc,
@@ -58,14 +58,14 @@ pub fn add_second_lone(
     alloc: Global,
     verdicts: &mut Vec<Verdict>,
     net: &Netlist,
-    pairing: &Pairing,
+    naming: &Naming,
 ) -> Result<(), AllocError>
-    requires outputs { All (λ s. s < length net.now.names) pairing.now.outputs.only_second }
-    requires registers { All (λ s. s < length net.now.names) pairing.now.registers.only_second }
-    ensures { OnOk result (verdicts.new.items ≡ verdicts.old.items ++ lone_side Side.Second (circuit net.now) pairing.now.outputs.only_second pairing.now.registers.only_second) }
+    requires outputs { All (λ s. s < length net.now.names) naming.now.outputs.only_second }
+    requires registers { All (λ s. s < length net.now.names) naming.now.registers.only_second }
+    ensures { OnOk result (verdicts.new.items ≡ verdicts.old.items ++ lone_side Side.Second (circuit net.now) naming.now.outputs.only_second naming.now.registers.only_second) }
 {
-    let outputs = pairing.only_second();
-    let registers = pairing.only_second_next();
+    let outputs = naming.only_second();
+    let registers = naming.only_second_next();
     add_lone(
         alloc,
         verdicts,

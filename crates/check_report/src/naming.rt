@@ -1,4 +1,4 @@
-//! The names of variables, by signal, as a pairing has them.
+//! The names of variables, by signal, as a naming has them.
 ghost use Rattle.std.specs.Prelude.{◌≡◌, ◌<◌, length, slice_index, All, IfOk};
 ghost use Rattle.net_bench.specs.Circuit.{circuit, variables_of};
 ghost use Rattle.check_report.specs.Cones.{AreNamed};
@@ -6,7 +6,7 @@ ghost use Rattle.check_report.specs.Coning.{levels_in, texts};
 
 use net_bench::netlist::Signal;
 use net_bench::reader::Netlist;
-use net_order::pairing::Pairing;
+use net_order::naming::Naming;
 use std::alloc::{AllocError, Global};
 
 /// One of the netlists of a comparison.
@@ -18,13 +18,13 @@ pub enum Whose {
 }
 
 /// The level of a variable of this netlist.
-pub fn level_in(pairing: &Pairing, part: Whose, variable: Signal) -> u32
-    ensures { result ≡ slice_index (levels_in part pairing.now) variable }
+pub fn level_in(naming: &Naming, part: Whose, variable: Signal) -> u32
+    ensures { result ≡ slice_index (levels_in part naming.now) variable }
 {
     match part {
-        Whose::First => pairing.first_level(variable),
-        Whose::Second => pairing.second_level(variable),
-        Whose::Given => pairing.given_level(variable),
+        Whose::First => naming.first_level(variable),
+        Whose::Second => naming.second_level(variable),
+        Whose::Given => naming.given_level(variable),
     }
 }
 
@@ -39,22 +39,22 @@ fn no_names(alloc: Global, count: usize) -> Result<Vec<Vec<u8>>, AllocError>
     Ok(names)
 }
 
-/// The names of a netlist's variables, by signal, as a pairing has them. Other signals have the empty name.
+/// The names of a netlist's variables, by signal, as a naming has them. Other signals have the empty name.
 pub fn names_in(
     alloc: Global,
     net: &Netlist,
-    pairing: &Pairing,
+    naming: &Naming,
     part: Whose,
 ) -> Result<Vec<Vec<u8>>, AllocError>
-    requires { All (λ s. slice_index (levels_in part pairing.now) s < length pairing.now.names) (variables_of (circuit net.now)) }
-    ensures { IfOk result (λ names. AreNamed (circuit net.now) (levels_in part pairing.now) pairing.now (texts names.items)) }
+    requires { All (λ s. slice_index (levels_in part naming.now) s < length naming.now.names) (variables_of (circuit net.now)) }
+    ensures { IfOk result (λ names. AreNamed (circuit net.now) (levels_in part naming.now) naming.now (texts names.items)) }
 {
     let mut names = no_names(alloc, net.count())?;
     let variables = net.variables();
     for place in 0..variables.len() {
         let variable = variables[place];
-        let level = level_in(pairing, part, variable) as usize;
-        names[variable.number() as usize] = Vec::from_slice(alloc, pairing.names().at(level))?;
+        let level = level_in(naming, part, variable) as usize;
+        names[variable.number() as usize] = Vec::from_slice(alloc, naming.names().at(level))?;
     }
     Ok(names)
 }

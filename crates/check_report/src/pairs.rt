@@ -63,18 +63,18 @@ fn try_cones<H: Threads + Wait + Sync, G: Monitor>(
 fn told_over<H>(
     whole: &Whole<'_, H>,
     subject: &Subject,
-    places: &[u16],
+    places: &[u32],
     found: Option<Verdict>,
 ) -> Result<Option<Verdict>, AllocError>
     requires inside { IsOf whole.now subject.now }
-    requires low { All (λ place. place < length whole.now.pairing.now.names) places.now }
+    requires low { All (λ place. place < length whole.now.naming.now.names) places.now }
     ensures { IfOk result (IsWidened whole.now subject.now places.now found) }
 {
     let Some(verdict) = found else {
         return Ok(None);
     };
     let name = whole.task.first.name(subject.named);
-    let levels = whole.pairing.names().len();
+    let levels = whole.naming.names().len();
     let verdict = widened(
         whole.task.alloc,
         verdict,
@@ -86,7 +86,7 @@ fn told_over<H>(
     Ok(Some(verdict))
 }
 
-/// Judges a pair by its cones.
+/// Judges a pair by its cones. It is left where they have more variables together than a pairing has.
 fn judge_cones<H: Threads + Wait + Sync, G: Monitor>(
     whole: &Whole<'_, H>,
     subject: &Subject,
@@ -106,7 +106,10 @@ fn judge_cones<H: Threads + Wait + Sync, G: Monitor>(
         return Err(CheckFault::OutOfMemory);
     };
     let task = task_of(whole, cones);
-    let pairing = cone_pairing(&task, whole.pairing.names(), places.as_slice())?;
+    let paired = cone_pairing(&task, whole.naming.names(), places.as_slice())?;
+    let Some(pairing) = paired else {
+        return Ok(None);
+    };
     let found = match try_cones(&task, &pairing, budget, monitor) {
         Ok(found) => found,
         Err(fault) => return Err(as_late(fault)),
@@ -117,8 +120,8 @@ fn judge_cones<H: Threads + Wait + Sync, G: Monitor>(
     }
 }
 
-/// The verdict of a pair by its cones over all variables, or none where each attempt within so many nodes was given up. All that it takes
-/// is given back.
+/// The verdict of a pair by its cones over all variables, or none where each attempt within so many nodes was given up, or the cones
+/// have more variables than a pairing has. All that it takes is given back.
 pub fn judge_pair<H: Threads + Wait + Sync, G: Monitor>(
     whole: &Whole<'_, H>,
     subject: &Subject,

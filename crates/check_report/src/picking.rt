@@ -17,7 +17,7 @@ use crate::task::Task;
 use crate::trials::is_same;
 use net_bench::netlist::Signal;
 use net_bench::reader::Netlist;
-use net_order::pairing::Pairing;
+use net_order::naming::Naming;
 use report_text::{Name, PairKind, Share, Side, Verdict};
 use std::alloc::{AllocError, Global};
 
@@ -126,14 +126,14 @@ fn named_lone(
     alloc: Global,
     net: &Netlist,
     names: &[Name],
-    pairing: &Pairing,
+    naming: &Naming,
 ) -> Result<Vec<Verdict>, AllocError>
-    requires outputs { All (λ s. s < length net.now.names) pairing.now.outputs.only_first }
-    requires registers { All (λ s. s < length net.now.names) pairing.now.registers.only_first }
-    ensures { IfOk result (λ v. v.items ≡ filter (is_lone_of names.now) (lone_side Side.First (circuit net.now) pairing.now.outputs.only_first pairing.now.registers.only_first)) }
+    requires outputs { All (λ s. s < length net.now.names) naming.now.outputs.only_first }
+    requires registers { All (λ s. s < length net.now.names) naming.now.registers.only_first }
+    ensures { IfOk result (λ v. v.items ≡ filter (is_lone_of names.now) (lone_side Side.First (circuit net.now) naming.now.outputs.only_first naming.now.registers.only_first)) }
 {
-    let outputs = named_signals(alloc, net, names, pairing.only_first())?;
-    let registers = named_signals(alloc, net, names, pairing.only_first_next())?;
+    let outputs = named_signals(alloc, net, names, naming.only_first())?;
+    let registers = named_signals(alloc, net, names, naming.only_first_next())?;
     let mut lone = Vec::new(alloc);
     add_lone(
         alloc,
@@ -159,14 +159,14 @@ fn all_lone(
     alloc: Global,
     first: &Netlist,
     second: &Netlist,
-    pairing: &Pairing,
+    naming: &Naming,
 ) -> Result<Vec<Verdict>, AllocError>
-    requires { AreSignals (circuit first.now) (circuit second.now) pairing.now }
-    ensures { IfOk result (λ v. v.items ≡ lone_verdicts (circuit first.now) (circuit second.now) pairing.now) }
+    requires { AreSignals (circuit first.now) (circuit second.now) naming.now }
+    ensures { IfOk result (λ v. v.items ≡ lone_verdicts (circuit first.now) (circuit second.now) naming.now) }
 {
     let mut lone = Vec::new(alloc);
-    add_first_lone(alloc, &mut lone, first, pairing)?;
-    add_second_lone(alloc, &mut lone, second, pairing)?;
+    add_first_lone(alloc, &mut lone, first, naming)?;
+    add_second_lone(alloc, &mut lone, second, naming)?;
     Ok(lone)
 }
 
@@ -194,14 +194,14 @@ fn lone_in(
     alloc: Global,
     first: &Netlist,
     second: &Netlist,
-    pairing: &Pairing,
+    naming: &Naming,
     share: u32,
 ) -> Result<Vec<Verdict>, AllocError>
-    requires { AreSignals (circuit first.now) (circuit second.now) pairing.now }
-    ensures { IfOk result (λ v. v.items ≡ (if share == 1 then lone_verdicts (circuit first.now) (circuit second.now) pairing.now else [])) }
+    requires { AreSignals (circuit first.now) (circuit second.now) naming.now }
+    ensures { IfOk result (λ v. v.items ≡ (if share == 1 then lone_verdicts (circuit first.now) (circuit second.now) naming.now else [])) }
 {
     if share == 1 {
-        let lone = all_lone(alloc, first, second, pairing)?;
+        let lone = all_lone(alloc, first, second, naming)?;
         Ok(lone)
     } else {
         Ok(Vec::new(alloc))
@@ -211,49 +211,49 @@ fn lone_in(
 /// The pairs of a share, and with the first share all that has no partner.
 fn shared<H>(
     task: &Task<'_, H>,
-    pairing: &Pairing,
+    naming: &Naming,
     pairs: Vec<Subject>,
     share: Share,
 ) -> Result<Selection, AllocError>
-    requires signals { AreSignals (circuit task.now.first.now) (circuit task.now.second.now) pairing.now }
-    requires all { pairs.items ≡ subjects (circuit task.now.first.now) (circuit task.now.second.now) pairing.now }
-    ensures { IfOk result (λ r. ArePicked (circuit task.now.first.now) (circuit task.now.second.now) pairing.now (InShare share) r.subjects.items r.lone.items) }
+    requires signals { AreSignals (circuit task.now.first.now) (circuit task.now.second.now) naming.now }
+    requires all { pairs.items ≡ subjects (circuit task.now.first.now) (circuit task.now.second.now) naming.now }
+    ensures { IfOk result (λ r. ArePicked (circuit task.now.first.now) (circuit task.now.second.now) naming.now (InShare share) r.subjects.items r.lone.items) }
 {
     let alloc = task.alloc;
     let shares = shares_of(alloc, task.first, task.second, pairs.as_slice(), share.of)?;
     let subjects = pairs_in(alloc, share.number, shares.as_slice(), pairs.as_slice())?;
-    let lone = lone_in(alloc, task.first, task.second, pairing, share.number)?;
+    let lone = lone_in(alloc, task.first, task.second, naming, share.number)?;
     Ok(Selection { subjects, lone })
 }
 
 /// The pairs of these names, and the first netlist's outputs and registers of these names that have no partner.
 fn named<H>(
     task: &Task<'_, H>,
-    pairing: &Pairing,
+    naming: &Naming,
     pairs: Vec<Subject>,
     names: &Vec<Name>,
 ) -> Result<Selection, AllocError>
-    requires signals { AreSignals (circuit task.now.first.now) (circuit task.now.second.now) pairing.now }
-    requires all { pairs.items ≡ subjects (circuit task.now.first.now) (circuit task.now.second.now) pairing.now }
+    requires signals { AreSignals (circuit task.now.first.now) (circuit task.now.second.now) naming.now }
+    requires all { pairs.items ≡ subjects (circuit task.now.first.now) (circuit task.now.second.now) naming.now }
     requires named { (n : List ℕ) → Contains names.now.items n → IsNamedIn (circuit task.now.first.now) n }
-    ensures { IfOk result (λ r. ArePicked (circuit task.now.first.now) (circuit task.now.second.now) pairing.now (OnlyNamed names.now) r.subjects.items r.lone.items) }
+    ensures { IfOk result (λ r. ArePicked (circuit task.now.first.now) (circuit task.now.second.now) naming.now (OnlyNamed names.now) r.subjects.items r.lone.items) }
 {
     let subjects = named_subjects(task.alloc, task.first, names.as_slice(), pairs.as_slice())?;
-    let lone = named_lone(task.alloc, task.first, names.as_slice(), pairing)?;
+    let lone = named_lone(task.alloc, task.first, names.as_slice(), naming)?;
     Ok(Selection { subjects, lone })
 }
 
 /// All pairs, and all that has no partner.
 fn whole<H>(
     task: &Task<'_, H>,
-    pairing: &Pairing,
+    naming: &Naming,
     pairs: Vec<Subject>,
 ) -> Result<Selection, AllocError>
-    requires signals { AreSignals (circuit task.now.first.now) (circuit task.now.second.now) pairing.now }
-    requires all { pairs.items ≡ subjects (circuit task.now.first.now) (circuit task.now.second.now) pairing.now }
-    ensures { IfOk result (λ r. ArePicked (circuit task.now.first.now) (circuit task.now.second.now) pairing.now AllPairs r.subjects.items r.lone.items) }
+    requires signals { AreSignals (circuit task.now.first.now) (circuit task.now.second.now) naming.now }
+    requires all { pairs.items ≡ subjects (circuit task.now.first.now) (circuit task.now.second.now) naming.now }
+    ensures { IfOk result (λ r. ArePicked (circuit task.now.first.now) (circuit task.now.second.now) naming.now AllPairs r.subjects.items r.lone.items) }
 {
-    let lone = all_lone(task.alloc, task.first, task.second, pairing)?;
+    let lone = all_lone(task.alloc, task.first, task.second, naming)?;
     Ok(Selection {
         subjects: pairs,
         lone,
@@ -272,23 +272,23 @@ fn told(picks: Result<Selection, AllocError>) -> Result<Selection, CheckFault>
 }
 
 /// What is picked of a task's pairs and of what has no partner. A name that the first netlist does not have is a fault.
-pub fn picks_of<H>(task: &Task<'_, H>, pairing: &Pairing) -> Result<Selection, CheckFault>
-    requires { AreSignals (circuit task.now.first.now) (circuit task.now.second.now) pairing.now }
-    ensures picked { IfOk result (λ r. ArePicked (circuit task.now.first.now) (circuit task.now.second.now) pairing.now task.now.settings.now.picked r.subjects.items r.lone.items) }
+pub fn picks_of<H>(task: &Task<'_, H>, naming: &Naming) -> Result<Selection, CheckFault>
+    requires { AreSignals (circuit task.now.first.now) (circuit task.now.second.now) naming.now }
+    ensures picked { IfOk result (λ r. ArePicked (circuit task.now.first.now) (circuit task.now.second.now) naming.now task.now.settings.now.picked r.subjects.items r.lone.items) }
     ensures unknown { result ≡ Err CheckFault.Only → HasUnknown (circuit task.now.first.now) task.now.settings.now.picked }
     ensures err { IfErr result (λ fault. (fault ≡ CheckFault.Only) ⊎ (fault ≡ CheckFault.OutOfMemory)) }
 {
-    let Ok(pairs) = subjects_of(task.alloc, task.first, task.second, pairing) else {
+    let Ok(pairs) = subjects_of(task.alloc, task.first, task.second, naming) else {
         return Err(CheckFault::OutOfMemory);
     };
     match &task.settings.picked {
-        Picked::All => told(whole(task, pairing, pairs)),
+        Picked::All => told(whole(task, naming, pairs)),
         Picked::Only(names) => {
             if !are_named(task.first, names.as_slice()) {
                 return Err(CheckFault::Only);
             }
-            told(named(task, pairing, pairs, names))
+            told(named(task, naming, pairs, names))
         }
-        Picked::Share(share) => told(shared(task, pairing, pairs, *share)),
+        Picked::Share(share) => told(shared(task, naming, pairs, *share)),
     }
 }

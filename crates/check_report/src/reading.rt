@@ -3,6 +3,7 @@ ghost use Rattle.std.specs.Prelude.{◌≡◌, IfOk, IfErr, IfSome, IsTrue, opti
 ghost use Rattle.net_bench.specs.Circuit.{circuit};
 ghost use Rattle.net_order.specs.declared.order.Match.{Match};
 ghost use Rattle.net_order.specs.declared.order.Order.{Order};
+ghost use Rattle.check_report.specs.declared.choice.Choice.{Choice};
 ghost use Rattle.check_report.specs.Check.{AreGiven, IsCheckFault, IsCondition, IsConditionFault, IsEarly};
 ghost use Rattle.check_report.specs.Devices.{HasFailedIn, told_by, told_of};
 
@@ -51,7 +52,7 @@ pub fn read_netlists<R1: Source, R2: Source, R3: Source>(
     ensures read { let told = told_of (R1.remaining first.old) (R2.remaining second.old) (told_by R3.remaining given.old) in
         IfOk result (λ nets. AreGiven told (circuit nets.first) (circuit nets.second) (option_map circuit nets.given)) }
     ensures fault { let told = told_of (R1.remaining first.old) (R2.remaining second.old) (told_by R3.remaining given.old) in
-        (how : Match) (order : Order) → IfErr result (IsCheckFault told (IsTrue (R1.has_failed first.new)) (IsTrue (R2.has_failed second.new)) (HasFailedIn R3.has_failed given.new) how order) }
+        (choice : Choice) (how : Match) (order : Order) → IfErr result (IsCheckFault told (IsTrue (R1.has_failed first.new)) (IsTrue (R2.has_failed second.new)) (HasFailedIn R3.has_failed given.new) choice how order) }
     ensures early { IfErr result IsEarly }
     ensures origins { (R1.origin first.new ≡ R1.origin first.old) × (R2.origin second.new ≡ R2.origin second.old) × (told_by R3.origin given.new ≡ told_by R3.origin given.old) }
 {

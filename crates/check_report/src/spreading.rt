@@ -10,7 +10,7 @@ pub(crate) fn spread_bits(
     alloc: Global,
     bits: &[bool],
     levels: usize,
-    places: &[u16],
+    places: &[u32],
 ) -> Result<Vec<bool>, AllocError>
     requires { All (λ place. place < levels) places.now }
     ensures { IfOk result (λ whole. whole.items ≡ spread levels places.now bits.now) }
@@ -27,7 +27,7 @@ fn spread_marks(
     alloc: Global,
     marks: Option<Bits>,
     levels: usize,
-    places: &[u16],
+    places: &[u32],
 ) -> Result<Option<Bits>, AllocError>
     requires { All (λ place. place < levels) places.now }
     ensures { IfOk result (λ whole. whole ≡ spread_marks levels places.now marks) }
@@ -47,7 +47,7 @@ pub fn widened(
     role: PairKind,
     name: &[u8],
     levels: usize,
-    places: &[u16],
+    places: &[u32],
 ) -> Result<Verdict, AllocError>
     requires { All (λ place. place < levels) places.now }
     ensures { IfOk result (λ v. v ≡ widened_verdict role name.now levels places.now verdict) }

@@ -1,18 +1,21 @@
 //! The orders that are tried: a pairing for each that differs from the others.
-ghost use Rattle.std.specs.Prelude.{◌≡◌, ◌≢◌, ◌↔◌, bytes_eq, true, false, [], ◌∷◌, ◌++◌, All, Contains, IfOk, IfErr, OnOk, IsTrue};
+ghost use Rattle.std.specs.Prelude.{◌≡◌, ◌≢◌, ◌↔◌, bytes_eq, true, false, [], ◌∷◌, ◌++◌, All, Contains, Err, IfOk, IfErr, OnOk, IsTrue};
 ghost use Rattle.std.specs.List.Sorted.{IsPermutation};
 ghost use Rattle.net_bench.specs.Circuit.{circuit};
 ghost use Rattle.net_order.specs.Order.{IsPairing, condition};
 ghost use Rattle.net_order.specs.declared.order.OrderFault.{OrderFault as OrderFaultValue};
+ghost use Rattle.net_order.specs.declared.order.Order.TheVariants.{Declared};
 ghost use Rattle.check_report.specs.Check.{IsCheckFault};
 ghost use Rattle.check_report.specs.Tasks.{OfTask};
+ghost use Rattle.check_report.specs.Trials.{HasFew, HasMany, IsNamingIn};
 ghost use Rattle.check_report.specs.declared.trials.Trial.{Trial as TrialValue};
 
 use crate::choice::Candidate;
 use crate::fault::CheckFault;
 use crate::task::Task;
 use net_order::names::Names;
-use net_order::order::Order;
+use net_order::naming::{Naming, naming_of};
+use net_order::order::{Order, OrderFault};
 use net_order::pairing::{Pairing, pair};
 use std::alloc::AllocError;
 use std::cmp::Reverse;
@@ -30,8 +33,9 @@ pub struct Trial {
 /// The pairing of a task's netlists in this order.
 pub fn paired<H>(task: &Task<'_, H>, order: &Order) -> Result<Pairing, CheckFault>
     ensures paired { IfOk result (IsPairing task.now.settings.now.matching (circuit task.now.first.now) (circuit task.now.second.now) (condition task.now.given) order.now) }
-    ensures fault { OfTask task.now (λ told s. IfErr result (IsCheckFault told ⊥ ⊥ ⊥ s.matching order.now)) }
+    ensures fault { OfTask task.now (λ told s. IfErr result (IsCheckFault told ⊥ ⊥ ⊥ s.order s.matching order.now)) }
     ensures refused { IfErr result (λ fault. (f : OrderFaultValue) × (fault ≡ CheckFault.Order f)) }
+    ensures many { result ≡ Err (CheckFault.Order OrderFault.TooManyInputs) → HasMany task.now }
 {
     match pair(
         task.alloc,
@@ -42,6 +46,38 @@ pub fn paired<H>(task: &Task<'_, H>, order: &Order) -> Result<Pairing, CheckFaul
         order,
     ) {
         Ok(pairing) => Ok(pairing),
+        Err(fault) => Err(CheckFault::Order(fault)),
+    }
+}
+
+/// The naming of a task's netlists in this order, in which they have a pairing.
+pub fn named_in<H>(task: &Task<'_, H>, order: &Order) -> Result<Naming, CheckFault>
+    ensures named { IfOk result (IsNamingIn task.now order.now) }
+    ensures few { IfOk result (λ _. HasFew task.now) }
+    ensures fault { OfTask task.now (λ told s. IfErr result (IsCheckFault told ⊥ ⊥ ⊥ s.order s.matching order.now)) }
+    ensures refused { IfErr result (λ fault. (f : OrderFaultValue) × (fault ≡ CheckFault.Order f)) }
+{
+    match paired(task, order) {
+        Ok(pairing) => Ok(pairing.into_naming()),
+        Err(fault) => Err(fault),
+    }
+}
+
+/// The naming of a task's netlists as their variables are declared, of whatever number.
+pub fn named<H>(task: &Task<'_, H>) -> Result<Naming, CheckFault>
+    ensures named { IfOk result (IsNamingIn task.now Declared) }
+    ensures fault { OfTask task.now (λ told s. IfErr result (IsCheckFault told ⊥ ⊥ ⊥ s.order s.matching Declared)) }
+    ensures refused { IfErr result (λ fault. (f : OrderFaultValue) × (fault ≡ CheckFault.Order f)) }
+    ensures whole { result ≢ Err (CheckFault.Order OrderFault.TooManyInputs) }
+{
+    match naming_of(
+        task.alloc,
+        task.first,
+        task.second,
+        task.given,
+        task.settings.matching,
+    ) {
+        Ok(naming) => Ok(naming),
         Err(fault) => Err(CheckFault::Order(fault)),
     }
 }

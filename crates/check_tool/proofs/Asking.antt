@@ -89,10 +89,10 @@ module _ (told : Told) (o : Options) (choice : Choice) (picked : Picked) (s : Se
         (subst (λ n. IsGivenUpWithin told s.matching n bound order) set.limit (f.1 order (subst (λ c. IsAllowed c order) (sym set.order) allowed)))),
   )
 
-  pub fault_of : (first second given : Type 0) (fault : CheckFault) → (order : Order) × IsAllowed s.order order × IsCheckFault told first second given s.matching order fault
+  pub fault_of : (first second given : Type 0) (fault : CheckFault) → (order : Order) × IsAllowed s.order order × IsCheckFault told first second given s.order s.matching order fault
       → IsFailedCheck told.first told.second told.given first second given o choice fault
   fault_of first second given fault f =
-      inr (f.0, subst (λ c. IsAllowed c f.0) set.order f.1, subst (λ m. IsCheckFault told first second given m f.0 fault) set.matching f.2)
+      inr (f.0, subst (λ c. IsAllowed c f.0) set.order f.1, subst (λ m. IsCheckFault told first second given choice m f.0 fault) set.matching (subst (λ c. IsCheckFault told first second given c s.matching f.0 fault) set.order f.2))
 
   -- and of a report
   pub report_fault_of : (first second given : Type 0) (fault : CheckFault) → IsReportFault told first second given s fault → IsFailedCheck told.first told.second told.given first second given o choice fault

@@ -18,27 +18,27 @@ use Rattle.command_line.specs.declared.options.Options.{Options}
 use Rattle.check_tool.specs.Running.{HasFirstFailed, HasSecondFailed, HasGivenFailed, IsFailedCheck, IsGivenFrom, IsOrderRefused}
 
 -- what a failure of the devices implies stands in the cause of a fault in its place
-pub check_fault : (one two : Option (List ℕ)) (given : Option (Option (List ℕ))) (first_failed second_failed given_failed first second condition : Type 0) (how : Match) (order : Order) → (first_failed → first) → (second_failed → second) → (given_failed → condition) → (fault : CheckFault) →
-    IsCheckFault (told_of one two given) first_failed second_failed given_failed how order fault → IsCheckFault (told_of one two given) first second condition how order fault
-check_fault one two given first_failed second_failed given_failed first second condition how order f g h (First fault) c = record { cause = c.cause; read = λ e. f (c.read e) }
-check_fault one two given first_failed second_failed given_failed first second condition how order f g h (Second fault) c = (c.0, c.1, record { cause = c.2.cause; read = λ e. g (c.2.read e) })
-check_fault one two None first_failed second_failed given_failed first second condition how order f g h (Given fault) c = c
-check_fault one two (Some told) first_failed second_failed given_failed first second condition how order f g h (Given fault) c = (c.0, c.1, c.2, c.3, record { cause = c.4.cause; read = λ e. h (c.4.read e) })
-check_fault one two given first_failed second_failed given_failed first second condition how order f g h GivenOutputs c = c
-check_fault one two given first_failed second_failed given_failed first second condition how order f g h (OrderRefused fault) c = c
-check_fault one two given first_failed second_failed given_failed first second condition how order f g h Only c = c
-check_fault one two given first_failed second_failed given_failed first second condition how order f g h Explain c = c
-check_fault one two given first_failed second_failed given_failed first second condition how order f g h (Wave fault) c = c
-check_fault one two given first_failed second_failed given_failed first second condition how order f g h GivenUp c = c
-check_fault one two given first_failed second_failed given_failed first second condition how order f g h Write c = c
-check_fault one two given first_failed second_failed given_failed first second condition how order f g h OutOfMemory c = c
+pub check_fault : (one two : Option (List ℕ)) (given : Option (Option (List ℕ))) (first_failed second_failed given_failed first second condition : Type 0) (choice : Choice) (how : Match) (order : Order) → (first_failed → first) → (second_failed → second) → (given_failed → condition) → (fault : CheckFault) →
+    IsCheckFault (told_of one two given) first_failed second_failed given_failed choice how order fault → IsCheckFault (told_of one two given) first second condition choice how order fault
+check_fault one two given first_failed second_failed given_failed first second condition choice how order f g h (First fault) c = record { cause = c.cause; read = λ e. f (c.read e) }
+check_fault one two given first_failed second_failed given_failed first second condition choice how order f g h (Second fault) c = (c.0, c.1, record { cause = c.2.cause; read = λ e. g (c.2.read e) })
+check_fault one two None first_failed second_failed given_failed first second condition choice how order f g h (Given fault) c = c
+check_fault one two (Some told) first_failed second_failed given_failed first second condition choice how order f g h (Given fault) c = (c.0, c.1, c.2, c.3, record { cause = c.4.cause; read = λ e. h (c.4.read e) })
+check_fault one two given first_failed second_failed given_failed first second condition choice how order f g h GivenOutputs c = c
+check_fault one two given first_failed second_failed given_failed first second condition choice how order f g h (OrderRefused fault) c = c
+check_fault one two given first_failed second_failed given_failed first second condition choice how order f g h Only c = c
+check_fault one two given first_failed second_failed given_failed first second condition choice how order f g h Explain c = c
+check_fault one two given first_failed second_failed given_failed first second condition choice how order f g h (Wave fault) c = c
+check_fault one two given first_failed second_failed given_failed first second condition choice how order f g h GivenUp c = c
+check_fault one two given first_failed second_failed given_failed first second condition choice how order f g h Write c = c
+check_fault one two given first_failed second_failed given_failed first second condition choice how order f g h OutOfMemory c = c
 
 -- the same of all that a check fails for
 pub failed_check : (one two : Option (List ℕ)) (given : Option (Option (List ℕ))) (first_failed second_failed given_failed first second condition : Type 0) (o : Options) (choice : Choice) → (first_failed → first) → (second_failed → second) → (given_failed → condition) → (fault : CheckFault) →
     IsFailedCheck one two given first_failed second_failed given_failed o choice fault → IsFailedCheck one two given first second condition o choice fault
 failed_check one two given first_failed second_failed given_failed first second condition o choice f g h fault (inl unknown) = inl unknown
 failed_check one two given first_failed second_failed given_failed first second condition o choice f g h fault (inr c) =
-    inr (c.0, c.1, check_fault one two given first_failed second_failed given_failed first second condition o.matching c.0 f g h fault c.2)
+    inr (c.0, c.1, check_fault one two given first_failed second_failed given_failed first second condition choice o.matching c.0 f g h fault c.2)
 
 -- a file keeps where it was opened while it is read
 pub failed_at : {File : Type 0} (origin : File → Option (List ℕ)) (has_failed : File → Bool) (path : List ℕ) (before after : File) → IfSome (origin before) (λ from. from ≡ path) → origin after ≡ origin before

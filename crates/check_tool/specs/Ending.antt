@@ -127,7 +127,7 @@ larger_word o = if nat_lt o.limit (o.memory / node_bytes) then codes "--limit" e
 -- the line that says how many pairs are undecided, within how many nodes each was given up, and which option helps
 abbrev pub undecided_words : (undecided nodes : ℕ) → (larger : List ℕ) → List ℕ
 undecided_words n nodes larger =
-    codes "bddcheck: " ++ (decimal n ++ (codes " undecided, each given up in each of five orders within " ++ (decimal nodes ++ (codes " nodes or eight requests for each of them; a larger "
+    codes "bddcheck: " ++ (decimal n ++ (codes " undecided, each of more than 4096 variables, or given up in each of five orders within " ++ (decimal nodes ++ (codes " nodes or eight requests for each of them; a larger "
     ++ (larger ++ codes " may help\n")))))
 
 abbrev pub undecided_line : Options → (undecided : ℕ) → List ℕ

@@ -158,7 +158,7 @@ text_help NoTextMemory = codes "more memory, or a smaller netlist"
 abbrev pub order_help : OrderFault → List ℕ
 order_help CountsDiffer = codes "--match name pairs by names"
 order_help (NotAPermutation place) = codes "--extend takes the list as it is, --print-order writes one that fits"
-order_help TooManyInputs = codes "compare parts that have fewer inputs"
+order_help TooManyInputs = codes "compare by --order cones, or parts that have fewer inputs"
 order_help NoOrderMemory = codes "more memory, or a smaller netlist"
 order_help (BadName line) = codes "a list has names and blanks alone, as --print-order writes it"
 order_help LongOrder = codes "a text has at most 67108864 bytes"

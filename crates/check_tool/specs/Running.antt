@@ -306,7 +306,7 @@ AreTargetsUnknown one two given o fault = (targets : List Target) × AreTargetsO
 abbrev pub IsFailedCheck : (one two : Option (List ℕ)) → (given : Option (Option (List ℕ))) → (first_failed second_failed given_failed : Type 0) → Options → Choice → CheckFault → Type 0
 IsFailedCheck one two given first_failed second_failed given_failed o choice fault =
     AreTargetsUnknown one two given o fault
-    ⊎ ((order : Order) × IsAllowed choice order × IsCheckFault (told_of one two given) first_failed second_failed given_failed o.matching order fault)
+    ⊎ ((order : Order) × IsAllowed choice order × IsCheckFault (told_of one two given) first_failed second_failed given_failed choice o.matching order fault)
 
 -- both texts are at hand
 abbrev pub HasTexts : Option (List ℕ) → Texts → Type 0

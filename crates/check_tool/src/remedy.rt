@@ -42,7 +42,7 @@ fn help_in_order(fault: OrderFault) -> &'static str
         OrderFault::NotAPermutation { .. } => {
             "--extend takes the list as it is, --print-order writes one that fits"
         }
-        OrderFault::TooManyInputs => "compare parts that have fewer inputs",
+        OrderFault::TooManyInputs => "compare by --order cones, or parts that have fewer inputs",
         OrderFault::OutOfMemory => "more memory, or a smaller netlist",
         OrderFault::BadName { .. } =>
             "a list has names and blanks alone, as --print-order writes it",

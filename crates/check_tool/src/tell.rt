@@ -65,7 +65,7 @@ fn tell_undecided<E: Sink>(alloc: Global, options: &Options<'_>, undecided: u64,
     let parts = [
         "bddcheck: ",
         pairs.format(undecided),
-        " undecided, each given up in each of five orders within ",
+        " undecided, each of more than 4096 variables, or given up in each of five orders within ",
         nodes.format(cone_limit(limit_of(options))),
         " nodes or eight requests for each of them; a larger ",
         larger_word(options),

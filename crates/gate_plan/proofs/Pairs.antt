@@ -20,12 +20,12 @@ module _ (how : Match) (a b : Circuit) (order : Order) (p : Paired) (n : ℕ) (c
 
   given_fits : (given : Option Circuit) → IsPairing how a b given order p → (l : Levelled) → Contains (levelled_given given p) l → Fits l
   given_fits None h l (k, lt, at) = absurd (omega arith)
-  given_fits (Some c) h l (zero, lt, at) = subst Fits at (λ s among. subst (λ z. given_level p s < z) (sym count) (given_below how a b (Some c) order p h c refl s among))
+  given_fits (Some c) h l (zero, lt, at) = subst Fits at (λ s among. subst (λ z. given_level p s < z) (sym count) (given_below how a b (Some c) order p h.naming c refl s among))
   given_fits (Some c) h l (suc k, lt, at) = absurd (omega arith)
 
   each_fits : (given : Option Circuit) → IsPairing how a b given order p → (l : Levelled) → Contains (levelled a b given p) l → Fits l
-  each_fits given h l (zero, lt, at) = subst Fits at (λ s among. subst (λ z. first_level p s < z) (sym count) (first_below how a b given order p h s among))
-  each_fits given h l (suc zero, lt, at) = subst Fits at (λ s among. subst (λ z. second_level p s < z) (sym count) (second_below how a b given order p h s among))
+  each_fits given h l (zero, lt, at) = subst Fits at (λ s among. subst (λ z. first_level p s < z) (sym count) (first_below how a b given order p h.naming s among))
+  each_fits given h l (suc zero, lt, at) = subst Fits at (λ s among. subst (λ z. second_level p s < z) (sym count) (second_below how a b given order p h.naming s among))
   each_fits given h l (suc (suc k), lt, at) = given_fits given h l (k, omega (arith, lt), at)
 
 -- the levels of each netlist that is built

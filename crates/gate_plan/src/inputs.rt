@@ -29,9 +29,9 @@ fn level_of(pairing: &Pairing, which: Which, input: Signal) -> u32
     ensures { result ≡ level_in which pairing.now input }
 {
     match which {
-        Which::First => pairing.first_level(input),
-        Which::Second => pairing.second_level(input),
-        Which::Given => pairing.given_level(input),
+        Which::First => pairing.naming().first_level(input),
+        Which::Second => pairing.naming().second_level(input),
+        Which::Given => pairing.naming().given_level(input),
     }
 }
 

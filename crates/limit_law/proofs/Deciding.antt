@@ -26,8 +26,8 @@ use Rattle.limit_law.proofs.Values.{all_read, all_read_with, covers_built, cover
 -- the variables of a pairing are few
 few : (how : Match) (order : Order) (a b : Circuit) (given : Option Circuit) (p : Paired) → IsPairing how a b given order p → length p.names ≤ 4096
 few how order a b given p h =
-    let names = ap length h.names in
-    let count = ordered_count (both how a b) (given_side given) order h.fit in
+    let names = ap length h.naming.names in
+    let count = ordered_count (both how a b) (given_side given) order h.naming.fit in
     let most = h.few in
     omega (arith, names, count, most)
 
@@ -85,4 +85,4 @@ within_or_beyond how order a b (Some c) p sound sound' (sound'', one) h limit sm
     decided limit small (circuit a) (circuit b) (Some (circuit c)) p (few how order (circuit a) (circuit b) (Some (circuit c)) p h)
     (covers_both (length p.names) limit (IsNeededIn (circuit a) (circuit b) (Some (circuit c)) p) (IsNeededIn (circuit a) (circuit b) (Some (circuit c)) p) (IsNeededValue (circuit a) (circuit b) (Some (circuit c)) p) (IsComparedValue (circuit a) (circuit b) (Some (circuit c)) p) (λ f k. k)
     (covers_built (length p.names) limit (IsNeededIn (circuit a) (circuit b) (Some (circuit c)) p) (levelled (circuit a) (circuit b) (Some (circuit c)) p) (all_read_with a b c sound sound' sound'' p) (λ f k. inl k))
-    (covers_compared a b c sound sound' sound'' one p (subjects_inside how a b (Some (circuit c)) order p sound sound' h) limit (IsNeededIn (circuit a) (circuit b) (Some (circuit c)) p) (λ f k. inr k)))
+    (covers_compared a b c sound sound' sound'' one p (subjects_inside how a b (Some (circuit c)) order p sound sound' h.naming) limit (IsNeededIn (circuit a) (circuit b) (Some (circuit c)) p) (λ f k. inr k)))

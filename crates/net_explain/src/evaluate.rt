@@ -9,10 +9,10 @@ use crate::gates::{bit_at, value_of};
 use crate::ranked::rows_of;
 use net_bench::netlist::{Role, Signal};
 use net_bench::reader::Netlist;
-use net_order::pairing::Pairing;
+use net_order::naming::Naming;
 use std::alloc::{AllocError, Global};
 
-/// One of the two netlists of a pairing.
+/// One of the two netlists of a naming.
 #[derive(Clone, Copy, Drop, Debug, PartialEq, Eq)]
 pub enum Half {
     First,
@@ -20,24 +20,24 @@ pub enum Half {
 }
 
 /// The level of a variable of the first netlist or of the second.
-fn level_in(pairing: &Pairing, which: Half, variable: Signal) -> u32
-    ensures { result ≡ level_in pairing.now which variable }
+fn level_in(naming: &Naming, which: Half, variable: Signal) -> u32
+    ensures { result ≡ level_in naming.now which variable }
 {
     match which {
-        Half::First => pairing.first_level(variable),
-        Half::Second => pairing.second_level(variable),
+        Half::First => naming.first_level(variable),
+        Half::Second => naming.second_level(variable),
     }
 }
 
 /// Sets each variable to the bit of its level.
-fn set_variables(net: &Netlist, pairing: &Pairing, which: Half, at: &[bool], bits: &mut [bool])
+fn set_variables(net: &Netlist, naming: &Naming, which: Half, at: &[bool], bits: &mut [bool])
     requires { length bits.old ≡ length net.now.names }
-    ensures { All (λ s. bit_of bits.new s ≡ bit_of at.now (level_in pairing.now which s)) (variables_of (circuit net.now)) }
+    ensures { All (λ s. bit_of bits.new s ≡ bit_of at.now (level_in naming.now which s)) (variables_of (circuit net.now)) }
 {
     let variables = net.variables();
     for place in 0..variables.len() {
         let variable = variables[place];
-        bits[variable.number() as usize] = bit_at(at, level_in(pairing, which, variable));
+        bits[variable.number() as usize] = bit_at(at, level_in(naming, which, variable));
     }
 }
 
@@ -87,7 +87,7 @@ fn set_gates(net: &Netlist, rows: &[Vec<Signal>], bits: &mut [bool])
 /// Sets all signals: the variables, and then the gates.
 fn set_signals(
     net: &Netlist,
-    pairing: &Pairing,
+    naming: &Naming,
     which: Half,
     at: &[bool],
     rows: &[Vec<Signal>],
@@ -96,37 +96,30 @@ fn set_signals(
     requires rows { AreRows net.now (map (λ w. w.items) rows.now) }
     requires each { length bits.old ≡ length net.now.names }
     requires sound { IsNet net.now }
-    ensures { IsLabelling (circuit net.now) (level_in pairing.now which) at.now bits.new }
+    ensures { IsLabelling (circuit net.now) (level_in naming.now which) at.now bits.new }
 {
-    set_variables(net, pairing, which, at, bits);
+    set_variables(net, naming, which, at, bits);
     set_gates(net, rows, bits);
 }
 
-/// The value of each signal of one of the netlists of a pairing, by signal, where the variables have these bits by level. A bit that is
+/// The value of each signal of one of the netlists of a naming, by signal, where the variables have these bits by level. A bit that is
 /// missing is 0. Gates are evaluated by rising rank; time and memory are linear in the netlist.
 pub fn values(
     alloc: Global,
     net: &Netlist,
-    pairing: &Pairing,
+    naming: &Naming,
     which: Half,
     at: &[bool],
 ) -> Result<Vec<bool>, AllocError>
     // Each variable has the bit of its level, and each gate the value of its operands.
-    ensures labelling { IfOk result (λ v. IsLabelling (circuit net.now) (level_in pairing.now which) at.now v.items) }
+    ensures labelling { IfOk result (λ v. IsLabelling (circuit net.now) (level_in naming.now which) at.now v.items) }
     // The value of a signal is that of its function.
     ensures functions { IfOk result (λ v. (s : ℕ) (f : List Bool → Bool) → s < length net.now.names →
-        IsFunctionOf (circuit net.now) (level_in pairing.now which) (length at.now) s f → bit_of v.items s ≡ f at.now) }
+        IsFunctionOf (circuit net.now) (level_in naming.now which) (length at.now) s f → bit_of v.items s ≡ f at.now) }
     ensures sound { IsNet net.now }
 {
     let rows = rows_of(alloc, net)?;
     let mut bits = Vec::from_elem(alloc, false, net.count())?;
-    set_signals(
-        net,
-        pairing,
-        which,
-        at,
-        rows.as_slice(),
-        bits.as_mut_slice(),
-    );
+    set_signals(net, naming, which, at, rows.as_slice(), bits.as_mut_slice());
     Ok(bits)
 }

@@ -9,7 +9,7 @@ use crate::gates::bit_at;
 use crate::view::Simulation;
 use net_bench::netlist::Signal;
 use net_bench::reader::Netlist;
-use net_order::pairing::Pairing;
+use net_order::naming::Naming;
 use std::alloc::{AllocError, Global};
 use std::marker::Model;
 
@@ -103,19 +103,19 @@ pub fn explain(
     alloc: Global,
     first: &Netlist,
     second: &Netlist,
-    pairing: &Pairing,
+    naming: &Naming,
     pair: (Signal, Signal),
     at: &[bool],
 ) -> Result<Explanation, AllocError>
     requires first { pair.0 < length first.now.names }
     requires second { pair.1 < length second.now.names }
     // What is answered explains the pair: exactly its inner signals that differ, in their order.
-    ensures explains { IfOk result (IsExplanation first.now second.now pairing.now pair at.now) }
+    ensures explains { IfOk result (IsExplanation first.now second.now naming.now pair at.now) }
     ensures known { IfOk result (λ e. All (λ i. i.first < length first.now.names) e.inner) }
 {
     let (root, partner) = pair;
-    let seen = Simulation::new(alloc, first, pairing, Half::First, at, root)?;
-    let other = Simulation::new(alloc, second, pairing, Half::Second, at, partner)?;
+    let seen = Simulation::new(alloc, first, naming, Half::First, at, root)?;
+    let other = Simulation::new(alloc, second, naming, Half::Second, at, partner)?;
     let inner = differing(alloc, first, second, &seen, &other)?;
     let parts = parts_of(alloc, first, second, &seen, &other, inner.as_slice())?;
     Ok(Explanation { inner, parts })

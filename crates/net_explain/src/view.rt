@@ -9,7 +9,7 @@ use crate::evaluate::{Half, values};
 use crate::gates::bit_at;
 use net_bench::netlist::Signal;
 use net_bench::reader::Netlist;
-use net_order::pairing::Pairing;
+use net_order::naming::Naming;
 use std::alloc::{AllocError, Global};
 use std::marker::Model;
 
@@ -30,20 +30,20 @@ impl Model for Simulation {
 }
 
 impl Simulation {
-    /// What is seen of a netlist of a pairing.
+    /// What is seen of a netlist of a naming.
     pub fn new(
         alloc: Global,
         net: &Netlist,
-        pairing: &Pairing,
+        naming: &Naming,
         which: Half,
         at: &[bool],
         root: Signal,
     ) -> Result<Simulation, AllocError>
         requires { root < length net.now.names }
-        ensures view { IfOk result (IsView net.now pairing.now which at.now root) }
+        ensures view { IfOk result (IsView net.now naming.now which at.now root) }
         ensures sound { IsNet net.now }
     {
-        let values = values(alloc, net, pairing, which, at)?;
+        let values = values(alloc, net, naming, which, at)?;
         let below = visited_below(alloc, net, root)?;
         Ok(Simulation {
             root,

@@ -5,15 +5,15 @@ use Rattle.net_bench.specs.Circuit.{Circuit, is_name_in, variables_of}
 use Rattle.net_bench.proofs.Numbers.{in_distinct, number_low}
 use Rattle.net_order.specs.declared.order.Match.{Match}
 use Rattle.net_order.specs.declared.order.Order.{Order}
-use Rattle.net_order.specs.Order.{HasLevels, IsPairing, Paired, Sided, all_names, both, given_side, level_of, named, names_by, own, variables_in}
+use Rattle.net_order.specs.Order.{HasLevels, IsNaming, Paired, Sided, all_names, both, given_side, level_of, named, names_by, own, variables_in}
 use Rattle.net_order.specs.Tables.{IsKnown}
 use Rattle.net_order.proofs.AllNames.{known_given, known_sides}
 use Rattle.net_order.proofs.Orders.{ordered_all, ordered_count}
 use Rattle.net_order.proofs.Members.{contains_member}
 
-module _ (how : Match) (a b : Circuit) (given : Option Circuit) (order : Order) (p : Paired) (h : IsPairing how a b given order p) where
+module _ (how : Match) (a b : Circuit) (given : Option Circuit) (order : Order) (p : Paired) (h : IsNaming how a b given order p) where
   -- there are as many levels as variables
-  names_count : length p.names ≡ length (variables_in how a b given)
+  pub names_count : length p.names ≡ length (variables_in how a b given)
   names_count = ap length h.names ∙ ordered_count (both how a b) (given_side given) order h.fit
 
   -- the level of a side's variable is one of the levels

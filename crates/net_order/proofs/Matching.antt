@@ -6,7 +6,7 @@ use Rattle.net_bench.proofs.Numbers.{or_left, or_right}
 use Rattle.net_order.specs.declared.order.Match.{Match}
 use Rattle.net_order.specs.declared.order.Match.TheVariants.{Name, Position}
 use Rattle.net_order.specs.declared.order.Order.{Order}
-use Rattle.net_order.specs.Order.{is_member, IsPairing, Paired, name_of, signal_named, where_among, pairs_by_name, with_pair, unmatched, without_pair, matched, only_in, registers_of}
+use Rattle.net_order.specs.Order.{is_member, IsNaming, Paired, name_of, signal_named, where_among, pairs_by_name, with_pair, unmatched, without_pair, matched, only_in, registers_of}
 use Rattle.net_order.proofs.AllNames.{registers_low}
 use Rattle.net_order.proofs.Leaves.{member_at}
 
@@ -87,7 +87,7 @@ module _ (a b : Circuit) (ss ts : List ℕ) where
 pub one_of : (P : ℕ → Type 0) (ss : List ℕ) (s : ℕ) → All P ss → IsIn ss s → P s
 one_of P ss s h e = let at = member_at s ss e in subst P at.2 (h at.0 s at.1)
 
-module _ (how : Match) (n m : Net) (given : Option Circuit) (order : Order) (p : Paired) (first : IsNet n) (second : IsNet m) (h : IsPairing how (circuit n) (circuit m) given order p) where
+module _ (how : Match) (n m : Net) (given : Option Circuit) (order : Order) (p : Paired) (first : IsNet n) (second : IsNet m) (h : IsNaming how (circuit n) (circuit m) given order p) where
   abbrev Low : ℕ → Type 0
   Low s = s < length n.names
 

@@ -8,15 +8,6 @@ use Rattle.net_bench.specs.Circuit.{Circuit, with_name, is_name_in}
 use Rattle.net_order.specs.Order.{name_of}
 use Rattle.net_order.specs.Tables.{with_names}
 
-longer_if : (b : Bool) (names : List (List ℕ)) (n : List ℕ) → length names ≤ length (cond b names (names ++ n ∷ []))
-longer_if true names n = omega arith
-longer_if false names n = omega (arith, length-append names (n ∷ []))
-
--- names are never taken away
-pub longer : (names more : List (List ℕ)) → length names ≤ length (with_names names more)
-longer names [] = omega arith
-longer names (n ∷ more) = omega (arith, longer_if (is_name_in names n) names n, longer (with_name names n) more)
-
 -- the name that the netlist answers
 pub name_is : (c : Circuit) (s : ℕ) (n : List ℕ) → slice_get c.names s ≡ Some n → name_of c s ≡ n
 name_is c s n e = get_or_from_slice_get c.names s n [] e
@@ -27,10 +18,6 @@ pub one_more : (f : ℕ → List ℕ) (ss : List ℕ) (i s : ℕ) (n : List ℕ)
 one_more f ss i s n old new h at is grown =
     let rest : drop i ss ≡ s ∷ drop (i + 1) ss = drop_more ss i s h ∙ ap (λ x. x ∷ drop (i + 1) ss) (sym at) in
     ap (λ t. with_names t (map f (drop (i + 1) ss))) grown ∙ sym (ap (λ xs. with_names old (map f xs)) rest ∙ ap (λ m. with_names (with_name old m) (map f (drop (i + 1) ss))) (sym is))
-
--- a table that has grown past the most
-pub too_many : (most : ℕ) (old now more rest : List (List ℕ)) → with_names now rest ≡ with_names old more → most < length now → most < length (with_names old more)
-too_many most old now more rest e h = let same : length (with_names now rest) ≡ length (with_names old more) = ap length e in omega (arith, longer now rest, same)
 
 -- names on top of names
 pub joined : (old xs ys : List (List ℕ)) → with_names (with_names old xs) ys ≡ with_names old (xs ++ ys)

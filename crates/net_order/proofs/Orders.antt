@@ -74,20 +74,11 @@ module _ (sides given : List Sided) where
   whole_few : (xs : List (List ℕ)) → AmongNames xs (all_names sides given) → length (distinct (xs ++ all_names sides given)) ≤ length (declared sides given)
   whole_few xs h = few_of (xs ++ all_names sides given) (with_all xs h)
 
-  pub depth_few : length (distinct (names_of_sides met sides)) ≤ length (declared sides given)
-  depth_few = few_of (names_of_sides met sides) depth_among
-
   pub depth_all_few : length (by_depth sides given) ≤ length (declared sides given)
   depth_all_few = whole_few (names_of_sides met sides) depth_among
 
-  pub woven_few : length (distinct (numbered (declared sides given) (woven (declared sides given) sides))) ≤ length (declared sides given)
-  woven_few = few_of (numbered (declared sides given) (woven (declared sides given) sides)) woven_among
-
   pub interleaved_few : length (interleaved sides given) ≤ length (declared sides given)
   interleaved_few = whole_few (numbered (declared sides given) (woven (declared sides given) sides)) woven_among
-
-  pub forced_few : length (distinct (numbered (by_index sides given) (forced_back (by_index sides given) sides given))) ≤ length (declared sides given)
-  forced_few = few_of (numbered (by_index sides given) (forced_back (by_index sides given) sides given)) forced_among
 
   pub forced_all_few : length (forced sides given) ≤ length (declared sides given)
   forced_all_few = whole_few (numbered (by_index sides given) (forced_back (by_index sides given) sides given)) forced_among
@@ -95,9 +86,6 @@ module _ (sides given : List Sided) where
   -- those names of a list that are variables
   known_among : (names : List (List ℕ)) → AmongNames (filter (is_name_in (declared sides given)) names) (all_names sides given)
   known_among names = filter_among (declared sides given) (all_names sides given) names (λ n e. sym (in_distinct (all_names sides given) n) ∙ e)
-
-  pub known_few : (names : List (List ℕ)) → length (distinct (filter (is_name_in (declared sides given)) names)) ≤ length (declared sides given)
-  known_few names = few_of (filter (is_name_in (declared sides given)) names) (known_among names)
 
   pub extended_few : (names : List (List ℕ)) → length (extended sides given names) ≤ length (declared sides given)
   extended_few names = whole_few (filter (is_name_in (declared sides given)) names) (known_among names)

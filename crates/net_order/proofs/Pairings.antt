@@ -1,14 +1,17 @@
--- The pairing of two netlists, from its parts.
+-- The naming of two netlists, and their pairing, from their parts.
 use Rattle.std.proofs.Common.{Option, Some, None, IfSome, ◌≡◌, ℕ, ◌≤◌, List, [], ◌∷◌, ◌++◌, sym, ap, ◌∙◌, subst, length}
 use Rattle.std.specs.Prelude.{slice_index_or}
 use Rattle.std.specs.List.{AllZip}
 use Rattle.net_bench.specs.Circuit.{Circuit}
 use Rattle.net_order.specs.declared.order.Match.{Match}
 use Rattle.net_order.specs.declared.order.Order.{Order}
-use Rattle.net_order.specs.Order.{AreCounted, HasLevels, IsFit, IsPairing, Paired, Sided, both, correspondence, declared, given_side, names_by, ordered, own, registers_of, variables_in}
+use Rattle.net_order.specs.Order.{AreCounted, HasLevels, IsFit, IsNaming, Paired, Sided, both, correspondence, declared, given_side, names_by, ordered, own, registers_of, variables_in}
 use Rattle.net_order.specs.Tables.{AreLevels}
 
 module _ (how : Match) (a b : Circuit) (given : Option Circuit) where
+  all_of : (front back : List Sided) → front ≡ both how a b → back ≡ given_side given → declared front back ≡ variables_in how a b given
+  all_of front back is_front is_back = ap (λ f. declared f back) is_front ∙ ap (declared (both how a b)) is_back
+
   record HaveAll (names : List (List ℕ)) (p : Paired) : Type 0 where
     first : HasLevels names (own a) p.first
     second : HasLevels names (record { how = how; namer = a; net = b }) p.second
@@ -29,19 +32,17 @@ module _ (how : Match) (a b : Circuit) (given : Option Circuit) where
     conditional = on_given names given p.given rest h.1.1 given_is;
   }
 
-  pub is_pairing : (order : Order) (p : Paired) (sides front back : List Sided) (variables table : List (List ℕ)) → AreCounted how a b →
-      sides ≡ both how a b ++ given_side given → front ≡ both how a b → back ≡ given_side given →
-      variables ≡ declared front back → length variables ≤ 4096 → IsFit (declared front back) order → table ≡ ordered front back order →
+  pub is_naming : (order : Order) (p : Paired) (sides front back : List Sided) (table : List (List ℕ)) → AreCounted how a b →
+      sides ≡ both how a b ++ given_side given → front ≡ both how a b → back ≡ given_side given → IsFit (declared front back) order → table ≡ ordered front back order →
       p.names ≡ table → AreLevels table sides p → p.outputs ≡ correspondence how a b a.outputs b.outputs → p.registers ≡ correspondence how a b (registers_of a) (registers_of b) →
-      IsPairing how a b given order p
-  is_pairing order p sides front back variables table counted is_sides is_front is_back is_variables few fit is_table names levels outputs registers =
-      let all : declared front back ≡ variables_in how a b given = ap (λ f. declared f back) is_front ∙ ap (declared (both how a b)) is_back in
+      IsNaming how a b given order p
+  is_naming order p sides front back table counted is_sides is_front is_back fit is_table names levels outputs registers =
+      let all : declared front back ≡ variables_in how a b given = all_of front back is_front is_back in
       let asked : table ≡ names_by how a b given order = is_table ∙ ap (λ f. ordered f back order) is_front ∙ ap (λ g. ordered (both how a b) g order) is_back in
       let each = on_each (names_by how a b given order) p levels.levels
       (subst (λ t. AllZip (HasLevels t) (both how a b ++ given_side given) levels.levels) asked (subst (λ ss. AllZip (HasLevels table) ss levels.levels) is_sides levels.each)) levels.first levels.second levels.given in
       record {
         counted = counted;
-        few = subst (λ t. length t ≤ 4096) (is_variables ∙ all) few;
         fit = subst (λ t. IsFit t order) all fit;
         names = names ∙ asked;
         first = each.first;
@@ -50,3 +51,8 @@ module _ (how : Match) (a b : Circuit) (given : Option Circuit) where
         outputs = outputs;
         registers = registers;
       }
+
+  -- variables that are few are few of the two netlists and the condition
+  pub are_few : (front back : List Sided) (variables : List (List ℕ)) → front ≡ both how a b → back ≡ given_side given → variables ≡ declared front back → length variables ≤ 4096 →
+      length (variables_in how a b given) ≤ 4096
+  are_few front back variables is_front is_back is_variables few = subst (λ t. length t ≤ 4096) (is_variables ∙ all_of front back is_front is_back) few

@@ -1,5 +1,5 @@
 -- Tables of names and of levels that grow.
-use Rattle.std.proofs.Common.{◌≡◌, ℕ, suc, ◌+◌, ◌<◌, ◌≤◌, List, [], ◌∷◌, ◌++◌, Bool, true, false, sym, ap, ◌∙◌, subst, inl, inr, length, take, drop, arith, get_or, set, All}
+use Rattle.std.proofs.Common.{◌≡◌, ℕ, suc, ◌+◌, ◌<◌, List, [], ◌∷◌, ◌++◌, Bool, true, false, sym, ap, ◌∙◌, subst, inl, inr, length, take, drop, arith, get_or, set, All}
 use Rattle.std.specs.Prelude.{cond, ◌||◌, ◌==◌, Some, slice_get}
 use Rattle.std.specs.List.{AllZip}
 use Rattle.std.proofs.lemmas.Bool.{cases_eq}
@@ -7,12 +7,10 @@ use Rattle.std.proofs.lemmas.List.{drop_more, take_more, get_or-set_other, get_o
 use Rattle.net_bench.specs.Circuit.{Circuit, Net, circuit, variables_of}
 use Rattle.net_order.specs.declared.order.Match.{Match}
 use Rattle.net_order.specs.declared.order.Match.TheVariants.{Name, Position}
-use Rattle.net_order.specs.declared.order.OrderFault.{OrderFault}
-use Rattle.net_order.specs.declared.order.OrderFault.TheVariants.{OutOfMemory}
 use Rattle.net_order.specs.Order.{Sided, is_member, name_by, name_of, names_of_sides, names_on, partner}
-use Rattle.net_order.specs.Tables.{AreMatched, ArePartners, IsOverflow, IsSide, with_names}
+use Rattle.net_order.specs.Tables.{AreMatched, ArePartners, IsSide, with_names}
 use Rattle.net_order.proofs.Members.{at_inputs}
-use Rattle.net_order.proofs.Named.{joined, longer, name_is}
+use Rattle.net_order.proofs.Named.{joined, name_is}
 
 no_member : (X : Type 0) → false ≡ true → X
 no_member X e = cc
@@ -28,20 +26,6 @@ partner_in P (x ∷ xs) [] s ps e h = absurd (omega (arith, e))
 partner_in P (x ∷ xs) (t ∷ ts) s ps e h =
     either P (x == s) (is_member s xs) t (partner xs ts s) (ps 0 0 (omega arith)) (partner_in P xs ts s (λ i d below. ps (suc i) d (omega arith)) (omega (arith, e))) h
 
--- ---- what a refusal says
-
--- too many of the first names are too many of all
-pub more_overflow : (f : OrderFault) (old xs ys : List (List ℕ)) → IsOverflow (with_names old xs) f → IsOverflow (with_names old (xs ++ ys)) f
-more_overflow f old xs ys (inl e) = inl e
-more_overflow f old xs ys (inr (e, h)) =
-    let grown : length (with_names (with_names old xs) ys) ≡ length (with_names old (xs ++ ys)) = ap length (joined old xs ys) in
-    inr (e, omega (arith, h, grown, longer (with_names old xs) ys))
-
--- names that are few are not too many
-pub no_overflow : (f : OrderFault) (names : List (List ℕ)) → length names ≤ 4096 → IsOverflow names f → f ≡ OutOfMemory
-no_overflow f names few (inl e) = e
-no_overflow f names few (inr (e, h)) = absurd (omega arith)
-
 -- ---- side after side
 
 sides_here : (which : Circuit → List ℕ) (sides : List Sided) (i : ℕ) (side : Sided) → i < length sides → side ≡ get_or sides i side →
@@ -54,13 +38,6 @@ pub more_sides : (which : Circuit → List ℕ) (sides : List Sided) (i : ℕ) (
 more_sides which sides i side old new total low at grown e =
     ap (λ t. with_names t (names_of_sides which (drop (i + 1) sides))) grown ∙ joined old (names_on side (which side.net)) (names_of_sides which (drop (i + 1) sides)) ∙
     ap (with_names old) (sym (sides_here which sides i side low at)) ∙ e
-
--- one side alone has too many
-pub side_overflow : (f : OrderFault) (which : Circuit → List ℕ) (sides : List Sided) (i : ℕ) (side : Sided) (old total : List (List ℕ)) → i < length sides → side ≡ get_or sides i side →
-    with_names old (names_of_sides which (drop i sides)) ≡ total → IsOverflow (with_names old (names_on side (which side.net))) f → IsOverflow total f
-side_overflow f which sides i side old total low at e h =
-    subst (λ t. IsOverflow t f) (ap (with_names old) (sym (sides_here which sides i side low at)) ∙ e)
-    (more_overflow f old (names_on side (which side.net)) (names_of_sides which (drop (i + 1) sides)) h)
 
 -- ---- levels
 

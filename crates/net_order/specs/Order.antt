@@ -348,7 +348,7 @@ IsFit variables Force = Unit {0}
 IsFit variables (Listed names) = IsListing variables names
 IsFit variables (Extended names) = Unit {0}
 
--- A pairing as its users see it: the variables by level, by signal the level of an input or register of each netlist and of the
+-- A naming, or a pairing, as its users see it: the variables by level, by signal the level of an input or register of each netlist and of the
 -- condition, and which outputs and which registers are compared.
 pub record Paired : Type 0 where
   pub names : List (List ℕ)
@@ -382,11 +382,10 @@ names_by how a b given order = ordered (both how a b) (given_side given) order
 abbrev pub variables_in : Match → Circuit → Circuit → Option Circuit → List (List ℕ)
 variables_in how a b given = declared (both how a b) (given_side given)
 
--- This is the pairing of two netlists, with a condition or without: its variables are few and in the order that is asked for, each input or register has its
+-- This is the naming of two netlists, with a condition or without: its variables are in the order that is asked for, each input or register has its
 -- variable's level, and outputs correspond to outputs, registers to registers.
-pub record IsPairing (how : Match) (a b : Circuit) (given : Option Circuit) (order : Order) (p : Paired) : Type 0 where
+pub record IsNaming (how : Match) (a b : Circuit) (given : Option Circuit) (order : Order) (p : Paired) : Type 0 where
   pub counted : AreCounted how a b
-  pub few : length (variables_in how a b given) ≤ max_variables
   pub fit : IsFit (variables_in how a b given) order
   pub names : p.names ≡ names_by how a b given order
   pub first : HasLevels (names_by how a b given order) (own a) p.first
@@ -394,6 +393,11 @@ pub record IsPairing (how : Match) (a b : Circuit) (given : Option Circuit) (ord
   pub conditional : IfSome given (λ c. HasLevels (names_by how a b given order) (own c) p.given)
   pub outputs : p.outputs ≡ correspondence how a b a.outputs b.outputs
   pub registers : p.registers ≡ correspondence how a b (registers_of a) (registers_of b)
+
+-- This is their pairing: the naming, of variables that are few.
+pub record IsPairing (how : Match) (a b : Circuit) (given : Option Circuit) (order : Order) (p : Paired) : Type 0 where
+  pub naming : IsNaming how a b given order p
+  pub few : length (variables_in how a b given) ≤ max_variables
 
 -- Why there is no pairing, each cause only where none comes before it. Want of memory is said apart.
 abbrev pub IsRefused : Match → Circuit → Circuit → Option Circuit → Order → OrderFault → Type 0

@@ -2,6 +2,7 @@
 //!
 //! **Promises.** `pairing::pair` answers the pairing in the order that is asked for: each variable once, the level of
 //! each input and register, pairs, and what has no partner (`paired`), or why there is none (`refused`).
+//! `naming::naming_of` answers the same of any number of variables, as they are declared (`named`, `refused`).
 //! `order_file::read_order` answers the names of an order file (`names`) or its first fault (`refused`), and
 //! `order_text` such a file. `unfit::unfit_name` tells the first name for which a list is no order (`told`), and none
 //! exactly where it is one (`none`).
@@ -25,6 +26,7 @@ mod levels;
 mod listed;
 mod listings;
 pub mod names;
+pub mod naming;
 pub mod order;
 pub mod order_file;
 pub mod pairing;

@@ -4,6 +4,9 @@ ghost use Rattle.std.specs.Prelude.{◌≡◌, ℕ, ◌<◌, ◌≤◌, List, le
 use std::alloc::{AllocError, Global};
 use std::marker::Model;
 
+/// The most names of a list: an order file has no more names than bytes.
+pub const MAX_NAMES: usize = 67_108_864;
+
 /// Names, in an order. A list that was read may have a name twice.
 #[derive(Drop)]
 pub struct Names {

@@ -5,8 +5,8 @@ ghost use Rattle.net_order.specs.Order.{IsListing, IsRefused, condition, variabl
 ghost use Rattle.net_order.specs.Unfit.{first_missing, unfit_from};
 
 use crate::names::Names;
+use crate::naming::are_counted;
 use crate::order::{Match, Order, OrderFault};
-use crate::pairing::are_counted;
 use crate::side::sides_of;
 use crate::variables::declared_table;
 use net_bench::name_table::NameTable;

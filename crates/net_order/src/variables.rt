@@ -9,9 +9,9 @@ use crate::order::OrderFault;
 use crate::side::NamedNetlist;
 use net_bench::name_table::NameTable;
 use net_bench::netlist::Signal;
-use std::alloc::Global;
+use std::alloc::{AllocError, Global};
 
-/// The most variables.
+/// The most variables of a pairing.
 pub const MAX_VARIABLES: usize = 4_096;
 
 /// Puts the names of these variables of one side into the table, each where it is not there yet.
@@ -20,18 +20,12 @@ fn add_names(
     table: &mut NameTable,
     side: &NamedNetlist<'_>,
     variables: &[Signal],
-) -> Result<(), OrderFault>
-    requires room { length table.old ≤ MAX_VARIABLES }
-    requires variables { All (λ s. IsTrue (is_member s (variables_of side.now.net))) variables.now }
-    ensures ok { OnOk result (table.new ≡ with_names table.old (names_on side.now variables.now)) }
-    ensures few { OnOk result (length table.new ≤ MAX_VARIABLES) }
-    ensures err { IfErr result (IsOverflow (with_names table.old (names_on side.now variables.now))) }
+) -> Result<(), AllocError>
+    requires { All (λ s. IsTrue (is_member s (variables_of side.now.net))) variables.now }
+    ensures { OnOk result (table.new ≡ with_names table.old (names_on side.now variables.now)) }
 {
     for variable in variables {
         table.count(alloc, side.name(*variable))?;
-        if table.len() > MAX_VARIABLES {
-            return Err(OrderFault::TooManyInputs);
-        }
     }
     Ok(())
 }
@@ -42,11 +36,8 @@ fn add_side(
     table: &mut NameTable,
     side: &NamedNetlist<'_>,
     listing: Listing,
-) -> Result<(), OrderFault>
-    requires { length table.old ≤ MAX_VARIABLES }
-    ensures ok { OnOk result (table.new ≡ with_names table.old (names_on side.now (listed_of listing side.now.net))) }
-    ensures few { OnOk result (length table.new ≤ MAX_VARIABLES) }
-    ensures err { IfErr result (IsOverflow (with_names table.old (names_on side.now (listed_of listing side.now.net)))) }
+) -> Result<(), AllocError>
+    ensures { OnOk result (table.new ≡ with_names table.old (names_on side.now (listed_of listing side.now.net))) }
 {
     let variables = listed_of(alloc, side.net(), listing)?;
     add_names(alloc, table, side, variables.as_slice())
@@ -58,11 +49,8 @@ fn add_sides(
     table: &mut NameTable,
     sides: &[NamedNetlist<'_>],
     listing: Listing,
-) -> Result<(), OrderFault>
-    requires { length table.old ≤ MAX_VARIABLES }
-    ensures ok { OnOk result (table.new ≡ with_names table.old (names_of_sides (listed_of listing) sides.now)) }
-    ensures few { OnOk result (length table.new ≤ MAX_VARIABLES) }
-    ensures err { IfErr result (IsOverflow (with_names table.old (names_of_sides (listed_of listing) sides.now))) }
+) -> Result<(), AllocError>
+    ensures { OnOk result (table.new ≡ with_names table.old (names_of_sides (listed_of listing) sides.now)) }
 {
     for i in 0..sides.len() {
         let side = &sides[i];
@@ -76,11 +64,8 @@ fn add_declared(
     alloc: Global,
     table: &mut NameTable,
     sides: &[NamedNetlist<'_>],
-) -> Result<(), OrderFault>
-    requires { length table.old ≤ MAX_VARIABLES }
-    ensures ok { OnOk result (table.new ≡ with_names table.old (names_in sides.now)) }
-    ensures few { OnOk result (length table.new ≤ MAX_VARIABLES) }
-    ensures err { IfErr result (IsOverflow (with_names table.old (names_in sides.now))) }
+) -> Result<(), AllocError>
+    ensures { OnOk result (table.new ≡ with_names table.old (names_in sides.now)) }
 {
     add_sides(alloc, table, sides, Listing::Inputs)?;
     add_sides(alloc, table, sides, Listing::Registers)
@@ -92,17 +77,27 @@ pub fn add_all(
     table: &mut NameTable,
     sides: &[NamedNetlist<'_>],
     given: &[NamedNetlist<'_>],
-) -> Result<(), OrderFault>
-    requires { length table.old ≤ MAX_VARIABLES }
-    ensures ok { OnOk result (table.new ≡ with_names table.old (all_names sides.now given.now)) }
-    ensures few { OnOk result (length table.new ≤ MAX_VARIABLES) }
-    ensures err { IfErr result (IsOverflow (with_names table.old (all_names sides.now given.now))) }
+) -> Result<(), AllocError>
+    ensures { OnOk result (table.new ≡ with_names table.old (all_names sides.now given.now)) }
 {
     add_declared(alloc, table, sides)?;
     add_declared(alloc, table, given)
 }
 
-/// The variables in declared order.
+/// The variables in declared order, of whatever number.
+pub fn all_variables(
+    alloc: Global,
+    sides: &[NamedNetlist<'_>],
+    given: &[NamedNetlist<'_>],
+) -> Result<NameTable, AllocError>
+    ensures { IfOk result (λ t. t ≡ declared sides.now given.now) }
+{
+    let mut table = NameTable::new(alloc);
+    add_all(alloc, &mut table, sides, given)?;
+    Ok(table)
+}
+
+/// The variables in declared order, where a pairing may have as many.
 pub fn declared_table(
     alloc: Global,
     sides: &[NamedNetlist<'_>],
@@ -112,8 +107,10 @@ pub fn declared_table(
     ensures few { IfOk result (λ t. length t ≤ MAX_VARIABLES) }
     ensures err { IfErr result (IsOverflow (declared sides.now given.now)) }
 {
-    let mut table = NameTable::new(alloc);
-    add_all(alloc, &mut table, sides, given)?;
+    let table = all_variables(alloc, sides, given)?;
+    if table.len() > MAX_VARIABLES {
+        return Err(OrderFault::TooManyInputs);
+    }
     Ok(table)
 }
 

@@ -2,8 +2,8 @@
 use net_bench::netlist::Signal;
 use net_bench::reader::{Netlist, parse_bench};
 use net_explain::{Half, explain, explanation_of, values, vcd_of};
-use net_order::order::{Match, Order};
-use net_order::pairing::{Pairing, pair};
+use net_order::naming::{Naming, naming_of};
+use net_order::order::Match;
 use std::alloc::Global;
 use std::test::Fail;
 
@@ -24,22 +24,22 @@ static HELD: &str = "INPUT(e)\nOUTPUT(q)\nq = DFF(d)\nd = OR(w, q)\nw = BUFF(e)\
 static KINDS: &str =
     "INPUT(a)\nINPUT(b)\nINPUT(c)\nOUTPUT(g1)\ng1 = AND(a, b)\ng2 = NAND(a, b, c)\ng3 = OR(a, b)\ng4 = NOR(a, b, c)\ng5 = XOR(a, b)\ng6 = XNOR(a, b, c)\ng7 = NOT(a)\ng8 = BUFF(a)\n";
 
-/// Two netlists and their pairing by name, the variables as declared.
+/// Two netlists and their naming, by name.
 #[derive(Drop)]
 struct Both {
     first: Netlist,
     second: Netlist,
-    pairing: Pairing,
+    naming: Naming,
 }
 
 fn nets_of(alloc: Global, first: &str, second: &str) -> Result<Both, Fail> {
     let first = parse_bench(alloc, first.as_bytes())?;
     let second = parse_bench(alloc, second.as_bytes())?;
-    let pairing = pair(alloc, &first, &second, None, Match::Name, &Order::Declared)?;
+    let naming = naming_of(alloc, &first, &second, None, Match::Name)?;
     Ok(Both {
         first,
         second,
-        pairing,
+        naming,
     })
 }
 
@@ -61,7 +61,7 @@ fn explained(alloc: Global, both: &Both, name: &str, at: &[bool]) -> Result<Vec<
         alloc,
         &both.first,
         &both.second,
-        &both.pairing,
+        &both.naming,
         (first, second),
         at,
     )?;
@@ -109,7 +109,7 @@ fn kinds_of_gates(rt: HostRuntime) -> Result<(), Fail> {
     let bits = values(
         rt.alloc(),
         &nets.first,
-        &nets.pairing,
+        &nets.naming,
         Half::First,
         &[true, false, true],
     )?;
@@ -127,8 +127,8 @@ fn kinds_of_gates(rt: HostRuntime) -> Result<(), Fail> {
 fn values_as_vcd(rt: HostRuntime) -> Result<(), Fail> {
     let nets = nets_of(rt.alloc(), TOGGLED, HELD)?;
     let at = [true, false];
-    let first = values(rt.alloc(), &nets.first, &nets.pairing, Half::First, &at)?;
-    let second = values(rt.alloc(), &nets.second, &nets.pairing, Half::Second, &at)?;
+    let first = values(rt.alloc(), &nets.first, &nets.naming, Half::First, &at)?;
+    let second = values(rt.alloc(), &nets.second, &nets.naming, Half::Second, &at)?;
     if first.len() != nets.first.count() || second.len() != nets.second.count() {
         return Ok(());
     }

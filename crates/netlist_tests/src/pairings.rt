@@ -114,8 +114,9 @@ fn is_only(signals: &[Signal], number: u32) -> bool {
 #[test]
 fn outputs(rt: HostRuntime) -> Result<(), Fail> {
     let pairing = paired(rt.alloc(), C17, C17C, Match::Name, &Order::Declared)?;
-    assert!(rt; pairing.output_pairs().len() == 1);
-    assert!(rt; is_only(pairing.only_first(), 6) && is_only(pairing.only_second(), 6));
+    let naming = pairing.naming();
+    assert!(rt; naming.output_pairs().len() == 1);
+    assert!(rt; is_only(naming.only_first(), 6) && is_only(naming.only_second(), 6));
     Ok(())
 }
 

@@ -5,13 +5,13 @@ ghost use Rattle.report_text.specs.Lines.{counted};
 use crate::outcome::Outcome;
 use crate::verdict::Verdict;
 use net_order::names::Names;
-use net_order::pairing::Pairing;
+use net_order::naming::Naming;
 use std::marker::Model;
 
 /// What a comparison found: the variables by level, and a verdict for each line of its report, in their order.
 #[derive(Drop)]
 pub struct Verdicts {
-    pairing: Pairing,
+    naming: Naming,
     list: Vec<Verdict>,
 }
 
@@ -20,22 +20,22 @@ impl Model for Verdicts {
 
     ghost Value = { Found };
 
-    ghost view = { λ a. record { variables = a.pairing.names; verdicts = a.list.items } };
+    ghost view = { λ a. record { variables = a.naming.names; verdicts = a.list.items } };
 }
 
 impl Verdicts {
-    /// These verdicts over the variables of a pairing.
-    pub fn of(pairing: Pairing, list: Vec<Verdict>) -> Verdicts
-        ensures { result ≡ record { variables = pairing.names; verdicts = list.items } }
+    /// These verdicts over the variables of a naming.
+    pub fn of(naming: Naming, list: Vec<Verdict>) -> Verdicts
+        ensures { result ≡ record { variables = naming.names; verdicts = list.items } }
     {
-        Verdicts { pairing, list }
+        Verdicts { naming, list }
     }
 
     /// The variables by level.
     pub fn variables(&self) -> &Names
         ensures { result.now ≡ self.now.variables }
     {
-        self.pairing.names()
+        self.naming.names()
     }
 
     /// The verdicts in the order of the report: outputs, next states, and then what has no partner.

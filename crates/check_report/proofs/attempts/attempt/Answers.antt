@@ -2,7 +2,7 @@ use Rattle.std.proofs.Common.{ap, subst, sym, Err}
 use Rattle.check_report.specs.Best.{order_of}
 use Rattle.check_report.specs.Check.{IsCheckFault}
 use Rattle.check_report.proofs.Reporting.{late_fault}
-use Rattle.check_report.proofs.Rounds.{accepted, given_up_for}
+use Rattle.check_report.proofs.Rounds.{accepted_paired, given_up_for}
 use Rattle.check_report.proofs.attempts.attempt.Goals as goal
 
 pub returns-in-Ok-cause_of-clause-ended : goal.returns-in-Ok-cause_of-clause-ended
@@ -15,6 +15,6 @@ returns-in-Err-cause_of-clause-fault g c = λ told ga.
     let task = c.args.task.now in
     let order = order_of c.args.trial.now.candidate in (
       c.args.trial.now.candidate,
-      subst (IsCheckFault told ⊥ ⊥ ⊥ task.settings.now.matching order) (sym c.in-Err-cause_of.ensures.same)
-          (late_fault told ⊥ ⊥ ⊥ task.settings.now.matching order c.in-Err.fault (accepted task told ga order c.args.trial.now.pairing c.requires.trial) c.in-Err.ensures.err),
+      subst (IsCheckFault told ⊥ ⊥ ⊥ task.settings.now.order task.settings.now.matching order) (sym c.in-Err-cause_of.ensures.same)
+          (late_fault told ⊥ ⊥ ⊥ task.settings.now.order task.settings.now.matching order c.in-Err.fault (accepted_paired task told ga task.settings.now.order order c.args.trial.now.pairing c.requires.trial) c.in-Err.ensures.err),
     )

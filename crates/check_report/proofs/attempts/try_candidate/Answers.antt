@@ -4,13 +4,13 @@ use Rattle.check_report.specs.declared.trials.Trial.{Trial}
 use Rattle.check_report.specs.Best.{order_of}
 use Rattle.check_report.specs.Check.{IsCheckFault}
 use Rattle.check_report.specs.Trials.{AreGivenUpTrials, IsEnded, IsPairingIn, IsTried}
-use Rattle.check_report.proofs.Rounds.{accepted, and_true, memory_ends, one_more, order_ends, tried_before, tried_last, tried_still}
+use Rattle.check_report.proofs.Rounds.{accepted_paired, and_true, memory_ends, one_more, order_ends, tried_before, tried_last, tried_still}
 use Rattle.check_report.proofs.attempts.try_candidate.Goals as goal
 
 pub returns-in_err-pairing-clause-fault : goal.returns-in_err-pairing-clause-fault
 returns-in_err-pairing-clause-fault g c = λ told ga.
     let e = err_from_is_err_and c.from_residual.result c.from_residual.ensures.1 in
-    rw (e.1, e.2) (c.args.candidate, subst (λ o. IsCheckFault told ⊥ ⊥ ⊥ c.args.task.now.settings.now.matching o c.in_err-pairing.field-0.0) c.order.ensures (c.in_err-pairing.ensures.fault told ga))
+    rw (e.1, e.2) (c.args.candidate, subst (λ o. IsCheckFault told ⊥ ⊥ ⊥ c.args.task.now.settings.now.order c.args.task.now.settings.now.matching o c.in_err-pairing.field-0.0) c.order.ensures (c.in_err-pairing.ensures.fault told ga))
 
 pub returns-in_err-pairing-clause-ends : goal.returns-in_err-pairing-clause-ends
 returns-in_err-pairing-clause-ends g c =
@@ -50,4 +50,4 @@ returns-in-Err-clause-ends g c = memory_ends
 pub returns-in-Err-clause-fault : goal.returns-in-Err-clause-fault
 returns-in-Err-clause-fault g c = λ told ga.
     let is : IsPairingIn c.args.task.now (order_of c.args.candidate) c.in_ok-pairing.pairing = subst (λ o. IsPairingIn c.args.task.now o c.in_ok-pairing.pairing) c.order.ensures c.in_ok-pairing.ensures.paired in
-    (c.args.candidate, accepted c.args.task.now told ga (order_of c.args.candidate) c.in_ok-pairing.pairing is)
+    (c.args.candidate, accepted_paired c.args.task.now told ga c.args.task.now.settings.now.order (order_of c.args.candidate) c.in_ok-pairing.pairing is)

@@ -1,10 +1,16 @@
+use Rattle.std.proofs.Common.{◌∙◌, ◌++◌, ap}
 use Rattle.net_bench.specs.Circuit.{circuit}
-use Rattle.net_order.specs.Order.{condition}
+use Rattle.net_order.specs.Order.{Paired, condition}
+use Rattle.report_text.specs.declared.outcome.Side.TheVariants.{First, Second}
 use Rattle.check_report.specs.Comparing.{asked_of}
+use Rattle.check_report.specs.Report.{lone_side}
 use Rattle.check_report.proofs.Adding.{whole}
 use Rattle.check_report.proofs.compare.verdicts_of.Goals as goal
 
 pub returns : goal.returns
 returns c =
     let of = c.args.of.now in
-    whole (asked_of of.telling) (circuit of.first.now) (circuit of.second.now) (condition of.given) of.pairing.now c.in_ok-verdicts.verdicts.items _ _ c.in_ok-verdicts.ensures c.in_ok-add_first_lone.ensures c.in_ok-add_second_lone.ensures
+    let pairs = c.in_ok-verdicts.verdicts.items in
+    let first = c.in_ok-add_first_lone.ensures ∙ ap (λ (p : Paired). pairs ++ lone_side First (circuit of.first.now) p.outputs.only_first p.registers.only_first) c.naming-naming.ensures in
+    let second = c.in_ok-add_second_lone.ensures ∙ ap (λ (p : Paired). c.add_first_lone.new.verdicts.items ++ lone_side Second (circuit of.second.now) p.outputs.only_second p.registers.only_second) c.naming-naming.ensures in
+    whole (asked_of of.telling) (circuit of.first.now) (circuit of.second.now) (condition of.given) of.pairing.now pairs _ _ c.in_ok-verdicts.ensures first second

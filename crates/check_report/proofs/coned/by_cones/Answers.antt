@@ -14,15 +14,15 @@ use Rattle.check_report.proofs.coned.by_cones.Goals as goal
 pub picks_of-requires : goal.picks_of-requires
 picks_of-requires g c =
     let task = c.args.task.now in
-    all_signals task.settings.now.matching task.first.now task.second.now (condition task.given) Declared c.args.pairing c.inputs.ensures.sound c.inputs-2.ensures.sound c.requires
+    all_signals task.settings.now.matching task.first.now task.second.now (condition task.given) Declared c.args.naming c.inputs.ensures.sound c.inputs-2.ensures.sound c.requires
 
 pub judge_picks-requires-clause-inside : goal.judge_picks-requires-clause-inside
 judge_picks-requires-clause-inside g c κs within =
     let task = c.args.task.now in
     let a = circuit task.first.now in
     let b = circuit task.second.now in
-    let signals = all_signals task.settings.now.matching task.first.now task.second.now (condition task.given) Declared c.args.pairing c.inputs.ensures.sound c.inputs-2.ensures.sound c.requires in
-    subst (All (IsInside a b)) (sym c.as_slice.ensures.value) (picked_inside (IsInside a b) a b c.args.pairing c.in_ok-subjects.ensures.picked signals.compared)
+    let signals = all_signals task.settings.now.matching task.first.now task.second.now (condition task.given) Declared c.args.naming c.inputs.ensures.sound c.inputs-2.ensures.sound c.requires in
+    subst (All (IsInside a b)) (sym c.as_slice.ensures.value) (picked_inside (IsInside a b) a b c.args.naming c.in_ok-subjects.ensures.picked signals.compared)
 
 pub returns-in-Ok-clause-told : goal.returns-in-Ok-clause-told
 returns-in-Ok-clause-told g c =
@@ -30,7 +30,7 @@ returns-in-Ok-clause-told g c =
     let a = circuit task.first.now in
     let b = circuit task.second.now in
     let given = condition task.given in
-    let p = c.args.pairing in
+    let p = c.args.naming in
     record {
       pairs = c.in_ok-subjects.field-0.subjects.items;
       lone = c.in_ok-subjects.field-0.lone.items;

@@ -16,7 +16,7 @@ use Rattle.check_report.proofs.coned.given_cone.Goals as goal
 pub names_in-requires : goal.names_in-requires
 names_in-requires g c =
     let task = c.args.task.now in
-    let p = c.args.pairing.now in
+    let p = c.args.naming.now in
     let net = c.in-Some.given.now in
     let is : condition task.given ≡ Some (circuit net) = ap condition c.in-Some.is in
     all_below (variables_of (circuit net)) (slice_index p.given) (length p.names) (given_below task.settings.now.matching (circuit task.first.now) (circuit task.second.now) (condition task.given) Declared p c.requires (circuit net) is)
@@ -26,14 +26,14 @@ cone_of-requires-clause-names g c =
     let task = c.args.task.now in
     let net = c.in-Some.given.now in
     let is : condition task.given ≡ Some (circuit net) = ap condition c.in-Some.is in
-    given_names task.settings.now.matching task.first.now task.second.now (condition task.given) Declared c.args.pairing.now c.requires net is c.outputs.ensures.sound (texts c.as_slice.result.now)
-    (subst (λ vs. AreNamed (circuit net) c.args.pairing.now.given c.args.pairing.now (texts vs)) (sym c.as_slice.ensures.value) c.in_ok-names.ensures)
+    given_names task.settings.now.matching task.first.now task.second.now (condition task.given) Declared c.args.naming.now c.requires net is c.outputs.ensures.sound (texts c.as_slice.result.now)
+    (subst (λ vs. AreNamed (circuit net) c.args.naming.now.given c.args.naming.now (texts vs)) (sym c.as_slice.ensures.value) c.in_ok-names.ensures)
 
 pub returns-clause-cone : goal.returns-clause-cone
 returns-clause-cone g c =
     let task = c.args.task.now in
     let net = c.in-Some.given.now in
-    let p = c.args.pairing.now in
+    let p = c.args.naming.now in
     let is : condition task.given ≡ Some (circuit net) = ap condition c.in-Some.is in
     let one : length net.outputs ≡ 1 = subst (λ (o : Option Circuit). IfSome o HasOneOutput) is task.one_output in
     let root = c.index-outputs-0.result in

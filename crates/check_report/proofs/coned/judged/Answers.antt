@@ -21,6 +21,6 @@ returns-in-Ok-clause-told g c =
     let within = FitIn w (cone_limit task.settings.now.limit) in
     subst (AllZip (IsToldOut w bound) c.args.subjects.now) (sym c.in-Ok.ensures)
     (told_known (circuit task.first.now) (IsToldIn w (cone_limit task.settings.now.limit)) (IsLeftOut w bound) (IsToldOut w bound)
-    (λ s v t. told_yes (unsized task.settings.now.assignment) within within (IsLeftOut w bound) (circuit task.first.now) (circuit task.second.now) (condition task.given) w.pairing.now s v (λ few. few) t)
-    (λ s left. told_left (unsized task.settings.now.assignment) within (IsLeftOut w bound) task.first.now task.second.now (condition task.given) w.pairing.now s c.inputs.ensures.sound c.inputs-2.ensures.sound c.requires.ready.conditional_net left)
+    (λ s v t. told_yes (unsized task.settings.now.assignment) within within (IsLeftOut w bound) (circuit task.first.now) (circuit task.second.now) (condition task.given) w.naming.now s v (λ few. few) t)
+    (λ s left. told_left (unsized task.settings.now.assignment) within (IsLeftOut w bound) task.first.now task.second.now (condition task.given) w.naming.now s c.inputs.ensures.sound c.inputs-2.ensures.sound c.requires.ready.conditional_net left)
     c.args.subjects.now c.in_ok-known.known.items c.in_ok-known.ensures.known)

@@ -1,14 +1,15 @@
 use Rattle.std.proofs.Common.{◌≡◌, ◌∙◌, ap, Err}
 use Rattle.net_bench.specs.Circuit.{circuit}
-use Rattle.check_report.specs.declared.fault.CheckFault.TheVariants.{Only}
-use Rattle.check_report.proofs.Findings.{cones_end, cones_fault, found_by_cones}
+use Rattle.net_order.specs.declared.order.OrderFault.TheVariants.{TooManyInputs}
+use Rattle.check_report.specs.declared.fault.CheckFault.TheVariants.{Only, Order as OrderRefused}
+use Rattle.check_report.proofs.Findings.{cones_end, cones_fault, cones_whole, found_by_cones}
 use Rattle.check_report.proofs.deciding.by_cones_in.Goals as goal
 
 pub returns-in-Ok-clause-found : goal.returns-in-Ok-clause-found
-returns-in-Ok-clause-found g c = λ told ga cause. found_by_cones c.args.task.now told ga (g.G.Monitor.bound c.args.monitor.now) c.args.declared c.in-Ok.verdicts c.requires.pairing cause c.in-Ok.ensures.told
+returns-in-Ok-clause-found g c = λ told ga cause. found_by_cones c.args.task.now told ga (g.G.Monitor.bound c.args.monitor.now) c.args.declared c.in-Ok.verdicts c.requires.naming cause c.in-Ok.ensures.told
 
 pub returns-in-Err-clause-fault : goal.returns-in-Err-clause-fault
-returns-in-Err-clause-fault g c = λ told ga. cones_fault c.args.task.now told ga c.args.declared c.in-Err.fault c.requires.pairing c.in-Err.ensures.ends
+returns-in-Err-clause-fault g c = λ told ga. cones_fault c.args.task.now told ga c.args.declared c.in-Err.fault c.requires.naming c.requires.may c.in-Err.ensures.ends
 
 pub returns-in-Err-clause-only : goal.returns-in-Err-clause-only
 returns-in-Err-clause-only g c = λ told ga e.
@@ -19,4 +20,9 @@ pub returns-in-Err-clause-ends : goal.returns-in-Err-clause-ends
 returns-in-Err-clause-ends g c = cones_end c.in-Err.fault c.in-Err.ensures.ends
 
 pub returns-in-Ok-clause-names : goal.returns-in-Ok-clause-names
-returns-in-Ok-clause-names g c = c.in-Ok.ensures.told.verdicts.variables ∙ c.requires.pairing.names
+returns-in-Ok-clause-names g c = c.in-Ok.ensures.told.verdicts.variables ∙ c.requires.naming.names
+
+pub returns-in-Err-clause-whole : goal.returns-in-Err-clause-whole
+returns-in-Err-clause-whole g c = λ e.
+    let same : c.in-Err.fault ≡ OrderRefused TooManyInputs = cc in
+    cones_whole c.in-Err.fault c.in-Err.ensures.ends same

@@ -1,13 +1,13 @@
 use Rattle.std.proofs.Common.{◌≡◌, ◌∙◌, ap, sym, subst, refl, Err}
 use Rattle.std.proofs.lemmas.Result.{err_from_is_err_and}
 use Rattle.net_bench.specs.Circuit.{circuit}
-use Rattle.net_order.specs.Order.{condition}
+use Rattle.net_order.specs.Order.{Paired, condition}
 use Rattle.expand_work.specs.declared.fault.WaveFault.TheVariants.{Full, TooManyRequests}
 use Rattle.report_text.specs.Lines.{Found}
 use Rattle.check_report.specs.declared.fault.CheckFault.TheVariants.{Wave}
 use Rattle.check_report.specs.Limits.{AreBeyond}
 use Rattle.check_report.proofs.Reporting.{late_fault}
-use Rattle.check_report.proofs.Rounds.{accepted, beyond, judged, within}
+use Rattle.check_report.proofs.Rounds.{accepted_paired, beyond, judged, within}
 use Rattle.check_report.proofs.Widening.{wide_given}
 use Rattle.check_report.proofs.deciding.by_order.Goals as goal
 
@@ -16,7 +16,7 @@ returns-in-Ok-clause-chosen g c = λ told ga.
     let task = c.args.task.now in
     let is = c.in_ok-pairing.ensures.paired in (
       c.args.order.now,
-      judged task told ga c.args.order.now c.in_ok-pairing.pairing _ _ is c.of.ensures c.in-Ok.ensures.ok,
+      judged task told ga c.args.order.now c.in_ok-pairing.pairing _ _ is (c.of.ensures ∙ ap (λ (p : Paired). record { variables = p.names; verdicts = c.in-Ok.verdicts.items }) c.into_naming.ensures) c.in-Ok.ensures.ok,
       (refl, within task told ga c.args.order.now c.in_ok-pairing.pairing task.settings.now.limit is c.in-Ok.ensures.within),
     )
 
@@ -32,7 +32,8 @@ returns-in-Err-clause-fault g c = λ told ga.
     let task = c.args.task.now in (
       c.args.order.now,
       refl,
-      late_fault told ⊥ ⊥ ⊥ task.settings.now.matching c.args.order.now c.in-Err.fault (accepted task told ga c.args.order.now c.in_ok-pairing.pairing c.in_ok-pairing.ensures.paired) c.in-Err.ensures.err,
+      late_fault told ⊥ ⊥ ⊥ task.settings.now.order task.settings.now.matching c.args.order.now c.in-Err.fault
+          (accepted_paired task told ga task.settings.now.order c.args.order.now c.in_ok-pairing.pairing c.in_ok-pairing.ensures.paired) c.in-Err.ensures.err,
     )
 
 pub returns-in-Err-clause-past : goal.returns-in-Err-clause-past
@@ -51,4 +52,4 @@ returns-in_err-pairing-clause-fault g c = λ told ga.
     rw (e.1, e.2) (c.args.order.now, refl, c.in_err-pairing.ensures.fault told ga)
 
 pub returns-in-Ok-clause-names : goal.returns-in-Ok-clause-names
-returns-in-Ok-clause-names g c = ap (λ (f : Found). f.variables) c.of.ensures ∙ c.in_ok-pairing.ensures.paired.names
+returns-in-Ok-clause-names g c = ap (λ (f : Found). f.variables) c.of.ensures ∙ ap (λ (p : Paired). p.names) c.into_naming.ensures ∙ c.in_ok-pairing.ensures.paired.naming.names

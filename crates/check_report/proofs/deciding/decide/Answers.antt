@@ -1,7 +1,7 @@
 use Rattle.std.proofs.Common.{refl, subst, sym}
 use Rattle.check_report.specs.Best.{IsAllowed, MayGoByCones, NamesOrder}
 use Rattle.net_order.specs.declared.order.Order.TheVariants as orders
-use Rattle.check_report.proofs.Findings.{allowed_fault, found_in_order, never_full, never_given_up, never_past, never_served, never_written}
+use Rattle.check_report.proofs.Findings.{allowed_fault, found_in_order, never_full, never_given_up, never_past, never_served, never_written, same_allowed}
 use Rattle.check_report.proofs.Printing.{never_tried}
 use Rattle.check_report.proofs.deciding.decide.Goals as goal
 
@@ -14,7 +14,7 @@ pub returns-in-One-clause-full : goal.returns-in-One-clause-full
 returns-in-One-clause-full g c = λ told ga. rw c.in-One.is (c.by_order.ensures.full told ga)
 
 pub returns-in-One-clause-fault : goal.returns-in-One-clause-fault
-returns-in-One-clause-fault g c = λ told ga. rw c.in-One.is (c.by_order.ensures.fault told ga)
+returns-in-One-clause-fault g c = λ told ga. same_allowed told _ _ _ c.in-One.is c.by_order.result (c.by_order.ensures.fault told ga)
 
 pub returns-in-One-clause-past : goal.returns-in-One-clause-past
 returns-in-One-clause-past g c = λ told ga. rw c.in-One.is (c.by_order.ensures.past told ga)
@@ -43,7 +43,7 @@ pub returns-in-Best-clause-full : goal.returns-in-Best-clause-full
 returns-in-Best-clause-full g c = λ told ga. rw c.in-Best.is (c.by_best.ensures.full told ga)
 
 pub returns-in-Best-clause-fault : goal.returns-in-Best-clause-fault
-returns-in-Best-clause-fault g c = λ told ga. rw c.in-Best.is (c.by_best.ensures.fault told ga)
+returns-in-Best-clause-fault g c = λ told ga. same_allowed told _ _ _ c.in-Best.is c.by_best.result (c.by_best.ensures.fault told ga)
 
 pub returns-in-Best-clause-passed : goal.returns-in-Best-clause-passed
 returns-in-Best-clause-passed g c = λ told ga. rw c.in-Best.is (c.by_best.ensures.passed told ga)
@@ -72,7 +72,7 @@ pub returns-in-Auto-clause-by_cones : goal.returns-in-Auto-clause-by_cones
 returns-in-Auto-clause-by_cones g c = λ may. (never_full c.by_auto.result c.by_auto.ensures.ends, never_given_up c.by_auto.result c.by_auto.ensures.ends)
 
 pub returns-in-Auto-clause-fault : goal.returns-in-Auto-clause-fault
-returns-in-Auto-clause-fault g c = λ told ga. rw c.in-Auto.is (c.by_auto.ensures.fault told ga)
+returns-in-Auto-clause-fault g c = λ told ga. same_allowed told _ _ _ c.in-Auto.is c.by_auto.result (c.by_auto.ensures.fault told ga)
 
 pub returns-in-Auto-clause-unwritten : goal.returns-in-Auto-clause-unwritten
 returns-in-Auto-clause-unwritten g c = never_written c.by_auto.result c.by_auto.ensures.ends
@@ -102,7 +102,7 @@ returns-in-Cones-clause-by_cones g c = λ may. (never_full c.by_each.result c.by
 
 pub returns-in-Cones-clause-fault : goal.returns-in-Cones-clause-fault
 returns-in-Cones-clause-fault g c = λ told ga.
-    allowed_fault told c.args.task.now.settings.now.matching c.args.task.now.settings.now.order orders.Declared (subst (λ o. IsAllowed o orders.Declared) (sym c.in-Cones.is) refl) c.by_each.result (c.by_each.ensures.fault told ga)
+    allowed_fault told c.args.task.now.settings.now.matching c.args.task.now.settings.now.order c.args.task.now.settings.now.order orders.Declared (subst (λ o. IsAllowed o orders.Declared) (sym c.in-Cones.is) refl) c.by_each.result (c.by_each.ensures.fault told ga)
 
 pub returns-in-Cones-clause-unwritten : goal.returns-in-Cones-clause-unwritten
 returns-in-Cones-clause-unwritten g c = never_written c.by_each.result c.by_each.ensures.ends
@@ -130,3 +130,15 @@ returns-in-Auto-clause-names g c = rw c.in-Auto.is c.by_auto.ensures.names
 
 pub returns-in-Cones-clause-names : goal.returns-in-Cones-clause-names
 returns-in-Cones-clause-names g c = rw c.in-Cones.is c.by_each.ensures.names
+
+pub returns-in-One-clause-whole : goal.returns-in-One-clause-whole
+returns-in-One-clause-whole g c = λ may. absurd (subst MayGoByCones c.in-One.is may)
+
+pub returns-in-Best-clause-whole : goal.returns-in-Best-clause-whole
+returns-in-Best-clause-whole g c = λ may. absurd (subst MayGoByCones c.in-Best.is may)
+
+pub returns-in-Auto-clause-whole : goal.returns-in-Auto-clause-whole
+returns-in-Auto-clause-whole g c = λ may. c.by_auto.ensures.whole
+
+pub returns-in-Cones-clause-whole : goal.returns-in-Cones-clause-whole
+returns-in-Cones-clause-whole g c = λ may. c.by_each.ensures.whole

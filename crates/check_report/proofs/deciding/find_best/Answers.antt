@@ -1,5 +1,6 @@
 use Rattle.std.proofs.Common.{◌≡◌, ◌∙◌, ap, refl, inr, Err}
 use Rattle.expand_work.specs.declared.fault.WaveFault.TheVariants.{Full}
+use Rattle.net_order.specs.Order.{Paired}
 use Rattle.report_text.specs.Lines.{Found}
 use Rattle.check_report.specs.declared.fault.CheckFault.TheVariants.{Wave, GivenUp}
 use Rattle.check_report.specs.Best.{order_of}
@@ -9,7 +10,8 @@ use Rattle.check_report.proofs.deciding.find_best.Goals as goal
 pub returns-in-Ok-clause-judged : goal.returns-in-Ok-clause-judged
 returns-in-Ok-clause-judged g c = λ told ga.
     let t = c.in-Ok.decided.trial in
-    judged c.args.task.now told ga (order_of t.candidate) t.pairing _ _ c.in-Ok.ensures.decided.paired c.of.ensures c.in-Ok.ensures.decided.verdicts_of
+    judged c.args.task.now told ga (order_of t.candidate) t.pairing _ _ c.in-Ok.ensures.decided.paired
+    (c.of.ensures ∙ ap (λ (p : Paired). record { variables = p.names; verdicts = c.in-Ok.decided.verdicts.items }) c.into_naming.ensures) c.in-Ok.ensures.decided.verdicts_of
 
 pub returns-in-Ok-clause-chosen : goal.returns-in-Ok-clause-chosen
 returns-in-Ok-clause-chosen g c = λ told ga.
@@ -30,4 +32,4 @@ returns-in-Err-clause-given_up g c = λ told ga e k.
     told_passed c.args.task.now told ga c.args.task.now.settings.now.limit (g.G.Monitor.bound c.args.monitor.now) k (c.in-Err.ensures.given_up (inr same) c.args.task.now.settings.now.limit (inr refl) k)
 
 pub returns-in-Ok-clause-names : goal.returns-in-Ok-clause-names
-returns-in-Ok-clause-names g c = ap (λ (f : Found). f.variables) c.of.ensures ∙ c.in-Ok.ensures.decided.paired.names
+returns-in-Ok-clause-names g c = ap (λ (f : Found). f.variables) c.of.ensures ∙ ap (λ (p : Paired). p.names) c.into_naming.ensures ∙ c.in-Ok.ensures.decided.paired.naming.names

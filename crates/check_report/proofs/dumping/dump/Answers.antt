@@ -13,7 +13,7 @@ returns-then-not-task-clause-dump g c = λ told ga. unwanted told c.args.task.no
 pub returns-in_default-clause-dump : goal.returns-in_default-clause-dump
 returns-in_default-clause-dump g c = λ told ga. none_differs told c.args.task.now.settings.now c.args.tried c.args.verdicts.now c.if-not-task.false (ap first_at (sym c.as_slice.ensures) ∙ sym c.in_default.ensures)
 
--- ---- no pairing
+-- ---- no naming
 
 pub returns-in-Err-clause-fault : goal.returns-in-Err-clause-fault
 returns-in-Err-clause-fault g c = λ told ga.
@@ -29,7 +29,7 @@ pub returns-clause-fault : goal.returns-clause-fault
 returns-clause-fault g c = λ told ga.
     let task = c.args.task.now in
     let order = told_order task.settings.now.order c.args.tried in
-    (order, told_allowed task.settings.now.order c.args.tried, accepted task told ga order c.in-Ok.pairing c.in-Ok.ensures.paired)
+    (order, told_allowed task.settings.now.order c.args.tried, accepted task told ga task.settings.now.order order c.in-Ok.naming c.in-Ok.ensures.named c.in-Ok.ensures.few)
 
 pub returns-clause-ends : goal.returns-clause-ends
 returns-clause-ends g c = memory_ends
@@ -44,8 +44,8 @@ returns-in-Ok-vcd_at-clause-dump g c = λ told ga.
       a = task.first.now;
       b = task.second.now;
       c = condition task.given;
-      p = c.in-Ok.pairing;
-      paired = record { netlists = ga; pairing = c.in-Ok.ensures.paired };
-      variables = c.requires.names ∙ sym c.in-Ok.ensures.paired.names;
+      p = c.in-Ok.naming;
+      named = record { netlists = ga; naming = c.in-Ok.ensures.named };
+      variables = c.requires.names ∙ sym c.in-Ok.ensures.named.names;
       vcd = c.in-Ok-vcd_at.ensures;
     })

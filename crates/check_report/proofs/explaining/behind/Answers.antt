@@ -15,7 +15,7 @@ returns-then-is_empty-clause-behind g c = λ told ga.
     let none : length s.explain.items ≡ 0 = ap (λ (ts : List Target). length ts) (sym c.as_slice-targets.ensures.value) ∙ no_targets c.as_slice-targets.result.now c.if-is_empty.ensures in
     behind_none s.explain.items told s c.args.tried c.args.verdicts.now _ none c.new.ensures.items
 
--- ---- no pairing
+-- ---- no naming
 
 pub returns-in-Err-clause-fault : goal.returns-in-Err-clause-fault
 returns-in-Err-clause-fault g c = λ told ga.
@@ -31,7 +31,7 @@ pub returns-in_default-clause-fault : goal.returns-in_default-clause-fault
 returns-in_default-clause-fault g c = λ told ga.
     let task = c.args.task.now in
     let order = told_order task.settings.now.order c.args.tried in
-    (order, told_allowed task.settings.now.order c.args.tried, accepted task told ga order c.in-Ok.pairing c.in-Ok.ensures.paired)
+    (order, told_allowed task.settings.now.order c.args.tried, accepted task told ga task.settings.now.order order c.in-Ok.naming c.in-Ok.ensures.named c.in-Ok.ensures.few)
 
 pub returns-in_default-clause-ends : goal.returns-in_default-clause-ends
 returns-in_default-clause-ends g c = memory_ends
@@ -40,7 +40,7 @@ pub returns-clause-fault : goal.returns-clause-fault
 returns-clause-fault g c = λ told ga.
     let task = c.args.task.now in
     let order = told_order task.settings.now.order c.args.tried in
-    (order, told_allowed task.settings.now.order c.args.tried, accepted task told ga order c.in-Ok.pairing c.in-Ok.ensures.paired)
+    (order, told_allowed task.settings.now.order c.args.tried, accepted task told ga task.settings.now.order order c.in-Ok.naming c.in-Ok.ensures.named c.in-Ok.ensures.few)
 
 pub returns-clause-ends : goal.returns-clause-ends
 returns-clause-ends g c = memory_ends
@@ -51,7 +51,7 @@ pub explanations-requires-clause-inside : goal.explanations-requires-clause-insi
 explanations-requires-clause-inside g c =
     let task = c.args.task.now in
     subst (λ ss. All (IsInside (circuit task.first.now) (circuit task.second.now)) ss) (sym (c.as_slice.ensures.value ∙ c.in-Ok-subjects_of.ensures))
-    (subjects_inside task.settings.now.matching task.first.now task.second.now (condition task.given) (told_order task.settings.now.order c.args.tried) c.in-Ok.pairing c.inputs.ensures.sound c.inputs-2.ensures.sound c.in-Ok.ensures.paired)
+    (subjects_inside task.settings.now.matching task.first.now task.second.now (condition task.given) (told_order task.settings.now.order c.args.tried) c.in-Ok.naming c.inputs.ensures.sound c.inputs-2.ensures.sound c.in-Ok.ensures.named)
 
 pub returns-in-Ok-explanations-clause-behind : goal.returns-in-Ok-explanations-clause-behind
 returns-in-Ok-explanations-clause-behind g c = λ told ga.
@@ -62,9 +62,9 @@ returns-in-Ok-explanations-clause-behind g c = λ told ga.
       a = task.first.now;
       b = task.second.now;
       c = condition task.given;
-      p = c.in-Ok.pairing;
-      paired = record { netlists = ga; pairing = c.in-Ok.ensures.paired };
-      variables = c.requires.names ∙ sym c.in-Ok.ensures.paired.names;
+      p = c.in-Ok.naming;
+      named = record { netlists = ga; naming = c.in-Ok.ensures.named };
+      variables = c.requires.names ∙ sym c.in-Ok.ensures.named.names;
       known = c.requires.known;
-      explained = subst (λ vs. AreExplained task.first.now task.second.now c.in-Ok.pairing vs task.settings.now.explain.items c.in-Ok-explanations.text.items) c.as_slice-2.ensures c.in-Ok-explanations.ensures;
+      explained = subst (λ vs. AreExplained task.first.now task.second.now c.in-Ok.naming vs task.settings.now.explain.items c.in-Ok-explanations.text.items) c.as_slice-2.ensures c.in-Ok-explanations.ensures;
     })

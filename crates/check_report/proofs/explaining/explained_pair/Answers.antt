@@ -15,9 +15,9 @@ returns-then-is_verdict_on g c =
     let v = c.index-verdicts-place.result in
     let is : find f c.args.verdicts.now ≡ Some v =
     found_here f c.args.verdicts.now c.loop-place.place v c.loop-place-test.true c.index-verdicts-place.is (sym c.is_verdict_on.ensures ∙ c.if-is_verdict_on.true) c.loop-place.invariant in
-    subst (λ o. IfOk c.explained.result (λ text. ExplainsPair c.args.task.now.first.now c.args.task.now.second.now c.args.pairing.now c.args.target.now c.args.subject o text.items)) (sym is) c.explained.ensures
+    subst (λ o. IfOk c.explained.result (λ text. ExplainsPair c.args.task.now.first.now c.args.task.now.second.now c.args.naming.now c.args.target.now c.args.subject o text.items)) (sym is) c.explained.ensures
 
 pub returns : goal.returns
 returns g c =
-    subst (λ o. IfOk c.said.result (λ text. ExplainsPair c.args.task.now.first.now c.args.task.now.second.now c.args.pairing.now c.args.target.now c.args.subject o text.items))
+    subst (λ o. IfOk c.said.result (λ text. ExplainsPair c.args.task.now.first.now c.args.task.now.second.now c.args.naming.now c.args.target.now c.args.subject o text.items))
     (sym (found_nowhere (is_verdict_on c.args.target.now) c.args.verdicts.now c.loop-place.place c.loop-place-test.false c.loop-place.invariant)) c.said.ensures

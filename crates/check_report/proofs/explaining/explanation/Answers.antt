@@ -14,11 +14,11 @@ explained_pair-requires g c =
 pub returns-in-Some : goal.returns-in-Some
 returns-in-Some g c =
     let task = c.args.task.now in
-    subst (λ o. IfOk c.explained_pair.result (λ text. ExplainsTarget task.first.now task.second.now c.args.pairing.now c.args.target.now o (find (is_verdict_on c.args.target.now) c.args.verdicts.now) text.items))
+    subst (λ o. IfOk c.explained_pair.result (λ text. ExplainsTarget task.first.now task.second.now c.args.naming.now c.args.target.now o (find (is_verdict_on c.args.target.now) c.args.verdicts.now) text.items))
     c.in-Some.ensures c.explained_pair.ensures
 
 pub returns-in-None : goal.returns-in-None
 returns-in-None g c =
     let task = c.args.task.now in
-    subst (λ o. IfOk c.said.result (λ text. ExplainsTarget task.first.now task.second.now c.args.pairing.now c.args.target.now o (find (is_verdict_on c.args.target.now) c.args.verdicts.now) text.items))
+    subst (λ o. IfOk c.said.result (λ text. ExplainsTarget task.first.now task.second.now c.args.naming.now c.args.target.now o (find (is_verdict_on c.args.target.now) c.args.verdicts.now) text.items))
     c.in-None.ensures c.said.ensures

@@ -4,4 +4,4 @@ use Rattle.check_report.proofs.explaining.explanations.Given as goal
 
 -- the explanations so far
 abbrev pub invariant-loop-place : goal.invariant-loop-place
-invariant-loop-place g l = AreExplained l.task.first.now l.task.second.now l.pairing l.verdicts (take l.place l.targets) l.text.items
+invariant-loop-place g l = AreExplained l.task.first.now l.task.second.now l.naming l.verdicts (take l.place l.targets) l.text.items

@@ -9,7 +9,7 @@ pub returns-in_err-nets-clause-fault : goal.returns-in_err-nets-clause-fault
 returns-in_err-nets-clause-fault g c =
     let o = some_order c.args.context.now.settings.now.order in
     let e = err_from_is_err_and c.from_residual.result c.from_residual.ensures.1 in
-    rw (e.1, e.2) (o.0, o.1, c.in_err-nets.ensures.fault c.args.context.now.settings.now.matching o.0)
+    rw (e.1, e.2) (o.0, o.1, c.in_err-nets.ensures.fault c.args.context.now.settings.now.order c.args.context.now.settings.now.matching o.0)
 
 pub returns-clause-verdicts : goal.returns-clause-verdicts
 returns-clause-verdicts g c = c.decide.ensures.found _ (given_as _ _ _ _ _ c.as_ref-condition.ensures.value c.in_ok-nets.ensures.read)

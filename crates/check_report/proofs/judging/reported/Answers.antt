@@ -10,7 +10,7 @@ pub returns-in_err-nets-clause-fault : goal.returns-in_err-nets-clause-fault
 returns-in_err-nets-clause-fault g c =
     let o = some_order c.args.context.now.settings.now.order in
     let e = err_from_is_err_and c.from_residual.result c.from_residual.ensures.1 in
-    rw (e.1, e.2) (early_report_fault _ _ _ _ c.args.context.now.settings.now c.in_err-nets.field-0.0 o.0 o.1 (c.in_err-nets.ensures.fault c.args.context.now.settings.now.matching o.0))
+    rw (e.1, e.2) (early_report_fault _ _ _ _ c.args.context.now.settings.now c.in_err-nets.field-0.0 o.0 o.1 (c.in_err-nets.ensures.fault c.args.context.now.settings.now.order c.args.context.now.settings.now.matching o.0))
 
 pub returns-clause-report : goal.returns-clause-report
 returns-clause-report g c = c.task_report.ensures.report _ (given_as _ _ _ _ _ c.as_ref-conditional.ensures.value c.in_ok-nets.ensures.read)

@@ -7,6 +7,7 @@ use Rattle.check_report.specs.Best.{IsGivenUpWithin, order_of}
 use Rattle.check_report.specs.Check.{IsCheckFault}
 use Rattle.check_report.specs.Limits.{AreBeyond}
 use Rattle.check_report.proofs.Printing.{printed}
+use Rattle.check_report.proofs.Trying.{accepted_in}
 use Rattle.check_report.proofs.listing.best_text.Goals as goal
 
 pub returns-in-Ok-text_of-clause-text : goal.returns-in-Ok-text_of-clause-text
@@ -22,7 +23,8 @@ returns-in-Ok-clause-fault g c = λ told ga.
     let j = c.in-Ok.ensures.judged told ga in (
       order_of c.in-Ok.found.order,
       (c.in-Ok.found.order, refl),
-      subst (IsCheckFault told ⊥ ⊥ ⊥ c.args.task.now.settings.now.matching (order_of c.in-Ok.found.order)) (sym c.in-Err-text_of.ensures.fault) (j.a, j.b, j.c, j.p, j.paired),
+      subst (IsCheckFault told ⊥ ⊥ ⊥ c.args.task.now.settings.now.order c.args.task.now.settings.now.matching (order_of c.in-Ok.found.order)) (sym c.in-Err-text_of.ensures.fault)
+          (accepted_in c.args.task.now.settings.now.order told c.args.task.now.settings.now.matching (order_of c.in-Ok.found.order) j.a j.b j.c j.p j.paired),
     )
 
 pub returns-clause-full : goal.returns-clause-full

@@ -7,7 +7,7 @@ invariant_of-task g c = record { one_output = one_output_of _ _ (given_as _ _ _ 
 pub returns-in-Err-clause-fault : goal.returns-in-Err-clause-fault
 returns-in-Err-clause-fault g c =
     let o = some_order c.args.context.now.settings.now.order in
-    (o.0, o.1, c.in-Err.ensures.fault c.args.context.now.settings.now.matching o.0)
+    (o.0, o.1, c.in-Err.ensures.fault c.args.context.now.settings.now.order c.args.context.now.settings.now.matching o.0)
 
 pub returns-clause-text : goal.returns-clause-text
 returns-clause-text g c = c.text_for.ensures.text _ (given_as _ _ _ _ _ c.as_ref-condition.ensures.value c.in-Ok.ensures.read)

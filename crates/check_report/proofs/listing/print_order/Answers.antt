@@ -3,6 +3,7 @@ use Rattle.std.specs.Io.KnownBytes.{Appends}
 use Rattle.report_text.specs.Writing.{AppendsFront}
 use Rattle.check_report.specs.declared.fault.CheckFault.TheVariants.{GivenUp}
 use Rattle.check_report.proofs.Printing.{found_allowed}
+use Rattle.check_report.proofs.Trying.{accepted_in}
 use Rattle.check_report.proofs.listing.print_order.Goals as goal
 
 pub returns-in-Ok-write_whole-clause-order : goal.returns-in-Ok-write_whole-clause-order
@@ -13,7 +14,7 @@ returns-in-Ok-write_whole-clause-order g c =
 pub returns-clause-fault : goal.returns-clause-fault
 returns-clause-fault g c =
     let w = c.in-Ok.ensures.text in
-    (w.0, found_allowed _ _ _ _ c.in-Ok.tried w.0 w.2, (w.1.a, w.1.b, w.1.c, w.1.p, w.1.paired))
+    (w.0, found_allowed _ _ _ _ c.in-Ok.tried w.0 w.2, accepted_in _ _ _ w.0 w.1.a w.1.b w.1.c w.1.p w.1.paired)
 
 pub returns-clause-unwritten : goal.returns-clause-unwritten
 returns-clause-unwritten g c = λ _.

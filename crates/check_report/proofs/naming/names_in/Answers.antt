@@ -12,8 +12,8 @@ use Rattle.check_report.proofs.naming.names_in.Goals as goal
 pub loop-place-preserved : goal.loop-place-preserved
 loop-place-preserved c =
     let vs = variables_of (circuit c.args.net.now) in
-    let levels = levels_in c.args.part c.args.pairing.now in
-    let f : ℕ → List ℕ = λ s. get_or c.args.pairing.now.names (slice_index levels s) [] in
+    let levels = levels_in c.args.part c.args.naming.now in
+    let f : ℕ → List ℕ = λ s. get_or c.args.naming.now.names (slice_index levels s) [] in
     let here = c.loop-place.place in
     let s = c.index-variables-place.result in
     let value = c.variables-variables.ensures.value in
@@ -22,7 +22,7 @@ loop-place-preserved c =
     let inside : s < length c.args.net.now.names = subst (λ k. k < length c.args.net.now.names) at (c.variables-variables.ensures.sound.variables here s lt) in
     let low : s < length c.loop-place.names.items = subst (λ n. s < n) (sym c.loop-place.invariant.each) inside in
     let named : get_or c.names.result.now c.level_in-level.result [] ≡ c.at.result.now = get_or_from_slice_get c.names.result.now c.level_in-level.result c.at.result.now [] c.at.ensures in
-    let is : c.in_ok-names-2.field-0.items ≡ f s = c.in_ok-names-2.ensures.items ∙ sym named ∙ ap (λ (ns : List (List ℕ)). get_or ns c.level_in-level.result []) c.names.ensures.value ∙ ap (λ k. get_or c.args.pairing.now.names k []) c.level_in-level.ensures in
+    let is : c.in_ok-names-2.field-0.items ≡ f s = c.in_ok-names-2.ensures.items ∙ sym named ∙ ap (λ (ns : List (List ℕ)). get_or ns c.level_in-level.result []) c.names.ensures ∙ ap (λ k. get_or c.args.naming.now.names k []) c.level_in-level.ensures in
     record {
       each = length-set c.loop-place.names.items c.number.result c.in_ok-names-2.field-0 ∙ c.loop-place.invariant.each;
       named = subst (λ k. All (λ t. get_or (texts (set c.loop-place.names.items k c.in_ok-names-2.field-0)) t [] ≡ f t) (take (here + 1) vs)) (sym c.number.ensures)
@@ -36,5 +36,5 @@ returns c =
     let past = subst (λ (xs : List ℕ). length xs ≤ c.loop-place.place) c.variables-variables.ensures.value c.loop-place-test.false in
     record {
       each = length-map names (λ (w : Vec ℕ Global). w.items) ∙ c.loop-place.invariant.each;
-      variables = subst (λ xs. All (λ t. get_or (texts names) t [] ≡ get_or c.args.pairing.now.names (slice_index (levels_in c.args.part c.args.pairing.now) t) []) xs) (take_all c.loop-place.place vs past) c.loop-place.invariant.named;
+      variables = subst (λ xs. All (λ t. get_or (texts names) t [] ≡ get_or c.args.naming.now.names (slice_index (levels_in c.args.part c.args.naming.now) t) []) xs) (take_all c.loop-place.place vs past) c.loop-place.invariant.named;
     }

@@ -7,5 +7,5 @@ use Rattle.check_report.proofs.naming.names_in.Given as goal
 abbrev pub invariant-loop-place : goal.invariant-loop-place
 invariant-loop-place l = record {
   each : length l.names.items ≡ length l.net.names;
-  named : All (λ s. get_or (texts l.names.items) s [] ≡ get_or l.pairing.names (slice_index (levels_in l.part l.pairing) s) []) (take l.place (variables_of (circuit l.net)));
+  named : All (λ s. get_or (texts l.names.items) s [] ≡ get_or l.naming.names (slice_index (levels_in l.part l.naming) s) []) (take l.place (variables_of (circuit l.net)));
 }

@@ -10,7 +10,7 @@ use Rattle.check_report.proofs.picking.named.Goals as goal
 pub returns : goal.returns
 returns g c =
     let a = circuit c.args.task.now.first.now in
-    let p = c.args.pairing.now in
+    let p = c.args.naming.now in
     picked_named a (circuit c.args.task.now.second.now) p c.args.pairs.items c.in_ok-subjects.subjects.items c.in_ok-lone.lone.items c.requires.all c.args.names.now c.requires.named
     (c.in_ok-subjects.ensures ∙ ap (λ (ns : List (List ℕ)). filter (is_pair_of a ns) c.as_slice-2.result.now) c.as_slice.ensures.value ∙ ap (filter (is_pair_of a c.args.names.now.items)) c.as_slice-2.ensures.value)
     (c.in_ok-lone.ensures ∙ ap (λ (ns : List (List ℕ)). filter (is_lone_of ns) (lone_side First a p.outputs.only_first p.registers.only_first)) c.as_slice-3.ensures.value)

@@ -10,18 +10,18 @@ pub add_lone-requires : goal.add_lone-requires
 add_lone-requires c =
     let p = is_one_of (circuit c.args.net.now) c.args.names.now in
     subst (All (λ s. s < length c.args.net.now.names)) (sym (c.as_slice.ensures.value ∙ c.in_ok-outputs.ensures ∙ ap (filter p) c.only_first.ensures))
-    (All-filter p (λ s. s < length c.args.net.now.names) c.args.pairing.now.outputs.only_first c.requires.outputs)
+    (All-filter p (λ s. s < length c.args.net.now.names) c.args.naming.now.outputs.only_first c.requires.outputs)
 
 pub add_lone-requires-2 : goal.add_lone-requires-2
 add_lone-requires-2 c =
     let p = is_one_of (circuit c.args.net.now) c.args.names.now in
     subst (All (λ s. s < length c.args.net.now.names)) (sym (c.as_slice-2.ensures.value ∙ c.in_ok-registers.ensures ∙ ap (filter p) c.only_first_next.ensures))
-    (All-filter p (λ s. s < length c.args.net.now.names) c.args.pairing.now.registers.only_first c.requires.registers)
+    (All-filter p (λ s. s < length c.args.net.now.names) c.args.naming.now.registers.only_first c.requires.registers)
 
 pub returns : goal.returns
 returns c =
     let p = is_one_of (circuit c.args.net.now) c.args.names.now in
-    lone_named (circuit c.args.net.now) c.args.names.now c.args.pairing.now.outputs.only_first c.args.pairing.now.registers.only_first c.as_slice.result.now c.as_slice-2.result.now
+    lone_named (circuit c.args.net.now) c.args.names.now c.args.naming.now.outputs.only_first c.args.naming.now.registers.only_first c.as_slice.result.now c.as_slice-2.result.now
     c.new-lone.result.items c.add_lone.new.verdicts.items c.add_lone-2.new.verdicts.items
     (c.as_slice.ensures.value ∙ c.in_ok-outputs.ensures ∙ ap (filter p) c.only_first.ensures) (c.as_slice-2.ensures.value ∙ c.in_ok-registers.ensures ∙ ap (filter p) c.only_first_next.ensures)
     c.new-lone.ensures.items c.in_ok-add_lone.ensures c.in_ok-add_lone-2.ensures

@@ -18,7 +18,7 @@ returns g c =
     let a = circuit c.args.task.now.first.now in
     let b = circuit c.args.task.now.second.now in
     let share = c.args.share in
-    picked_shared a b c.args.pairing.now c.args.pairs.items c.in_ok-subjects.subjects.items c.in_ok-lone.lone.items c.requires.all share c.in_ok-shares.shares.items
+    picked_shared a b c.args.naming.now c.args.pairs.items c.in_ok-subjects.subjects.items c.in_ok-lone.lone.items c.requires.all share c.in_ok-shares.shares.items
     (subst (λ (ss : List Subject). AreShares a b ss share.of c.in_ok-shares.shares.items) c.as_slice.ensures.value c.in_ok-shares.ensures)
     (c.in_ok-subjects.ensures ∙ ap (λ (ss : List Subject). of_share share.number (zip ss c.as_slice-2.result.now)) c.as_slice-3.ensures.value ∙
     ap (λ (ks : List ℕ). of_share share.number (zip c.args.pairs.items ks)) c.as_slice-2.ensures.value)

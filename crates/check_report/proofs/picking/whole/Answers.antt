@@ -4,4 +4,4 @@ use Rattle.check_report.proofs.picking.whole.Goals as goal
 
 pub returns : goal.returns
 returns g c =
-    picked_whole (circuit c.args.task.now.first.now) (circuit c.args.task.now.second.now) c.args.pairing.now c.args.pairs.items c.args.pairs.items c.in_ok-lone.lone.items c.requires.all c.in_ok-lone.ensures
+    picked_whole (circuit c.args.task.now.first.now) (circuit c.args.task.now.second.now) c.args.naming.now c.args.pairs.items c.args.pairs.items c.in_ok-lone.lone.items c.requires.all c.in_ok-lone.ensures

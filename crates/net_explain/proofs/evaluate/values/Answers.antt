@@ -8,9 +8,9 @@ use Rattle.net_explain.proofs.evaluate.values.Goals as goal
 
 pub returns-clause-labelling : goal.returns-clause-labelling
 returns-clause-labelling c =
-    subst (IsLabelling (circuit c.args.net.now) (level_in c.args.pairing.now c.args.which) c.args.at.now)
+    subst (IsLabelling (circuit c.args.net.now) (level_in c.args.naming.now c.args.which) c.args.at.now)
     (sym (written c.in_ok-bits.bits.len c.set_signals.new.bits c.in_ok-bits.bits.items (c.set_signals.auto.bits ∙ c.as_mut_slice.ensures.len))) c.set_signals.ensures
 
 pub returns-clause-functions : goal.returns-clause-functions
 returns-clause-functions c =
-    function_value c.args.net.now c.rows_of.ensures.sound (level_in c.args.pairing.now c.args.which) c.args.at.now _ (returns-clause-labelling c)
+    function_value c.args.net.now c.rows_of.ensures.sound (level_in c.args.naming.now c.args.which) c.args.at.now _ (returns-clause-labelling c)

@@ -1,10 +1,7 @@
-use Rattle.std.proofs.Common.{◌≡◌, ◌≤◌, length, drop}
+use Rattle.std.proofs.Common.{◌≡◌, drop}
 use Rattle.net_order.specs.Order.{names_of_sides}
 use Rattle.net_order.specs.Tables.{listed_of, with_names}
 use Rattle.net_order.proofs.variables.add_sides.Given as goal
 
 abbrev pub invariant-loop-i : goal.invariant-loop-i
-invariant-loop-i l = record {
-  few : length l.table ≤ 4096;
-  rest : with_names l.table (names_of_sides (listed_of l.listing) (drop l.i l.sides)) ≡ with_names l.initial.table (names_of_sides (listed_of l.listing) l.sides);
-}
+invariant-loop-i l = with_names l.table (names_of_sides (listed_of l.listing) (drop l.i l.sides)) ≡ with_names l.initial.table (names_of_sides (listed_of l.listing) l.sides)

@@ -1,0 +1,30 @@
+-- Namings and pairings of a task's netlists: why there is none, and how many variables there are.
+use Rattle.std.proofs.Common.{◌≡◌, ◌≢◌, ◌⊎◌, ◌<◌, inl, inr, sym, ◌∙◌, subst, length, Option, Result, Ok, Err}
+use Rattle.std.specs.Prelude.{IfOk}
+use Rattle.net_bench.specs.Circuit.{Circuit}
+use Rattle.net_order.specs.declared.order.Match.{Match}
+use Rattle.net_order.specs.declared.order.Order.{Order}
+use Rattle.net_order.specs.declared.order.OrderFault.{OrderFault}
+use Rattle.net_order.specs.declared.order.OrderFault.TheVariants.{CountsDiffer, OutOfMemory, TooManyInputs}
+use Rattle.net_order.specs.Order.{AreCounted, IsRefused, max_variables, variables_in}
+
+module _ (f : OrderFault) (how : Match) (a b : Circuit) (given : Option Circuit) (order : Order) where
+  -- a pairing is refused for its variables only where they are too many
+  pub many_refused : (f ≡ OutOfMemory) ⊎ IsRefused how a b given order f → f ≡ TooManyInputs → max_variables < length (variables_in how a b given)
+  many_refused (inl e) is = let never : OutOfMemory ≡ TooManyInputs = sym e ∙ is in cc
+  many_refused (inr r) is = (subst (IsRefused how a b given order) is r).1
+
+  -- a naming is refused as a pairing is
+  pub naming_refused : (f ≡ OutOfMemory) ⊎ ((f ≡ CountsDiffer) × (AreCounted how a b → ⊥)) → (f ≡ OutOfMemory) ⊎ IsRefused how a b given order f
+  naming_refused (inl e) = inl e
+  naming_refused (inr (e, apart)) = inr (subst (IsRefused how a b given order) (sym e) apart)
+
+  -- and not for its variables
+  pub naming_whole : (f ≡ OutOfMemory) ⊎ ((f ≡ CountsDiffer) × (AreCounted how a b → ⊥)) → f ≢ TooManyInputs
+  naming_whole (inl e) is = let never : OutOfMemory ≡ TooManyInputs = sym e ∙ is in cc
+  naming_whole (inr (e, apart)) is = let never : CountsDiffer ≡ TooManyInputs = sym e ∙ is in cc
+
+-- what holds anyway holds of an answer
+pub whatever : {A E : Type 0} (P : Type 0) (r : Result A E) → P → IfOk r (λ _. P)
+whatever P (Ok v) h = h
+whatever P (Err e) h = tt
