@@ -33,3 +33,4 @@ pub mod Picks
 pub mod Shares
 pub mod Explanations
 pub mod Differences
+pub mod Leading
