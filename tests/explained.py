@@ -1,9 +1,10 @@
 #!/usr/bin/env python3
-"""What --explain says of random netlists and copies of them with a gate or two changed, against values that are computed here.
+"""What --explain and --causes say of random netlists and copies of them with a gate or two changed, against values that are computed here.
 
 usage: tests/explained.py PROGRAM [--seed N]
 """
 import argparse
+import json
 import random
 import re
 import sys
@@ -81,13 +82,18 @@ def changed(rng, net):
     return Net([*net.inputs, "more"] if rng.random() < 0.5 else net.inputs, net.outputs, net.registers, renamed)
 
 
-def explanation(first, second, label, root, partner, at):
-    """The lines that explain the pair of these signals at an assignment."""
+def inner(first, second, root, partner, at):
+    """The inner signals of the pair of these signals that differ at an assignment, by rank."""
     seen, other = first.values(at), second.values(at)
     below, below_other = first.below(root), second.below(partner)
     shared = [name for name in first.gates if name in below and name in second.gates and name in below_other]
-    differing = [name for name in shared if seen[name] != other[name] and not (name == root and name == partner)]
-    differing.sort(key=first.rank)
+    return sorted((name for name in shared if seen[name] != other[name] and not (name == root and name == partner)), key=first.rank)
+
+
+def explanation(first, second, label, root, partner, at):
+    """The lines that explain the pair of these signals at an assignment."""
+    seen, other = first.values(at), second.values(at)
+    differing = inner(first, second, root, partner, at)
     told = [f"EXPLAIN {label} inner signals that differ: {len(differing)}"]
     told += [f"  {name} first={seen[name]} second={other[name]} line {first.line_of(name)} line {second.line_of(name)}" for name in differing]
     if differing:
@@ -100,16 +106,37 @@ def explanation(first, second, label, root, partner, at):
     return told
 
 
-def wanted(first, second, label, report):
-    """What stands behind the report for this pair, by its line there."""
-    kind = next(line for line in report if re.sub(r"^[A-Z]+ ", "", line).split(" at ")[0] == label)
-    if kind.startswith("EQUAL"):
-        return [f"EXPLAIN {label}: equal"]
-    bits = dict(word.split("=") for word in kind.split(" at ")[1].split())
+def label_of(line):
+    """What a line of a report is on."""
+    return re.sub(r"^[A-Z]+ ", "", line).split(" at ")[0]
+
+
+def difference(first, second, line):
+    """The two signals that differ by a line of a report, and the assignment there."""
+    label = label_of(line)
+    bits = dict(word.split("=") for word in line.split(" at ")[1].split())
     at = {name: int(bit) for name, bit in bits.items() if name not in ("first", "second")}
     name = label.removeprefix("NEXT ")
-    roots = [net.registers[name] if label != name else name for net in (first, second)]
-    return explanation(first, second, label, *roots, at)
+    return *(net.registers[name] if label != name else name for net in (first, second)), at
+
+
+def wanted(first, second, label, report):
+    """What stands behind the report for this pair, by its line there."""
+    line = next(line for line in report if label_of(line) == label)
+    if line.startswith("EQUAL"):
+        return [f"EXPLAIN {label}: equal"]
+    return explanation(first, second, label, *difference(first, second, line))
+
+
+def causes(first, second, report):
+    """The first inner signals of the pairs that differ, each with its lines and its pairs."""
+    pairs = {}
+    for line in report:
+        low = inner(first, second, *difference(first, second, line))[:1] if line.startswith("DIFFER") else []
+        name = label_of(line).removeprefix("NEXT ")
+        for signal in low:
+            pairs.setdefault(signal, []).append({"of": "output" if name == label_of(line) else "next state", "name": name})
+    return [{"signal": name, "lines": [first.line_of(name), second.line_of(name)], "pairs": found} for name, found in pairs.items()]
 
 
 def main():
@@ -118,7 +145,7 @@ def main():
     parser.add_argument("--seed", default="1")
     given = parser.parse_args()
     rng, tally = random.Random(given.seed), Tally("explained")
-    differing = 0
+    differing = several = shared = 0
     with kit.folder() as place:
         for turn in range(500):
             first = random_net(rng)
@@ -133,7 +160,14 @@ def main():
             behind = [line for label in asked for line in wanted(first, second, label, report)]
             differing += sum("first=" in line for line in behind)
             tally.same(f"seed {given.seed}, turn {turn}, {words}, {asked}", seen, plain.status, plain.out + lines(*behind), b"")
+            found = causes(first, second, report)
+            several, shared = several + (len(found) > 1), shared + any(len(cause["pairs"]) > 1 for cause in found)
+            plain = run([given.program, "--format", "json", *words, *paths])
+            seen = run([given.program, "--format", "json", "--causes", *words, *paths])
+            told = f',"causes":{json.dumps(found, separators=(",", ":"))}}}\n'.encode()
+            tally.same(f"seed {given.seed}, turn {turn}, {words}, causes", seen, plain.status, plain.out[:-2] + told, b"")
     tally.check("inner signals differ in many of them", differing > 100, differing)
+    tally.check("many have several causes, and many a cause of several pairs", several > 20 and shared > 20, (several, shared))
     tally.end()
     sys.exit(tally.failed > 0)
 

@@ -110,6 +110,7 @@ def joined_json(tally):
         "counts": told(2, 2, verdict("EQUAL", "x"), different=1),
         "no share": two.replace(b',"share":[2,2]', b""),
         "an unknown verdict": told(2, 2, verdict("SAME", "x"), equal=1),
+        "causes": two.replace(b',"share"', b',"causes":[],"share"'),
         "a member twice": two.replace(b'"equal":1', b'"equal":1,"equal":1'),
         "lines": X,
         "broken": two[:-3],

@@ -149,12 +149,27 @@ def try_pair(program, words, schema, tally):
     tally.check(name, right and is_line and in_order and (report["match"], report["order"]) == settings_of(words), f"{seen}; {by_lines}")
 
 
+def try_causes(program, words, schema, tally):
+    """That causes are told behind all else, of pairs that differ, each once."""
+    plain = run([program, "--format", "json", *words])
+    seen = run([program, "--format", "json", "--causes", *words])
+    report = json.loads(seen.out, object_pairs_hook=members_once)
+    has_form = fits(report, schema, schema) and list(report)[-1] == "causes"
+    told = [pair for cause in report.pop("causes") for pair in cause["pairs"]]
+    differing = [{"of": one["of"], "name": one["name"]} for one in report["verdicts"] if one["verdict"] == "DIFFER"]
+    is_same = (seen.status, report, seen.err) == (plain.status, json.loads(plain.out), plain.err)
+    are_differing = all(told.count(pair) == 1 and pair in differing for pair in told)
+    tally.check(f"causes {' '.join(map(str, words))}", has_form and is_same and are_differing, f"{seen}; {plain}")
+
+
 def main():
     program, tally = sys.argv[1], Tally("objects")
     schema = json.loads((TOP / "docs" / "report.schema.json").read_text())
     with kit.folder() as place:
         for words in pairs(place):
             try_pair(program, words, schema, tally)
+            if "--share" not in words:
+                try_causes(program, words, schema, tally)
         refused = run([program, "--format", "json", place, place])
         tally.check("a fault is a line", refused == kit.Run(2, b"", b"bddcheck: first: cannot be read\n"), refused)
         text = run([program, "--format", "text", written(place, "c17", C17), written(place, "c17b", C17B)])

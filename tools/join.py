@@ -133,7 +133,7 @@ def share_by_json(path, text):
         ]
         counts = {name: int(told.get(name, 0) if name == "undecided" else told[name]) for name in COUNTS}
         settings = {name: told[name] for name in SETTINGS if name in told}
-        unknown = {one.kind for one in verdicts} - set(KINDS)
+        unknown = {one.kind for one in verdicts} - set(KINDS) or set(told) - {*SETTINGS, *COUNTS, "verdicts", "share"}
         if unknown or not {"match", "order", "variables"} <= set(settings):
             raise ValueError("no report")
         return Share(path, int(number), int(of), verdicts, counts, json.dumps(settings), settings)

@@ -14,7 +14,7 @@ _bddcheck() {
     --order-file | --given | --vcd) mapfile -t COMPREPLY < <(compgen -f -- "$word") ;;
     *)
         case $word in
-        -*) mapfile -t COMPREPLY < <(compgen -W '--match --order --order-file --extend --given --only --share --explain --vcd --workers --limit --memory --sizes --print-order --format --assignment --verbose --help --version' -- "$word") ;;
+        -*) mapfile -t COMPREPLY < <(compgen -W '--match --order --order-file --extend --given --only --share --explain --vcd --workers --limit --memory --sizes --print-order --format --assignment --causes --verbose --help --version' -- "$word") ;;
         *) mapfile -t COMPREPLY < <(compgen -f -- "$word") ;;
         esac
         ;;

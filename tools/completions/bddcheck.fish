@@ -14,6 +14,7 @@ complete -c bddcheck -l memory -x -a '1G 2G 4G 8G 16G' -d 'The memory that auto 
 complete -c bddcheck -l sizes -d 'Print the nodes of each compared diagram'
 complete -c bddcheck -l print-order -d 'Print the variables in their order, and compare nothing'
 complete -c bddcheck -l assignment -x -a 'all support ones' -d 'Tell all variables of an assignment, those that count, or those that are 1'
+complete -c bddcheck -l causes -d 'As JSON, tell the first inner signals that differ, each with its pairs'
 complete -c bddcheck -l verbose -d 'Tell how far the building is, what has decided, how many pairs are undecided, and what helps against a fault'
 complete -c bddcheck -s h -l help -d 'Print a summary'
 complete -c bddcheck -s V -l version -d 'Print the version'

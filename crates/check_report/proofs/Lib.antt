@@ -34,3 +34,4 @@ pub mod Shares
 pub mod Explanations
 pub mod Differences
 pub mod Namings
+pub mod Leading

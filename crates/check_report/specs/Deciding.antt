@@ -6,6 +6,7 @@ use Rattle.net_order.specs.declared.order.Order.TheVariants as orders
 use Rattle.net_order.specs.Order.{Paired}
 use Rattle.report_text.specs.declared.outcome.Outcome.{Outcome}
 use Rattle.report_text.specs.declared.verdict.Verdict.{Verdict}
+use Rattle.report_text.specs.Causes.{Caused}
 use Rattle.report_text.specs.Json.{form_text}
 use Rattle.report_text.specs.Lines.{Found, counted}
 use Rattle.check_report.specs.declared.choice.Attempt.{Attempt}
@@ -17,6 +18,7 @@ use Rattle.check_report.specs.declared.settings.Settings.{Settings}
 use Rattle.check_report.specs.declared.subject.Subject.{Subject}
 use Rattle.check_report.specs.Asking.{asked_in, unsized}
 use Rattle.check_report.specs.Best.{IsBudget, IsChosen, IsGivenUpWithin, order_of, told_kind, whole_limit}
+use Rattle.check_report.specs.Causing.{AreCauses}
 use Rattle.check_report.specs.Check.{Gives, HaveMany, HaveNaming, IsJudged}
 use Rattle.check_report.specs.Cones.{AreTold, FitByCones, IsLeft, cone_limit}
 use Rattle.check_report.specs.Devices.{Told}
@@ -48,15 +50,17 @@ pub data IsFoundBy (told : Told) (s : Settings) (bound : Option ℕ) (found : Fo
   in_order : {tried : Option Attempt} (order : Order) → IsJudged told s.matching order (asked_in s) found → IsChosen told s.matching s.order s.limit tried order → IsFoundBy told s bound found tried
   by_cones : HasCause told s bound s.order → IsJudgedByCones told s bound found → IsFoundBy told s bound found None
 
--- The bytes are the report of what the devices gave, by these settings, with these counts, and behind it the explanations that they ask for;
--- this attempt is told with it.
+-- The bytes are the report of what the devices gave, by these settings, with these counts and the causes that they ask for, and behind it the
+-- explanations that they ask for; this attempt is told with it.
 pub record IsReportBy (told : Told) (s : Settings) (bound : Option ℕ) (tried : Option Attempt) (o : Outcome) (bytes : List ℕ) : Type 0 where
   pub found : Found
   pub by : IsFoundBy told s bound found tried
   pub counts : o ≡ counted found.verdicts
+  pub causes : Option (List Caused)
+  pub caused : AreCauses s.causes told s tried found causes
   pub explanations : List ℕ
   pub explained : IsBehind s.explain.items told s tried found explanations
-  pub text : bytes ≡ form_text s.json s.assignment s.matching (told_kind s.order tried) (is_some told.given) (share_of s.picked) found ++ explanations
+  pub text : bytes ≡ form_text s.json s.assignment s.matching (told_kind s.order tried) (is_some told.given) (share_of s.picked) causes found ++ explanations
 
 -- One of the names that are picked is no output and no register of the first netlist that the devices gave.
 abbrev pub IsUnknown : Told → Picked → Type 0

@@ -14,6 +14,7 @@ pub mod Coning
 pub mod Hands
 pub mod Picking
 pub mod Explaining
+pub mod Causing
 pub mod Deciding
 pub mod Dumping
 pub mod Texts

@@ -1,9 +1,10 @@
 //! The report of two netlists that were read, with what explains pairs behind it, and the VCD of the first pair that differs.
-ghost use Rattle.std.specs.Prelude.{◌≡◌, ◌≢◌, ◌++◌, ◌<◌, ◌-◌, ◌^◌, ℕ, List, IfOk, IfErr, IfSome, IsSomeAnd, Err, is_some};
+ghost use Rattle.std.specs.Prelude.{◌≡◌, ◌≢◌, ◌++◌, ◌<◌, ◌-◌, ◌^◌, ℕ, List, Option, IfOk, IfErr, IfSome, IsSomeAnd, Err, is_some};
 ghost use Rattle.expand_work.specs.Bounds.{most_of};
 ghost use Rattle.net_bench.specs.Circuit.{circuit};
 ghost use Rattle.net_order.specs.declared.order.Order.{Order as OrderValue};
 ghost use Rattle.check_report.specs.Best.{AreGivenUp, AreTried, IsAllowed, IsGivenUpWithin, MayGoByCones, NamesOrder, last_budget, told_kind};
+ghost use Rattle.check_report.specs.Causing.{AreCauses};
 ghost use Rattle.check_report.specs.Check.{AreAccepted, IsCheckFault};
 ghost use Rattle.check_report.specs.Deciding.{IsUnknown};
 ghost use Rattle.check_report.specs.Dumping.{IsReportWithVcd, bytes_in};
@@ -13,8 +14,10 @@ ghost use Rattle.check_report.specs.Picking.{share_of};
 ghost use Rattle.check_report.specs.Tasks.{OfTask};
 ghost use Rattle.check_report.specs.Trials.{EndsAtOnce, ordered_names};
 ghost use Rattle.check_report.specs.Widths.{AreTooWide};
+ghost use Rattle.report_text.specs.Causes.{Caused};
 ghost use Rattle.report_text.specs.Json.{form_text};
 
+use crate::causing::{causes, listed};
 use crate::choice::Attempt;
 use crate::deciding::decide;
 use crate::dumping::dump;
@@ -36,7 +39,7 @@ pub(crate) struct Texts {
     pub(crate) vcd: Option<Vec<u8>>,
 }
 
-/// The bytes of a report, and behind them what explains the pairs that are asked for.
+/// The bytes of a report, with the causes that it tells, and behind them what explains the pairs that are asked for.
 fn whole_text<H>(
     task: &Task<'_, H>,
     tried: Option<Attempt>,
@@ -45,14 +48,20 @@ fn whole_text<H>(
     requires names { verdicts.now.variables ≡ ordered_names task.now (told_order task.now.settings.now.order tried) }
     requires known { AreTargetsIn (circuit task.now.first.now) task.now.settings.now.explain.items }
     requires accepted { OfTask task.now (λ told s. (order : OrderValue) × IsAllowed s.order order × AreAccepted told s.order s.matching order) }
-    ensures text { OfTask task.now (λ told s. IfOk result (λ text. (explanations : List ℕ) × IsBehind s.explain.items told s tried verdicts.now explanations
-        × (text.items ≡ form_text s.json s.assignment s.matching (told_kind s.order tried) (is_some told.given) (share_of s.picked) verdicts.now ++ explanations))) }
+    ensures text { OfTask task.now (λ told s. IfOk result (λ text. (causes : Option (List Caused)) × AreCauses s.causes told s tried verdicts.now causes
+        × (explanations : List ℕ) × IsBehind s.explain.items told s tried verdicts.now explanations
+        × (text.items ≡ form_text s.json s.assignment s.matching (told_kind s.order tried) (is_some told.given) (share_of s.picked) causes verdicts.now ++ explanations))) }
     ensures fault { OfTask task.now (λ told s. IfErr result (λ fault. (order : OrderValue) × IsAllowed s.order order × IsCheckFault told ⊥ ⊥ ⊥ s.order s.matching order fault)) }
     ensures ends { IfErr result EndsAtOnce }
     ensures whole { MayGoByCones task.now.settings.now.order → result ≢ Err (CheckFault.Order OrderFault.TooManyInputs) }
 {
     let given = task.given.is_some();
-    let Ok(mut text) = text_of(task.alloc, task.settings, tried, given, verdicts) else {
+    let causes = match causes(task, tried, verdicts) {
+        Ok(causes) => causes,
+        Err(fault) => return Err(fault),
+    };
+    let list = listed(&causes);
+    let Ok(mut text) = text_of(task.alloc, task.settings, tried, given, list, verdicts) else {
         return Err(CheckFault::OutOfMemory);
     };
     let explanations = match behind(task, tried, verdicts) {

@@ -170,7 +170,7 @@ fn explained_pair<H>(
 }
 
 /// The pair that is asked for, where there is one.
-fn subject_of(net: &Netlist, target: &Target, subjects: &[Subject]) -> Option<Subject>
+pub(crate) fn subject_of(net: &Netlist, target: &Target, subjects: &[Subject]) -> Option<Subject>
     requires { All (λ subject. subject.named < length net.now.names) subjects.now }
     ensures { result ≡ find (is_subject_of (circuit net.now) target.now) subjects.now }
 {

@@ -19,6 +19,7 @@
 mod arranging;
 mod attempts;
 mod bounded;
+mod causing;
 mod checking;
 mod choice;
 mod compare;
@@ -60,8 +61,8 @@ pub use judging::{check, judge};
 pub use listing::print_order;
 pub use picked::Picked;
 pub use report_text::{
-    Assignment, Bits, Heading, Name, Outcome, PairKind, Share, Side, Verdict, Verdicts, json_of,
-    report_of, write_whole,
+    Assignment, Bits, Cause, Heading, Name, Outcome, PairKind, PairName, Share, Side, Verdict,
+    Verdicts, json_of, report_of, write_whole,
 };
 pub use settings::Settings;
 pub use target::Target;

@@ -1,23 +1,25 @@
 //! What a comparison found as the bytes of a report, in the form that is asked for.
-ghost use Rattle.std.specs.Prelude.{◌≡◌, IfOk};
+ghost use Rattle.std.specs.Prelude.{◌≡◌, IfOk, option_map};
 ghost use Rattle.check_report.specs.Best.{told_kind};
 ghost use Rattle.check_report.specs.Picking.{share_of};
 ghost use Rattle.report_text.specs.Json.{form_text};
 
 use crate::choice::Attempt;
 use crate::settings::Settings;
-use report_text::{Heading, Verdicts, json_of, report_of};
+use report_text::{Cause, Heading, Verdicts, json_of, report_of};
 use std::alloc::{AllocError, Global};
 
-/// The report in the form that the settings ask for.
+/// The report in the form that the settings ask for, which may tell causes.
 pub(crate) fn text_of(
     alloc: Global,
     settings: &Settings,
     tried: Option<Attempt>,
     given: bool,
+    causes: Option<&[Cause]>,
     verdicts: &Verdicts,
 ) -> Result<Vec<u8>, AllocError>
-    ensures { IfOk result (λ text. text.items ≡ form_text settings.now.json settings.now.assignment settings.now.matching (told_kind settings.now.order tried) given (share_of settings.now.picked) verdicts.now) }
+    ensures { IfOk result (λ text. text.items ≡ form_text settings.now.json settings.now.assignment settings.now.matching (told_kind settings.now.order tried) given
+        (share_of settings.now.picked) (option_map (λ c. c.now) causes.entry) verdicts.now) }
 {
     let share = settings.picked.share();
     if settings.json {
@@ -27,7 +29,7 @@ pub(crate) fn text_of(
             given,
             share,
         };
-        json_of(alloc, &heading, settings.assignment, verdicts)
+        json_of(alloc, &heading, settings.assignment, causes, verdicts)
     } else {
         report_of(alloc, settings.assignment, share, verdicts)
     }

@@ -31,6 +31,8 @@ pub struct Settings {
     pub assignment: Option<Assignment>,
     /// Whether the values of the first pair that differs are wanted as a VCD.
     pub vcd: bool,
+    /// Whether a report as JSON tells the causes: the first inner signals that differ, each with the pairs that share it.
+    pub causes: bool,
     ghost some_workers: { 1 ≤ workers },
     ghost few_workers: { workers ≤ 16 },
     ghost some_nodes: { 1 ≤ limit },

@@ -229,6 +229,7 @@ pub record AreSettings (o : Options) (choice : Choice) (picked : Picked) (s : Se
   pub explain : AreTargetsOf o.explain.items s.explain.items
   pub assignment : s.assignment ≡ o.assignment
   pub vcd : s.vcd ≡ is_some o.vcd
+  pub causes : s.causes ≡ o.causes
 
 -- The bytes are what the options ask for of these two texts, and the condition's, by these settings: the report in the form that they ask for, with its counts and the
 -- VCD of the first pair that differs, or the order itself. The nodes that are needed in the order of a report are within the limit of the options.

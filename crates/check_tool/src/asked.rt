@@ -116,5 +116,6 @@ pub(crate) fn settings_of(
         explain,
         assignment: options.assignment,
         vcd: options.vcd.is_some(),
+        causes: options.causes,
     }
 }

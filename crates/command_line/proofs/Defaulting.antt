@@ -45,6 +45,10 @@ module _ (matching order format assignment : Option ValueParser) where
   unfolding clap_on_literals
   vcd_found = refl
 
+  causes_found : first_of (codes "causes") (matches_of (tool_app matching order format assignment) []) ≡ Some (codes "false")
+  unfolding clap_on_literals
+  causes_found = refl
+
   share_found : share_in (matches_of (tool_app matching order format assignment) []) ≡ None
   unfolding clap_on_literals
   share_found = refl
@@ -167,5 +171,6 @@ defaults o (rows, found, agreed, are) =
       texts = subst (λ w. AreTexts w None o.texts) (ap (first_of (codes "FIRST")) e ∙ first_found m d f g)
           (subst (λ w. AreTexts (first_of (codes "FIRST") rows) w o.texts) (ap (first_of (codes "SECOND")) e ∙ second_found m d f g) are.texts);
       vcd = no_file o.vcd (subst (λ w. IsFile w o.vcd) (ap (first_of (codes "vcd")) e ∙ vcd_found m d f g) are.vcd);
+      causes = are.causes ∙ ap flag_of (ap (first_of (codes "causes")) e ∙ causes_found m d f g);
       explain = no_words o.explain.items (are.explain ∙ ap explained_in e ∙ explain_found m d f g);
     }

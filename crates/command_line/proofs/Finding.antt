@@ -6,7 +6,7 @@ use Rattle.command_line.specs.declared.options.OrderChoice.{OrderChoice}
 use Rattle.command_line.specs.declared.options.OrderChoice.TheVariants.{Auto, Cones}
 use Rattle.command_line.specs.declared.options.Picks.{Picks}
 use Rattle.command_line.specs.declared.options.Picks.TheVariants.{All}
-use Rattle.command_line.specs.Words.{IsChoice, IsOrderWhere, IsOrderIn, IsFoundName, GiveTwoOrders, GiveTwoPicks, GiveFound, GiveFoundWith, GivePicksInOrder, GiveIdleMemory, GiveIdleExtend, GiveExplainBeside, GiveIdleVcd, AreAtOdds, ArePicks, are_picked, flag_of, names_in, share_in, unnamed_order}
+use Rattle.command_line.specs.Words.{IsChoice, IsOrderWhere, IsOrderIn, IsFoundName, GiveTwoOrders, GiveTwoPicks, GiveFound, GiveFoundWith, GivePicksInOrder, GiveIdleMemory, GiveIdleExtend, GiveExplainBeside, GiveIdleVcd, GiveCausesBeside, AreAtOdds, ArePicks, are_picked, flag_of, names_in, share_in, unnamed_order}
 
 -- ---- tests
 
@@ -21,16 +21,17 @@ fails b is test a =
 
 -- nothing is at odds where no test says so
 pub none_at_odds : (rows : List Row) → (GiveTwoOrders rows → ⊥) → (GiveTwoPicks rows → ⊥) → (GiveFoundWith (codes "sizes") rows → ⊥) → (GiveFoundWith (codes "print-order") rows → ⊥)
-    → (GivePicksInOrder rows → ⊥) → (GiveIdleMemory rows → ⊥) → (GiveIdleExtend rows → ⊥) → (GiveExplainBeside rows → ⊥) → (GiveIdleVcd rows → ⊥) → AreAtOdds rows → ⊥
-none_at_odds rows a b c d e f g h i (inl x) = a x
-none_at_odds rows a b c d e f g h i (inr (inl x)) = b x
-none_at_odds rows a b c d e f g h i (inr (inr (inl x))) = c x
-none_at_odds rows a b c d e f g h i (inr (inr (inr (inl x)))) = d x
-none_at_odds rows a b c d e f g h i (inr (inr (inr (inr (inl x))))) = e x
-none_at_odds rows a b c d e f g h i (inr (inr (inr (inr (inr (inl x)))))) = f x
-none_at_odds rows a b c d e f g h i (inr (inr (inr (inr (inr (inr (inl x))))))) = g x
-none_at_odds rows a b c d e f g h i (inr (inr (inr (inr (inr (inr (inr (inl x)))))))) = h x
-none_at_odds rows a b c d e f g h i (inr (inr (inr (inr (inr (inr (inr (inr x)))))))) = i x
+    → (GivePicksInOrder rows → ⊥) → (GiveIdleMemory rows → ⊥) → (GiveIdleExtend rows → ⊥) → (GiveExplainBeside rows → ⊥) → (GiveIdleVcd rows → ⊥) → (GiveCausesBeside rows → ⊥) → AreAtOdds rows → ⊥
+none_at_odds rows a b c d e f g h i j (inl x) = a x
+none_at_odds rows a b c d e f g h i j (inr (inl x)) = b x
+none_at_odds rows a b c d e f g h i j (inr (inr (inl x))) = c x
+none_at_odds rows a b c d e f g h i j (inr (inr (inr (inl x)))) = d x
+none_at_odds rows a b c d e f g h i j (inr (inr (inr (inr (inl x))))) = e x
+none_at_odds rows a b c d e f g h i j (inr (inr (inr (inr (inr (inl x)))))) = f x
+none_at_odds rows a b c d e f g h i j (inr (inr (inr (inr (inr (inr (inl x))))))) = g x
+none_at_odds rows a b c d e f g h i j (inr (inr (inr (inr (inr (inr (inr (inl x)))))))) = h x
+none_at_odds rows a b c d e f g h i j (inr (inr (inr (inr (inr (inr (inr (inr (inl x))))))))) = i x
+none_at_odds rows a b c d e f g h i j (inr (inr (inr (inr (inr (inr (inr (inr (inr x))))))))) = j x
 
 -- ---- orders
 

@@ -88,6 +88,9 @@ format_rule parser = value_rule (codes "format") (codes "text" ∷ []) parser
 abbrev pub assignment_rule : Option ValueParser → Rule
 assignment_rule parser = value_rule (codes "assignment") [] parser
 
+abbrev pub causes_rule : Rule
+causes_rule = record (new_rule (codes "causes")) { long = Some (codes "causes"); action = Some SetTrue }
+
 abbrev pub verbose_rule : Rule
 verbose_rule = record (new_rule (codes "verbose")) { long = Some (codes "verbose"); action = Some SetTrue }
 
@@ -114,7 +117,7 @@ TakesAssignments = TakesOnly (codes "all" ∷ codes "support" ∷ codes "ones" �
 -- The command with its arguments. The parsers of four lists of words are named apart.
 abbrev pub tool_app : (matching order format assignment : Option ValueParser) → App
 tool_app matching order format assignment =
-    with_rule (with_rule (with_rule (with_rule (with_rule (with_rule (with_rule (with_rule (with_rule (with_rule (with_rule (with_rule (with_rule (with_rule (with_rule (with_rule (with_rule (with_rule (with_rule bare_app (match_rule matching)) (order_rule order)) order_file_rule) extend_rule) given_rule) only_rule) share_rule) explain_rule) vcd_rule) workers_rule) limit_rule) memory_rule) sizes_rule) print_order_rule) (format_rule format)) (assignment_rule assignment)) verbose_rule) (new_rule (codes "FIRST"))) (new_rule (codes "SECOND"))
+    with_rule (with_rule (with_rule (with_rule (with_rule (with_rule (with_rule (with_rule (with_rule (with_rule (with_rule (with_rule (with_rule (with_rule (with_rule (with_rule (with_rule (with_rule (with_rule (with_rule bare_app (match_rule matching)) (order_rule order)) order_file_rule) extend_rule) given_rule) only_rule) share_rule) explain_rule) vcd_rule) workers_rule) limit_rule) memory_rule) sizes_rule) print_order_rule) (format_rule format)) (assignment_rule assignment)) causes_rule) verbose_rule) (new_rule (codes "FIRST"))) (new_rule (codes "SECOND"))
 
 -- the command has these arguments
 abbrev pub IsTool : App → Type 0
@@ -358,10 +361,14 @@ GiveExplainBeside rows = IsGiven (codes "explain") rows × ((flag_of (first_of (
 abbrev pub GiveIdleVcd : List Row → Type 0
 GiveIdleVcd rows = IsGiven (codes "vcd") rows × (flag_of (first_of (codes "print-order") rows) ≡ true)
 
+-- the words ask for causes, which a report of all pairs as JSON tells, and for an order in print, a share of the pairs, or another report
+abbrev pub GiveCausesBeside : List Row → Type 0
+GiveCausesBeside rows = (flag_of (first_of (codes "causes") rows) ≡ true) × ((flag_of (first_of (codes "print-order") rows) ≡ true) ⊎ IsGiven (codes "share") rows ⊎ (AskForJson rows → ⊥))
+
 -- the words give two arguments that exclude each other
 abbrev pub AreAtOdds : List Row → Type 0
 AreAtOdds rows =
-    GiveTwoOrders rows ⊎ GiveTwoPicks rows ⊎ GiveFoundWith (codes "sizes") rows ⊎ GiveFoundWith (codes "print-order") rows ⊎ GivePicksInOrder rows ⊎ GiveIdleMemory rows ⊎ GiveIdleExtend rows ⊎ GiveExplainBeside rows ⊎ GiveIdleVcd rows
+    GiveTwoOrders rows ⊎ GiveTwoPicks rows ⊎ GiveFoundWith (codes "sizes") rows ⊎ GiveFoundWith (codes "print-order") rows ⊎ GivePicksInOrder rows ⊎ GiveIdleMemory rows ⊎ GiveIdleExtend rows ⊎ GiveExplainBeside rows ⊎ GiveIdleVcd rows ⊎ GiveCausesBeside rows
 
 -- the words give a memory that is none, or out of its range
 abbrev pub GiveBadMemory : List Row → Type 0
@@ -392,6 +399,7 @@ pub record AreOptions (rows : List Row) (o : Options) : Type 0 where
   pub explain : map (λ s. s.now) o.explain.items ≡ explained_in rows
   pub assignment : IsAssignment (first_of (codes "assignment") rows) o.assignment
   pub vcd : IsFile (first_of (codes "vcd") rows) o.vcd
+  pub causes : o.causes ≡ flag_of (first_of (codes "causes") rows)
 
 -- the kinds of the first fault that clap finds in the words; none where it takes them
 abbrev pub AreFaults : List Text → Kinds → Type 0

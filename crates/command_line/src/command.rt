@@ -1,7 +1,7 @@
 //! The command of the program, as clap knows it.
 ghost use Rattle.std.specs.Prelude.{◌≡◌, false, codes, IfOk};
 ghost use Rattle.clap.specs.Words.{app_of, new_rule, rule_of};
-ghost use Rattle.command_line.specs.Words.{TakesMatches, TakesOrders, match_rule, order_rule, order_file_rule, extend_rule, given_rule, only_rule, share_rule, explain_rule, vcd_rule, workers_rule, limit_rule, memory_rule, sizes_rule, print_order_rule, TakesFormats, format_rule, TakesAssignments, assignment_rule, verbose_rule, bare_app, IsTool};
+ghost use Rattle.command_line.specs.Words.{TakesMatches, TakesOrders, match_rule, order_rule, order_file_rule, extend_rule, given_rule, only_rule, share_rule, explain_rule, vcd_rule, workers_rule, limit_rule, memory_rule, sizes_rule, print_order_rule, TakesFormats, format_rule, TakesAssignments, assignment_rule, causes_rule, verbose_rule, bare_app, IsTool};
 
 use crate::help::{ABOUT, MORE};
 use clap::{Arg, ArgAction, Command, value_parser};
@@ -217,6 +217,18 @@ fn assignment<'a>(alloc: Global) -> Arg<'a>
         )
 }
 
+fn causes<'a>(alloc: Global) -> Arg<'a>
+    ensures rule { rule_of result ≡ causes_rule }
+    ensures local { result.global ≡ false }
+{
+    Arg::new(alloc, "causes")
+        .long("causes")
+        .action(ArgAction::SetTrue)
+        .help(
+            "As JSON, tell the first inner signals that differ, each with the pairs that differ by it",
+        )
+}
+
 fn verbose<'a>(alloc: Global) -> Arg<'a>
     ensures rule { rule_of result ≡ verbose_rule }
     ensures local { result.global ≡ false }
@@ -279,6 +291,7 @@ pub fn command<'a>(alloc: Global) -> Result<Command<'a>, AllocError>
     let command = command
         .arg(format(alloc))?
         .arg(assignment(alloc))?
+        .arg(causes(alloc))?
         .arg(verbose(alloc))?
         .arg(first(alloc))?
         .arg(second(alloc))?;

@@ -274,5 +274,6 @@ pub(crate) fn options_of<'a>(
         explain,
         assignment: assignment_of(word_of(matches, "assignment")),
         vcd: word_of(matches, "vcd"),
+        causes: is_asked(matches, "causes"),
     }
 }

@@ -2,7 +2,7 @@
 ghost use Rattle.std.specs.Prelude.{◌≡◌, ◌↔◌, ◌⊎◌, Bool, true, IsSomeAnd, IsTrue, MatchOption, bytes_eq, codes, option_map};
 ghost use Rattle.clap.specs.Words.{found_of, rows_of};
 ghost use Rattle.command_line.specs.declared.options.OrderChoice.{OrderChoice as ChoiceValue};
-ghost use Rattle.command_line.specs.Words.{IsOrderIn, IsChoice, IsFoundName, GiveTwoOrders, GiveTwoPicks, GiveFound, GiveFoundWith, GiveOther, GivePicksInOrder, GiveIdleMemory, GiveIdleExtend, AskForJson, GiveExplainBeside, GiveIdleVcd, AreAtOdds};
+ghost use Rattle.command_line.specs.Words.{IsOrderIn, IsChoice, IsFoundName, GiveTwoOrders, GiveTwoPicks, GiveFound, GiveFoundWith, GiveOther, GivePicksInOrder, GiveIdleMemory, GiveIdleExtend, AskForJson, GiveExplainBeside, GiveIdleVcd, GiveCausesBeside, AreAtOdds};
 
 use crate::matched::{has_picks, unnamed_in};
 use crate::options::OrderChoice;
@@ -154,6 +154,16 @@ fn has_idle_vcd(matches: &ArgMatches<'_>) -> bool
     is_given(matches, "vcd") && is_asked(matches, "print-order")
 }
 
+/// Whether the words ask for causes, and for what tells none.
+fn causes_beside(matches: &ArgMatches<'_>) -> bool
+    ensures { IsTrue result ↔ GiveCausesBeside (rows_of (found_of matches.now)) }
+{
+    is_asked(matches, "causes")
+        && (is_asked(matches, "print-order")
+            || is_given(matches, "share")
+            || !asks_for_json(matches))
+}
+
 /// The argument that has no explanations.
 fn unexplained(matches: &ArgMatches<'_>) -> &'static str {
     if is_asked(matches, "print-order") {
@@ -162,6 +172,17 @@ fn unexplained(matches: &ArgMatches<'_>) -> &'static str {
         "'--share <K/N>'"
     } else {
         "'--format json'"
+    }
+}
+
+/// The argument that tells no causes.
+fn without_causes(matches: &ArgMatches<'_>) -> &'static str {
+    if is_asked(matches, "print-order") {
+        "'--print-order'"
+    } else if is_given(matches, "share") {
+        "'--share <K/N>'"
+    } else {
+        "a report other than that of '--format json'"
     }
 }
 
@@ -205,6 +226,8 @@ pub(crate) fn odds_in(matches: &ArgMatches<'_>) -> Option<Odds>
         ("--explain <NAME>", unexplained(matches))
     } else if has_idle_vcd(matches) {
         ("--vcd <FILE>", "'--print-order'")
+    } else if causes_beside(matches) {
+        ("--causes", without_causes(matches))
     } else {
         return None;
     };

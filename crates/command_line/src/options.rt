@@ -81,6 +81,8 @@ pub struct Options<'a> {
     pub assignment: Option<Assignment>,
     /// The path of the file for the values at the assignment of the first pair that differs, where these are asked for.
     pub vcd: Option<&'a str>,
+    /// Whether the report, which is a JSON object then, tells the causes of the pairs that differ.
+    pub causes: bool,
     ghost some_workers: { 1 ≤ workers },
     ghost few_workers: { workers ≤ 16 },
     ghost some_nodes: { 1 ≤ limit },

@@ -45,6 +45,7 @@ pub(crate) fn checked<R: AllocGlobal + Threads + Wait + Sync, R1: Source, R2: So
         explain: Vec::new(rt.alloc()),
         assignment: None,
         vcd: false,
+        causes: false,
     };
     let context = Context {
         rt,

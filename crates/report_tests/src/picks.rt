@@ -41,6 +41,7 @@ fn reported<R: AllocGlobal + Threads + Wait + Sync>(
         explain: Vec::new(rt.alloc()),
         assignment: None,
         vcd: false,
+        causes: false,
     };
     let context = Context {
         rt,

@@ -92,6 +92,7 @@ fn told_of<R: Threads + Wait + Sync>(
         explain: Vec::new(alloc),
         assignment: None,
         vcd: false,
+        causes: false,
     };
     let monitor = Listener {
         times: AtomicUsize::new(0),

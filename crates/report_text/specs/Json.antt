@@ -19,7 +19,9 @@ use Rattle.report_text.specs.declared.verdict.Verdict.{Verdict}
 use Rattle.report_text.specs.declared.outcome.Share.{Share}
 use Rattle.report_text.specs.declared.verdict.Verdict.TheVariants.{Equal, Differs, Lone, Undecided}
 use Rattle.report_text.specs.declared.assignment.Assignment.{Assignment}
+use Rattle.report_text.specs.declared.cause.PairName.{PairName}
 use Rattle.report_text.specs.Buses.{Bus, buses_of, hex_text}
+use Rattle.report_text.specs.Causes.{Caused}
 use Rattle.report_text.specs.Marks.{marks_of}
 use Rattle.report_text.specs.Lines.{Found, counted, is_told, report_text}
 
@@ -148,25 +150,48 @@ counts_tokens o =
 abbrev pub array_tokens : List ℕ → List Token → List Token
 array_tokens name items = key name ∷ begin_array ∷ (items ++ end_array ∷ [])
 
+-- an object for each pair
+abbrev pub pairs_tokens : List PairName → List Token
+pairs_tokens [] = []
+pairs_tokens (p ∷ ps) = (begin_object ∷ (subject_tokens p.role p.name ++ end_object ∷ [])) ++ pairs_tokens ps
+
+-- the lines of two gates
+abbrev pub lines_tokens : (first second : ℕ) → List Token
+lines_tokens first second = key (codes "lines") ∷ begin_array ∷ number (decimal first) ∷ number (decimal second) ∷ end_array ∷ []
+
+-- the members of a cause
+abbrev pub cause_members : Caused → List Token
+cause_members c = key (codes "signal") ∷ string (shown c.signal) ∷ (lines_tokens c.first_line c.second_line ++ array_tokens (codes "pairs") (pairs_tokens c.pairs))
+
+-- an object for each cause
+abbrev pub caused_tokens : List Caused → List Token
+caused_tokens [] = []
+caused_tokens (c ∷ cs) = (begin_object ∷ (cause_members c ++ end_object ∷ [])) ++ caused_tokens cs
+
+-- the causes, where they are asked for
+abbrev pub causes_tokens : Option (List Caused) → List Token
+causes_tokens None = []
+causes_tokens (Some cs) = array_tokens (codes "causes") (caused_tokens cs)
+
 -- that there was a condition, where there was one
 abbrev pub given_tokens : Bool → List Token
 given_tokens true = key (codes "given") ∷ boolean true ∷ []
 given_tokens false = []
 
--- the whole object: the settings, the variables, the verdicts, the counts, the share
-abbrev pub report_tokens : Option Assignment → Match → OrderKind → (given : Bool) → Option Share → Found → List Token
-report_tokens which how kind given share found =
+-- the whole object: the settings, the variables, the verdicts, the counts, the causes, the share
+abbrev pub report_tokens : Option Assignment → Match → OrderKind → (given : Bool) → Option Share → Option (List Caused) → Found → List Token
+report_tokens which how kind given share causes found =
     begin_object ∷ (settings_tokens how kind ++ (given_tokens given ++ (array_tokens (codes "variables") (names_tokens found.variables)
-    ++ (array_tokens (codes "verdicts") (verdicts_tokens which found.variables found.verdicts) ++ (counts_tokens (counted found.verdicts) ++ (share_tokens share ++ end_object ∷ []))))))
+    ++ (array_tokens (codes "verdicts") (verdicts_tokens which found.variables found.verdicts) ++ (counts_tokens (counted found.verdicts) ++ (causes_tokens causes ++ (share_tokens share ++ end_object ∷ [])))))))
 
 -- its text, on one line
-abbrev pub json_text : Option Assignment → Match → OrderKind → (given : Bool) → Option Share → Found → List ℕ
-json_text which how kind given share found = print (report_tokens which how kind given share found) ++ 10 ∷ []
+abbrev pub json_text : Option Assignment → Match → OrderKind → (given : Bool) → Option Share → Option (List Caused) → Found → List ℕ
+json_text which how kind given share causes found = print (report_tokens which how kind given share causes found) ++ 10 ∷ []
 
--- the bytes of a report in the form that is asked for: as JSON, which tells of a condition, or as lines
-abbrev pub form_text : (json : Bool) → Option Assignment → Match → OrderKind → (given : Bool) → Option Share → Found → List ℕ
-form_text true which how kind given share = json_text which how kind given share
-form_text false which how kind given share = report_text which share
+-- the bytes of a report in the form that is asked for: as JSON, which tells of a condition and of causes, or as lines
+abbrev pub form_text : (json : Bool) → Option Assignment → Match → OrderKind → (given : Bool) → Option Share → Option (List Caused) → Found → List ℕ
+form_text true which how kind given share causes = json_text which how kind given share causes
+form_text false which how kind given share causes = report_text which share
 
 -- a writer has taken these tokens, where it has taken all
 abbrev pub Adds : {E : Type 0} → Result (Unit {0}) E → (old new : Written) → List Token → Type 0

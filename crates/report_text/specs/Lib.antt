@@ -1,5 +1,6 @@
 pub mod Writing
 pub mod Lines
 pub mod Buses
+pub mod Causes
 pub mod Json
 pub mod Marks

@@ -1,8 +1,10 @@
 //! What a comparison found as one JSON object.
-ghost use Rattle.std.specs.Prelude.{◌≡◌, IfOk, codes};
+ghost use Rattle.std.specs.Prelude.{◌≡◌, IfOk, codes, option_map};
 ghost use Rattle.report_text.specs.Json.{Adds, names_tokens, settings_tokens, given_tokens, undecided_tokens, share_tokens, counts_tokens, array_tokens, json_text};
 
 use crate::assignment::Assignment;
+use crate::cause::Cause;
+use crate::causes::add_causes;
 use crate::judged::add_judged;
 use crate::kind::OrderKind;
 use crate::members::{add_number, add_text};
@@ -99,15 +101,17 @@ pub struct Heading {
 }
 
 /// What a comparison found as the text of one JSON object, on a line: the settings, that there was a condition, the variables by level,
-/// the verdicts as in the report by lines, with the numbers of buses where words say which variables an assignment tells, their counts, and
-/// the share that it is of. docs/report.schema.json describes it.
+/// the verdicts as in the report by lines, with the numbers of buses where words say which variables an assignment tells, their counts, the
+/// causes where they are asked for, and the share that it is of. docs/report.schema.json describes it.
 pub fn json_of(
     alloc: Global,
     heading: &Heading,
     which: Option<Assignment>,
+    causes: Option<&[Cause]>,
     found: &Verdicts,
 ) -> Result<Vec<u8>, AllocError>
-    ensures { IfOk result (λ text. text.items ≡ json_text which heading.now.matching heading.now.kind heading.now.given heading.now.share found.now) }
+    ensures { IfOk result (λ text. text.items
+        ≡ json_text which heading.now.matching heading.now.kind heading.now.given heading.now.share (option_map (λ c. c.now) causes.entry) found.now) }
 {
     let Heading {
         matching,
@@ -122,6 +126,7 @@ pub fn json_of(
     add_variables(&mut out, found.variables())?;
     add_judged(alloc, &mut out, which, found)?;
     add_counts(&mut out, found.outcome())?;
+    add_causes(&mut out, causes)?;
     add_share(&mut out, share)?;
     out.end_object()?;
     let mut text = out.into_inner();

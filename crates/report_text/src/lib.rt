@@ -2,7 +2,7 @@
 //! device.
 //!
 //! **Promises.** `report_of` answers the bytes of the lines of verdicts and their counts, `json_of` those of the one
-//! object; `Verdicts` gives its parts. `write_whole` writes all bytes (`ok`), or a front part for a cause, which is
+//! object, which may tell causes; `Verdicts` gives its parts. `write_whole` writes all bytes (`ok`), or a front part for a cause, which is
 //! told (`err`).
 //!
 //! **Only tests show** that a reader of its own takes the object, and that the schema fits (`tests/objects.py`);
@@ -15,6 +15,8 @@
 mod as_json;
 mod assignment;
 mod buses;
+mod cause;
+mod causes;
 mod judged;
 mod kind;
 mod lines;
@@ -28,6 +30,7 @@ mod write;
 
 pub use as_json::{Heading, json_of};
 pub use assignment::Assignment;
+pub use cause::{Cause, PairName};
 pub use kind::OrderKind;
 pub use outcome::{Outcome, PairKind, Share, Side};
 pub use report::report_of;

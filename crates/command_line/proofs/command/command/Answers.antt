@@ -20,7 +20,8 @@ returns c =
     let fourteen = c.in_ok-command-2.ensures.shape c.print_order.ensures.local ∙ ap₂ with_rule thirteen c.print_order.ensures.rule in
     let fifteen = c.in_ok-arg-13.ensures.shape c.format.ensures.local ∙ ap₂ with_rule fourteen c.format.ensures.rule in
     let sixteen = c.in_ok-arg-14.ensures.shape c.assignment.ensures.local ∙ ap₂ with_rule fifteen c.assignment.ensures.rule in
-    let seventeen = c.in_ok-arg-15.ensures.shape c.verbose.ensures.local ∙ ap₂ with_rule sixteen c.verbose.ensures.rule in
-    let eighteen = c.in_ok-arg-16.ensures.shape c.first.ensures.local ∙ ap₂ with_rule seventeen c.first.ensures.rule in
-    let nineteen = c.in_ok-command-3.ensures.shape c.second.ensures.local ∙ ap₂ with_rule eighteen c.second.ensures.rule in
-    (c.matching.result.value_parser, c.order.result.value_parser, c.format.result.value_parser, c.assignment.result.value_parser, c.matching.ensures.parser, c.order.ensures.parser, c.format.ensures.parser, c.assignment.ensures.parser, nineteen)
+    let seventeen = c.in_ok-arg-15.ensures.shape c.causes.ensures.local ∙ ap₂ with_rule sixteen c.causes.ensures.rule in
+    let eighteen = c.in_ok-arg-16.ensures.shape c.verbose.ensures.local ∙ ap₂ with_rule seventeen c.verbose.ensures.rule in
+    let nineteen = c.in_ok-arg-17.ensures.shape c.first.ensures.local ∙ ap₂ with_rule eighteen c.first.ensures.rule in
+    let twenty = c.in_ok-command-3.ensures.shape c.second.ensures.local ∙ ap₂ with_rule nineteen c.second.ensures.rule in
+    (c.matching.result.value_parser, c.order.result.value_parser, c.format.result.value_parser, c.assignment.result.value_parser, c.matching.ensures.parser, c.order.ensures.parser, c.format.ensures.parser, c.assignment.ensures.parser, twenty)

@@ -1,0 +1,69 @@
+use Rattle.std.proofs.Common.{◌∙◌, All, subst, sym}
+use Rattle.net_bench.specs.Circuit.{circuit}
+use Rattle.net_order.specs.Order.{condition}
+use Rattle.check_report.specs.Causing.{AreLed}
+use Rattle.check_report.specs.Comparing.{IsInside}
+use Rattle.check_report.specs.Explaining.{told_order}
+use Rattle.check_report.proofs.Explanations.{told_allowed}
+use Rattle.check_report.proofs.Leading.{asked_for, unasked}
+use Rattle.check_report.proofs.Rounds.{accepted, memory_ends, order_ends}
+use Rattle.check_report.proofs.Subjects.{subjects_inside}
+use Rattle.check_report.proofs.causing.causes.Goals as goal
+
+pub returns-then-not-task-clause-causes : goal.returns-then-not-task-clause-causes
+returns-then-not-task-clause-causes g c = λ told ga. unasked told c.args.task.now.settings.now c.args.tried c.args.verdicts.now c.if-not-task.true
+
+-- ---- no pairing
+
+pub returns-in-Err-clause-fault : goal.returns-in-Err-clause-fault
+returns-in-Err-clause-fault g c = λ told ga.
+    let s = c.args.task.now.settings.now in
+    (told_order s.order c.args.tried, told_allowed s.order c.args.tried, c.in-Err.ensures.fault told ga)
+
+pub returns-in-Err-clause-ends : goal.returns-in-Err-clause-ends
+returns-in-Err-clause-ends g c = order_ends c.in-Err.fault c.in-Err.ensures.refused.0 c.in-Err.ensures.refused.1
+
+-- ---- no memory
+
+pub returns-in_default-clause-fault : goal.returns-in_default-clause-fault
+returns-in_default-clause-fault g c = λ told ga.
+    let task = c.args.task.now in
+    let order = told_order task.settings.now.order c.args.tried in
+    (order, told_allowed task.settings.now.order c.args.tried, accepted task told ga order c.in-Ok.pairing c.in-Ok.ensures.paired)
+
+pub returns-in_default-clause-ends : goal.returns-in_default-clause-ends
+returns-in_default-clause-ends g c = memory_ends
+
+pub returns-clause-fault : goal.returns-clause-fault
+returns-clause-fault g c = λ told ga.
+    let task = c.args.task.now in
+    let order = told_order task.settings.now.order c.args.tried in
+    (order, told_allowed task.settings.now.order c.args.tried, accepted task told ga order c.in-Ok.pairing c.in-Ok.ensures.paired)
+
+pub returns-clause-ends : goal.returns-clause-ends
+returns-clause-ends g c = memory_ends
+
+-- ---- causes
+
+pub all_causes-requires-clause-inside : goal.all_causes-requires-clause-inside
+all_causes-requires-clause-inside g c =
+    let task = c.args.task.now in
+    subst (λ ss. All (IsInside (circuit task.first.now) (circuit task.second.now)) ss) (sym (c.as_slice.ensures.value ∙ c.in-Ok-subjects_of.ensures))
+    (subjects_inside task.settings.now.matching task.first.now task.second.now (condition task.given) (told_order task.settings.now.order c.args.tried) c.in-Ok.pairing c.inputs.ensures.sound c.inputs-2.ensures.sound c.in-Ok.ensures.paired)
+
+pub returns-in-Ok-all_causes-clause-causes : goal.returns-in-Ok-all_causes-clause-causes
+returns-in-Ok-all_causes-clause-causes g c = λ told ga.
+    let task = c.args.task.now in
+    let led = c.in-Ok-all_causes.ensures in
+    asked_for told task.settings.now c.args.tried c.args.verdicts.now c.in-Ok-all_causes.causes.items c.if-not-task.false
+    (record {
+      a = task.first.now;
+      b = task.second.now;
+      c = condition task.given;
+      p = c.in-Ok.pairing;
+      paired = record { netlists = ga; pairing = c.in-Ok.ensures.paired };
+      variables = c.requires.names ∙ sym c.in-Ok.ensures.paired.names;
+      led = led.0;
+      are_led = subst (λ vs. AreLed task.first.now task.second.now c.in-Ok.pairing vs led.0) c.as_slice-2.ensures led.1;
+      causes = led.2;
+    })
