@@ -2,7 +2,7 @@
 //! told meanwhile. They stand apart, since a crate with tests is proved twice. What the built program can show stands
 //! in tests/.
 //!
-//! **Begin** with `runs`, over a folder in memory, and `failing`, readers and writers that fail at each byte; `told`,
+//! **Begin** with `runs`, over a folder in memory (`shelf`), and `failing`, readers and writers that fail at each byte; `told`,
 //! `auto` and `picks` have what attempts tell, `meetings` the threads, `progress` and `quotes` what standard error has.
 #![tactic(auto)]
 
@@ -22,5 +22,7 @@ mod progress;
 mod quotes;
 #[cfg(test)]
 mod runs;
+#[cfg(test)]
+mod shelf;
 #[cfg(test)]
 mod told;

@@ -1,7 +1,8 @@
 //! What is told of a build.
 use crate::devices::{End, drip, new_page};
 use crate::failing::AMPLE;
-use crate::runs::{Shelf, ran};
+use crate::runs::ran;
+use crate::shelf::Shelf;
 use check_tool::progress::{Form, Meter, Progress};
 use expand_work::{Free, Monitor};
 use std::alloc::{Alloc, Global};

@@ -1,7 +1,8 @@
 //! The line of a file that was refused, behind what helps.
 use crate::devices::{End, drip, new_page};
 use crate::failing::{AMPLE, C17};
-use crate::runs::{Later, Shelf, ran};
+use crate::runs::ran;
+use crate::shelf::{Later, Shelf};
 use check_tool::quote::quotation;
 use std::test::Fail;
 

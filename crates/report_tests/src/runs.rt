@@ -1,11 +1,10 @@
 //! Runs of the program over a folder and devices in memory, which fail where they are told to.
-ghost use Rattle.std.specs.Prelude.{◌≡◌, None, false};
-
 use crate::devices::{Dripping, End, Page, drip, new_page};
 use crate::failing::{AMPLE, C17, C17B, REPORT};
+use crate::shelf::Shelf;
 use check_report::CheckFault;
 use check_tool::fault::{Place, ToolFault};
-use check_tool::folder::{Folder, Obstacle, OpenFault};
+use check_tool::folder::Obstacle;
 use check_tool::process::{NoWords, status_of};
 use check_tool::progress::Meter;
 use check_tool::tool::{refuse, run_tool};
@@ -13,110 +12,11 @@ use expand_work::WaveFault;
 use net_bench::netlist::BenchFault;
 use net_order::order::OrderFault;
 use std::alloc::{AllocError, Global};
+use std::process::Abort;
 use std::rt::Clock;
 use std::sync::Wait;
 use std::test::Fail;
 use std::thread::Threads;
-
-/// What becomes of the files of a folder once they were opened.
-#[derive(Clone, Copy, Drop, PartialEq, Eq)]
-pub(crate) enum Later {
-    Stays,
-    /// Each file is opened once, and then gone.
-    Gone,
-    /// No file is a plain one.
-    NoFile,
-}
-
-/// A folder with the files `first`, `second` and `list`, one of which may fail at its end, and `forbidden`, which memory is wanting for. It
-/// notes the paths that it is asked for, and what is saved in the file `wave`; `full` takes nothing, and no other file is made.
-#[derive(Drop)]
-pub(crate) struct Shelf {
-    pub(crate) second: &'static str,
-    pub(crate) list: &'static str,
-    pub(crate) failing: &'static str,
-    pub(crate) later: Later,
-    pub(crate) asked: Vec<u8>,
-    pub(crate) wave: Vec<u8>,
-}
-
-impl Shelf {
-    /// C17, C17 with another gate, and a list of their inputs.
-    pub(crate) fn new(alloc: Global) -> Shelf {
-        Shelf {
-            second: C17B,
-            list: "1 2 3 6 7",
-            failing: "",
-            later: Later::Stays,
-            asked: Vec::new(alloc),
-            wave: Vec::new(alloc),
-        }
-    }
-
-    /// Whether a path was asked for before.
-    fn was_asked(&self, path: &str) -> bool {
-        self.asked
-            .as_slice()
-            .split(|byte| *byte == b' ')
-            .any(|asked| asked == path.as_bytes())
-    }
-
-    /// A file of this text.
-    fn file(&self, path: &str, text: &'static str) -> Dripping
-        ensures { result.failed ≡ false }
-    {
-        if path == self.failing {
-            drip(text, text.len())
-        } else {
-            drip(text, AMPLE)
-        }
-    }
-}
-
-impl Folder for Shelf {
-    type File = Dripping;
-
-    ghost tries = { λ _. None };
-
-    ghost told = { λ _ _. None };
-
-    fn open(&mut self, path: &str) -> Result<Dripping, OpenFault> {
-        let gone = self.later == Later::Gone && self.was_asked(path);
-        let noted = self.asked.extend_from_slice(path.as_bytes()).is_ok()
-            && self.asked.push(b' ').is_ok();
-        if !noted {
-            return Err(OpenFault::OutOfMemory);
-        }
-        if gone {
-            return Err(OpenFault::Refused(Obstacle::Missing));
-        }
-        match path {
-            "first" => Ok(self.file(path, C17)),
-            "second" => Ok(self.file(path, self.second)),
-            "list" => Ok(self.file(path, self.list)),
-            "forbidden" => Err(OpenFault::OutOfMemory),
-            _ => Err(OpenFault::Refused(Obstacle::Missing)),
-        }
-    }
-
-    fn save(&mut self, path: &str, bytes: &[u8]) -> Result<(), Obstacle> {
-        match path {
-            "wave" => {
-                self.wave.clear();
-                match self.wave.extend_from_slice(bytes) {
-                    Ok(()) => Ok(()),
-                    Err(_) => Err(Obstacle::Unwritten),
-                }
-            }
-            "full" => Err(Obstacle::Unwritten),
-            _ => Err(Obstacle::Missing),
-        }
-    }
-
-    fn is_plain(&self, _path: &str) -> bool {
-        self.later != Later::NoFile
-    }
-}
 
 /// The words of a line.
 fn words_of(alloc: Global, line: &str) -> Result<Vec<String>, AllocError> {
@@ -256,60 +156,63 @@ fn no_words(rt: HostRuntime) -> Result<(), Fail> {
     Ok(())
 }
 
-/// Faults with their lines, behind the program's name, and their statuses. No run of the program ends with the last, whose gate has a bound.
-fn faults() -> [(ToolFault, &'static str, u8); 7] {
-    let second = BenchFault::BadByte {
-        line: 4_294_967_295,
-    };
-    let order = OrderFault::NotAPermutation { place: 0 };
-    let bound = CheckFault::Wave(WaveFault::TooManyRequests);
+/// Faults of a check with their lines, behind the program's name, and their statuses. No run of the program ends with the last, whose gate
+/// has a bound.
+fn check_faults() -> [(CheckFault, &'static str, u8); 5] {
     [
         (
-            ToolFault::CannotOpen(Place::Given, Obstacle::Links),
-            "given: cannot be opened",
-            2,
-        ),
-        (
-            ToolFault::BadOrder(order),
+            CheckFault::Order(OrderFault::NotAPermutation { place: 0 }),
             "order: name 0 of the list does not fit",
             2,
         ),
         (
-            ToolFault::Check(CheckFault::Order(order)),
-            "order: name 0 of the list does not fit",
-            2,
-        ),
-        (
-            ToolFault::Check(CheckFault::Second(second)),
+            CheckFault::Second(BenchFault::BadByte {
+                line: 4_294_967_295,
+            }),
             "second: line 4294967295: a byte that no statement has",
             2,
         ),
         (
-            ToolFault::Check(CheckFault::First(BenchFault::OutOfMemory)),
+            CheckFault::First(BenchFault::OutOfMemory),
             "first: out of memory",
             3,
         ),
         (
-            ToolFault::Check(CheckFault::GivenUp),
+            CheckFault::GivenUp,
             "build: given up in each order; more memory, or a good order by --order-file, may help",
             3,
         ),
         (
-            ToolFault::Check(bound),
+            CheckFault::Wave(WaveFault::TooManyRequests),
             "build: more requests than the gate allows",
             3,
         ),
     ]
 }
 
+/// Sees that a fault is told by this line, behind the program's name, and has this status.
+fn is_told<R: AllocGlobal + Abort>(
+    rt: &R,
+    fault: ToolFault,
+    line: &str,
+    want: u8,
+) -> Result<(), Fail> {
+    let mut errors = new_page(rt.alloc(), AMPLE, End::Fails, true);
+    let status = refuse(rt.alloc(), fault, &mut errors);
+    let said = format!(in rt.alloc(); "bddcheck: {line}\n")?;
+    assert!(rt; errors.held.as_slice() == said.as_bytes(), "{line}");
+    assert!(rt; status == want, "{line}");
+    Ok(())
+}
+
 #[test]
 fn lines_of_faults(rt: HostRuntime) -> Result<(), Fail> {
-    for (fault, line, want) in faults() {
-        let mut errors = new_page(rt.alloc(), AMPLE, End::Fails, true);
-        let status = refuse(rt.alloc(), fault, &mut errors);
-        let said = format!(in rt.alloc(); "bddcheck: {line}\n")?;
-        assert!(rt; errors.held.as_slice() == said.as_bytes(), "{line}");
-        assert!(rt; status == want, "{line}");
+    let links = ToolFault::CannotOpen(Place::Given, Obstacle::Links);
+    is_told(&rt, links, "given: cannot be opened", 2)?;
+    let order = ToolFault::BadOrder(OrderFault::NotAPermutation { place: 0 });
+    is_told(&rt, order, "order: name 0 of the list does not fit", 2)?;
+    for (fault, line, want) in check_faults() {
+        is_told(&rt, ToolFault::Check(fault), line, want)?;
     }
     Ok(())
 }

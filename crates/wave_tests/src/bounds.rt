@@ -2,7 +2,7 @@
 ghost use Rattle.std.specs.Prelude.{Option, Some, ℕ, ◌<◌, ◌≤◌, All};
 ghost use Rattle.reduce_up.specs.Waves.{IsEntry};
 
-use crate::waves::{Way, crew_of, entries_of, run, start};
+use crate::waves::{How, Way, crew_of, entries_of, run, start};
 use dd_store::{Ref, Store, Watch};
 use expand_work::{Free, Monitor, WaveFault};
 use req_table::{ComputedTable, Op};
@@ -69,7 +69,11 @@ fn product_of_sums<R: Threads + Wait + Abort + Sync>(
 {
     let mut known = start(rt, alloc, store);
     let sums = [(Op::Xor, 2, 4), (Op::Xor, 3, 5)];
-    let made = run(rt, alloc, store, &mut known, &sums, 1, Way::Threads);
+    let how = How {
+        workers: 1,
+        way: Way::Threads,
+    };
+    let made = run(rt, alloc, store, &mut known, &sums, how);
     assert!(rt; made.is_ok());
     let steps = [(Op::And, 6, 7)];
     entries_of(rt, alloc, store, known.as_slice(), &steps)

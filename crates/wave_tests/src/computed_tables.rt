@@ -4,9 +4,10 @@ ghost use Rattle.dd_store.specs.View.{Has, Keeps};
 ghost use Rattle.req_table.specs.ComputedTables.{IsRight};
 ghost use Rattle.reduce_up.specs.Waves.{IsEntry};
 
-use crate::plans::{C17, built, read};
+use crate::narrow::Narrow;
+use crate::plans::{C17, Paired, built, read};
 use crate::requests::request_for;
-use crate::waves::{Narrow, WAYS, Way, crew_of};
+use crate::waves::{WAYS, Way, crew_of};
 use dd_store::{Ref, Store};
 use expand_work::{Free, WaveFault};
 use net_order::order::{Match, Order};
@@ -115,9 +116,13 @@ fn told<R: Abort + Threads + Wait + Sync>(
     let pairing = pair(alloc, &first, &second, None, Match::Name, &Order::Declared)?;
     let mut store = Store::new(alloc, pairing.names().len() as u16, 100)?;
     let monitor = Narrow::new(0);
-    built(
-        rt, alloc, &mut store, &first, &second, &pairing, 2, &monitor,
-    )?;
+    let crew = crew_of(rt, alloc, 2, &monitor);
+    let paired = Paired {
+        first: &first,
+        second: &second,
+        pairing: &pairing,
+    };
+    built(&crew, &mut store, paired)?;
     assert!(rt; store.count() == 13);
     Ok(monitor.told.load(Ordering::SeqCst))
 }

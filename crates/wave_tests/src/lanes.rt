@@ -56,14 +56,13 @@ fn one(rt: &impl Abort, alloc: Global, level: u16, key: Key) -> Bundle
     asks
 }
 
-/// Puts a bundle of one request on a lane where the port has put no End yet.
+/// Puts a bundle of one request on the lane of the worker 1, where the port has put no End yet.
 fn ask<R: Wait + Abort>(
     rt: &R,
     alloc: Global,
     store: &Store,
     lanes: &Lanes,
     port: &mut Port,
-    to: u32,
     key: Key,
 )
     requires store { lanes.now.sizes ≡ sizes_of store.now }
@@ -73,15 +72,11 @@ fn ask<R: Wait + Abort>(
 {
     let from = port.number();
     let level = level_of(store, key);
-    assert!(rt; to < lanes.count());
+    assert!(rt; 1 < lanes.count());
     assert!(rt; level < store.levels());
-    assert!(rt; port.ends(to) == 0);
+    assert!(rt; port.ends(1) == 0);
     let asks = one(rt, alloc, level, key);
-    assert!(rt;
-        lanes
-            .send(rt, port, to, Load::Bundle { from, asks })
-            .is_ok()
-    );
+    assert!(rt; lanes.send(rt, port, 1, Load::Bundle { from, asks }).is_ok());
 }
 
 /// Puts the next End on a lane.
@@ -131,7 +126,7 @@ fn what_is_left_is_settled(rt: HostRuntime) -> Result<(), Fail> {
     let (lanes, mut ports) = open(rt.alloc(), &store, 2)?;
     let mut second = ports.pop().expect(&rt, "no second port");
     let mut first = ports.pop().expect(&rt, "no first port");
-    ask(&rt, rt.alloc(), &store, &lanes, &mut first, 1, key);
+    ask(&rt, rt.alloc(), &store, &lanes, &mut first, key);
     end(&rt, &store, &lanes, &mut first, 1);
     end(&rt, &store, &lanes, &mut second, 1);
     assert!(rt; first.put() == 2);
@@ -145,25 +140,36 @@ fn what_is_left_is_settled(rt: HostRuntime) -> Result<(), Fail> {
     Ok(())
 }
 
-/// Puts 1,000 requests on the lane of the worker 1, of two in turn, and then the first End.
+/// A port that sends two requests in turn.
+#[derive(Drop)]
+struct Sender {
+    port: Port,
+    even: Key,
+    odd: Key,
+}
+
+/// Puts 1,000 requests on the lane of the worker 1, and then the first End.
 fn send_in_turn<R: Wait + Abort>(
     rt: &R,
     alloc: Global,
     store: &Store,
     lanes: &Lanes,
-    mut port: Port,
-    even: Key,
-    odd: Key,
+    sender: Sender,
 ) -> Port
     requires store { lanes.now.sizes ≡ sizes_of store.now }
-    requires port { IsPortOf lanes.now port }
-    requires even { IsKeyOf (sizes_of store.now) even }
-    requires odd { IsKeyOf (sizes_of store.now) odd }
+    requires port { IsPortOf lanes.now sender.port }
+    requires even { IsKeyOf (sizes_of store.now) sender.even }
+    requires odd { IsKeyOf (sizes_of store.now) sender.odd }
     ensures { IsPortOf lanes.now result }
 {
+    let Sender {
+        mut port,
+        even,
+        odd,
+    } = sender;
     for _ in 0..500 {
-        ask(rt, alloc, store, lanes, &mut port, 1, even);
-        ask(rt, alloc, store, lanes, &mut port, 1, odd);
+        ask(rt, alloc, store, lanes, &mut port, even);
+        ask(rt, alloc, store, lanes, &mut port, odd);
     }
     end(rt, store, lanes, &mut port, 1);
     port
@@ -216,7 +222,12 @@ fn what_waits_is_taken_at_once(rt: HostRuntime) -> Result<(), Fail> {
     let mut second = ports.pop().expect(&rt, "no second port");
     let first = ports.pop().expect(&rt, "no first port");
     take_at_once(&rt, &lanes, &mut second, 0);
-    let first = send_in_turn(&rt, rt.alloc(), &store, &lanes, first, even, odd);
+    let sender = Sender {
+        port: first,
+        even,
+        odd,
+    };
+    let first = send_in_turn(&rt, rt.alloc(), &store, &lanes, sender);
     take_at_once(&rt, &lanes, &mut second, 1001);
     end(&rt, &store, &lanes, &mut second, 1);
     take_at_once(&rt, &lanes, &mut second, 1);
@@ -230,25 +241,24 @@ fn hand_over<R: Threads + Wait + Abort + Sync>(
     alloc: Global,
     store: &Store,
     lanes: &Lanes,
-    first: Port,
+    sender: Sender,
     second: Port,
-    even: Key,
-    odd: Key,
 ) -> (Port, Port, Vec<Load>)
     requires store { lanes.now.sizes ≡ sizes_of store.now }
-    requires first { IsPortOf lanes.now first }
+    requires first { IsPortOf lanes.now sender.port }
     requires second { IsPortOf lanes.now second }
-    requires even { IsKeyOf (sizes_of store.now) even }
-    requires odd { IsKeyOf (sizes_of store.now) odd }
+    requires even { IsKeyOf (sizes_of store.now) sender.even }
+    requires odd { IsKeyOf (sizes_of store.now) sender.odd }
     ensures { IsPortOf lanes.now result.0 × IsPortOf lanes.now result.1 }
 {
+    let Sender { port, even, odd } = sender;
     let (first, (second, items)) = thread::join(
         rt,
         move || -> Port
-            requires { (lanes.now.sizes ≡ sizes_of store.now) × IsPortOf lanes.now first
+            requires { (lanes.now.sizes ≡ sizes_of store.now) × IsPortOf lanes.now port
                 × IsKeyOf (sizes_of store.now) even × IsKeyOf (sizes_of store.now) odd }
             ensures { IsPortOf lanes.entry.now result }
-        { send_in_turn(rt, alloc, store, lanes, first, even, odd) },
+        { send_in_turn(rt, alloc, store, lanes, Sender { port, even, odd }) },
         move || -> (Port, Vec<Load>)
             requires { IsPortOf lanes.now second }
             ensures { IsPortOf lanes.entry.now result.0 }
@@ -265,16 +275,12 @@ fn two_threads_keep_the_order(rt: HostRuntime) -> Result<(), Fail> {
     let (lanes, mut ports) = open(rt.alloc(), &store, 2)?;
     let second = ports.pop().expect(&rt, "no second port");
     let first = ports.pop().expect(&rt, "no first port");
-    let (first, second, items) = hand_over(
-        &rt,
-        rt.alloc(),
-        &store,
-        &lanes,
-        first,
-        second,
+    let sender = Sender {
+        port: first,
         even,
         odd,
-    );
+    };
+    let (first, second, items) = hand_over(&rt, rt.alloc(), &store, &lanes, sender, second);
     assert!(rt; items.len() == 1001);
     for place in 0..1000 {
         let key = if place % 2 == 0 { even } else { odd };

@@ -25,7 +25,11 @@ mod least;
 #[cfg(test)]
 mod meeting;
 #[cfg(test)]
+mod narrow;
+#[cfg(test)]
 mod plans;
+#[cfg(test)]
+mod reduced;
 #[cfg(test)]
 mod refused;
 #[cfg(test)]

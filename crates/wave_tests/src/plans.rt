@@ -6,7 +6,7 @@ ghost use Rattle.net_order.specs.Order.{first_level, second_level};
 
 use crate::waves::crew_of;
 use dd_store::{Ref, Store};
-use expand_work::{Free, Monitor, WaveFault};
+use expand_work::{Crew, Free, Monitor, WaveFault};
 use gate_plan::{Built, Circuits, Plan, build};
 use net_bench::netlist::Signal;
 use net_bench::reader::{Netlist, parse_bench};
@@ -91,49 +91,60 @@ fn plan_of_c17(rt: HostRuntime) -> Result<(), Fail> {
     Ok(())
 }
 
-/// Builds two netlists without a condition.
-pub(crate) fn built<'x, R: Threads + Wait + Sync, G: Monitor>(
-    rt: &R,
-    alloc: Global,
+/// Two netlists without a condition, and the variables that their pairing gives them.
+#[derive(Clone, Copy)]
+pub(crate) struct Paired<'a> {
+    pub(crate) first: &'a Netlist,
+    pub(crate) second: &'a Netlist,
+    pub(crate) pairing: &'a Pairing,
+}
+
+/// Builds two netlists.
+pub(crate) fn built<R: Threads + Wait + Sync, G: Monitor>(
+    crew: &Crew<'_, R, G>,
     store: &mut Store,
-    first: &'x Netlist,
-    second: &'x Netlist,
-    pairing: &'x Pairing,
-    workers: u32,
-    monitor: &G,
+    both: Paired<'_>,
 ) -> Result<Built, WaveFault>
-    requires paired { IsPaired (circuit first.now) (circuit second.now) None pairing.now }
-    requires levels { store.old.levels ≡ length pairing.now.names }
-    requires workers { (1 ≤ workers) × (workers ≤ 16) }
-    ensures first { IfOk result (λ b. AreDiagrams (circuit first.now) (first_level pairing.now) store.new b.first) }
-    ensures second { IfOk result (λ b. AreDiagrams (circuit second.now) (second_level pairing.now) store.new b.second) }
+    requires paired { IsPaired (circuit both.first.now) (circuit both.second.now) None both.pairing.now }
+    requires levels { store.old.levels ≡ length both.pairing.now.names }
+    ensures first { IfOk result (λ b. AreDiagrams (circuit both.entry.first.now) (first_level both.entry.pairing.now) store.new b.first) }
+    ensures second { IfOk result (λ b. AreDiagrams (circuit both.entry.second.now) (second_level both.entry.pairing.now) store.new b.second) }
 {
-    let crew = crew_of(rt, alloc, workers, monitor);
+    let Paired {
+        first,
+        second,
+        pairing,
+    } = both;
     let circuits = Circuits {
         first,
         second,
         given: None,
         pairing,
     };
-    build(&crew, store, &circuits)
+    build(crew, store, &circuits)
 }
 
 /// The diagrams of a signal of both netlists.
 fn diagrams<R: Abort>(
     rt: &R,
     store: &Store,
-    first: &Netlist,
-    second: &Netlist,
-    pairing: &Pairing,
+    both: Paired<'_>,
     built: &Built,
     name: &str,
 ) -> (Ref, Ref)
-    requires first { AreDiagrams (circuit first.now) (first_level pairing.now) store.now built.now.first }
-    requires second { AreDiagrams (circuit second.now) (second_level pairing.now) store.now built.now.second }
+    requires first { AreDiagrams (circuit both.first.now) (first_level both.pairing.now) store.now built.now.first }
+    requires second { AreDiagrams (circuit both.second.now) (second_level both.pairing.now) store.now built.now.second }
 {
-    let ours = signal(rt, first, name);
-    let theirs = signal(rt, second, name);
+    let ours = signal(rt, both.first, name);
+    let theirs = signal(rt, both.second, name);
     (built.first(ours), built.second(theirs))
+}
+
+/// What the building of two netlists comes to: how many nodes they need, and whether their outputs 23 are the same.
+#[derive(Clone, Copy)]
+struct Wanted {
+    need: u64,
+    same: bool,
 }
 
 /// Builds two netlists in a store of as many nodes as they need, and in one of a node less.
@@ -142,30 +153,32 @@ fn compare_builds<R: Abort + Threads + Wait + Sync>(
     alloc: Global,
     first: &Netlist,
     second: &Netlist,
-    need: u64,
-    same: bool,
+    wanted: Wanted,
     workers: u32,
 ) -> Result<(), Fail>
-    requires some_node { 1 ≤ need }
-    requires few_nodes { need ≤ 1000 }
+    requires some_node { 1 ≤ wanted.need }
+    requires few_nodes { wanted.need ≤ 1000 }
     requires some_worker { 1 ≤ workers }
     requires few_workers { workers ≤ 16 }
 {
+    let Wanted { need, same } = wanted;
     let pairing = pair(alloc, first, second, None, Match::Name, &Order::Declared)?;
+    let both = Paired {
+        first,
+        second,
+        pairing: &pairing,
+    };
+    let crew = crew_of(rt, alloc, workers, &Free);
     let levels = pairing.names().len() as u16;
     let mut store = Store::new(alloc, levels, need)?;
-    let both = built(
-        rt, alloc, &mut store, first, second, &pairing, workers, &Free,
-    )?;
+    let made = built(&crew, &mut store, both)?;
     assert!(rt; store.count() == need);
-    let equal = diagrams(rt, &store, first, second, &pairing, &both, "22");
+    let equal = diagrams(rt, &store, both, &made, "22");
     assert!(rt; equal.0 == equal.1);
-    let other = diagrams(rt, &store, first, second, &pairing, &both, "23");
+    let other = diagrams(rt, &store, both, &made, "23");
     assert!(rt; (other.0 == other.1) == same);
     let mut small = Store::new(alloc, levels, need - 1)?;
-    let refused = built(
-        rt, alloc, &mut small, first, second, &pairing, workers, &Free,
-    );
+    let refused = built(&crew, &mut small, both);
     assert!(rt; refused.err() == Some(WaveFault::Full));
     Ok(())
 }
@@ -177,8 +190,16 @@ fn built_netlists(rt: HostRuntime) -> Result<(), Fail> {
     let second = read(&rt, rt.alloc(), C17B);
     for workers in [1_u32, 2, 3, 16] {
         let workers = workers.clamp(1, 16);
-        compare_builds(&rt, rt.alloc(), &first, &first, 13, true, workers)?;
-        compare_builds(&rt, rt.alloc(), &first, &second, 15, false, workers)?;
+        let same = Wanted {
+            need: 13,
+            same: true,
+        };
+        compare_builds(&rt, rt.alloc(), &first, &first, same, workers)?;
+        let other = Wanted {
+            need: 15,
+            same: false,
+        };
+        compare_builds(&rt, rt.alloc(), &first, &second, other, workers)?;
     }
     Ok(())
 }

@@ -4,7 +4,8 @@ ghost use Rattle.dd_store.specs.View.{Has};
 ghost use Rattle.req_table.specs.Keys.{IsKey};
 ghost use Rattle.reduce_up.specs.Waves.{IsClosureOf};
 
-use crate::waves::{WAYS, Way, known_at, node, only, request, run, start};
+use crate::reduced::only;
+use crate::waves::{A, B, C, D, How, WAYS, Way, known_at, node, request, run, start};
 use counter_walk::value;
 use dd_store::{Ref, Store};
 use expand_work::{Free, WaveFault};
@@ -18,15 +19,7 @@ use wave_core::{Core, Records};
 use wave_doors::law::closures_are_records;
 use wave_doors::{expand_all, reduce};
 
-// Places in the list of known references: the constants, the variables by level, and the answers.
-const A: usize = 2;
-
-const B: usize = 3;
-
-const C: usize = 4;
-
-const D: usize = 5;
-
+/// The place of the first answer of a wave over three variables.
 const FIRST_ANSWER: usize = 5;
 
 /// Whether the variables of a store of two levels have their values.
@@ -52,7 +45,8 @@ fn full_then_old<R: Abort + Threads + Wait + Sync>(
     let mut known = start(rt, alloc, &mut store);
     let a = known_at(rt, &store, known.as_slice(), A);
     let b = known_at(rt, &store, known.as_slice(), B);
-    let answer = run(rt, alloc, &mut store, &mut known, &steps, 2, way);
+    let how = How { workers: 2, way };
+    let answer = run(rt, alloc, &mut store, &mut known, &steps, how);
     assert!(rt; answer == Err(WaveFault::Full) && store.levels() == 2);
     assert!(rt; store.variable(0) == Ok(a));
     two_have_their_values(rt, &store, a, b);
@@ -117,9 +111,10 @@ fn again_where_refused<R: Abort + Threads + Wait + Sync>(
     let steps = [(Op::And, A, B), (Op::Or, B, C), (Op::Xor, A, C)];
     let mut store = Store::new(alloc, 3, 100)?;
     let mut known = start(rt, alloc, &mut store);
-    if run(rt, alloc, &mut store, &mut known, &steps, 2, way).is_err() {
+    let how = How { workers: 2, way };
+    if run(rt, alloc, &mut store, &mut known, &steps, how).is_err() {
         three_have_their_values(rt, &store, known.as_slice());
-        run(rt, alloc, &mut store, &mut known, &steps, 2, way)?;
+        run(rt, alloc, &mut store, &mut known, &steps, how)?;
     }
     three_have_their_values(rt, &store, known.as_slice());
     answers_are_right(rt, &store, known.as_slice());

@@ -1,44 +1,39 @@
-//! Waves on one thread, and the reduction of a core's records.
-ghost use Rattle.std.specs.Prelude.{ℕ, ◌<◌, ◌≤◌, ◌≡◌, All, Contains, IfOk};
+//! Waves of steps on known references, in each way in which a wave is run.
+ghost use Rattle.std.specs.Prelude.{◌<◌, ◌≤◌, All, IfOk};
 ghost use Rattle.dd_store.specs.View.{Has, Keeps};
-ghost use Rattle.req_table.specs.declared.Record.{Record};
 ghost use Rattle.req_table.specs.Keys.{IsKey};
-ghost use Rattle.req_table.specs.Tables.{row_at};
-ghost use Rattle.reduce_up.specs.Reducing.{HasAnswer};
-ghost use Rattle.reduce_up.specs.Waves.{IsEntry, IsClosureOf};
+ghost use Rattle.reduce_up.specs.Waves.{IsEntry};
 
-use dd_store::{Ref, Store, Watch};
-use expand_work::{Crew, Free, Monitor, WaveFault, Workers};
+use crate::narrow::Narrow;
+use dd_store::{Ref, Store};
+use expand_work::{Crew, Free, WaveFault, Workers};
 use gate_plan::conjoin;
 use req_table::requests::{normal, terminal_case};
 use req_table::{ComputedTable, Key, Op};
 use std::alloc::Global;
 use std::process::Abort;
 use std::sync::Wait;
-use std::sync::atomic::{AtomicU32, AtomicUsize, Ordering};
 use std::test::Fail;
 use std::thread::Threads;
-use wave_core::{Core, Records};
-use wave_doors::law::closures_are_records;
-use wave_doors::{Results, reduce, wave_one};
+use wave_doors::wave_one;
 use wave_engine::wave;
 
 // Operands are places in a list of known references: the constants, the variables by level, and the answers so far.
 const ZERO: usize = 0;
 
-const A: usize = 2;
+pub(crate) const A: usize = 2;
 
-const B: usize = 3;
+pub(crate) const B: usize = 3;
 
-const C: usize = 4;
+pub(crate) const C: usize = 4;
 
-const D: usize = 5;
+pub(crate) const D: usize = 5;
 
 /// An operation on two known references.
 pub(crate) type Step = (Op, usize, usize);
 
-/// How a wave is run: on the test's thread by a core with these choices, as the program does it, or with workers who are called in at
-/// a level with more requests than this.
+/// The way of a wave: on the test's thread by a core with these choices, as the program does it, or with workers who are called in at a
+/// level with more requests than this.
 #[derive(Clone, Copy)]
 pub(crate) enum Way {
     Alone(&'static [u8]),
@@ -46,38 +41,11 @@ pub(crate) enum Way {
     Upto(usize),
 }
 
-/// Lets the caller's thread have so many requests of a level, and counts how often a worker comes to a level.
-#[derive(Drop)]
-pub(crate) struct Narrow {
-    pub(crate) most: AtomicUsize,
-    pub(crate) told: AtomicU32,
-}
-
-impl Narrow {
-    pub(crate) fn new(most: usize) -> Narrow {
-        Narrow {
-            most: AtomicUsize::new(most),
-            told: AtomicU32::new(0),
-        }
-    }
-}
-
-impl Watch for Narrow {
-    fn at_shard(&self, _shard: u8, _level: u16) {}
-}
-
-impl Monitor for Narrow {
-    fn at_level(&self, _worker: u32, _level: u16) {
-        self.told.fetch_add(1, Ordering::SeqCst);
-    }
-
-    fn most_alone(&self, _workers: u32, _expected: usize) -> usize {
-        self.most.load(Ordering::SeqCst)
-    }
-
-    fn most_requests(&self) -> usize {
-        usize::MAX
-    }
+/// How a wave is run: by so many workers at most, and in which way.
+#[derive(Clone, Copy)]
+pub(crate) struct How {
+    pub(crate) workers: u32,
+    pub(crate) way: Way,
 }
 
 /// The choices are none, few, and more than a small wave has events.
@@ -160,14 +128,14 @@ fn answers_of<R: Threads + Wait + Sync>(
     alloc: Global,
     store: &mut Store,
     entries: &[(Op, Ref, Ref)],
-    workers: u32,
-    way: Way,
+    how: How,
 ) -> Result<Vec<Ref>, WaveFault>
     requires operands { All (IsEntry store.old) entries.now }
-    requires workers { (0 < workers) × (workers ≤ 16) }
+    requires workers { (0 < how.workers) × (how.workers ≤ 16) }
     ensures keeps { Keeps store.old store.new }
     ensures known { IfOk result (λ answers. All (Has store.new) answers.items) }
 {
+    let How { workers, way } = how;
     let mut computed = ComputedTable::new(alloc, 8)?;
     match way {
         Way::Alone(choices) => {
@@ -193,16 +161,15 @@ pub(crate) fn run<R: Abort + Threads + Wait + Sync>(
     store: &mut Store,
     known: &mut Vec<Ref>,
     steps: &[Step],
-    workers: u32,
-    way: Way,
+    how: How,
 ) -> Result<(), WaveFault>
     requires known { All (Has store.old) known.old.items }
-    requires workers { (0 < workers) × (workers ≤ 16) }
+    requires workers { (0 < how.workers) × (how.workers ≤ 16) }
     ensures known { All (Has store.new) known.new.items }
     ensures keeps { Keeps store.old store.new }
 {
     let entries = entries_of(rt, alloc, store, known.as_slice(), steps);
-    let answers = answers_of(rt, alloc, store, entries.as_slice(), workers, way)?;
+    let answers = answers_of(rt, alloc, store, entries.as_slice(), how)?;
     known
         .extend_from_slice(answers.as_slice())
         .expect(rt, "memory");
@@ -219,40 +186,6 @@ pub(crate) fn request<R: Abort>(rt: &R, store: &Store, known: &[Ref], step: Step
     let g = known_at(rt, store, known, second);
     assert!(rt; terminal_case(op, f, g).is_none());
     normal(op, f, g).0
-}
-
-/// The records of all that the roots ask for, by a core of two workers.
-fn closure_of<R: Abort>(
-    rt: &R,
-    alloc: Global,
-    store: &Store,
-    roots: &[Key],
-    choices: &[u8],
-) -> Records
-    requires { All (IsKey store.now) roots.now }
-    ensures { IsClosureOf store.now 2 roots.now result }
-{
-    let mut core = Core::new(alloc, store, 2, roots).expect(rt, "memory");
-    assert!(rt; core.drive(choices).is_ok());
-    core.into_records().expect(rt, "memory")
-}
-
-/// The diagram of the only record of a level, which has this key.
-pub(crate) fn only<R: Abort>(
-    rt: &R,
-    records: &Records,
-    results: &Results,
-    level: u16,
-    key: Key,
-) -> Ref
-    requires { (v : ℕ) (r : Record) → Contains (row_at records.now v) r → HasAnswer results.now r.key }
-{
-    assert!(rt; (level as usize) < records.levels());
-    let row = records.level(level);
-    assert!(rt; row.len() == 1);
-    let record = row[0];
-    assert!(rt; record.key == key);
-    results.get(&record.key)
 }
 
 /// The node of a level with two children, which has to be there.
@@ -275,15 +208,8 @@ fn wave_entries(rt: HostRuntime) -> Result<(), Fail> {
             let mut store = Store::new(rt.alloc(), 2, 4)?;
             let mut known = start(&rt, rt.alloc(), &mut store);
             let b = known_at(&rt, &store, known.as_slice(), B);
-            let answer = run(
-                &rt,
-                rt.alloc(),
-                &mut store,
-                &mut known,
-                &steps,
-                workers,
-                way,
-            );
+            let how = How { workers, way };
+            let answer = run(&rt, rt.alloc(), &mut store, &mut known, &steps, how);
             assert!(rt; answer.is_ok() && store.count() == 3);
             let both = node(&rt, &store, 0, Ref::FALSE, b);
             let wanted = [both, both, Ref::FALSE, Ref::FALSE];
@@ -321,43 +247,6 @@ fn conjoined(rt: HostRuntime) -> Result<(), Fail> {
         let answers = with_all(&rt, rt.alloc(), &mut store, known.as_slice(), b, workers)?;
         let both = node(&rt, &store, 0, Ref::FALSE, b);
         assert!(rt; answers.as_slice() == [Ref::FALSE, b, both, b].as_slice());
-    }
-    Ok(())
-}
-
-/// Reduces the records of a driven core in a store of so many nodes: at the first and at the third level a node.
-fn reduced_within<R: Threads + Wait + Abort + Sync>(
-    rt: &R,
-    alloc: Global,
-    limit: u32,
-    choices: &[u8],
-) -> Result<(), WaveFault> {
-    let mut store = Store::new(alloc, 4, limit as u64)?;
-    let known = start(rt, alloc, &mut store);
-    let c = known_at(rt, &store, known.as_slice(), C);
-    let d = known_at(rt, &store, known.as_slice(), D);
-    let roots = [
-        request(rt, &store, known.as_slice(), (Op::And, A, C)),
-        request(rt, &store, known.as_slice(), (Op::And, C, D)),
-    ];
-    let records = closure_of(rt, alloc, &store, &roots, choices);
-    closures_are_records(&store, &roots, &records);
-    assert!(rt; store.count() == 4);
-    let results = reduce(rt, alloc, &mut store, &records, &Free)?;
-    let first = node(rt, &store, 0, Ref::FALSE, c);
-    let last = node(rt, &store, 2, Ref::FALSE, d);
-    assert!(rt; only(rt, &records, &results, 0, roots[0]) == first);
-    assert!(rt; only(rt, &records, &results, 2, roots[1]) == last);
-    assert!(rt; store.count() == 6);
-    Ok(())
-}
-
-// Six nodes are just enough.
-#[test]
-fn core_reduced(rt: HostRuntime) -> Result<(), Fail> {
-    for choices in [[].as_slice(), [0, 1, 2].as_slice(), [255; 200].as_slice()] {
-        reduced_within(&rt, rt.alloc(), 6, choices)?;
-        assert!(rt; reduced_within(&rt, rt.alloc(), 5, choices) == Err(WaveFault::Full));
     }
     Ok(())
 }

@@ -3,7 +3,8 @@ ghost use Rattle.std.specs.Prelude.{◌<◌, ◌≤◌, All};
 ghost use Rattle.reduce_up.specs.Waves.{IsEntry};
 
 use crate::meeting::Meeting;
-use crate::waves::{Narrow, Step, Way, crew_of, entries_of, run, start};
+use crate::narrow::Narrow;
+use crate::waves::{How, Step, Way, crew_of, entries_of, run, start};
 use dd_store::{Ref, Store, Watch};
 use expand_work::{Monitor, WaveFault};
 use req_table::{ComputedTable, Op};
@@ -61,29 +62,18 @@ fn sums_within<R: Threads + Wait + Abort + Sync>(
     let mut store = Store::new(alloc, 66, limit as u64)?;
     let mut known = start(rt, alloc, &mut store);
     let factors = products(rt, alloc, 66);
-    run(
-        rt,
-        alloc,
-        &mut store,
-        &mut known,
-        factors.as_slice(),
-        3,
-        way,
-    )?;
+    let how = How { workers: 3, way };
+    run(rt, alloc, &mut store, &mut known, factors.as_slice(), how)?;
     assert!(rt; store.count() == 131);
     let steps = sums(rt, alloc);
-    let summed = run(rt, alloc, &mut store, &mut known, steps.as_slice(), 3, way);
+    let summed = run(rt, alloc, &mut store, &mut known, steps.as_slice(), how);
     assert!(rt; store.count() == left);
     summed?;
-    run(
-        rt,
-        alloc,
-        &mut store,
-        &mut known,
-        steps.as_slice(),
-        2,
-        Way::Alone(&[1]),
-    )?;
+    let core = How {
+        workers: 2,
+        way: Way::Alone(&[1]),
+    };
+    run(rt, alloc, &mut store, &mut known, steps.as_slice(), core)?;
     assert!(rt; store.count() == 4_291 && known.len() == 4_293);
     assert!(rt; known.get(133..2_213) == known.get(2_213..));
     Ok(())
@@ -127,15 +117,11 @@ fn combined<R: Threads + Wait + Abort + Sync>(
 {
     let mut known = start(rt, alloc, store);
     let factors = products(rt, alloc, MANY);
-    let made = run(
-        rt,
-        alloc,
-        store,
-        &mut known,
-        factors.as_slice(),
-        2,
-        Way::Upto(0),
-    );
+    let how = How {
+        workers: 2,
+        way: Way::Upto(0),
+    };
+    let made = run(rt, alloc, store, &mut known, factors.as_slice(), how);
     assert!(rt; made.is_ok());
     let steps = combinations(rt, alloc);
     let steps = steps.get(..count).expect(rt, "fewer products");

@@ -4,7 +4,8 @@ ghost use Rattle.dd_store.specs.View.{Has, Keeps};
 ghost use Rattle.req_table.specs.ComputedTables.{IsRight};
 ghost use Rattle.reduce_up.specs.Waves.{IsEntry};
 
-use crate::waves::{Narrow, Step, Way, crew_of, entries_of, run, start};
+use crate::narrow::Narrow;
+use crate::waves::{How, Step, Way, crew_of, entries_of, run, start};
 use dd_store::{Ref, Store};
 use expand_work::{Monitor, WaveFault};
 use req_table::Op;
@@ -104,21 +105,17 @@ fn waves_of<R: Abort + Threads + Wait + Sync>(
     let mut random = Random { state: seed };
     let mut store = Store::new(alloc, 6, limit as u64).expect(rt, "memory");
     let mut known = start(rt, alloc, &mut store);
+    let core = How {
+        workers: 2,
+        way: Way::Alone(&[3, 1, 2]),
+    };
     for _ in 0..5 {
         let steps = random_steps(rt, alloc, &mut random, known.len());
         let before = known.len();
         let answer = run_engine(rt, engine, &mut store, &mut known, steps.as_slice());
         let count = store.count();
         let between = known.len();
-        let again = run(
-            rt,
-            alloc,
-            &mut store,
-            &mut known,
-            steps.as_slice(),
-            2,
-            Way::Alone(&[3, 1, 2]),
-        );
+        let again = run(rt, alloc, &mut store, &mut known, steps.as_slice(), core);
         assert!(rt; again == answer && store.count() == count);
         assert!(rt; known.get(before..between) == known.get(between..));
         if answer.is_err() {

@@ -171,6 +171,13 @@ fn a_flag_is_read_where_a_level_begins(rt: HostRuntime) -> Result<(), Fail> {
     Ok(())
 }
 
+/// What two workers say to each other beside their lanes: that one is to stop, and that it has ended.
+#[derive(Clone, Copy)]
+struct Flags<'a> {
+    stop: &'a AtomicBool,
+    ended: &'a AtomicBool,
+}
+
 /// Works on no roots, and says how that ended once it has.
 fn work_until_told<R: Wait>(
     rt: &R,
@@ -178,8 +185,7 @@ fn work_until_told<R: Wait>(
     lanes: &Lanes,
     port: Port,
     store: &Store,
-    stop: &AtomicBool,
-    ended: &AtomicBool,
+    flags: Flags<'_>,
 ) -> Option<WorkFault>
     requires port { IsPortOf lanes.now port }
     requires fresh { IsFresh port }
@@ -190,10 +196,10 @@ fn work_until_told<R: Wait>(
         lanes,
         store,
         roots: &[],
-        stop,
+        stop: flags.stop,
     };
     let fault = work(rt, site, port, None, &Free).err();
-    ended.store(true, Ordering::SeqCst);
+    flags.ended.store(true, Ordering::SeqCst);
     fault
 }
 
@@ -217,15 +223,14 @@ fn stop_in_a_wait<R: Wait + Abort>(
     lanes: &Lanes,
     mut port: Port,
     store: &Store,
-    stop: &AtomicBool,
-    ended: &AtomicBool,
+    flags: Flags<'_>,
 )
     requires port { IsPortOf lanes.now port }
     requires sizes { lanes.now.sizes ≡ sizes_of store.now }
 {
     wait_for_item(rt, lanes, &mut port);
-    stop.store(true, Ordering::SeqCst);
-    if !wait_for(ended, TURNS) {
+    flags.stop.store(true, Ordering::SeqCst);
+    if !wait_for(flags.ended, TURNS) {
         end(rt, store, lanes, &mut port, 0);
     }
 }
@@ -250,10 +255,10 @@ fn stop_one_of_two<R: Threads + Wait + Abort + Sync>(
         rt,
         move || -> Option<WorkFault>
             requires { IsPortOf lanes.now first × IsFresh first × (lanes.now.sizes ≡ sizes_of store.now) }
-        { work_until_told(rt, alloc, lanes, first, store, stop, ended) },
+        { work_until_told(rt, alloc, lanes, first, store, Flags { stop, ended }) },
         move || -> ()
             requires { IsPortOf lanes.now second × (lanes.now.sizes ≡ sizes_of store.now) }
-        { stop_in_a_wait(rt, lanes, second, store, stop, ended) },
+        { stop_in_a_wait(rt, lanes, second, store, Flags { stop, ended }) },
     );
     fault
 }

@@ -1,5 +1,5 @@
 use Rattle.std.proofs.Common.{sym, subst, arith, Contains}
-use Rattle.wave_tests.proofs.waves.only.Goals as goal
+use Rattle.wave_tests.proofs.reduced.only.Goals as goal
 
 pub get-requires : goal.get-requires
 get-requires g c =

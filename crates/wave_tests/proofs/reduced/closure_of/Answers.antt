@@ -4,7 +4,7 @@ use Rattle.wave_core.specs.Cores.{core_wave, core_state, IsNew}
 use Rattle.wave_core.specs.Step.{IsFinished}
 use Rattle.reduce_up.specs.Waves.{IsClosureOf}
 use Rattle.wave_doors.proofs.Driven.{driven_closure}
-use Rattle.wave_tests.proofs.waves.closure_of.Goals as goal
+use Rattle.wave_tests.proofs.reduced.closure_of.Goals as goal
 
 pub returns : goal.returns
 returns g c =

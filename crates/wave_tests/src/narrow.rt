@@ -1,0 +1,38 @@
+//! A monitor that says at how many requests of a level workers are called in.
+use dd_store::Watch;
+use expand_work::Monitor;
+use std::sync::atomic::{AtomicU32, AtomicUsize, Ordering};
+
+/// Lets the caller's thread have so many requests of a level, and counts how often a worker comes to a level.
+#[derive(Drop)]
+pub(crate) struct Narrow {
+    pub(crate) most: AtomicUsize,
+    pub(crate) told: AtomicU32,
+}
+
+impl Narrow {
+    pub(crate) fn new(most: usize) -> Narrow {
+        Narrow {
+            most: AtomicUsize::new(most),
+            told: AtomicU32::new(0),
+        }
+    }
+}
+
+impl Watch for Narrow {
+    fn at_shard(&self, _shard: u8, _level: u16) {}
+}
+
+impl Monitor for Narrow {
+    fn at_level(&self, _worker: u32, _level: u16) {
+        self.told.fetch_add(1, Ordering::SeqCst);
+    }
+
+    fn most_alone(&self, _workers: u32, _expected: usize) -> usize {
+        self.most.load(Ordering::SeqCst)
+    }
+
+    fn most_requests(&self) -> usize {
+        usize::MAX
+    }
+}
