@@ -1,26 +1,25 @@
 -- What a check says by its settings, by the options.
-use Rattle.std.proofs.Common.{◌≡◌, inl, inr, sym, subst, ℕ, List, Option, Some, None}
+use Rattle.std.proofs.Common.{◌≡◌, inl, inr, sym, subst, ℕ, List, Option, None}
 use Rattle.std.specs.Prelude.{IfSome, IsSomeAnd}
 use Rattle.check_report.specs.Best.{AreGivenUp, AreTried as TriesOrders, IsAllowed, IsGivenUpWithin, MayGoByCones as MayCheckByCones, NamesOrder as NamesCheckOrder, last_budget}
 use Rattle.check_report.specs.Check.{IsCheckFault}
-use Rattle.check_report.specs.Devices.{Told, told_of}
+use Rattle.check_report.specs.Devices.{Told}
 use Rattle.check_report.specs.Deciding.{IsUnknown}
 use Rattle.check_report.specs.Dumping.{IsReportWithVcd}
 use Rattle.check_report.specs.Explaining.{IsReportFault}
 use Rattle.check_report.specs.Limits.{AreBeyond}
-use Rattle.check_report.specs.Best.{IsFound}
-use Rattle.check_report.specs.Listing.{IsOrderPrinted}
 use Rattle.check_report.specs.declared.choice.Attempt.{Attempt}
 use Rattle.check_report.specs.declared.choice.Choice.{Choice}
 use Rattle.check_report.specs.declared.fault.CheckFault.{CheckFault}
 use Rattle.check_report.specs.declared.picked.Picked.{Picked}
 use Rattle.check_report.specs.declared.settings.Settings.{Settings}
 use Rattle.report_text.specs.declared.outcome.Outcome.{Outcome}
+use Rattle.net_order.specs.declared.order.Match.{Match}
 use Rattle.net_order.specs.declared.order.Order.{Order}
 use Rattle.command_line.specs.declared.options.Options.{Options}
 use Rattle.command_line.specs.declared.options.OrderChoice.{OrderChoice}
 use Rattle.command_line.specs.declared.options.OrderChoice.TheVariants.{Declared, Depth, Interleave, Index, Force, Best, Auto, Cones, File, Extended}
-use Rattle.check_tool.specs.Running.{AreSettings, IsFailedCheck, IsGivenOf, IsOrderOf, MayGoByCones, NamesOrder, limit_of}
+use Rattle.check_tool.specs.Running.{AreSettings, IsFailedCheck, IsOrderOf, MayGoByCones, NamesOrder, limit_of}
 
 -- cones may be taken where the options allow them
 pub goes_by_cones : (told : List ℕ → Option (List ℕ)) (c : OrderChoice) (choice : Choice) → IsOrderOf told c choice → MayGoByCones c → MayCheckByCones choice
@@ -56,22 +55,15 @@ none_past bound P none h = subst (λ b. IsSomeAnd b P) none h
 pub report_unbound : (told : Told) (s : Settings) (bound : Option ℕ) → bound ≡ None → (tried : Option Attempt) (o : Outcome) (bytes : List ℕ) (vcd : Option (List ℕ)) → IsReportWithVcd told s bound tried o bytes vcd → IsReportWithVcd told s None tried o bytes vcd
 report_unbound told s bound none tried o bytes vcd r = subst (λ b. IsReportWithVcd told s b tried o bytes vcd) none r
 
--- the attempts before one that is told were given up, as the options have it
-pub passed_as : (files : List ℕ → Option (List ℕ)) (one two : Option (List ℕ)) (given : Option (Option (List ℕ))) (o : Options) (choice : Choice) (picked : Picked) (s : Settings) → AreSettings o choice picked s
-    → IsGivenOf files o.given given → IsOrderOf files o.order choice → (bound : Option ℕ) → bound ≡ None → (tried : Option Attempt) → IfSome tried (AreGivenUp (told_of one two given) s.matching (last_budget s.order s.limit) bound)
-    → IfSome tried (λ t. (given : Option (Option (List ℕ))) × (choice : Choice) × IsGivenOf files o.given given × IsOrderOf files o.order choice
-    × AreGivenUp (told_of one two given) o.matching (last_budget choice (limit_of o)) None t)
-passed_as files one two given o choice picked s set conditioned ordered bound none None h = tt
-passed_as files one two given o choice picked s set conditioned ordered bound none (Some t) h = (
-  given,
-  choice,
-  conditioned,
-  ordered,
-  subst (λ b. AreGivenUp (told_of one two given) o.matching (last_budget choice (limit_of o)) b t) none
-      (subst (λ m. AreGivenUp (told_of one two given) m (last_budget choice (limit_of o)) bound t) set.matching
-      (subst (λ c. AreGivenUp (told_of one two given) s.matching (last_budget c (limit_of o)) bound t) set.order
-      (subst (λ n. AreGivenUp (told_of one two given) s.matching (last_budget s.order n) bound t) set.limit h))),
-)
+-- nor for the attempts before the one that is told
+pub passed_unbound : (told : Told) (how : Match) (budget : ℕ) (bound : Option ℕ) → bound ≡ None → (tried : Option Attempt) → IfSome tried (AreGivenUp told how budget bound) → IfSome tried (AreGivenUp told how budget None)
+passed_unbound told how budget bound none tried h = subst (λ b. IfSome tried (AreGivenUp told how budget b)) none h
+
+-- nor for those that were given up
+pub given_up_unbound : (told : Told) (s : Settings) (bound : Option ℕ) → bound ≡ None → TriesOrders s.order × ((order : Order) → IsAllowed s.order order → IsGivenUpWithin told s.matching s.limit bound order)
+    → TriesOrders s.order × ((order : Order) → IsAllowed s.order order → IsGivenUpWithin told s.matching s.limit None order)
+given_up_unbound told s bound none f =
+    subst (λ b. TriesOrders s.order × ((order : Order) → IsAllowed s.order order → IsGivenUpWithin told s.matching s.limit b order)) none f
 
 module _ (told : Told) (o : Options) (choice : Choice) (picked : Picked) (s : Settings) (set : AreSettings o choice picked s) where
   pub beyond : ((order : Order) → IsAllowed s.order order → AreBeyond told s.matching order s.limit) → (order : Order) → IsAllowed choice order → AreBeyond told o.matching order (limit_of o)
@@ -79,15 +71,20 @@ module _ (told : Told) (o : Options) (choice : Choice) (picked : Picked) (s : Se
       subst (λ m. AreBeyond told m order (limit_of o)) set.matching
       (subst (λ n. AreBeyond told s.matching order n) set.limit (f order (subst (λ c. IsAllowed c order) (sym set.order) allowed)))
 
-  pub given_up : (bound : Option ℕ) → bound ≡ None → TriesOrders s.order × ((order : Order) → IsAllowed s.order order → IsGivenUpWithin told s.matching s.limit bound order)
+  pub given_up : TriesOrders s.order × ((order : Order) → IsAllowed s.order order → IsGivenUpWithin told s.matching s.limit None order)
       → TriesOrders choice × ((order : Order) → IsAllowed choice order → IsGivenUpWithin told o.matching (limit_of o) None order)
-  given_up bound none f = (
+  given_up f = (
     subst TriesOrders set.order f.0,
     λ order allowed.
-        subst (λ b. IsGivenUpWithin told o.matching (limit_of o) b order) none
-        (subst (λ m. IsGivenUpWithin told m (limit_of o) bound order) set.matching
-        (subst (λ n. IsGivenUpWithin told s.matching n bound order) set.limit (f.1 order (subst (λ c. IsAllowed c order) (sym set.order) allowed)))),
+        subst (λ m. IsGivenUpWithin told m (limit_of o) None order) set.matching
+        (subst (λ n. IsGivenUpWithin told s.matching n None order) set.limit (f.1 order (subst (λ c. IsAllowed c order) (sym set.order) allowed))),
   )
+
+  pub passed : (t : Attempt) → AreGivenUp told s.matching (last_budget s.order s.limit) None t → AreGivenUp told o.matching (last_budget choice (limit_of o)) None t
+  passed t h =
+      subst (λ m. AreGivenUp told m (last_budget choice (limit_of o)) None t) set.matching
+      (subst (λ c. AreGivenUp told s.matching (last_budget c (limit_of o)) None t) set.order
+      (subst (λ n. AreGivenUp told s.matching (last_budget s.order n) None t) set.limit h))
 
   pub fault_of : (first second given : Type 0) (fault : CheckFault) → (order : Order) × IsAllowed s.order order × IsCheckFault told first second given s.order s.matching order fault
       → IsFailedCheck told.first told.second told.given first second given o choice fault
@@ -101,10 +98,3 @@ module _ (told : Told) (o : Options) (choice : Choice) (picked : Picked) (s : Se
 
   pub unknown : IsUnknown told s.picked → IsUnknown told picked
   unknown u = subst (IsUnknown told) set.picked_pairs u
-
-  pub printed : (tried : Option Attempt) (order : Order) (bytes : List ℕ) → IsOrderPrinted told s.matching order bytes → IsFound told s.matching s.order s.limit tried order
-      → IsOrderPrinted told o.matching order bytes × IsFound told o.matching s.order (limit_of o) tried order
-  printed tried order bytes p f = (
-    subst (λ m. IsOrderPrinted told m order bytes) set.matching p,
-    subst (λ m. IsFound told m s.order (limit_of o) tried order) set.matching (subst (λ n. IsFound told s.matching s.order n tried order) set.limit f),
-  )

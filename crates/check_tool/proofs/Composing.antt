@@ -1,17 +1,9 @@
 -- What a run does, from what its parts do.
-use Rattle.std.proofs.Common.{◌≡◌, ◌∙◌, ◌++◌, ◌⊎◌, inl, inr, ℕ, Bool, true, false, List, [], ◌∷◌, Option, Some, None, Result, Ok, Err, IfOk, IfErr, OnOk, refl, sym, ap, subst, append-nil}
+use Rattle.std.proofs.Common.{◌≡◌, ◌∙◌, ◌++◌, ◌⊎◌, inl, inr, ℕ, Bool, true, false, List, [], ◌∷◌, Option, Some, None, refl, sym, ap, subst, append-nil}
 use Rattle.std.specs.Prelude.{IfSome, option_map, ◌||◌}
 use Rattle.std.specs.Borrow.{Bor}
-use Rattle.std.specs.Io.KnownBytes.{Appends, Keeps}
+use Rattle.std.specs.Io.KnownBytes.{Keeps}
 use Rattle.std.proofs.lemmas.List.{append_assoc}
-use Rattle.check_tool.specs.declared.done.Done.{Done}
-use Rattle.check_report.specs.Devices.{told_of}
-use Rattle.check_report.specs.Limits.{AreBeyond}
-use Rattle.check_report.specs.Best.{AreGivenUp, AreTried as TriesOrders, IsAllowed, IsGivenUpWithin, last_budget}
-use Rattle.check_report.specs.declared.choice.Attempt.{Attempt}
-use Rattle.check_report.specs.declared.choice.Choice.{Choice}
-use Rattle.report_text.specs.Writing.{AppendsFront}
-use Rattle.net_order.specs.declared.order.Order.{Order}
 use Rattle.command_line.specs.declared.options.Options.{Options}
 use Rattle.command_line.specs.declared.options.Texts.{Texts}
 use Rattle.command_line.specs.declared.options.Texts.TheVariants.{Input, Files, InputAndFile, FileAndInput, InputTwice, One}
@@ -22,8 +14,7 @@ use Rattle.check_tool.specs.Splitting.{IsSplit}
 use Rattle.check_tool.specs.Ending.{Written, IsSaidOf}
 use Rattle.check_tool.specs.Faults.{fault_status}
 use Rattle.check_tool.specs.Opening.{Try, Extends, opened, AreTried}
-use Rattle.check_tool.specs.Running.{IsOpenFault, AreTwo, first_paths, second_paths, text_paths, order_paths, given_paths, later_paths, paths_of, IsShort, AreNamed, AreTexts, HasTexts, IsGivenOf, IsOrderOf, IsLaterFault, IsCompared, HasReported, HasReportedFront, HasFirstFailed, HasSecondFailed, HasGivenFailed, IsBeyond, IsGivenUp, ArePassed, AreUnknown, ArePicksUnknown, IsCompareFault, IsToolFault, attempt_of, limit_of}
-use Rattle.check_tool.proofs.Failing.{failed_check}
+use Rattle.check_tool.specs.Running.{IsOpenFault, AreTwo, first_paths, second_paths, text_paths, order_paths, given_paths, later_paths, IsShort, AreTexts, HasTexts, IsLaterFault, IsToolFault}
 
 -- ---- tries
 
@@ -133,113 +124,50 @@ two_from_first (InputAndFile second) path e = tt
 two_from_first InputTwice path e = cc
 two_from_first One path e = cc
 
--- ---- the whole of a run
+-- ---- a file behind those of the texts
 
-module _ (told : List ℕ → Option (List ℕ)) (input : Option (List ℕ)) (o : Options) (one two : Option (List ℕ)) (texts : AreTexts told input o.texts one two) where
-  pub whole_report : (told' : List ℕ → Option (List ℕ)) → told' ≡ told → (before now : Option (List ℕ)) (r : Result Done ToolFault) → IfOk r (λ done. (bytes : List ℕ) × IsCompared told' one two o done bytes × Appends before now bytes) → IfOk r (HasReported told input o before now)
-  whole_report told' e before now (Ok done) h =
-      (h.0, record { one = one; two = two; texts = texts; compared = subst (λ t. IsCompared t one two o done h.0) e h.1 }, h.2)
-  whole_report told' e before now (Err fault) h = tt
-
-  pub whole_front : (told' : List ℕ → Option (List ℕ)) → told' ≡ told → (before now : Option (List ℕ)) (has_failed has_stopped : Bool)
-      → (done : Done) × (bytes : List ℕ) × IsCompared told' one two o done bytes × AppendsFront before now has_failed has_stopped bytes
-      → HasReportedFront told input o before now has_failed has_stopped
-  whole_front told' e before now has_failed has_stopped h =
-      (h.0, h.1, record { one = one; two = two; texts = texts; compared = subst (λ t. IsCompared t one two o h.0 h.1) e h.2 }, h.3)
-
-  pub whole_beyond : (told' : List ℕ → Option (List ℕ)) → told' ≡ told → (given : Option (Option (List ℕ))) × (choice : Choice) × IsGivenOf told' o.given given × IsOrderOf told' o.order choice × ((order : Order) → IsAllowed choice order → AreBeyond (told_of one two given) o.matching order (limit_of o)) → IsBeyond told input o
-  whole_beyond told' e h = (one, two, h.0, h.1, texts, subst (λ t. IsGivenOf t o.given h.0) e h.2, subst (λ t. IsOrderOf t o.order h.1) e h.3, h.4)
-
-  pub whole_passed : (told' : List ℕ → Option (List ℕ)) → told' ≡ told → (r : Result Done ToolFault)
-      → IfOk r (λ done. IfSome (attempt_of done) (λ t. (given : Option (Option (List ℕ))) × (choice : Choice) × IsGivenOf told' o.given given × IsOrderOf told' o.order choice
-      × AreGivenUp (told_of one two given) o.matching (last_budget choice (limit_of o)) None t)) → IfOk r (ArePassed told input o)
-  whole_passed told' e (Err fault) h = tt
-  whole_passed told' e (Ok done) h = by (attempt_of done) h
-    where
-      by : (tried : Option Attempt) → IfSome tried (λ t. (given : Option (Option (List ℕ))) × (choice : Choice) × IsGivenOf told' o.given given × IsOrderOf told' o.order choice
-          × AreGivenUp (told_of one two given) o.matching (last_budget choice (limit_of o)) None t)
-          → IfSome tried (λ t. AreNamed told input o (λ one two given choice. AreGivenUp (told_of one two given) o.matching (last_budget choice (limit_of o)) None t))
-      by None h = tt
-      by (Some t) h = (one, two, h.0, h.1, texts, subst (λ t. IsGivenOf t o.given h.0) e h.2, subst (λ t. IsOrderOf t o.order h.1) e h.3, h.4)
-
-  pub whole_given_up : (told' : List ℕ → Option (List ℕ)) → told' ≡ told → (given : Option (Option (List ℕ))) × (choice : Choice) × IsGivenOf told' o.given given × IsOrderOf told' o.order choice
-      × TriesOrders choice × ((order : Order) → IsAllowed choice order → IsGivenUpWithin (told_of one two given) o.matching (limit_of o) None order) → IsGivenUp told input o
-  whole_given_up told' e h = (one, two, h.0, h.1, texts, subst (λ t. IsGivenOf t o.given h.0) e h.2, subst (λ t. IsOrderOf t o.order h.1) e h.3, (h.4, h.5))
-
-  pub whole_unknown : (told' : List ℕ → Option (List ℕ)) → told' ≡ told → ArePicksUnknown told' one two o → AreUnknown told input o
-  whole_unknown told' e h = (one, two, texts, subst (λ t. ArePicksUnknown t one two o) e h)
-
-  module _ (broken : List ℕ → Type 0) (input_broken first_failed second_failed : Type 0) (first : first_failed → HasFirstFailed broken input_broken o.texts) (second : second_failed → HasSecondFailed broken input_broken o.texts) where
-    -- the files behind those of the texts, with these before them
-    later_fault : (tries : List Try) (fault : ToolFault) → IsLaterFault told broken o tries fault → IsToolFault told broken input_broken input o (opened (text_paths o.texts) ++ tries) fault
-    later_fault tries OneFile (inl f) = absurd f
-    later_fault tries OneFile (inr f) = absurd f.2.2
-    later_fault tries DashTwice (inl f) = absurd f
-    later_fault tries DashTwice (inr f) = absurd f.2.2
-    later_fault tries (CannotSave obstacle) (inl f) = absurd f
-    later_fault tries (CannotSave obstacle) (inr f) = absurd f.2.2
-    later_fault tries InputUnread (inl f) = absurd f
-    later_fault tries InputUnread (inr f) = absurd f.2.2
-    later_fault tries InputTooLong (inl f) = absurd f
-    later_fault tries InputTooLong (inr f) = absurd f.2.2
-    later_fault tries InputUndivided (inl f) = absurd f
-    later_fault tries InputUndivided (inr f) = absurd f.2.2
-    later_fault tries (Check fault) (inl f) = absurd f
-    later_fault tries (Check fault) (inr f) = absurd f.2.2
-    later_fault tries (CannotOpen First obstacle) (inl f) = absurd f
-    later_fault tries (CannotOpen First obstacle) (inr f) = absurd f.2.2
-    later_fault tries (CannotOpen Second obstacle) (inl f) = absurd f
-    later_fault tries (CannotOpen Second obstacle) (inr f) = absurd f.2.2
-    later_fault tries (CannotOpen GivenFile obstacle) (inl f) =
-        (f.0, f.1, has_texts told input o.texts one two texts, ap (λ l. opened (text_paths o.texts) ++ l) f.2)
-    later_fault tries (CannotOpen GivenFile obstacle) (inr f) = absurd f.2.2
-    later_fault tries (CannotOpen OrderFile obstacle) (inl f) = absurd f
-    later_fault tries (CannotOpen OrderFile obstacle) (inr f) =
-        (f.2.0, f.2.1, has_texts told input o.texts one two texts, ap (λ l. opened (text_paths o.texts) ++ l) (f.1 ∙ ap (λ l. opened (given_paths o.given) ++ l) f.2.2) ∙ opened_twice (text_paths o.texts) (given_paths o.given) ((f.2.0, false) ∷ []))
-    later_fault tries (BadOrder fault) (inl f) = absurd f
-    later_fault tries (BadOrder fault) (inr f) =
-        (f.2.0, f.2.1, has_texts told input o.texts one two texts, ap (λ l. opened (text_paths o.texts) ++ l) (f.1 ∙ ap (λ l. opened (given_paths o.given) ++ l) (f.2.2.0 ∙ ap opened (sym f.2.1)) ∙ sym (opened_more (given_paths o.given) (order_paths o.order))) ∙ sym (opened_more (text_paths o.texts) (later_paths o)), f.2.2.1)
-    later_fault tries OutOfMemory (inl f) =
-        (are_two told input o.texts one two texts, tried_more (text_paths o.texts) (later_paths o) tries (tried_first (given_paths o.given) (order_paths o.order) tries f))
-    later_fault tries OutOfMemory (inr f) = (
-      are_two told input o.texts one two texts,
-      tried_more (text_paths o.texts) (later_paths o) tries (subst (λ l. AreTried (later_paths o) l) (sym f.1) (tried_more (given_paths o.given) (order_paths o.order) f.0 (subst (λ p. AreTried p f.0) (sym f.2.1) f.2.2))),
-    )
-
-    whole_fault : (tries : List Try) (fault : ToolFault) → IsCompareFault told broken one two first_failed second_failed o tries fault → IsToolFault told broken input_broken input o (opened (text_paths o.texts) ++ tries) fault
-    whole_fault tries OneFile f = absurd f
-    whole_fault tries DashTwice f = absurd f
-    whole_fault tries (CannotSave obstacle) f = absurd f
-    whole_fault tries InputUnread f = absurd f
-    whole_fault tries InputTooLong f = absurd f
-    whole_fault tries InputUndivided f = absurd f
-    whole_fault tries OutOfMemory f = later_fault tries OutOfMemory f
-    whole_fault tries (CannotOpen place obstacle) f = later_fault tries (CannotOpen place obstacle) f
-    whole_fault tries (BadOrder fault) f = later_fault tries (BadOrder fault) f
-    whole_fault tries (Check fault) f =
-        (one, two, f.0, f.1, texts, f.2, f.3, ap (λ l. opened (text_paths o.texts) ++ l) f.4 ∙ sym (opened_more (text_paths o.texts) (later_paths o)), failed_check one two f.0 first_failed second_failed (HasGivenFailed broken o.given) (HasFirstFailed broken input_broken o.texts) (HasSecondFailed broken input_broken o.texts) (HasGivenFailed broken o.given) o f.1 first second (λ x. x) fault f.5)
-
-    pub whole_faults : (told' : List ℕ → Option (List ℕ)) → told' ≡ told → (a b c : Option (List Try)) → Extends a b (opened (text_paths o.texts)) → (r : Result Done ToolFault)
-        → IfErr r (λ fault. (tries : List Try) × Extends b c tries × IsCompareFault told' broken one two first_failed second_failed o tries fault)
-        → IfErr r (λ fault. (tries : List Try) × Extends a c tries × IsToolFault told broken input_broken input o tries fault)
-    whole_faults told' e a b c before (Ok done) h = tt
-    whole_faults told' e a b c before (Err fault) h = (
-      opened (text_paths o.texts) ++ h.0,
-      extends_more a b c (opened (text_paths o.texts)) h.0 before h.1,
-      whole_fault h.0 fault (subst (λ t. IsCompareFault t broken one two first_failed second_failed o h.0 fault) e h.2),
-    )
+module _ (told : List ℕ → Option (List ℕ)) (broken : List ℕ → Type 0) (input_broken : Type 0) (input : Option (List ℕ)) (o : Options) (one two : Option (List ℕ)) (texts : AreTexts told input o.texts one two) where
+  -- the files behind those of the texts, with these before them
+  pub later_fault : (tries : List Try) (fault : ToolFault) → IsLaterFault told broken o tries fault → IsToolFault told broken input_broken input o (opened (text_paths o.texts) ++ tries) fault
+  later_fault tries OneFile (inl f) = absurd f
+  later_fault tries OneFile (inr f) = absurd f.2.2
+  later_fault tries DashTwice (inl f) = absurd f
+  later_fault tries DashTwice (inr f) = absurd f.2.2
+  later_fault tries (CannotSave obstacle) (inl f) = absurd f
+  later_fault tries (CannotSave obstacle) (inr f) = absurd f.2.2
+  later_fault tries InputUnread (inl f) = absurd f
+  later_fault tries InputUnread (inr f) = absurd f.2.2
+  later_fault tries InputTooLong (inl f) = absurd f
+  later_fault tries InputTooLong (inr f) = absurd f.2.2
+  later_fault tries InputUndivided (inl f) = absurd f
+  later_fault tries InputUndivided (inr f) = absurd f.2.2
+  later_fault tries (Check fault) (inl f) = absurd f
+  later_fault tries (Check fault) (inr f) = absurd f.2.2
+  later_fault tries (CannotOpen First obstacle) (inl f) = absurd f
+  later_fault tries (CannotOpen First obstacle) (inr f) = absurd f.2.2
+  later_fault tries (CannotOpen Second obstacle) (inl f) = absurd f
+  later_fault tries (CannotOpen Second obstacle) (inr f) = absurd f.2.2
+  later_fault tries (CannotOpen GivenFile obstacle) (inl f) =
+      (f.0, f.1, has_texts told input o.texts one two texts, ap (λ l. opened (text_paths o.texts) ++ l) f.2)
+  later_fault tries (CannotOpen GivenFile obstacle) (inr f) = absurd f.2.2
+  later_fault tries (CannotOpen OrderFile obstacle) (inl f) = absurd f
+  later_fault tries (CannotOpen OrderFile obstacle) (inr f) =
+      (f.2.0, f.2.1, has_texts told input o.texts one two texts, ap (λ l. opened (text_paths o.texts) ++ l) (f.1 ∙ ap (λ l. opened (given_paths o.given) ++ l) f.2.2) ∙ opened_twice (text_paths o.texts) (given_paths o.given) ((f.2.0, false) ∷ []))
+  later_fault tries (BadOrder fault) (inl f) = absurd f
+  later_fault tries (BadOrder fault) (inr f) =
+      (f.2.0, f.2.1, has_texts told input o.texts one two texts, ap (λ l. opened (text_paths o.texts) ++ l) (f.1 ∙ ap (λ l. opened (given_paths o.given) ++ l) (f.2.2.0 ∙ ap opened (sym f.2.1)) ∙ sym (opened_more (given_paths o.given) (order_paths o.order))) ∙ sym (opened_more (text_paths o.texts) (later_paths o)), f.2.2.1)
+  later_fault tries OutOfMemory (inl f) =
+      (are_two told input o.texts one two texts, tried_more (text_paths o.texts) (later_paths o) tries (tried_first (given_paths o.given) (order_paths o.order) tries f))
+  later_fault tries OutOfMemory (inr f) = (
+    are_two told input o.texts one two texts,
+    tried_more (text_paths o.texts) (later_paths o) tries (subst (λ l. AreTried (later_paths o) l) (sym f.1) (tried_more (given_paths o.given) (order_paths o.order) f.0 (subst (λ p. AreTried p f.0) (sym f.2.1) f.2.2))),
+  )
 
 -- ---- two files
 
 module _ (o : Options) (first second : Bor (List ℕ)) (files : o.texts ≡ Files first second) where
   pub both_opened : (a b c : Option (List Try)) → Extends a b ((first.now, true) ∷ []) → Extends b c ((second.now, true) ∷ []) → Extends a c (opened (text_paths o.texts))
   both_opened a b c e f = subst (λ t. Extends a c (opened (text_paths t))) (sym files) (extends_more a b c ((first.now, true) ∷ []) ((second.now, true) ∷ []) e f)
-
-  pub all_opened : (a b c d : Option (List Try)) (r : Result Done ToolFault) → Extends a b ((first.now, true) ∷ []) → Extends b c ((second.now, true) ∷ []) → OnOk r (Extends c d (opened (later_paths o)))
-      → OnOk r (Extends a d (opened (paths_of o)))
-  all_opened a b c d (Ok done) e f h =
-      subst (λ l. Extends a d l) (sym (opened_more (text_paths o.texts) (later_paths o))) (extends_more a c d (opened (text_paths o.texts)) (opened (later_paths o)) (both_opened a b c e f) h)
-  all_opened a b c d (Err fault) e f h = tt
 
   pub second_unopened : (told : List ℕ → Option (List ℕ)) (broken : List ℕ → Type 0) (input_broken : Type 0) (input : Option (List ℕ)) (fault : ToolFault) (a b c : Option (List Try)) → IsOpenFault Second fault
       → Extends a b ((first.now, true) ∷ []) → Extends b c ((second.now, false) ∷ []) → (tries : List Try) × Extends a c tries × IsToolFault told broken input_broken input o tries fault
@@ -273,11 +201,6 @@ first_unopened o path named told broken input_broken input fault a b (inr is) e 
 module _ (o : Options) (path : List ℕ) (named : text_paths o.texts ≡ path ∷ []) where
   pub one_opened : (a b : Option (List Try)) → Extends a b ((path, true) ∷ []) → Extends a b (opened (text_paths o.texts))
   one_opened a b e = subst (λ ps. Extends a b (opened ps)) (sym named) e
-
-  pub all_opened_beside : (a b c : Option (List Try)) (r : Result Done ToolFault) → Extends a b ((path, true) ∷ []) → OnOk r (Extends b c (opened (later_paths o))) → OnOk r (Extends a c (opened (paths_of o)))
-  all_opened_beside a b c (Ok done) e h =
-      subst (λ l. Extends a c l) (sym (opened_more (text_paths o.texts) (later_paths o))) (extends_more a b c (opened (text_paths o.texts)) (opened (later_paths o)) (one_opened a b e) h)
-  all_opened_beside a b c (Err fault) e h = tt
 
 pub second_unopened_beside : (o : Options) (second : Bor (List ℕ)) → o.texts ≡ InputAndFile second → (told : List ℕ → Option (List ℕ)) (broken : List ℕ → Type 0) (input_broken : Type 0) (input : Option (List ℕ)) (fault : ToolFault) (a b : Option (List Try))
     → IsOpenFault Second fault → Extends a b ((second.now, false) ∷ []) → (tries : List Try) × Extends a b tries × IsToolFault told broken input_broken input o tries fault

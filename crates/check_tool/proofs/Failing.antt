@@ -13,9 +13,9 @@ use Rattle.command_line.specs.declared.options.Texts.{Texts}
 use Rattle.check_tool.specs.Opening.{HasFailedAt}
 use Rattle.check_report.specs.Devices.{told_of, told_by, HasFailedIn}
 use Rattle.std.specs.Borrow.{Bor}
-use Rattle.check_report.specs.declared.choice.Choice.{Choice}
-use Rattle.command_line.specs.declared.options.Options.{Options}
-use Rattle.check_tool.specs.Running.{HasFirstFailed, HasSecondFailed, HasGivenFailed, IsFailedCheck, IsGivenFrom, IsOrderRefused}
+use Rattle.check_report.specs.declared.settings.Settings.{Settings}
+use Rattle.check_report.specs.Explaining.{IsReportFault}
+use Rattle.check_tool.specs.Running.{HasFirstFailed, HasSecondFailed, HasGivenFailed, IsGivenFrom, IsOrderRefused}
 
 -- what a failure of the devices implies stands in the cause of a fault in its place
 pub check_fault : (one two : Option (List ℕ)) (given : Option (Option (List ℕ))) (first_failed second_failed given_failed first second condition : Type 0) (choice : Choice) (how : Match) (order : Order) → (first_failed → first) → (second_failed → second) → (given_failed → condition) → (fault : CheckFault) →
@@ -33,12 +33,12 @@ check_fault one two given first_failed second_failed given_failed first second c
 check_fault one two given first_failed second_failed given_failed first second condition choice how order f g h Write c = c
 check_fault one two given first_failed second_failed given_failed first second condition choice how order f g h OutOfMemory c = c
 
--- the same of all that a check fails for
-pub failed_check : (one two : Option (List ℕ)) (given : Option (Option (List ℕ))) (first_failed second_failed given_failed first second condition : Type 0) (o : Options) (choice : Choice) → (first_failed → first) → (second_failed → second) → (given_failed → condition) → (fault : CheckFault) →
-    IsFailedCheck one two given first_failed second_failed given_failed o choice fault → IsFailedCheck one two given first second condition o choice fault
-failed_check one two given first_failed second_failed given_failed first second condition o choice f g h fault (inl unknown) = inl unknown
-failed_check one two given first_failed second_failed given_failed first second condition o choice f g h fault (inr c) =
-    inr (c.0, c.1, check_fault one two given first_failed second_failed given_failed first second condition choice o.matching c.0 f g h fault c.2)
+-- the same of all that a report fails for
+pub report_fault : (one two : Option (List ℕ)) (given : Option (Option (List ℕ))) (first_failed second_failed given_failed first second condition : Type 0) (s : Settings) → (first_failed → first) → (second_failed → second) → (given_failed → condition) → (fault : CheckFault) →
+    IsReportFault (told_of one two given) first_failed second_failed given_failed s fault → IsReportFault (told_of one two given) first second condition s fault
+report_fault one two given first_failed second_failed given_failed first second condition s f g h fault (inl unknown) = inl unknown
+report_fault one two given first_failed second_failed given_failed first second condition s f g h fault (inr c) =
+    inr (c.0, c.1, check_fault one two given first_failed second_failed given_failed first second condition s.order s.matching c.0 f g h fault c.2)
 
 -- a file keeps where it was opened while it is read
 pub failed_at : {File : Type 0} (origin : File → Option (List ℕ)) (has_failed : File → Bool) (path : List ℕ) (before after : File) → IfSome (origin before) (λ from. from ≡ path) → origin after ≡ origin before

@@ -6,3 +6,5 @@ pub mod Quoting
 pub mod Asking
 pub mod Saying
 pub mod Unsaved
+pub mod Comparing
+pub mod Finishing

@@ -1,20 +1,12 @@
 -- The files behind those of the texts: the condition's and the order's.
 use Rattle.std.proofs.Common.{◌≡◌, ◌++◌, inl, inr, ℕ, false, List, [], ◌∷◌, Option, Some, refl, sym, subst}
 use Rattle.std.specs.Borrow.{Bor}
-use Rattle.check_report.specs.Devices.{told_of}
-use Rattle.check_report.specs.declared.choice.Choice.{Choice}
-use Rattle.check_report.specs.declared.fault.CheckFault.{CheckFault}
-use Rattle.check_report.specs.Best.{IsAllowed}
-use Rattle.check_report.specs.Check.{IsCheckFault}
-use Rattle.net_order.specs.declared.order.Order.{Order}
 use Rattle.command_line.specs.declared.options.Options.{Options}
 use Rattle.check_tool.specs.declared.fault.Place.TheVariants.{Given}
 use Rattle.check_tool.specs.declared.fault.ToolFault.{ToolFault}
-use Rattle.check_tool.specs.declared.fault.ToolFault.TheVariants.{Check}
 use Rattle.check_tool.specs.Opening.{Try, Extends, opened, AreTried}
-use Rattle.check_tool.specs.Running.{IsOpenFault, given_paths, order_paths, later_paths, IsGivenOf, IsOrderOf, IsGivenFault, IsOrderFault, IsLaterFault, HasGivenFailed, IsCompareFault, IsFailedCheck}
+use Rattle.check_tool.specs.Running.{IsOpenFault, given_paths, order_paths, later_paths, IsGivenFault, IsOrderFault, IsLaterFault}
 use Rattle.check_tool.proofs.Composing.{extends_more, opened_more}
-use Rattle.check_tool.proofs.Failing.{failed_check}
 
 pub given_unopened : (given : Option (Bor (List ℕ))) (path : Bor (List ℕ)) → given ≡ Some path → (fault : ToolFault) (a b : Option (List Try)) → IsOpenFault Given fault → Extends a b ((path.now, false) ∷ [])
     → (tries : List Try) × Extends a b tries × IsGivenFault given tries fault
@@ -38,14 +30,3 @@ order_unhad told told' broken o fault a b c same e h = (
 pub later_opened : (o : Options) (a b c : Option (List Try)) → Extends a b (opened (given_paths o.given)) → Extends b c (opened (order_paths o.order)) → Extends a c (opened (later_paths o))
 later_opened o a b c e f =
     subst (λ l. Extends a c l) (sym (opened_more (given_paths o.given) (order_paths o.order))) (extends_more a b c (opened (given_paths o.given)) (opened (order_paths o.order)) e f)
-
--- why a check failed, once these files were opened
-pub checked_fault : (told : List ℕ → Option (List ℕ)) (broken : List ℕ → Type 0) (one two : Option (List ℕ)) (given : Option (Option (List ℕ))) (first_failed second_failed given_failed : Type 0) (o : Options) (choice : Choice) (fault : CheckFault) (a b : Option (List Try))
-    → Extends a b (opened (later_paths o)) → IsGivenOf told o.given given → IsOrderOf told o.order choice → (given_failed → HasGivenFailed broken o.given)
-    → IsFailedCheck one two given first_failed second_failed given_failed o choice fault
-    → (tries : List Try) × Extends a b tries × IsCompareFault told broken one two first_failed second_failed o tries (Check fault)
-checked_fault told broken one two given first_failed second_failed given_failed o choice fault a b e conditioned ordered to h = (
-  opened (later_paths o),
-  e,
-  (given, choice, conditioned, ordered, refl, failed_check one two given first_failed second_failed given_failed first_failed second_failed (HasGivenFailed broken o.given) o choice (λ x. x) (λ x. x) to fault h),
-)

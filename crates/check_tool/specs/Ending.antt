@@ -211,6 +211,20 @@ pub record IsUnsaved (s : Scene) (o : Options) (done : Done) (fault : ToolFault)
   pub saved : Extends s.saved s.saves (saves_of o done false)
   pub line : IsBehindProgress (tells o s.seen) s.errors (λ w. IsSaidOf (tells o s.seen) s.told o w fault status)
 
+-- Behind a report its VCD was saved, where there is one, and no file opened; without `--verbose` nothing was said.
+pub record Finishes (o : Options) (done : Done) (tried tries : Option (List Try)) (saved saves : Option (List Save)) (w : Written) (status : ℕ) : Type 0 where
+  pub unopened : Extends tried tries []
+  pub saved_all : Extends saved saves (saves_of o done true)
+  pub said : IsDoneSaid o.verbose o done w
+  pub code : IsDoneStatus done status
+
+-- Behind a report its VCD could not be saved, and that was said.
+pub record BreaksOff (more : Bool) (told : List ℕ → Option (List ℕ)) (o : Options) (done : Done) (tried tries : Option (List Try)) (saved saves : Option (List Save)) (w : Written) (fault : ToolFault) (status : ℕ) : Type 0 where
+  pub unopened : Extends tried tries []
+  pub saved_part : Extends saved saves (saves_of o done false)
+  pub cause : IsSaveFault o done fault
+  pub line : IsSaidOf more told o w fault status
+
 -- There is a fault: its line was said, and nothing was written but for a front part of the report where the writing failed. The file of a
 -- refused text may have been opened once more, where more is told. Nothing was saved.
 pub record Refuses (broken : List ℕ → Type 0) (s : Scene) (o : Options) (fault : ToolFault) (status : ℕ) : Type 0 where

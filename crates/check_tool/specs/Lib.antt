@@ -6,3 +6,4 @@ pub mod Quoting
 pub mod Running
 pub mod Saving
 pub mod Ending
+pub mod Comparing

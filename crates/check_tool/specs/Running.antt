@@ -11,7 +11,7 @@ use Rattle.net_order.specs.declared.order.OrderFault.TheVariants.{Read as OrderR
 use Rattle.net_order.specs.OrderText.{IsOrderText, IsBadText}
 use Rattle.check_report.specs.Listing.{IsOrderPrinted}
 use Rattle.check_report.specs.Check.{IsCheckFault}
-use Rattle.check_report.specs.Devices.{told_of}
+use Rattle.check_report.specs.Devices.{Told, told_of}
 use Rattle.check_report.specs.declared.fault.CheckFault.{CheckFault}
 use Rattle.check_report.specs.Limits.{AreBeyond}
 use Rattle.check_report.specs.Best.{AreGivenUp, AreTried as TriesOrders, IsAllowed, IsFound, IsGivenUpWithin, last_budget}
@@ -231,13 +231,12 @@ pub record AreSettings (o : Options) (choice : Choice) (picked : Picked) (s : Se
   pub vcd : s.vcd ≡ is_some o.vcd
   pub causes : s.causes ≡ o.causes
 
--- The bytes are what the options ask for of these two texts, and the condition's, by these settings: the report in the form that they ask for, with its counts and the
--- VCD of the first pair that differs, or the order itself. The nodes that are needed in the order of a report are within the limit of the options.
-abbrev pub IsMade : (one two : Option (List ℕ)) → (given : Option (Option (List ℕ))) → Options → Settings → Done → (bytes : List ℕ) → Type 0
-IsMade one two given o s (Compared outcome tried vcd) bytes =
-    (o.print_order ≡ false) × IsReportWithVcd (told_of one two given) s None tried outcome bytes (bytes_in vcd)
-IsMade one two given o s (OrderPrinted tried) bytes =
-    (o.print_order ≡ true) × (order : Order) × IsOrderPrinted (told_of one two given) o.matching order bytes × IsFound (told_of one two given) o.matching s.order (limit_of o) tried order
+-- The bytes are what is asked for of these texts, and the condition's, by these settings: the report in their form, with its counts and the VCD of the first pair that
+-- differs, or, to print it, the order itself. The nodes that are needed in the order of a report are within the limit of the settings.
+abbrev pub IsMade : Told → Settings → (print : Bool) → Done → (bytes : List ℕ) → Type 0
+IsMade told s print (Compared outcome tried vcd) bytes = (print ≡ false) × IsReportWithVcd told s None tried outcome bytes (bytes_in vcd)
+IsMade told s print (OrderPrinted tried) bytes =
+    (print ≡ true) × (order : Order) × IsOrderPrinted told s.matching order bytes × IsFound told s.matching s.order s.limit tried order
 
 -- the bytes are what the options ask for of these two texts
 pub record IsCompared (told : List ℕ → Option (List ℕ)) (one two : Option (List ℕ)) (o : Options) (done : Done) (bytes : List ℕ) : Type 0 where
@@ -249,7 +248,7 @@ pub record IsCompared (told : List ℕ → Option (List ℕ)) (one two : Option 
   pub ordered : IsOrderOf told o.order choice
   pub picks : IsPickedOf o.picks picked
   pub set : AreSettings o choice picked settings
-  pub made : IsMade one two given o settings done bytes
+  pub made : IsMade (told_of one two given) settings o.print_order done bytes
 
 -- The bytes are what the options ask for of the texts that they name.
 pub record IsReported (told : List ℕ → Option (List ℕ)) (input : Option (List ℕ)) (o : Options) (done : Done) (bytes : List ℕ) : Type 0 where
@@ -372,21 +371,6 @@ IsLaterFault told broken o tries fault = IsGivenFault o.given tries fault ⊎ Is
 abbrev pub HasGivenFailed : (broken : List ℕ → Type 0) → Option (Bor (List ℕ)) → Type 0
 HasGivenFailed broken None = ⊥
 HasGivenFailed broken (Some path) = broken path.now
-
--- Why two texts have no report: for their condition or order, or by the check. The devices of the texts may have failed.
-abbrev pub IsCompareFault : (List ℕ → Option (List ℕ)) → (broken : List ℕ → Type 0) → (one two : Option (List ℕ)) → (first_failed second_failed : Type 0) → Options → List Try → ToolFault → Type 0
-IsCompareFault told broken one two first_failed second_failed o tries (Check fault) =
-    (given : Option (Option (List ℕ))) × (choice : Choice) × IsGivenOf told o.given given × IsOrderOf told o.order choice × (tries ≡ opened (later_paths o))
-    × IsFailedCheck one two given first_failed second_failed (HasGivenFailed broken o.given) o choice fault
-IsCompareFault told broken one two first_failed second_failed o tries (CannotOpen place obstacle) = IsLaterFault told broken o tries (CannotOpen place obstacle)
-IsCompareFault told broken one two first_failed second_failed o tries (BadOrder fault) = IsLaterFault told broken o tries (BadOrder fault)
-IsCompareFault told broken one two first_failed second_failed o tries OutOfMemory = IsLaterFault told broken o tries OutOfMemory
-IsCompareFault told broken one two first_failed second_failed o tries (CannotSave obstacle) = ⊥
-IsCompareFault told broken one two first_failed second_failed o tries OneFile = ⊥
-IsCompareFault told broken one two first_failed second_failed o tries DashTwice = ⊥
-IsCompareFault told broken one two first_failed second_failed o tries InputUnread = ⊥
-IsCompareFault told broken one two first_failed second_failed o tries InputTooLong = ⊥
-IsCompareFault told broken one two first_failed second_failed o tries InputUndivided = ⊥
 
 -- why the input has no text
 abbrev pub IsInputFault : Option (List ℕ) → ToolFault → Type 0

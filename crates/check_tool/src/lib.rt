@@ -12,11 +12,13 @@
 //! **Only tests show** files, pipes, terminals and signals of the built program (`tests/run.sh`), and what progress
 //! says (`report_tests`).
 //!
-//! **Begin** with `tool`, then `run`: files are opened (`files`), and `check_report` is called with the settings of
-//! `asked`. How a run ends is in `specs/Ending`, its causes in `specs/Running`.
+//! **Begin** with `tool`, then `run` for the texts, and `compare`: files are opened (`files`), and `check_report` is
+//! called with the settings of `asked`. How a run ends is in `specs/Ending`, its causes in `specs/Running`, its steps in
+//! `specs/Comparing`.
 #![tactic(auto)]
 
 mod asked;
+mod compare;
 pub mod done;
 pub mod fault;
 mod files;

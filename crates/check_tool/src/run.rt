@@ -1,28 +1,21 @@
 //! A run with its options, over any folder, input and output.
-ghost use Rattle.std.specs.Prelude.{◌≡◌, ◌≢◌, ℕ, false, List, Option, None, IfOk, IfErr, OnOk, OnErr, IfSome, IsTrue, Err};
-ghost use Rattle.std.specs.Io.KnownBytes.{Appends};
+ghost use Rattle.std.specs.Prelude.{◌≡◌, ◌≢◌, ℕ, Bool, false, List, Option, None, IfOk, IfErr, OnOk, OnErr, IfSome, IsTrue, Err};
 ghost use Rattle.check_report.specs.declared.fault.CheckFault.TheVariants.{Only, Wave, GivenUp, Write};
-ghost use Rattle.check_tool.specs.declared.done.Done.{Done};
-ghost use Rattle.check_report.specs.declared.choice.Choice.{Choice as ChoiceValue};
-ghost use Rattle.check_report.specs.Best.{AreGivenUp, AreTried as TriesOrders, IsAllowed, IsGivenUpWithin, last_budget};
-ghost use Rattle.check_report.specs.Devices.{told_of};
-ghost use Rattle.check_report.specs.Limits.{AreBeyond};
-ghost use Rattle.report_text.specs.Writing.{AppendsFront};
+ghost use Rattle.command_line.specs.declared.options.Texts.TheVariants.{Input, Files, InputAndFile, FileAndInput};
 ghost use Rattle.expand_work.specs.declared.fault.WaveFault.TheVariants.{Full, NoWorker, TooManyRequests};
-ghost use Rattle.net_order.specs.declared.order.Order.{Order};
+ghost use Rattle.check_tool.specs.Comparing.{IsRunOf, IsFailedRun};
 ghost use Rattle.check_tool.specs.Opening.{Extends, HasFailedAt, Try, opened};
-ghost use Rattle.check_tool.specs.Running.{later_paths, paths_of, IsShort, IsGivenOf, IsOrderOf, IsCompared, IsCompareFault, IsInputFault, IsToolFault, HasReported, HasReportedFront, IsBeyond, IsGivenUp, ArePassed, AreUnknown, ArePicksUnknown, MayGoByCones, NamesOrder, StandOnInput, attempt_of, limit_of};
-ghost use Rattle.check_tool.specs.Ending.{HasProgress, tells, written as said_by};
+ghost use Rattle.check_tool.specs.Running.{paths_of, IsShort, IsInputFault, IsToolFault, HasReported, HasReportedFront, IsBeyond, IsGivenUp, ArePassed, AreUnknown, MayGoByCones, NamesOrder, StandOnInput};
+ghost use Rattle.check_tool.specs.Ending.{HasProgress, tells, written, written as said_by};
 
-use crate::asked::{picked_of, settings_of, targets_of};
+use crate::compare::{Run, compare};
 use crate::done::Done;
 use crate::fault::{Place, ToolFault};
-use crate::files::{open, prepare};
+use crate::files::open;
 use crate::folder::Folder;
 use crate::progress::{Meter, Progress, form_on};
 use crate::screen::Screen;
 use crate::split::split_input;
-use check_report::{Context, check, print_order};
 use command_line::{Options, Texts};
 use expand_work::{Free, Monitor};
 use net_bench::device::{InMemory, Sink, Source, TextFault, read_text};
@@ -33,78 +26,6 @@ use std::thread::Threads;
 
 /// The most bytes that standard input has: two texts and the line between them.
 const INPUT_LIMIT: usize = 134_221_824;
-
-/// What a run stands in: the runtime, what it is to do, and who watches its builds.
-#[derive(Drop)]
-struct Run<'a, 'o, H, G> {
-    rt: &'a H,
-    options: &'a Options<'o>,
-    monitor: &'a G,
-}
-
-/// Compares two texts, or prints the order of their variables. The condition's file is opened, and a file of the order read, before them.
-fn compare<
-    H: AllocGlobal + Threads + Wait + Sync,
-    F: Folder,
-    R1: Source,
-    R2: Source,
-    W: Sink,
-    G: Monitor,
->(
-    run: &Run<'_, '_, H, G>,
-    folder: &mut F,
-    first: &mut R1,
-    second: &mut R2,
-    out: &mut W,
-) -> Result<Done, ToolFault>
-    requires unbounded { G.bound run.now.monitor.now ≡ None }
-    ensures report { IfOk result (λ done. (bytes : List ℕ) × IsCompared (F.told folder.old) (R1.remaining first.old) (R2.remaining second.old) run.now.options.now done bytes × Appends (W.contents out.old) (W.contents out.new) bytes) }
-    ensures opened { OnOk result (Extends (F.tries folder.old) (F.tries folder.new) (opened (later_paths run.now.options.now))) }
-    ensures kept { F.told folder.new ≡ F.told folder.old }
-    ensures unsaved { F.saves folder.new ≡ F.saves folder.old }
-    ensures fault { IfErr result (λ fault. (tries : List Try) × Extends (F.tries folder.old) (F.tries folder.new) tries ×
-        IsCompareFault (F.told folder.old) (HasFailedAt F.File.origin F.File.has_failed) (R1.remaining first.old) (R2.remaining second.old) (IsTrue (R1.has_failed first.new)) (IsTrue (R2.has_failed second.new)) run.now.options.now tries fault) }
-    ensures passed { IfOk result (λ done. IfSome (attempt_of done) (λ t. (given : Option (Option (List ℕ))) × (choice : ChoiceValue) × IsGivenOf (F.told folder.old) run.now.options.now.given given
-        × IsOrderOf (F.told folder.old) run.now.options.now.order choice
-        × AreGivenUp (told_of (R1.remaining first.old) (R2.remaining second.old) given) run.now.options.now.matching (last_budget choice (limit_of run.now.options.now)) None t)) }
-    ensures full { result ≡ Err (ToolFault.Check (Wave Full)) → (given : Option (Option (List ℕ))) × (choice : ChoiceValue) × IsGivenOf (F.told folder.old) run.now.options.now.given given × IsOrderOf (F.told folder.old) run.now.options.now.order choice
-        × ((order : Order) → IsAllowed choice order → AreBeyond (told_of (R1.remaining first.old) (R2.remaining second.old) given) run.now.options.now.matching order (limit_of run.now.options.now)) }
-    ensures given_up { result ≡ Err (ToolFault.Check GivenUp) → (given : Option (Option (List ℕ))) × (choice : ChoiceValue) × IsGivenOf (F.told folder.old) run.now.options.now.given given × IsOrderOf (F.told folder.old) run.now.options.now.order choice
-        × TriesOrders choice × ((order : Order) → IsAllowed choice order → IsGivenUpWithin (told_of (R1.remaining first.old) (R2.remaining second.old) given) run.now.options.now.matching (limit_of run.now.options.now) None order) }
-    ensures by_cones { MayGoByCones run.now.options.now.order → (result ≢ Err (ToolFault.Check (Wave Full))) × (result ≢ Err (ToolFault.Check GivenUp)) }
-    ensures hired { result ≡ Err (ToolFault.Check (Wave NoWorker)) → (run.now.options.now.print_order ≡ false) × NamesOrder run.now.options.now.order }
-    ensures only { result ≡ Err (ToolFault.Check Only) → ArePicksUnknown (F.told folder.old) (R1.remaining first.old) (R2.remaining second.old) run.now.options.now }
-    ensures unbounded { result ≢ Err (ToolFault.Check (Wave TooManyRequests)) }
-    ensures unwritten { result ≡ Err (ToolFault.Check Write) → (done : Done) × (bytes : List ℕ) × IsCompared (F.told folder.old) (R1.remaining first.old) (R2.remaining second.old) run.now.options.now done bytes × AppendsFront (W.contents out.old) (W.contents out.new) (W.has_failed out.new) (W.has_stopped out.new) bytes }
-    ensures untouched { OnErr result (result ≢ Err (ToolFault.Check Write) → out.new ≡ out.old) }
-    ensures written { OnOk result ((W.has_failed out.new ≡ W.has_failed out.old) × (W.has_stopped out.new ≡ W.has_stopped out.old)) }
-    ensures origins { (R1.origin first.new ≡ R1.origin first.old) × (R2.origin second.new ≡ R2.origin second.old) }
-{
-    let options = run.options;
-    let alloc = run.rt.alloc();
-    let picked = picked_of(alloc, &options.picks)?;
-    let explain = targets_of(alloc, options.explain.as_slice())?;
-    let (mut given, order) = prepare(alloc, folder, options)?;
-    let settings = settings_of(options, order, picked, explain);
-    let context = Context {
-        rt: run.rt,
-        alloc,
-        settings: &settings,
-        monitor: run.monitor,
-    };
-    if options.print_order {
-        let printed = print_order(&context, first, second, &mut given, out);
-        return match printed {
-            Ok(tried) => Ok(Done::OrderPrinted(tried)),
-            Err(fault) => Err(ToolFault::Check(fault)),
-        };
-    }
-    let checked = check(&context, first, second, &mut given, out);
-    match checked {
-        Ok((outcome, tried, vcd)) => Ok(Done::Compared(outcome, tried, vcd)),
-        Err(fault) => Err(ToolFault::Check(fault)),
-    }
-}
 
 /// The text of standard input.
 fn read_input<R: Source>(alloc: Global, input: &mut R) -> Result<Vec<u8>, ToolFault>
@@ -121,6 +42,107 @@ fn read_input<R: Source>(alloc: Global, input: &mut R) -> Result<Vec<u8>, ToolFa
     }
 }
 
+/// Compares two files.
+fn by_files<H: AllocGlobal + Threads + Wait + Sync, F: Folder, W: Sink, G: Monitor>(
+    run: &Run<'_, '_, H, G>,
+    folder: &mut F,
+    first: &str,
+    second: &str,
+    out: &mut W,
+) -> Result<Done, ToolFault>
+    requires unbounded { G.bound run.now.monitor.now ≡ None }
+    requires texts { run.now.options.now.texts ≡ Files first second }
+    ensures report { (input : Option (List ℕ)) → IfOk result (IsRunOf (F.told folder.old) input run.now.options.now (F.tries folder.old) (F.tries folder.new) (written W.contents W.has_failed W.has_stopped out.old out.new)) }
+    ensures fault { (input : Option (List ℕ)) (input_failed : Bool) → IfErr result (IsFailedRun (F.told folder.old) (HasFailedAt F.File.origin F.File.has_failed) (IsTrue input_failed) input run.now.options.now (F.tries folder.old) (F.tries folder.new) (written W.contents W.has_failed W.has_stopped out.old out.new)) }
+    ensures kept { F.told folder.new ≡ F.told folder.old }
+    ensures unsaved { F.saves folder.new ≡ F.saves folder.old }
+    ensures untouched { OnErr result (result ≢ Err (ToolFault.Check Write) → out.new ≡ out.old) }
+    ensures written { OnOk result ((W.has_failed out.new ≡ W.has_failed out.old) × (W.has_stopped out.new ≡ W.has_stopped out.old)) }
+{
+    let mut first = open(folder, first, Place::First)?;
+    let mut second = open(folder, second, Place::Second)?;
+    compare(run, folder, &mut first, &mut second, out)
+}
+
+/// Compares the input with a file.
+fn by_input_and_file<
+    H: AllocGlobal + Threads + Wait + Sync,
+    F: Folder,
+    R: Source,
+    W: Sink,
+    G: Monitor,
+>(
+    run: &Run<'_, '_, H, G>,
+    folder: &mut F,
+    input: &mut R,
+    path: &str,
+    out: &mut W,
+) -> Result<Done, ToolFault>
+    requires unbounded { G.bound run.now.monitor.now ≡ None }
+    requires texts { run.now.options.now.texts ≡ InputAndFile path }
+    ensures report { IfOk result (IsRunOf (F.told folder.old) (R.remaining input.old) run.now.options.now (F.tries folder.old) (F.tries folder.new) (written W.contents W.has_failed W.has_stopped out.old out.new)) }
+    ensures fault { IfErr result (IsFailedRun (F.told folder.old) (HasFailedAt F.File.origin F.File.has_failed) (IsTrue (R.has_failed input.new)) (R.remaining input.old) run.now.options.now (F.tries folder.old) (F.tries folder.new) (written W.contents W.has_failed W.has_stopped out.old out.new)) }
+    ensures kept { F.told folder.new ≡ F.told folder.old }
+    ensures unsaved { F.saves folder.new ≡ F.saves folder.old }
+    ensures untouched { OnErr result (result ≢ Err (ToolFault.Check Write) → out.new ≡ out.old) }
+    ensures written { OnOk result ((W.has_failed out.new ≡ W.has_failed out.old) × (W.has_stopped out.new ≡ W.has_stopped out.old)) }
+{
+    let mut file = open(folder, path, Place::Second)?;
+    compare(run, folder, input, &mut file, out)
+}
+
+/// Compares a file with the input.
+fn by_file_and_input<
+    H: AllocGlobal + Threads + Wait + Sync,
+    F: Folder,
+    R: Source,
+    W: Sink,
+    G: Monitor,
+>(
+    run: &Run<'_, '_, H, G>,
+    folder: &mut F,
+    path: &str,
+    input: &mut R,
+    out: &mut W,
+) -> Result<Done, ToolFault>
+    requires unbounded { G.bound run.now.monitor.now ≡ None }
+    requires texts { run.now.options.now.texts ≡ FileAndInput path }
+    ensures report { IfOk result (IsRunOf (F.told folder.old) (R.remaining input.old) run.now.options.now (F.tries folder.old) (F.tries folder.new) (written W.contents W.has_failed W.has_stopped out.old out.new)) }
+    ensures fault { IfErr result (IsFailedRun (F.told folder.old) (HasFailedAt F.File.origin F.File.has_failed) (IsTrue (R.has_failed input.new)) (R.remaining input.old) run.now.options.now (F.tries folder.old) (F.tries folder.new) (written W.contents W.has_failed W.has_stopped out.old out.new)) }
+    ensures kept { F.told folder.new ≡ F.told folder.old }
+    ensures unsaved { F.saves folder.new ≡ F.saves folder.old }
+    ensures untouched { OnErr result (result ≢ Err (ToolFault.Check Write) → out.new ≡ out.old) }
+    ensures written { OnOk result ((W.has_failed out.new ≡ W.has_failed out.old) × (W.has_stopped out.new ≡ W.has_stopped out.old)) }
+{
+    let mut file = open(folder, path, Place::First)?;
+    compare(run, folder, &mut file, input, out)
+}
+
+/// Compares the two texts of the input.
+fn by_input<H: AllocGlobal + Threads + Wait + Sync, F: Folder, R: Source, W: Sink, G: Monitor>(
+    run: &Run<'_, '_, H, G>,
+    folder: &mut F,
+    input: &mut R,
+    out: &mut W,
+) -> Result<Done, ToolFault>
+    requires unbounded { G.bound run.now.monitor.now ≡ None }
+    requires texts { run.now.options.now.texts ≡ Input }
+    ensures report { IfOk result (IsRunOf (F.told folder.old) (R.remaining input.old) run.now.options.now (F.tries folder.old) (F.tries folder.new) (written W.contents W.has_failed W.has_stopped out.old out.new)) }
+    ensures fault { IfErr result (IsFailedRun (F.told folder.old) (HasFailedAt F.File.origin F.File.has_failed) (IsTrue (R.has_failed input.new)) (R.remaining input.old) run.now.options.now (F.tries folder.old) (F.tries folder.new) (written W.contents W.has_failed W.has_stopped out.old out.new)) }
+    ensures kept { F.told folder.new ≡ F.told folder.old }
+    ensures unsaved { F.saves folder.new ≡ F.saves folder.old }
+    ensures untouched { OnErr result (result ≢ Err (ToolFault.Check Write) → out.new ≡ out.old) }
+    ensures written { OnOk result ((W.has_failed out.new ≡ W.has_failed out.old) × (W.has_stopped out.new ≡ W.has_stopped out.old)) }
+{
+    let text = read_input(run.rt.alloc(), input)?;
+    let Some((one, two)) = split_input(text.as_slice()) else {
+        return Err(ToolFault::InputUndivided);
+    };
+    let mut first = InMemory::new(one);
+    let mut second = InMemory::new(two);
+    compare(run, folder, &mut first, &mut second, out)
+}
+
 /// Compares what the options name as `run_options` does, where this monitor watches.
 fn run_by<H: AllocGlobal + Threads + Wait + Sync, F: Folder, R: Source, W: Sink, G: Monitor>(
     run: &Run<'_, '_, H, G>,
@@ -129,49 +151,21 @@ fn run_by<H: AllocGlobal + Threads + Wait + Sync, F: Folder, R: Source, W: Sink,
     out: &mut W,
 ) -> Result<Done, ToolFault>
     requires unbounded { G.bound run.now.monitor.now ≡ None }
-    ensures report { IfOk result (HasReported (F.told folder.old) (R.remaining input.old) run.now.options.now (W.contents out.old) (W.contents out.new)) }
-    ensures opened { OnOk result (Extends (F.tries folder.old) (F.tries folder.new) (opened (paths_of run.now.options.now))) }
+    ensures report { IfOk result (IsRunOf (F.told folder.old) (R.remaining input.old) run.now.options.now (F.tries folder.old) (F.tries folder.new) (written W.contents W.has_failed W.has_stopped out.old out.new)) }
+    ensures fault { IfErr result (IsFailedRun (F.told folder.old) (HasFailedAt F.File.origin F.File.has_failed) (IsTrue (R.has_failed input.new)) (R.remaining input.old) run.now.options.now (F.tries folder.old) (F.tries folder.new) (written W.contents W.has_failed W.has_stopped out.old out.new)) }
     ensures kept { F.told folder.new ≡ F.told folder.old }
     ensures unsaved { F.saves folder.new ≡ F.saves folder.old }
-    ensures passed { IfOk result (ArePassed (F.told folder.old) (R.remaining input.old) run.now.options.now) }
-    ensures full { result ≡ Err (ToolFault.Check (Wave Full)) → IsBeyond (F.told folder.old) (R.remaining input.old) run.now.options.now }
-    ensures given_up { result ≡ Err (ToolFault.Check GivenUp) → IsGivenUp (F.told folder.old) (R.remaining input.old) run.now.options.now }
-    ensures by_cones { MayGoByCones run.now.options.now.order → (result ≢ Err (ToolFault.Check (Wave Full))) × (result ≢ Err (ToolFault.Check GivenUp)) }
-    ensures hired { result ≡ Err (ToolFault.Check (Wave NoWorker)) → (run.now.options.now.print_order ≡ false) × NamesOrder run.now.options.now.order }
-    ensures only { result ≡ Err (ToolFault.Check Only) → AreUnknown (F.told folder.old) (R.remaining input.old) run.now.options.now }
-    ensures unbounded { result ≢ Err (ToolFault.Check (Wave TooManyRequests)) }
-    ensures fault { IfErr result (λ fault. (tries : List Try) × Extends (F.tries folder.old) (F.tries folder.new) tries × IsToolFault (F.told folder.old) (HasFailedAt F.File.origin F.File.has_failed) (IsTrue (R.has_failed input.new)) (R.remaining input.old) run.now.options.now tries fault) }
-    ensures unwritten { result ≡ Err (ToolFault.Check Write) → HasReportedFront (F.told folder.old) (R.remaining input.old) run.now.options.now (W.contents out.old) (W.contents out.new) (W.has_failed out.new) (W.has_stopped out.new) }
     ensures untouched { OnErr result (result ≢ Err (ToolFault.Check Write) → out.new ≡ out.old) }
-    ensures read { result ≡ Err ToolFault.InputUnread → IsTrue (R.has_failed input.new) }
-    ensures written { OnOk result ((W.has_failed out.new ≡ W.has_failed out.old) × (W.has_stopped out.new ≡ W.has_stopped out.old)) }
     ensures unasked { (StandOnInput run.now.options.now.texts → ⊥) → input.new ≡ input.old }
+    ensures written { OnOk result ((W.has_failed out.new ≡ W.has_failed out.old) × (W.has_stopped out.new ≡ W.has_stopped out.old)) }
 {
     match run.options.texts {
         Texts::One => Err(ToolFault::OneFile),
         Texts::InputTwice => Err(ToolFault::InputTwice),
-        Texts::Files(first, second) => {
-            let mut first = open(folder, first, Place::First)?;
-            let mut second = open(folder, second, Place::Second)?;
-            compare(run, folder, &mut first, &mut second, out)
-        }
-        Texts::InputAndFile(path) => {
-            let mut file = open(folder, path, Place::Second)?;
-            compare(run, folder, input, &mut file, out)
-        }
-        Texts::FileAndInput(path) => {
-            let mut file = open(folder, path, Place::First)?;
-            compare(run, folder, &mut file, input, out)
-        }
-        Texts::Input => {
-            let text = read_input(run.rt.alloc(), input)?;
-            let Some((one, two)) = split_input(text.as_slice()) else {
-                return Err(ToolFault::InputUndivided);
-            };
-            let mut first = InMemory::new(one);
-            let mut second = InMemory::new(two);
-            compare(run, folder, &mut first, &mut second, out)
-        }
+        Texts::Files(first, second) => by_files(run, folder, first, second, out),
+        Texts::InputAndFile(path) => by_input_and_file(run, folder, input, path, out),
+        Texts::FileAndInput(path) => by_file_and_input(run, folder, path, input, out),
+        Texts::Input => by_input(run, folder, input, out),
     }
 }
 

@@ -1,7 +1,9 @@
 //! A run of the program: its words, its folder and its devices to a status.
 ghost use Rattle.std.specs.Prelude.{◌≡◌, ◌≢◌, ◌≤◌, ◌⊎◌, ℕ, List, true, false, IfOk, map, string_bytes};
 ghost use Rattle.check_tool.specs.Faults.{number_text};
-ghost use Rattle.check_tool.specs.Ending.{written, scene_of, IsSaid, MaySay, IsSaidOf, AskForMore, asked_again, tells, IsReportStatus, IsDoneStatus, IsRun, IsWordEnd};
+ghost use Rattle.check_tool.specs.Ending.{written, scene_of, IsSaid, MaySay, IsSaidOf, AskForMore, asked_again, tells, IsReportStatus, IsDoneStatus, Finishes, BreaksOff, IsEnding, IsRun, IsWordEnd};
+ghost use Rattle.check_tool.specs.declared.fault.ToolFault.{ToolFault as FaultValue};
+ghost use Rattle.check_tool.specs.Running.{StandOnInput};
 ghost use Rattle.check_tool.specs.Helping.{IsHelp, refused_paths};
 ghost use Rattle.check_tool.specs.Opening.{AreTried, Extends, HasFailedAt, Try};
 
@@ -171,8 +173,56 @@ fn status_of_done(done: &Done) -> u8
     }
 }
 
+/// Saves the VCD of what a run has done, tells what that is where more is asked for, and answers the status.
+fn finish<F: Folder, E: Sink>(
+    alloc: Global,
+    folder: &mut F,
+    options: &Options<'_>,
+    more: bool,
+    done: &Done,
+    errors: &mut E,
+) -> u8
+    ensures ending { let w = written E.contents E.has_failed E.has_stopped errors.old errors.new in
+        Finishes options.now done.now (F.tries folder.old) (F.tries folder.new) (F.saves folder.old) (F.saves folder.new) w result
+        ⊎ ((fault : FaultValue) × BreaksOff more (F.told folder.old) options.now done.now (F.tries folder.old) (F.tries folder.new) (F.saves folder.old) (F.saves folder.new) w fault result) }
+    ensures bound { result ≤ 3 }
+    ensures reported { result ≢ 2 }
+    ensures silent { options.now.verbose ≡ false → result ≤ 1 → errors.new ≡ errors.old }
+{
+    match save(folder, options, done) {
+        Ok(()) => {
+            tell(alloc, options, done, errors);
+            status_of_done(done)
+        }
+        Err(fault) => refuse_run(alloc, folder, options, more, fault, errors),
+    }
+}
+
+/// Runs what the options ask for, and answers the status.
+fn run_asked<
+    H: AllocGlobal + Clock + Meter + Threads + Wait + Sync,
+    F: Folder,
+    R: Source,
+    W: Sink,
+    E: Screen + Send,
+>(rt: &H, options: &Options<'_>, folder: &mut F, input: &mut R, out: &mut W, errors: &mut E) -> u8
+    ensures ending { let scene = scene_of (E.seen errors.old) F.told F.tries F.saves folder.old folder.new R.remaining R.has_failed input.old input.new
+        (written W.contents W.has_failed W.has_stopped out.old out.new) (written E.contents E.has_failed E.has_stopped errors.old errors.new) in
+        IsEnding (HasFailedAt F.File.origin F.File.has_failed) scene options.now result }
+    ensures unasked { (StandOnInput options.now.texts → ⊥) → input.new ≡ input.old }
+    ensures bound { result ≤ 3 }
+    ensures untouched { result ≡ 2 → out.new ≡ out.old }
+    ensures silent { tells options.now (E.seen errors.old) ≡ false → result ≤ 1 → errors.new ≡ errors.old }
+{
+    let alloc = rt.alloc();
+    let more = tells(options, errors);
+    match run_options(rt, options, folder, input, out, errors) {
+        Ok(done) => finish(alloc, folder, options, more, &done, errors),
+        Err(fault) => refuse_run(alloc, folder, options, more, fault, errors),
+    }
+}
+
 /// Runs the program on its words, and answers its status.
-#[tactic(auto, using(crate::proofs::Composing::keeps_own, crate::proofs::Composing::extends_none))]
 pub fn run_tool<
     H: AllocGlobal + Clock + Meter + Threads + Wait + Sync,
     F: Folder,
@@ -193,20 +243,8 @@ pub fn run_tool<
     ensures silent { AskForMore (map string_bytes words.now) ⊎ (E.seen errors.old ≡ true) ⊎ (result ≤ 1 → errors.new ≡ errors.old) }
 {
     let alloc = rt.alloc();
-    let options = match read_options(alloc, words) {
-        Ok(options) => options,
-        Err(refused) => return refuse_words(alloc, &refused, out, errors),
-    };
-    let more = tells(&options, errors);
-    let done = match run_options(rt, &options, folder, input, out, errors) {
-        Ok(done) => done,
-        Err(fault) => return refuse_run(alloc, folder, &options, more, fault, errors),
-    };
-    match save(folder, &options, &done) {
-        Ok(()) => {
-            tell(alloc, &options, &done, errors);
-            status_of_done(&done)
-        }
-        Err(fault) => refuse_run(alloc, folder, &options, more, fault, errors),
+    match read_options(alloc, words) {
+        Ok(options) => run_asked(rt, &options, folder, input, out, errors),
+        Err(refused) => refuse_words(alloc, &refused, out, errors),
     }
 }
