@@ -1,5 +1,5 @@
 -- What a comparison finds by its settings, and the faults that it does not end with.
-use Rattle.std.proofs.Common.{◌≡◌, ◌≢◌, ◌∙◌, sym, subst, inl, inr, ℕ, ◌<◌, ◌≤◌, length, Option, None, Result, Ok, Err, IfErr}
+use Rattle.std.proofs.Common.{◌≡◌, ◌≢◌, ◌∙◌, sym, subst, inl, inr, ℕ, ◌<◌, length, Option, None, Result, Ok, Err, IfErr}
 use Rattle.std.specs.Prelude.{IfOk}
 use Rattle.expand_work.specs.declared.fault.WaveFault.TheVariants.{Full, NoWorker, TooManyRequests}
 use Rattle.net_bench.specs.Circuit.{circuit}
@@ -24,7 +24,7 @@ use Rattle.check_report.specs.Coning.{EndsAuto, EndsCones, IsToldByCones}
 use Rattle.check_report.specs.Deciding.{HasCause, IsFoundBy}
 use Rattle.check_report.specs.Deciding.IsFoundBy.{by_cones, in_order}
 use Rattle.check_report.specs.Devices.{Told}
-use Rattle.check_report.specs.Trials.{AreAllPassed, EndsAtOnce, EndsSearch, IsGivingUp, IsNamingIn, IsPairingIn}
+use Rattle.check_report.specs.Trials.{AreAllPassed, EndsAtOnce, EndsSearch, IsGivingUp, IsNamingIn}
 use Rattle.check_report.proofs.Reporting.{any_for, late_fault, late_whole}
 use Rattle.check_report.proofs.Rounds.{accepted, told_passed}
 
@@ -61,13 +61,6 @@ module _ {H : Type 0} (task : Task H) (told : Told) (given : AreGiven told (circ
   many_cause bound p auto is many =
       let count = names_count task.settings.now.matching (circuit task.first.now) (circuit task.second.now) (condition task.given) orders.Declared p is in
       subst (HasCause told task.settings.now bound) (sym auto) (inr (circuit task.first.now, circuit task.second.now, condition task.given, given, subst (λ n. max_variables < n) count many))
-
-  -- a naming of few variables is a pairing
-  pub as_pairing : (p : Paired) → IsNamingIn task orders.Declared p → length p.names ≤ max_variables → IsPairingIn task orders.Declared p
-  as_pairing p is few = record {
-    naming = is;
-    few = subst (λ n. n ≤ max_variables) (names_count task.settings.now.matching (circuit task.first.now) (circuit task.second.now) (condition task.given) orders.Declared p is) few;
-  }
 
   of_cones : (p : Paired) → IsNamingIn task orders.Declared p → MayGoByCones task.settings.now.order → AreAccepted told task.settings.now.order task.settings.now.matching orders.Declared
   of_cones p is may =

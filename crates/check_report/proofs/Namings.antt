@@ -1,12 +1,13 @@
 -- Namings and pairings of a task's netlists: why there is none, and how many variables there are.
-use Rattle.std.proofs.Common.{◌≡◌, ◌≢◌, ◌⊎◌, ◌<◌, inl, inr, sym, ◌∙◌, subst, length, Option, Result, Ok, Err}
+use Rattle.std.proofs.Common.{◌≡◌, ◌≢◌, ◌⊎◌, ◌<◌, ◌≤◌, inl, inr, sym, ◌∙◌, subst, length, Option, Result, Ok, Err}
 use Rattle.std.specs.Prelude.{IfOk}
 use Rattle.net_bench.specs.Circuit.{Circuit}
 use Rattle.net_order.specs.declared.order.Match.{Match}
 use Rattle.net_order.specs.declared.order.Order.{Order}
 use Rattle.net_order.specs.declared.order.OrderFault.{OrderFault}
 use Rattle.net_order.specs.declared.order.OrderFault.TheVariants.{CountsDiffer, OutOfMemory, TooManyInputs}
-use Rattle.net_order.specs.Order.{AreCounted, IsRefused, max_variables, variables_in}
+use Rattle.net_order.specs.Order.{AreCounted, IsNaming, IsPairing, IsRefused, Paired, max_variables, variables_in}
+use Rattle.net_order.proofs.InputLevels.{names_count}
 
 module _ (f : OrderFault) (how : Match) (a b : Circuit) (given : Option Circuit) (order : Order) where
   -- a pairing is refused for its variables only where they are too many
@@ -23,6 +24,10 @@ module _ (f : OrderFault) (how : Match) (a b : Circuit) (given : Option Circuit)
   pub naming_whole : (f ≡ OutOfMemory) ⊎ ((f ≡ CountsDiffer) × (AreCounted how a b → ⊥)) → f ≢ TooManyInputs
   naming_whole (inl e) is = let never : OutOfMemory ≡ TooManyInputs = sym e ∙ is in cc
   naming_whole (inr (e, apart)) is = let never : CountsDiffer ≡ TooManyInputs = sym e ∙ is in cc
+
+-- a naming of few variables is a pairing
+pub as_pairing : (how : Match) (a b : Circuit) (given : Option Circuit) (order : Order) (p : Paired) → IsNaming how a b given order p → length p.names ≤ max_variables → IsPairing how a b given order p
+as_pairing how a b given order p is few = record { naming = is; few = subst (λ n. n ≤ max_variables) (names_count how a b given order p is) few }
 
 -- what holds anyway holds of an answer
 pub whatever : {A E : Type 0} (P : Type 0) (r : Result A E) → P → IfOk r (λ _. P)

@@ -1,5 +1,5 @@
 //! What is told of two diagrams beside their verdict: their sizes, and the variables on which one of them depends.
-ghost use Rattle.std.specs.Prelude.{false, IfOk};
+ghost use Rattle.std.specs.Prelude.{◌≡◌, false, IfOk};
 ghost use Rattle.counter_walk.specs.Arranged.{IsOrder, by_declared};
 ghost use Rattle.counter_walk.specs.Support.{AreLevelsOf};
 ghost use Rattle.dd_store.specs.Nodes.{den};
@@ -92,6 +92,17 @@ pub fn extras_of(
     Ok(Extras { support, sizes })
 }
 
+/// The places of an order, in more bits each.
+fn as_places(alloc: Global, order: &[u16]) -> Result<Vec<u32>, AllocError>
+    ensures { IfOk result (λ v. v.items ≡ order.now) }
+{
+    let mut places = Vec::new(alloc);
+    for place in order {
+        places.push(*place as u32)?;
+    }
+    Ok(places)
+}
+
 /// The variables on which one of two diagrams depends, in another order.
 fn arranged_support(
     alloc: Global,
@@ -105,7 +116,8 @@ fn arranged_support(
     ensures { IfOk result (AreLevelsOf store.now.levels (by_declared order.now (den store.now of.now.first)) (by_declared order.now (den store.now of.now.second))) }
 {
     let levels = support_of(alloc, store, of.first, of.second)?;
-    let declared = spread_bits(alloc, levels.as_slice(), order.len(), order)?;
+    let places = as_places(alloc, order)?;
+    let declared = spread_bits(alloc, levels.as_slice(), order.len(), places.as_slice())?;
     Ok(Bits::of(declared))
 }
 

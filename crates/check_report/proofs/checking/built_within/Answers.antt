@@ -20,7 +20,7 @@ shown_of-requires g c = (
       first = c.in-Ok-build.ensures.first;
       second = c.in-Ok-build.ensures.second;
       condition = c.in-Ok-build.ensures.given;
-      signals = all_signals _ c.args.task.now.first.now c.args.task.now.second.now (condition c.args.task.now.given) _ _ c.inputs.ensures.sound c.inputs-2.ensures.sound c.requires.paired.2;
+      signals = all_signals _ c.args.task.now.first.now c.args.task.now.second.now (condition c.args.task.now.given) _ _ c.inputs.ensures.sound c.inputs-2.ensures.sound c.requires.paired.2.naming;
     },
   ),
 )

@@ -1,4 +1,4 @@
-use Rattle.std.proofs.Common.{◌≡◌, ◌∙◌, ◌<◌, Bool, List, sym, subst, length, get_or}
+use Rattle.std.proofs.Common.{◌≡◌, ◌∙◌, ◌<◌, ℕ, Bool, List, All, ap, sym, subst, length, get_or}
 use Rattle.dd_store.specs.Nodes.{den}
 use Rattle.counter_walk.specs.Arranged.{by_declared}
 use Rattle.counter_walk.specs.Support.{AreLevelsOf}
@@ -8,11 +8,12 @@ use Rattle.check_report.proofs.Supporting.{AreApart, levels_spread}
 use Rattle.check_report.proofs.extras.arranged_support.Goals as goal
 
 pub spread_bits-requires : goal.spread_bits-requires
-spread_bits-requires c = λ i d low.
+spread_bits-requires c =
+    subst (All (λ place. place < length c.args.order.now)) (sym (c.as_slice-2.ensures.value ∙ c.in_ok-places.ensures)) (λ i d low.
     let order = c.args.order.now in
     let each = c.requires.order.each_level in
     let below : get_or order i 0 < c.args.store.now.levels = c.requires.order.declared i (subst (λ k. i < k) each low) in
-    subst (λ k. get_or order i d < k) (sym each) (subst (λ k. k < c.args.store.now.levels) (sym (same_item order i d 0 low)) below)
+    subst (λ k. get_or order i d < k) (sym each) (subst (λ k. k < c.args.store.now.levels) (sym (same_item order i d 0 low)) below))
 
 pub returns : goal.returns
 returns c =
@@ -30,5 +31,5 @@ returns c =
       apart = λ i j li lj e. c.requires.order.once i j (subst (λ k. i < k) each li) (subst (λ k. j < k) each lj) e;
     } in
     let whole = levels_spread (length order) order are f h bits long in
-    subst (λ l. AreLevelsOf S.levels (by_declared order f) (by_declared order h) l) (sym (c.of.ensures ∙ c.in_ok-declared.ensures))
+    subst (λ l. AreLevelsOf S.levels (by_declared order f) (by_declared order h) l) (sym (c.of.ensures ∙ c.in_ok-declared.ensures ∙ ap (λ (ps : List ℕ). spread (length order) ps bits) (c.as_slice-2.ensures.value ∙ c.in_ok-places.ensures)))
     (subst (λ n. AreLevelsOf n (by_declared order f) (by_declared order h) (spread (length order) order bits)) each whole)
