@@ -39,11 +39,12 @@ module _ (a b : Net) (p : Paired) (pairs : List Subject) where
       subst (λ us. AreLed a b p pairs us new) (sym e) (subst (AreLed a b p pairs (take i vs ++ v ∷ [])) (sym grown) (one_more (take i vs) v old one are is))
 
 -- the pair of a verdict that differs
-pub of_verdict : {E : Type 0} (a b : Net) (p : Paired) (pairs : List Subject) (r : Result (Option Led) E) (t : Target) (bits : List Bool) (role : PairKind) (name : List ℕ) (at : List Bool) (first second : Bool) (extras : Extras)
-    → t ≡ record { role = role; name = name } → bits ≡ at → IfOk r (IsLedPair a b p t bits (find (is_subject_of (circuit a) t) pairs)) → IfOk r (IsLed a b p pairs (Differs role name at first second extras))
-of_verdict a b p pairs r t bits role name at first second extras named same is =
-    subst (λ (u : Target). IfOk r (IsLedPair a b p u at (find (is_subject_of (circuit a) u) pairs))) named
-    (subst (λ (x : List Bool). IfOk r (IsLedPair a b p t x (find (is_subject_of (circuit a) t) pairs))) same is)
+pub of_verdict : {E : Type 0} (a b : Net) (p : Paired) (pairs : List Subject) (r : Result (Option Led) E) (t : Target) (bits : List Bool) (v : Verdict) (role : PairKind) (name : List ℕ) (at : List Bool) (first second : Bool) (extras : Extras)
+    → v ≡ Differs role name at first second extras → t ≡ record { role = role; name = name } → bits ≡ at → IfOk r (IsLedPair a b p t bits (find (is_subject_of (circuit a) t) pairs)) → IfOk r (IsLed a b p pairs v)
+of_verdict a b p pairs r t bits v role name at first second extras differs named same is =
+    subst (λ (u : Verdict). IfOk r (IsLed a b p pairs u)) (sym differs)
+    (subst (λ (u : Target). IfOk r (IsLedPair a b p u at (find (is_subject_of (circuit a) u) pairs))) named
+    (subst (λ (x : List Bool). IfOk r (IsLedPair a b p t x (find (is_subject_of (circuit a) t) pairs))) same is))
 
 -- what all have the first has
 pub first_has : {A : Type 0} (P : A → Type 0) (xs : List A) (o : Option A) → o ≡ slice_get xs 0 → All P xs → IfSome o P

@@ -77,7 +77,7 @@ causes_of names led = map (cause_of names led) (leading [] led)
 -- ---- in a report
 
 -- These are the causes of what was found: of the pairs of the netlists that the devices gave, at the assignments of the verdicts.
-pub record HaveCauses (told : Told) (s : Settings) (tried : Option Attempt) (found : Found) (causes : List Caused) : Type 0 where
+pub record HaveCauses (told : Told) (s : Settings) (tried : Option Attempt) (found : Found) (list : List Caused) : Type 0 where
   pub a : Net
   pub b : Net
   pub c : Option Circuit
@@ -87,7 +87,7 @@ pub record HaveCauses (told : Told) (s : Settings) (tried : Option Attempt) (fou
   pub variables : found.variables ≡ p.names
   pub led : List Led
   pub are_led : AreLed a b p (subjects (circuit a) (circuit b) p) found.verdicts led
-  pub causes : causes ≡ causes_of a.names led
+  pub causes : list ≡ causes_of a.names led
 
 -- the causes that a report tells, where they are asked for
 abbrev pub AreCauses : (asked : Bool) → Told → Settings → Option Attempt → Found → Option (List Caused) → Type 0

@@ -98,7 +98,7 @@ fn pair_of(alloc: Global, role: PairKind, name: &Name) -> Result<Target, AllocEr
 }
 
 /// The pair of a verdict with the first of its inner signals that differ, where it differs and one does.
-fn led<H>(
+fn led_of<H>(
     task: &Task<'_, H>,
     pairing: &Pairing,
     pairs: &[Subject],
@@ -140,7 +140,7 @@ pub(crate) fn all_led<H>(
 {
     let mut all = Vec::new(task.alloc);
     for place in 0..verdicts.len() {
-        let one = led(task, pairing, pairs, &verdicts[place])?;
+        let one = led_of(task, pairing, pairs, &verdicts[place])?;
         add_led(&mut all, one)?;
     }
     Ok(all)
