@@ -1,5 +1,5 @@
 -- Choices of an order, and what the devices of a task gave.
-use Rattle.std.proofs.Common.{◌≡◌, ℕ, List, Option, Some, None, Result, Ok, Err, IfErr, refl, ap, sym, subst, ◌∙◌, Bool}
+use Rattle.std.proofs.Common.{◌≡◌, ℕ, List, Option, Some, None, Result, Ok, Err, IfErr, refl, ap, ap₂, sym, subst, ◌∙◌, Bool}
 use Rattle.std.specs.Prelude.{IfSome, IsSomeAnd, is_some, option_map}
 use Rattle.std.specs.Option.{option_copied}
 use Rattle.std.specs.Borrow.{Bor}
@@ -19,6 +19,7 @@ use Rattle.check_report.specs.Devices.{Told, told_by}
 use Rattle.report_text.specs.declared.kind.OrderKind.{OrderKind}
 use Rattle.report_text.specs.declared.outcome.Share.{Share}
 use Rattle.report_text.specs.declared.assignment.Assignment.{Assignment}
+use Rattle.report_text.specs.Causes.{Caused}
 use Rattle.report_text.specs.Json.{form_text}
 use Rattle.report_text.specs.Lines.{Found}
 use Rattle.net_bench.specs.declared.netlist.BenchFault.{BenchFault}
@@ -99,10 +100,10 @@ pub is_told : {R : Type 0} (tells : R → Option (List ℕ)) (r : Option R) → 
 is_told tells None = refl
 is_told tells (Some device) = refl
 
--- the bytes of a report, by whether there is a condition
-pub form_as : (json : Bool) (which : Option Assignment) (how : Match) (kind : OrderKind) (share : Option Share) (found : Found) (items : List ℕ) (h given : Bool) → items ≡ form_text json which how kind h share found → h ≡ given →
-    items ≡ form_text json which how kind given share found
-form_as json which how kind share found items h given e told = e ∙ ap (λ z. form_text json which how kind z share found) told
+-- the bytes of a report, by whether there is a condition, and by its causes
+pub form_as : (json : Bool) (which : Option Assignment) (how : Match) (kind : OrderKind) (share : Option Share) (found : Found) (items : List ℕ) (h given : Bool) (list causes : Option (List Caused))
+    → items ≡ form_text json which how kind h share list found → h ≡ given → list ≡ causes → items ≡ form_text json which how kind given share causes found
+form_as json which how kind share found items h given list causes e told same = e ∙ ap₂ (λ (z : Bool) (cs : Option (List Caused)). form_text json which how kind z share cs found) told same
 
 -- the order of a report is allowed
 pub chosen_allowed : (told : Told) (how : Match) (choice : Choice) (limit : ℕ) (tried : Option Attempt) (order : Order) → IsChosen told how choice limit tried order → IsAllowed choice order

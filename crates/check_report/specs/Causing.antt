@@ -12,7 +12,7 @@ use Rattle.report_text.specs.declared.verdict.Verdict.{Verdict}
 use Rattle.report_text.specs.declared.verdict.Verdict.TheVariants.{Equal, Differs, Lone, Undecided}
 use Rattle.report_text.specs.Causes.{Caused}
 use Rattle.report_text.specs.Lines.{Found}
-use Rattle.check_report.specs.declared.causing.Led.{Led}
+use Rattle.check_report.specs.declared.led.Led.{Led}
 use Rattle.check_report.specs.declared.choice.Attempt.{Attempt}
 use Rattle.check_report.specs.declared.settings.Settings.{Settings}
 use Rattle.check_report.specs.declared.subject.Subject.{Subject}
@@ -24,23 +24,27 @@ use Rattle.check_report.specs.Report.{subjects}
 
 -- ---- the first inner signal that differs
 
--- a pair with the first of its inner signals that differ at the assignment, where one does
+-- a pair with this first inner signal
+abbrev pub led_by : Target → Inner → Led
+led_by t inner = record { pair = t; inner = inner }
+
+-- a pair with the first of its inner signals that differ at the assignment, where it is one of those that are compared and one does
 abbrev pub IsLedPair : Net → Net → Paired → Target → List Bool → Option Subject → Option Led → Type 0
 IsLedPair a b p t at None led = led ≡ None
-IsLedPair a b p t at (Some s) led = (e : Explained) × IsExplanation a b p (s.first, s.second) at e × (led ≡ option_map (λ inner. record { pair = t; inner = inner }) (slice_get e.inner 0))
+IsLedPair a b p t at (Some s) led = (e : Explained) × IsExplanation a b p (s.first, s.second) at e × (led ≡ option_map (led_by t) (slice_get e.inner 0))
 
 -- the same of the pair that a verdict is on, where it differs
-abbrev pub IsLed : Net → Net → Paired → Verdict → Option Led → Type 0
-IsLed a b p (Equal role name size) led = led ≡ None
-IsLed a b p (Differs role name at first second extras) led =
-    let t : Target = record { role = role; name = name } in IsLedPair a b p t at (find (is_subject_of (circuit a) t) (subjects (circuit a) (circuit b) p)) led
-IsLed a b p (Lone side role name) led = led ≡ None
-IsLed a b p (Undecided role name) led = led ≡ None
+abbrev pub IsLed : Net → Net → Paired → List Subject → Verdict → Option Led → Type 0
+IsLed a b p pairs (Equal role name size) led = led ≡ None
+IsLed a b p pairs (Differs role name at first second extras) led =
+    let t : Target = record { role = role; name = name } in IsLedPair a b p t at (find (is_subject_of (circuit a) t) pairs) led
+IsLed a b p pairs (Lone side role name) led = led ≡ None
+IsLed a b p pairs (Undecided role name) led = led ≡ None
 
 -- these are all of them, in the order of the verdicts
-abbrev pub AreLed : Net → Net → Paired → List Verdict → List Led → Type 0
-AreLed a b p [] led = led ≡ []
-AreLed a b p (v ∷ vs) led = (one : Option Led) × (rest : List Led) × IsLed a b p v one × AreLed a b p vs rest × (led ≡ option_to_list one ++ rest)
+abbrev pub AreLed : Net → Net → Paired → List Subject → List Verdict → List Led → Type 0
+AreLed a b p pairs [] led = led ≡ []
+AreLed a b p pairs (v ∷ vs) led = (one : Option Led) × (rest : List Led) × IsLed a b p pairs v one × AreLed a b p pairs vs rest × (led ≡ option_to_list one ++ rest)
 
 -- ---- causes
 
@@ -54,12 +58,17 @@ name_of t = record { role = t.role; name = t.name }
 
 -- the cause that an inner signal is: of the pairs that have it as their first
 abbrev pub cause_of : List (List ℕ) → List Led → Inner → Caused
-cause_of names led i = record { signal = slice_index_or names i.first []; first_line = i.first_line; second_line = i.second_line; pairs = map (λ l. name_of l.pair) (filter (is_led_by i.first) led) }
+cause_of names led i =
+    record { signal = slice_index_or names i.first []; first_line = i.first_line; second_line = i.second_line; pairs = map (λ one. name_of one.pair) (filter (is_led_by i.first) led) }
 
--- the first inner signals of pairs, each where it comes first: those that no pair before has
+-- an inner signal, where none of the pairs before has it
+abbrev pub first_time : (before : List Led) → Inner → List Inner
+first_time before i = if list_any (is_led_by i.first) before then [] else i ∷ []
+
+-- the first inner signals of pairs behind others, each once, where it comes first
 abbrev pub leading : (before : List Led) → List Led → List Inner
 leading before [] = []
-leading before (l ∷ ls) = (if list_any (is_led_by l.inner.first) before then [] else l.inner ∷ []) ++ leading (before ++ l ∷ []) ls
+leading before (l ∷ ls) = first_time before l.inner ++ leading (before ++ l ∷ []) ls
 
 -- the causes of pairs, in the order of the first pair of each
 abbrev pub causes_of : List (List ℕ) → List Led → List Caused
@@ -68,7 +77,7 @@ causes_of names led = map (cause_of names led) (leading [] led)
 -- ---- in a report
 
 -- These are the causes of what was found: of the pairs of the netlists that the devices gave, at the assignments of the verdicts.
-pub record HaveCauses (told : Told) (s : Settings) (tried : Option Attempt) (found : Found) (causes : List Caused) : Type 0 where
+pub record HaveCauses (told : Told) (s : Settings) (tried : Option Attempt) (found : Found) (list : List Caused) : Type 0 where
   pub a : Net
   pub b : Net
   pub c : Option Circuit
@@ -77,8 +86,8 @@ pub record HaveCauses (told : Told) (s : Settings) (tried : Option Attempt) (fou
   -- the bits of an assignment are those of the variables of this pairing
   pub variables : found.variables ≡ p.names
   pub led : List Led
-  pub are_led : AreLed a b p found.verdicts led
-  pub causes : causes ≡ causes_of a.names led
+  pub are_led : AreLed a b p (subjects (circuit a) (circuit b) p) found.verdicts led
+  pub causes : list ≡ causes_of a.names led
 
 -- the causes that a report tells, where they are asked for
 abbrev pub AreCauses : (asked : Bool) → Told → Settings → Option Attempt → Found → Option (List Caused) → Type 0

@@ -1,128 +1,31 @@
-//! The causes of the pairs that differ: the first inner signal of each that differs, and the pairs that share one.
-ghost use Rattle.std.specs.Prelude.{◌≡◌, ◌<◌, ◌++◌, List, length, map, filter, find, option_map, option_to_list, slice_get, All, IfOk, IfErr, IfSome, OnOk};
+//! The causes of the pairs that differ: their first inner signals, each with the pairs that have it.
+ghost use Rattle.std.specs.Prelude.{◌≡◌, ◌<◌, ◌≤◌, ◌++◌, ◌∷◌, [], List, length, map, filter, take, option_map, All, IfOk, IfErr, OnOk};
 ghost use Rattle.std.specs.List.{list_any};
 ghost use Rattle.net_bench.specs.Circuit.{circuit};
-ghost use Rattle.net_explain.specs.Explaining.{Explained, IsExplanation};
 ghost use Rattle.net_order.specs.declared.order.Order.{Order as OrderValue};
-ghost use Rattle.check_report.specs.declared.causing.Led.{Led as LedValue};
+ghost use Rattle.check_report.specs.declared.led.Led.{Led as LedValue};
 ghost use Rattle.check_report.specs.Best.{IsAllowed};
-ghost use Rattle.check_report.specs.Causing.{AreCauses, AreLed, IsLed, IsLedPair, cause_of, causes_in, causes_of, is_led_by, name_of};
+ghost use Rattle.check_report.specs.Causing.{AreCauses, AreLed, cause_of, causes_in, causes_of, first_time, is_led_by, name_of};
 ghost use Rattle.check_report.specs.Check.{IsCheckFault};
 ghost use Rattle.check_report.specs.Comparing.{IsInside};
-ghost use Rattle.check_report.specs.Explaining.{is_subject_of, told_order};
-ghost use Rattle.check_report.specs.Report.{subjects};
+ghost use Rattle.check_report.specs.Explaining.{told_order};
 ghost use Rattle.check_report.specs.Tasks.{OfTask};
 ghost use Rattle.check_report.specs.Trials.{EndsAtOnce, ordered_names};
 
 use crate::choice::Attempt;
 use crate::compared::subjects_of;
-use crate::explaining::{subject_of, told_pairing};
+use crate::explaining::told_pairing;
 use crate::fault::CheckFault;
+use crate::led::{Led, all_led};
 use crate::subject::Subject;
 use crate::target::Target;
 use crate::task::Task;
 use net_bench::netlist::Signal;
 use net_bench::reader::Netlist;
-use net_explain::{Inner, explain};
+use net_explain::Inner;
 use net_order::pairing::Pairing;
 use report_text::{Cause, Name, PairName, Verdict, Verdicts};
 use std::alloc::{AllocError, Global};
-
-/// A pair that differs, with the first of its inner signals that do.
-#[derive(Drop)]
-pub struct Led {
-    pub pair: Target,
-    pub inner: Inner,
-}
-
-/// The first of the inner signals of a pair that differ at an assignment, where one does.
-fn first_inner<H>(
-    task: &Task<'_, H>,
-    pairing: &Pairing,
-    subject: Subject,
-    at: &[bool],
-) -> Result<Option<Inner>, AllocError>
-    requires { IsInside (circuit task.now.first.now) (circuit task.now.second.now) subject }
-    ensures first { IfOk result (λ first. (e : Explained) × IsExplanation task.now.first.now task.now.second.now pairing.now (subject.first, subject.second) at.now e × (first ≡ slice_get e.inner 0)) }
-    ensures known { IfOk result (λ first. IfSome first (λ inner. inner.first < length task.now.first.now.names)) }
-{
-    let pair = (subject.first, subject.second);
-    let explanation = explain(task.alloc, task.first, task.second, pairing, pair, at)?;
-    Ok(explanation.inner().first().copied())
-}
-
-/// A pair with the first of its inner signals that differ at an assignment, where one does.
-fn led_pair<H>(
-    task: &Task<'_, H>,
-    pairing: &Pairing,
-    pairs: &[Subject],
-    pair: Target,
-    at: &[bool],
-) -> Result<Option<Led>, AllocError>
-    requires { All (IsInside (circuit task.now.first.now) (circuit task.now.second.now)) pairs.now }
-    ensures led { IfOk result (IsLedPair task.now.first.now task.now.second.now pairing.now pair at.now (find (is_subject_of (circuit task.now.first.now) pair) pairs.now)) }
-    ensures known { IfOk result (λ led. IfSome led (λ l. l.inner.first < length task.now.first.now.names)) }
-{
-    let Some(subject) = subject_of(task.first, &pair, pairs) else {
-        return Ok(None);
-    };
-    match first_inner(task, pairing, subject, at)? {
-        Some(inner) => Ok(Some(Led { pair, inner })),
-        None => Ok(None),
-    }
-}
-
-/// The same of the pair that a verdict is on, where it differs.
-fn led<H>(
-    task: &Task<'_, H>,
-    pairing: &Pairing,
-    pairs: &[Subject],
-    verdict: &Verdict,
-) -> Result<Option<Led>, AllocError>
-    requires all { pairs.now ≡ subjects (circuit task.now.first.now) (circuit task.now.second.now) pairing.now }
-    requires inside { All (IsInside (circuit task.now.first.now) (circuit task.now.second.now)) pairs.now }
-    ensures led { IfOk result (IsLed task.now.first.now task.now.second.now pairing.now verdict.now) }
-    ensures known { IfOk result (λ led. IfSome led (λ l. l.inner.first < length task.now.first.now.names)) }
-{
-    match verdict {
-        Verdict::Differs { role, name, at, .. } => {
-            let role = *role;
-            let name = Name::copied(task.alloc, name.as_slice())?;
-            led_pair(task, pairing, pairs, Target { role, name }, at.as_slice())
-        }
-        Verdict::Equal { .. } | Verdict::Lone { .. } | Verdict::Undecided { .. } => Ok(None),
-    }
-}
-
-/// Adds a pair, if there is one.
-fn add_led(all: &mut Vec<Led>, one: Option<Led>) -> Result<(), AllocError>
-    ensures { OnOk result (all.new.items ≡ all.old.items ++ option_to_list one) }
-{
-    if let Some(one) = one {
-        all.push(one)?;
-    }
-    Ok(())
-}
-
-/// All pairs of these verdicts that differ, each with the first of its inner signals that do.
-fn all_led<H>(
-    task: &Task<'_, H>,
-    pairing: &Pairing,
-    pairs: &[Subject],
-    verdicts: &[Verdict],
-) -> Result<Vec<Led>, AllocError>
-    requires all { pairs.now ≡ subjects (circuit task.now.first.now) (circuit task.now.second.now) pairing.now }
-    requires inside { All (IsInside (circuit task.now.first.now) (circuit task.now.second.now)) pairs.now }
-    ensures led { IfOk result (λ v. AreLed task.now.first.now task.now.second.now pairing.now verdicts.now v.items) }
-    ensures known { IfOk result (λ v. All (λ l. l.inner.first < length task.now.first.now.names) v.items) }
-{
-    let mut all = Vec::new(task.alloc);
-    for place in 0..verdicts.len() {
-        let one = led(task, pairing, pairs, &verdicts[place])?;
-        add_led(&mut all, one)?;
-    }
-    Ok(all)
-}
 
 /// Whether a pair has this first inner signal.
 fn is_led_by(signal: Signal, led: &Led) -> bool
@@ -154,15 +57,30 @@ fn named(alloc: Global, pair: &Target) -> Result<PairName, AllocError>
     })
 }
 
+/// Adds the name of a pair, where it has this first inner signal.
+fn add_under(
+    alloc: Global,
+    signal: Signal,
+    led: &Led,
+    pairs: &mut Vec<PairName>,
+) -> Result<(), AllocError>
+    ensures { OnOk result (pairs.new.items ≡ pairs.old.items ++ map (λ one. name_of one.pair) (filter (is_led_by signal) (led.now ∷ []))) }
+{
+    if !is_led_by(signal, led) {
+        return Ok(());
+    }
+    let name = named(alloc, &led.pair)?;
+    pairs.push(name)?;
+    Ok(())
+}
+
 /// The names of those of the pairs that have this first inner signal.
 fn pairs_under(alloc: Global, signal: Signal, led: &[Led]) -> Result<Vec<PairName>, AllocError>
-    ensures { IfOk result (λ pairs. pairs.items ≡ map (λ l. name_of l.pair) (filter (is_led_by signal) led.now)) }
+    ensures { IfOk result (λ pairs. pairs.items ≡ map (λ one. name_of one.pair) (filter (is_led_by signal) led.now)) }
 {
     let mut pairs = Vec::new(alloc);
     for place in 0..led.len() {
-        if is_led_by(signal, &led[place]) {
-            pairs.push(named(alloc, &led[place].pair)?)?;
-        }
+        add_under(alloc, signal, &led[place], &mut pairs)?;
     }
     Ok(pairs)
 }
@@ -177,17 +95,43 @@ fn cause_of(alloc: Global, net: &Netlist, led: &[Led], inner: Inner) -> Result<C
     Ok(Cause::of(signal, (inner.first_line, inner.second_line), pairs))
 }
 
+/// Adds the cause that an inner signal is, where none of the pairs before has it.
+fn add_cause(
+    alloc: Global,
+    net: &Netlist,
+    led: &[Led],
+    before: &[Led],
+    inner: Inner,
+    causes: &mut Vec<Cause>,
+) -> Result<(), AllocError>
+    requires { inner.first < length net.now.names }
+    ensures { OnOk result (causes.new.items ≡ causes.old.items ++ map (cause_of net.now.names led.now) (first_time before.now inner)) }
+{
+    if leads(inner.first, before) {
+        return Ok(());
+    }
+    let cause = cause_of(alloc, net, led, inner)?;
+    causes.push(cause)?;
+    Ok(())
+}
+
+/// The pairs before a place.
+fn before(led: &[Led], place: usize) -> &[Led]
+    requires { place ≤ length led.now }
+    ensures { result.now ≡ take place led.now }
+{
+    led.split_at(place).0
+}
+
 /// The causes of the pairs, in the order of the first pair of each.
 fn causes_of(alloc: Global, net: &Netlist, led: &[Led]) -> Result<Vec<Cause>, AllocError>
-    requires { All (λ l. l.inner.first < length net.now.names) led.now }
+    requires { All (λ one. one.inner.first < length net.now.names) led.now }
     ensures { IfOk result (λ causes. causes.items ≡ causes_of net.now.names led.now) }
 {
     let mut causes = Vec::new(alloc);
     for place in 0..led.len() {
         let inner = led[place].inner;
-        if !leads(inner.first, &led[..place]) {
-            causes.push(cause_of(alloc, net, led, inner)?)?;
-        }
+        add_cause(alloc, net, led, before(led, place), inner, &mut causes)?;
     }
     Ok(causes)
 }
@@ -199,9 +143,8 @@ fn all_causes<H>(
     pairs: &[Subject],
     verdicts: &[Verdict],
 ) -> Result<Vec<Cause>, AllocError>
-    requires all { pairs.now ≡ subjects (circuit task.now.first.now) (circuit task.now.second.now) pairing.now }
-    requires inside { All (IsInside (circuit task.now.first.now) (circuit task.now.second.now)) pairs.now }
-    ensures { IfOk result (λ causes. (led : List LedValue) × AreLed task.now.first.now task.now.second.now pairing.now verdicts.now led × (causes.items ≡ causes_of task.now.first.now.names led)) }
+    requires { All (IsInside (circuit task.now.first.now) (circuit task.now.second.now)) pairs.now }
+    ensures { IfOk result (λ causes. (led : List LedValue) × AreLed task.now.first.now task.now.second.now pairing.now pairs.now verdicts.now led × (causes.items ≡ causes_of task.now.first.now.names led)) }
 {
     let led = all_led(task, pairing, pairs, verdicts)?;
     causes_of(task.alloc, task.first, led.as_slice())

@@ -50,6 +50,7 @@ fn alone(alloc: Global, settings: &Settings) -> Settings
         explain: Vec::new(alloc),
         assignment: settings.assignment,
         vcd: false,
+        causes: false,
     }
 }
 

@@ -37,6 +37,7 @@ mod hands;
 mod judging;
 mod known;
 pub mod laws;
+mod led;
 mod listing;
 mod lone;
 mod naming;

@@ -4,6 +4,7 @@ use Rattle.net_order.specs.Order.{condition}
 use Rattle.check_report.specs.Causing.{AreLed}
 use Rattle.check_report.specs.Comparing.{IsInside}
 use Rattle.check_report.specs.Explaining.{told_order}
+use Rattle.check_report.specs.Report.{subjects}
 use Rattle.check_report.proofs.Explanations.{told_allowed}
 use Rattle.check_report.proofs.Leading.{asked_for, unasked}
 use Rattle.check_report.proofs.Rounds.{accepted, memory_ends, order_ends}
@@ -45,8 +46,8 @@ returns-clause-ends g c = memory_ends
 
 -- ---- causes
 
-pub all_causes-requires-clause-inside : goal.all_causes-requires-clause-inside
-all_causes-requires-clause-inside g c =
+pub all_causes-requires : goal.all_causes-requires
+all_causes-requires g c =
     let task = c.args.task.now in
     subst (λ ss. All (IsInside (circuit task.first.now) (circuit task.second.now)) ss) (sym (c.as_slice.ensures.value ∙ c.in-Ok-subjects_of.ensures))
     (subjects_inside task.settings.now.matching task.first.now task.second.now (condition task.given) (told_order task.settings.now.order c.args.tried) c.in-Ok.pairing c.inputs.ensures.sound c.inputs-2.ensures.sound c.in-Ok.ensures.paired)
@@ -64,6 +65,7 @@ returns-in-Ok-all_causes-clause-causes g c = λ told ga.
       paired = record { netlists = ga; pairing = c.in-Ok.ensures.paired };
       variables = c.requires.names ∙ sym c.in-Ok.ensures.paired.names;
       led = led.0;
-      are_led = subst (λ vs. AreLed task.first.now task.second.now c.in-Ok.pairing vs led.0) c.as_slice-2.ensures led.1;
+      are_led = subst (λ vs. AreLed task.first.now task.second.now c.in-Ok.pairing (subjects (circuit task.first.now) (circuit task.second.now) c.in-Ok.pairing) vs led.0) c.as_slice-2.ensures
+          (subst (λ ps. AreLed task.first.now task.second.now c.in-Ok.pairing ps c.as_slice-2.result.now led.0) (c.as_slice.ensures.value ∙ c.in-Ok-subjects_of.ensures) led.1);
       causes = led.2;
     })

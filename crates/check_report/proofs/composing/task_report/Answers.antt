@@ -12,9 +12,11 @@ returns-in-Ok-dump-clause-report g c = λ told ga.
         found = c.in-Ok.verdicts;
         by = c.in-Ok.ensures.found told ga;
         counts = c.outcome.ensures;
-        explanations = text.0;
-        explained = text.1;
-        text = text.2;
+        causes = text.0;
+        caused = text.1;
+        explanations = text.2;
+        explained = text.3;
+        text = text.4;
       };
       dump = c.in-Ok-dump.ensures.dump told ga;
     }

@@ -1,0 +1,147 @@
+//! The pairs that differ, each with the first of its inner signals that do.
+ghost use Rattle.std.specs.Prelude.{◌≡◌, ◌<◌, ◌++◌, find, length, option_map, option_to_list, slice_get, All, Some, IfOk, IfSome, OnOk};
+ghost use Rattle.net_bench.specs.Circuit.{circuit};
+ghost use Rattle.net_explain.specs.Explaining.{Explained, IsExplanation};
+ghost use Rattle.check_report.specs.Causing.{AreLed, IsLed, IsLedPair, led_by};
+ghost use Rattle.check_report.specs.Comparing.{IsInside};
+ghost use Rattle.check_report.specs.Explaining.{is_subject_of};
+
+use crate::explaining::subject_of;
+use crate::subject::Subject;
+use crate::target::Target;
+use crate::task::Task;
+use net_explain::{Inner, explain};
+use net_order::pairing::Pairing;
+use report_text::{Name, PairKind, Verdict};
+use std::alloc::{AllocError, Global};
+
+/// A pair that differs, with the first of its inner signals that do.
+#[derive(Drop)]
+pub struct Led {
+    pub pair: Target,
+    pub inner: Inner,
+}
+
+/// The first of some inner signals, where there is one.
+fn first_of(inner: &[Inner]) -> Option<Inner>
+    ensures { result ≡ slice_get inner.now 0 }
+{
+    inner.first().copied()
+}
+
+/// The first of the inner signals of a pair that differ at an assignment, where one does.
+fn first_inner<H>(
+    task: &Task<'_, H>,
+    pairing: &Pairing,
+    subject: Subject,
+    at: &[bool],
+) -> Result<Option<Inner>, AllocError>
+    requires { IsInside (circuit task.now.first.now) (circuit task.now.second.now) subject }
+    ensures first { IfOk result (λ first. (e : Explained) × IsExplanation task.now.first.now task.now.second.now pairing.now (subject.first, subject.second) at.now e × (first ≡ slice_get e.inner 0)) }
+    ensures known { IfOk result (λ first. IfSome first (λ inner. inner.first < length task.now.first.now.names)) }
+{
+    let pair = (subject.first, subject.second);
+    let explanation = explain(task.alloc, task.first, task.second, pairing, pair, at)?;
+    Ok(first_of(explanation.inner()))
+}
+
+/// A pair with its first inner signal, where it has one.
+fn led_by(pair: Target, first: Option<Inner>) -> Option<Led>
+    ensures { result ≡ option_map (led_by pair) first }
+{
+    match first {
+        Some(inner) => Some(Led { pair, inner }),
+        None => None,
+    }
+}
+
+/// A pair with the first of its inner signals that differ at an assignment, where one does.
+fn led_subject<H>(
+    task: &Task<'_, H>,
+    pairing: &Pairing,
+    subject: Subject,
+    pair: Target,
+    at: &[bool],
+) -> Result<Option<Led>, AllocError>
+    requires { IsInside (circuit task.now.first.now) (circuit task.now.second.now) subject }
+    ensures led { IfOk result (IsLedPair task.now.first.now task.now.second.now pairing.now pair at.now (Some subject)) }
+    ensures known { IfOk result (λ led. IfSome led (λ one. one.inner.first < length task.now.first.now.names)) }
+{
+    let first = first_inner(task, pairing, subject, at)?;
+    Ok(led_by(pair, first))
+}
+
+/// The same of the pair that is meant, where there is one.
+fn led_pair<H>(
+    task: &Task<'_, H>,
+    pairing: &Pairing,
+    pairs: &[Subject],
+    pair: Target,
+    at: &[bool],
+) -> Result<Option<Led>, AllocError>
+    requires { All (IsInside (circuit task.now.first.now) (circuit task.now.second.now)) pairs.now }
+    ensures led { IfOk result (IsLedPair task.now.first.now task.now.second.now pairing.now pair at.now (find (is_subject_of (circuit task.now.first.now) pair) pairs.now)) }
+    ensures known { IfOk result (λ led. IfSome led (λ one. one.inner.first < length task.now.first.now.names)) }
+{
+    match subject_of(task.first, &pair, pairs) {
+        Some(subject) => led_subject(task, pairing, subject, pair, at),
+        None => Ok(None),
+    }
+}
+
+/// The pair of this role and this name.
+fn pair_of(alloc: Global, role: PairKind, name: &Name) -> Result<Target, AllocError>
+    ensures { IfOk result (λ pair. pair ≡ record { role = role; name = name.now }) }
+{
+    let name = Name::copied(alloc, name.as_slice())?;
+    Ok(Target { role, name })
+}
+
+/// The pair of a verdict with the first of its inner signals that differ, where it differs and one does.
+fn led_of<H>(
+    task: &Task<'_, H>,
+    pairing: &Pairing,
+    pairs: &[Subject],
+    verdict: &Verdict,
+) -> Result<Option<Led>, AllocError>
+    requires { All (IsInside (circuit task.now.first.now) (circuit task.now.second.now)) pairs.now }
+    ensures led { IfOk result (IsLed task.now.first.now task.now.second.now pairing.now pairs.now verdict.now) }
+    ensures known { IfOk result (λ led. IfSome led (λ one. one.inner.first < length task.now.first.now.names)) }
+{
+    match verdict {
+        Verdict::Differs { role, name, at, .. } => {
+            let pair = pair_of(task.alloc, *role, name)?;
+            led_pair(task, pairing, pairs, pair, at.as_slice())
+        }
+        Verdict::Equal { .. } | Verdict::Lone { .. } | Verdict::Undecided { .. } => Ok(None),
+    }
+}
+
+/// Adds a pair, if there is one.
+fn add_led(all: &mut Vec<Led>, one: Option<Led>) -> Result<(), AllocError>
+    ensures { OnOk result (all.new.items ≡ all.old.items ++ option_to_list one) }
+{
+    if let Some(one) = one {
+        all.push(one)?;
+    }
+    Ok(())
+}
+
+/// All pairs of these verdicts that differ and have inner signals that do, each with the first of these.
+pub(crate) fn all_led<H>(
+    task: &Task<'_, H>,
+    pairing: &Pairing,
+    pairs: &[Subject],
+    verdicts: &[Verdict],
+) -> Result<Vec<Led>, AllocError>
+    requires { All (IsInside (circuit task.now.first.now) (circuit task.now.second.now)) pairs.now }
+    ensures led { IfOk result (λ v. AreLed task.now.first.now task.now.second.now pairing.now pairs.now verdicts.now v.items) }
+    ensures known { IfOk result (λ v. All (λ one. one.inner.first < length task.now.first.now.names) v.items) }
+{
+    let mut all = Vec::new(task.alloc);
+    for place in 0..verdicts.len() {
+        let one = led_of(task, pairing, pairs, &verdicts[place])?;
+        add_led(&mut all, one)?;
+    }
+    Ok(all)
+}
