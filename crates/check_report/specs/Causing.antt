@@ -17,7 +17,7 @@ use Rattle.check_report.specs.declared.choice.Attempt.{Attempt}
 use Rattle.check_report.specs.declared.settings.Settings.{Settings}
 use Rattle.check_report.specs.declared.subject.Subject.{Subject}
 use Rattle.check_report.specs.declared.target.Target.{Target}
-use Rattle.check_report.specs.Check.{ArePaired}
+use Rattle.check_report.specs.Check.{HaveNaming}
 use Rattle.check_report.specs.Devices.{Told}
 use Rattle.check_report.specs.Explaining.{is_subject_of, told_order}
 use Rattle.check_report.specs.Report.{subjects}
@@ -82,8 +82,8 @@ pub record HaveCauses (told : Told) (s : Settings) (tried : Option Attempt) (fou
   pub b : Net
   pub c : Option Circuit
   pub p : Paired
-  pub paired : ArePaired told s.matching (told_order s.order tried) (circuit a) (circuit b) c p
-  -- the bits of an assignment are those of the variables of this pairing
+  pub named : HaveNaming told s.matching (told_order s.order tried) (circuit a) (circuit b) c p
+  -- the bits of an assignment are those of the variables of this naming
   pub variables : found.variables ≡ p.names
   pub led : List Led
   pub are_led : AreLed a b p (subjects (circuit a) (circuit b) p) found.verdicts led

@@ -1,10 +1,10 @@
 //! The causes of the pairs that differ: their first inner signals, each with the pairs that have it.
-ghost use Rattle.std.specs.Prelude.{◌≡◌, ◌<◌, ◌≤◌, ◌++◌, ◌∷◌, [], List, length, map, filter, take, option_map, All, IfOk, IfErr, OnOk};
+ghost use Rattle.std.specs.Prelude.{◌≡◌, ◌≢◌, ◌<◌, ◌≤◌, ◌++◌, ◌∷◌, [], List, length, map, filter, take, option_map, All, Err, IfOk, IfErr, OnOk};
 ghost use Rattle.std.specs.List.{list_any};
 ghost use Rattle.net_bench.specs.Circuit.{circuit};
 ghost use Rattle.net_order.specs.declared.order.Order.{Order as OrderValue};
 ghost use Rattle.check_report.specs.declared.led.Led.{Led as LedValue};
-ghost use Rattle.check_report.specs.Best.{IsAllowed};
+ghost use Rattle.check_report.specs.Best.{IsAllowed, MayGoByCones};
 ghost use Rattle.check_report.specs.Causing.{AreCauses, AreLed, cause_of, causes_in, causes_of, first_time, is_led_by, name_of};
 ghost use Rattle.check_report.specs.Check.{IsCheckFault};
 ghost use Rattle.check_report.specs.Comparing.{IsInside};
@@ -14,7 +14,7 @@ ghost use Rattle.check_report.specs.Trials.{EndsAtOnce, ordered_names};
 
 use crate::choice::Attempt;
 use crate::compared::subjects_of;
-use crate::explaining::told_pairing;
+use crate::explaining::told_naming;
 use crate::fault::CheckFault;
 use crate::led::{Led, all_led};
 use crate::subject::Subject;
@@ -23,7 +23,8 @@ use crate::task::Task;
 use net_bench::netlist::Signal;
 use net_bench::reader::Netlist;
 use net_explain::Inner;
-use net_order::pairing::Pairing;
+use net_order::naming::Naming;
+use net_order::order::OrderFault;
 use report_text::{Cause, Name, PairName, Verdict, Verdicts};
 use std::alloc::{AllocError, Global};
 
@@ -139,14 +140,14 @@ fn causes_of(alloc: Global, net: &Netlist, led: &[Led]) -> Result<Vec<Cause>, Al
 /// The causes of the pairs of these verdicts that differ.
 fn all_causes<H>(
     task: &Task<'_, H>,
-    pairing: &Pairing,
+    naming: &Naming,
     pairs: &[Subject],
     verdicts: &[Verdict],
 ) -> Result<Vec<Cause>, AllocError>
     requires { All (IsInside (circuit task.now.first.now) (circuit task.now.second.now)) pairs.now }
-    ensures { IfOk result (λ causes. (led : List LedValue) × AreLed task.now.first.now task.now.second.now pairing.now pairs.now verdicts.now led × (causes.items ≡ causes_of task.now.first.now.names led)) }
+    ensures { IfOk result (λ causes. (led : List LedValue) × AreLed task.now.first.now task.now.second.now naming.now pairs.now verdicts.now led × (causes.items ≡ causes_of task.now.first.now.names led)) }
 {
-    let led = all_led(task, pairing, pairs, verdicts)?;
+    let led = all_led(task, naming, pairs, verdicts)?;
     causes_of(task.alloc, task.first, led.as_slice())
 }
 
@@ -168,22 +169,23 @@ pub(crate) fn causes<H>(
 ) -> Result<Option<Vec<Cause>>, CheckFault>
     requires names { verdicts.now.variables ≡ ordered_names task.now (told_order task.now.settings.now.order tried) }
     ensures causes { OfTask task.now (λ told s. IfOk result (λ causes. AreCauses s.causes told s tried verdicts.now (causes_in causes))) }
-    ensures fault { OfTask task.now (λ told s. IfErr result (λ fault. (order : OrderValue) × IsAllowed s.order order × IsCheckFault told ⊥ ⊥ ⊥ s.matching order fault)) }
+    ensures fault { OfTask task.now (λ told s. IfErr result (λ fault. (order : OrderValue) × IsAllowed s.order order × IsCheckFault told ⊥ ⊥ ⊥ s.order s.matching order fault)) }
     ensures ends { IfErr result EndsAtOnce }
+    ensures whole { MayGoByCones task.now.settings.now.order → result ≢ Err (CheckFault.Order OrderFault.TooManyInputs) }
 {
     if !task.settings.causes {
         return Ok(None);
     }
     let _ = task.first.inputs();
     let _ = task.second.inputs();
-    let pairing = match told_pairing(task, tried) {
-        Ok(pairing) => pairing,
+    let naming = match told_naming(task, tried) {
+        Ok(naming) => naming,
         Err(fault) => return Err(fault),
     };
-    let Ok(pairs) = subjects_of(task.alloc, task.first, task.second, &pairing) else {
+    let Ok(pairs) = subjects_of(task.alloc, task.first, task.second, &naming) else {
         return Err(CheckFault::OutOfMemory);
     };
-    match all_causes(task, &pairing, pairs.as_slice(), verdicts.as_slice()) {
+    match all_causes(task, &naming, pairs.as_slice(), verdicts.as_slice()) {
         Ok(causes) => Ok(Some(causes)),
         Err(_) => Err(CheckFault::OutOfMemory),
     }

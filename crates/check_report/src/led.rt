@@ -11,7 +11,7 @@ use crate::subject::Subject;
 use crate::target::Target;
 use crate::task::Task;
 use net_explain::{Inner, explain};
-use net_order::pairing::Pairing;
+use net_order::naming::Naming;
 use report_text::{Name, PairKind, Verdict};
 use std::alloc::{AllocError, Global};
 
@@ -32,16 +32,16 @@ fn first_of(inner: &[Inner]) -> Option<Inner>
 /// The first of the inner signals of a pair that differ at an assignment, where one does.
 fn first_inner<H>(
     task: &Task<'_, H>,
-    pairing: &Pairing,
+    naming: &Naming,
     subject: Subject,
     at: &[bool],
 ) -> Result<Option<Inner>, AllocError>
     requires { IsInside (circuit task.now.first.now) (circuit task.now.second.now) subject }
-    ensures first { IfOk result (λ first. (e : Explained) × IsExplanation task.now.first.now task.now.second.now pairing.now (subject.first, subject.second) at.now e × (first ≡ slice_get e.inner 0)) }
+    ensures first { IfOk result (λ first. (e : Explained) × IsExplanation task.now.first.now task.now.second.now naming.now (subject.first, subject.second) at.now e × (first ≡ slice_get e.inner 0)) }
     ensures known { IfOk result (λ first. IfSome first (λ inner. inner.first < length task.now.first.now.names)) }
 {
     let pair = (subject.first, subject.second);
-    let explanation = explain(task.alloc, task.first, task.second, pairing, pair, at)?;
+    let explanation = explain(task.alloc, task.first, task.second, naming, pair, at)?;
     Ok(first_of(explanation.inner()))
 }
 
@@ -58,33 +58,33 @@ fn led_by(pair: Target, first: Option<Inner>) -> Option<Led>
 /// A pair with the first of its inner signals that differ at an assignment, where one does.
 fn led_subject<H>(
     task: &Task<'_, H>,
-    pairing: &Pairing,
+    naming: &Naming,
     subject: Subject,
     pair: Target,
     at: &[bool],
 ) -> Result<Option<Led>, AllocError>
     requires { IsInside (circuit task.now.first.now) (circuit task.now.second.now) subject }
-    ensures led { IfOk result (IsLedPair task.now.first.now task.now.second.now pairing.now pair at.now (Some subject)) }
+    ensures led { IfOk result (IsLedPair task.now.first.now task.now.second.now naming.now pair at.now (Some subject)) }
     ensures known { IfOk result (λ led. IfSome led (λ one. one.inner.first < length task.now.first.now.names)) }
 {
-    let first = first_inner(task, pairing, subject, at)?;
+    let first = first_inner(task, naming, subject, at)?;
     Ok(led_by(pair, first))
 }
 
 /// The same of the pair that is meant, where there is one.
 fn led_pair<H>(
     task: &Task<'_, H>,
-    pairing: &Pairing,
+    naming: &Naming,
     pairs: &[Subject],
     pair: Target,
     at: &[bool],
 ) -> Result<Option<Led>, AllocError>
     requires { All (IsInside (circuit task.now.first.now) (circuit task.now.second.now)) pairs.now }
-    ensures led { IfOk result (IsLedPair task.now.first.now task.now.second.now pairing.now pair at.now (find (is_subject_of (circuit task.now.first.now) pair) pairs.now)) }
+    ensures led { IfOk result (IsLedPair task.now.first.now task.now.second.now naming.now pair at.now (find (is_subject_of (circuit task.now.first.now) pair) pairs.now)) }
     ensures known { IfOk result (λ led. IfSome led (λ one. one.inner.first < length task.now.first.now.names)) }
 {
     match subject_of(task.first, &pair, pairs) {
-        Some(subject) => led_subject(task, pairing, subject, pair, at),
+        Some(subject) => led_subject(task, naming, subject, pair, at),
         None => Ok(None),
     }
 }
@@ -100,18 +100,18 @@ fn pair_of(alloc: Global, role: PairKind, name: &Name) -> Result<Target, AllocEr
 /// The pair of a verdict with the first of its inner signals that differ, where it differs and one does.
 fn led_of<H>(
     task: &Task<'_, H>,
-    pairing: &Pairing,
+    naming: &Naming,
     pairs: &[Subject],
     verdict: &Verdict,
 ) -> Result<Option<Led>, AllocError>
     requires { All (IsInside (circuit task.now.first.now) (circuit task.now.second.now)) pairs.now }
-    ensures led { IfOk result (IsLed task.now.first.now task.now.second.now pairing.now pairs.now verdict.now) }
+    ensures led { IfOk result (IsLed task.now.first.now task.now.second.now naming.now pairs.now verdict.now) }
     ensures known { IfOk result (λ led. IfSome led (λ one. one.inner.first < length task.now.first.now.names)) }
 {
     match verdict {
         Verdict::Differs { role, name, at, .. } => {
             let pair = pair_of(task.alloc, *role, name)?;
-            led_pair(task, pairing, pairs, pair, at.as_slice())
+            led_pair(task, naming, pairs, pair, at.as_slice())
         }
         Verdict::Equal { .. } | Verdict::Lone { .. } | Verdict::Undecided { .. } => Ok(None),
     }
@@ -130,17 +130,17 @@ fn add_led(all: &mut Vec<Led>, one: Option<Led>) -> Result<(), AllocError>
 /// All pairs of these verdicts that differ and have inner signals that do, each with the first of these.
 pub(crate) fn all_led<H>(
     task: &Task<'_, H>,
-    pairing: &Pairing,
+    naming: &Naming,
     pairs: &[Subject],
     verdicts: &[Verdict],
 ) -> Result<Vec<Led>, AllocError>
     requires { All (IsInside (circuit task.now.first.now) (circuit task.now.second.now)) pairs.now }
-    ensures led { IfOk result (λ v. AreLed task.now.first.now task.now.second.now pairing.now pairs.now verdicts.now v.items) }
+    ensures led { IfOk result (λ v. AreLed task.now.first.now task.now.second.now naming.now pairs.now verdicts.now v.items) }
     ensures known { IfOk result (λ v. All (λ one. one.inner.first < length task.now.first.now.names) v.items) }
 {
     let mut all = Vec::new(task.alloc);
     for place in 0..verdicts.len() {
-        let one = led_of(task, pairing, pairs, &verdicts[place])?;
+        let one = led_of(task, naming, pairs, &verdicts[place])?;
         add_led(&mut all, one)?;
     }
     Ok(all)

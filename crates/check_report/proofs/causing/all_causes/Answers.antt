@@ -10,4 +10,4 @@ causes_of-requires g c = subst (All (λ (one : Led). one.inner.first < length c.
 pub returns : goal.returns
 returns g c =
     let task = c.args.task.now in
-    of_all task.first.now task.second.now c.args.pairing.now c.args.pairs.now c.args.verdicts.now c.in_ok-led.led.items c.as_slice.result.now c.causes_of.result c.in_ok-led.ensures.led c.as_slice.ensures.value c.causes_of.ensures
+    of_all task.first.now task.second.now c.args.naming.now c.args.pairs.now c.args.verdicts.now c.in_ok-led.led.items c.as_slice.result.now c.causes_of.result c.in_ok-led.ensures.led c.as_slice.ensures.value c.causes_of.ensures

@@ -14,7 +14,7 @@ use Rattle.check_report.proofs.causing.causes.Goals as goal
 pub returns-then-not-task-clause-causes : goal.returns-then-not-task-clause-causes
 returns-then-not-task-clause-causes g c = λ told ga. unasked told c.args.task.now.settings.now c.args.tried c.args.verdicts.now c.if-not-task.true
 
--- ---- no pairing
+-- ---- no naming
 
 pub returns-in-Err-clause-fault : goal.returns-in-Err-clause-fault
 returns-in-Err-clause-fault g c = λ told ga.
@@ -30,7 +30,7 @@ pub returns-in_default-clause-fault : goal.returns-in_default-clause-fault
 returns-in_default-clause-fault g c = λ told ga.
     let task = c.args.task.now in
     let order = told_order task.settings.now.order c.args.tried in
-    (order, told_allowed task.settings.now.order c.args.tried, accepted task told ga order c.in-Ok.pairing c.in-Ok.ensures.paired)
+    (order, told_allowed task.settings.now.order c.args.tried, accepted task told ga task.settings.now.order order c.in-Ok.naming c.in-Ok.ensures.named c.in-Ok.ensures.few)
 
 pub returns-in_default-clause-ends : goal.returns-in_default-clause-ends
 returns-in_default-clause-ends g c = memory_ends
@@ -39,7 +39,7 @@ pub returns-clause-fault : goal.returns-clause-fault
 returns-clause-fault g c = λ told ga.
     let task = c.args.task.now in
     let order = told_order task.settings.now.order c.args.tried in
-    (order, told_allowed task.settings.now.order c.args.tried, accepted task told ga order c.in-Ok.pairing c.in-Ok.ensures.paired)
+    (order, told_allowed task.settings.now.order c.args.tried, accepted task told ga task.settings.now.order order c.in-Ok.naming c.in-Ok.ensures.named c.in-Ok.ensures.few)
 
 pub returns-clause-ends : goal.returns-clause-ends
 returns-clause-ends g c = memory_ends
@@ -50,7 +50,7 @@ pub all_causes-requires : goal.all_causes-requires
 all_causes-requires g c =
     let task = c.args.task.now in
     subst (λ ss. All (IsInside (circuit task.first.now) (circuit task.second.now)) ss) (sym (c.as_slice.ensures.value ∙ c.in-Ok-subjects_of.ensures))
-    (subjects_inside task.settings.now.matching task.first.now task.second.now (condition task.given) (told_order task.settings.now.order c.args.tried) c.in-Ok.pairing c.inputs.ensures.sound c.inputs-2.ensures.sound c.in-Ok.ensures.paired)
+    (subjects_inside task.settings.now.matching task.first.now task.second.now (condition task.given) (told_order task.settings.now.order c.args.tried) c.in-Ok.naming c.inputs.ensures.sound c.inputs-2.ensures.sound c.in-Ok.ensures.named)
 
 pub returns-in-Ok-all_causes-clause-causes : goal.returns-in-Ok-all_causes-clause-causes
 returns-in-Ok-all_causes-clause-causes g c = λ told ga.
@@ -61,11 +61,11 @@ returns-in-Ok-all_causes-clause-causes g c = λ told ga.
       a = task.first.now;
       b = task.second.now;
       c = condition task.given;
-      p = c.in-Ok.pairing;
-      paired = record { netlists = ga; pairing = c.in-Ok.ensures.paired };
-      variables = c.requires.names ∙ sym c.in-Ok.ensures.paired.names;
+      p = c.in-Ok.naming;
+      named = record { netlists = ga; naming = c.in-Ok.ensures.named };
+      variables = c.requires.names ∙ sym c.in-Ok.ensures.named.names;
       led = led.0;
-      are_led = subst (λ vs. AreLed task.first.now task.second.now c.in-Ok.pairing (subjects (circuit task.first.now) (circuit task.second.now) c.in-Ok.pairing) vs led.0) c.as_slice-2.ensures
-          (subst (λ ps. AreLed task.first.now task.second.now c.in-Ok.pairing ps c.as_slice-2.result.now led.0) (c.as_slice.ensures.value ∙ c.in-Ok-subjects_of.ensures) led.1);
+      are_led = subst (λ vs. AreLed task.first.now task.second.now c.in-Ok.naming (subjects (circuit task.first.now) (circuit task.second.now) c.in-Ok.naming) vs led.0) c.as_slice-2.ensures
+          (subst (λ ps. AreLed task.first.now task.second.now c.in-Ok.naming ps c.as_slice-2.result.now led.0) (c.as_slice.ensures.value ∙ c.in-Ok-subjects_of.ensures) led.1);
       causes = led.2;
     })

@@ -6,4 +6,4 @@ use Rattle.check_report.proofs.led.all_led.Given as goal
 -- those so far
 abbrev pub invariant-loop-place : goal.invariant-loop-place
 invariant-loop-place g l =
-    AreLed l.task.first.now l.task.second.now l.pairing l.pairs (take l.place l.verdicts) l.all.items × All (λ one. one.inner.first < length l.task.first.now.names) l.all.items
+    AreLed l.task.first.now l.task.second.now l.naming l.pairs (take l.place l.verdicts) l.all.items × All (λ one. one.inner.first < length l.task.first.now.names) l.all.items

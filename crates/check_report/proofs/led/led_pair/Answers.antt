@@ -14,9 +14,9 @@ led_subject-requires g c =
 pub returns-in-Some-clause-led : goal.returns-in-Some-clause-led
 returns-in-Some-clause-led g c =
     let task = c.args.task.now in
-    subst (λ o. IfOk c.led_subject.result (IsLedPair task.first.now task.second.now c.args.pairing.now c.args.pair c.args.at.now o)) c.in-Some.ensures c.led_subject.ensures.led
+    subst (λ o. IfOk c.led_subject.result (IsLedPair task.first.now task.second.now c.args.naming.now c.args.pair c.args.at.now o)) c.in-Some.ensures c.led_subject.ensures.led
 
 pub returns-in-None-clause-led : goal.returns-in-None-clause-led
 returns-in-None-clause-led g c =
     let task = c.args.task.now in
-    subst (λ o. IsLedPair task.first.now task.second.now c.args.pairing.now c.args.pair c.args.at.now o None) c.in-None.ensures refl
+    subst (λ o. IsLedPair task.first.now task.second.now c.args.naming.now c.args.pair c.args.at.now o None) c.in-None.ensures refl
