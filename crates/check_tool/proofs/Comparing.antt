@@ -1,5 +1,5 @@
 -- From a check to a comparison of two texts, and from that to a run of the texts that the options name.
-use Rattle.std.proofs.Common.{◌≡◌, ◌≢◌, ◌∙◌, ◌++◌, ◌⊎◌, inl, inr, ℕ, Bool, false, List, [], Option, Some, None, Result, Ok, Err, IfOk, IfErr, OnOk, refl, sym, ap, subst}
+use Rattle.std.proofs.Common.{◌≡◌, ◌≢◌, ◌∙◌, ◌++◌, ◌⊎◌, inl, inr, ℕ, Bool, false, List, [], Option, Some, None, Result, Ok, Err, IfOk, IfErr, OnOk, refl, sym, subst}
 use Rattle.std.specs.Prelude.{IfSome}
 use Rattle.check_report.specs.Devices.{told_of}
 use Rattle.check_report.specs.declared.choice.Attempt.{Attempt}

@@ -1,5 +1,5 @@
 -- How a run ends behind its report.
-use Rattle.std.proofs.Common.{◌≡◌, ◌⊎◌, inl, inr, ℕ, Bool, true, false, List, [], Option, refl, sym, ap, subst, append-nil}
+use Rattle.std.proofs.Common.{◌≡◌, ◌⊎◌, inl, inr, ℕ, Bool, true, false, List, [], Option, refl, subst, append-nil}
 use Rattle.std.specs.Prelude.{◌||◌}
 use Rattle.command_line.specs.declared.options.Options.{Options}
 use Rattle.check_tool.specs.declared.done.Done.{Done}

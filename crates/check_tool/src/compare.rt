@@ -48,37 +48,44 @@ fn ready<F: Folder>(
 
 /// Writes the report of the texts, or prints the order of their variables.
 fn check_or_print<
-    H: Threads + Wait + Sync,
+    H: AllocGlobal + Threads + Wait + Sync,
     R1: Source,
     R2: Source,
     R3: Source,
     G: Monitor,
     W: Sink,
 >(
-    print: bool,
-    context: &Context<'_, H, G>,
+    run: &Run<'_, '_, H, G>,
+    settings: &Settings,
     first: &mut R1,
     second: &mut R2,
     given: &mut Option<R3>,
     out: &mut W,
 ) -> Result<Done, ToolFault>
-    requires unbounded { G.bound context.now.monitor.now ≡ None }
+    requires unbounded { G.bound run.now.monitor.now ≡ None }
     ensures report { let told = told_of (R1.remaining first.old) (R2.remaining second.old) (told_by R3.remaining given.old) in
-        IfOk result (IsChecked told context.now.settings.now print (written W.contents W.has_failed W.has_stopped out.old out.new)) }
+        IfOk result (IsChecked told settings.now run.now.options.now.print_order (written W.contents W.has_failed W.has_stopped out.old out.new)) }
     ensures fault { let told = told_of (R1.remaining first.old) (R2.remaining second.old) (told_by R3.remaining given.old) in
-        IfErr result (IsUnchecked told context.now.settings.now print (IsTrue (R1.has_failed first.new)) (IsTrue (R2.has_failed second.new)) (HasFailedIn R3.has_failed given.new) (written W.contents W.has_failed W.has_stopped out.old out.new)) }
+        IfErr result (IsUnchecked told settings.now run.now.options.now.print_order (IsTrue (R1.has_failed first.new)) (IsTrue (R2.has_failed second.new)) (HasFailedIn R3.has_failed given.new) (written W.contents W.has_failed W.has_stopped out.old out.new)) }
     ensures untouched { OnErr result (result ≢ Err (ToolFault.Check Write) → out.new ≡ out.old) }
     ensures written { OnOk result ((W.has_failed out.new ≡ W.has_failed out.old) × (W.has_stopped out.new ≡ W.has_stopped out.old)) }
     ensures origins { (R1.origin first.new ≡ R1.origin first.old) × (R2.origin second.new ≡ R2.origin second.old) × (told_by R3.origin given.new ≡ told_by R3.origin given.old) }
 {
-    if print {
-        let printed = print_order(context, first, second, given, out);
+    let options = run.options;
+    let context = Context {
+        rt: run.rt,
+        alloc: run.rt.alloc(),
+        settings,
+        monitor: run.monitor,
+    };
+    if options.print_order {
+        let printed = print_order(&context, first, second, given, out);
         return match printed {
             Ok(tried) => Ok(Done::OrderPrinted(tried)),
             Err(fault) => Err(ToolFault::Check(fault)),
         };
     }
-    match check(context, first, second, given, out) {
+    match check(&context, first, second, given, out) {
         Ok((outcome, tried, vcd)) => Ok(Done::Compared(outcome, tried, vcd)),
         Err(fault) => Err(ToolFault::Check(fault)),
     }
@@ -110,14 +117,6 @@ pub(crate) fn compare<
     ensures written { OnOk result ((W.has_failed out.new ≡ W.has_failed out.old) × (W.has_stopped out.new ≡ W.has_stopped out.old)) }
     ensures origins { (R1.origin first.new ≡ R1.origin first.old) × (R2.origin second.new ≡ R2.origin second.old) }
 {
-    let alloc = run.rt.alloc();
-    let (mut given, settings) = ready(alloc, folder, run.options)?;
-    let context = Context {
-        rt: run.rt,
-        alloc,
-        settings: &settings,
-        monitor: run.monitor,
-    };
-    let print = run.options.print_order;
-    check_or_print(print, &context, first, second, &mut given, out)
+    let (mut given, settings) = ready(run.rt.alloc(), folder, run.options)?;
+    check_or_print(run, &settings, first, second, &mut given, out)
 }

@@ -428,6 +428,14 @@ IsToldAs kind (Help text) = (kind ≡ DisplayHelp) ⊎ ((kind ≡ DisplayVersion
 IsToldAs kind (Mistake text) = (kind ≢ DisplayHelp) × (kind ≢ DisplayVersion) × (kind ≢ NoMemory)
 IsToldAs kind OutOfMemory = ⊤
 
+-- Words that clap takes are refused for two arguments that exclude each other, or else for a memory or a share that is none, or for want of
+-- memory.
+abbrev pub IsRefusedFor : List Row → Refused → Type 0
+IsRefusedFor rows refused =
+    (AreAtOdds rows × IsToldAs ArgumentConflict refused)
+    ⊎ (((AreAtOdds rows → ⊥) × (GiveBadMemory rows ⊎ GiveBadShare rows) × IsToldAs ValueValidation refused)
+    ⊎ (refused ≡ OutOfMemory))
+
 -- The words are refused for the first fault that clap finds in them, or for two arguments that exclude each other, or else for a memory or a
 -- share that is none, or for want of memory.
 abbrev pub IsRefusal : List Text → Refused → Type 0

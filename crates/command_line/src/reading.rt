@@ -2,7 +2,7 @@
 ghost use Rattle.std.specs.Prelude.{IfOk, IfErr, map, string_bytes};
 ghost use Rattle.clap.specs.Values.{kind_of};
 ghost use Rattle.clap.specs.Words.{app_of, found_of, rows_of};
-ghost use Rattle.command_line.specs.Words.{IsTool, AreFound, AskFor, TellsVersion, IsToldAs, IsRefusal};
+ghost use Rattle.command_line.specs.Words.{IsTool, AreFound, AreAtOdds, AreOptions, AskFor, TellsVersion, IsToldAs, IsRefusedFor, IsRefusal};
 
 use crate::command::command;
 use crate::matched::{BadPicks, explained_in, memory_in, options_of, picks_in};
@@ -65,21 +65,33 @@ pub fn read_options<'a>(alloc: Global, words: &'a [String]) -> Result<Options<'a
         return Err(Refused::OutOfMemory);
     };
     let matches = parsed(alloc, &mut command, words)?;
-    if let Some(odds) = odds_in(&matches) {
-        return Err(conflict(alloc, &mut command, odds));
+    options_in(alloc, &mut command, &matches)
+}
+
+/// The options of what the parser has found.
+fn options_in<'a>(
+    alloc: Global,
+    command: &mut Command<'_>,
+    matches: &ArgMatches<'a>,
+) -> Result<Options<'a>, Refused>
+    ensures options { let rows = rows_of (found_of matches.now) in IfOk result (λ o. (AreAtOdds rows → ⊥) × AreOptions rows o) }
+    ensures refused { IfErr result (IsRefusedFor (rows_of (found_of matches.now))) }
+{
+    if let Some(odds) = odds_in(matches) {
+        return Err(conflict(alloc, command, odds));
     }
-    let word = word_of(&matches, "memory");
+    let word = word_of(matches, "memory");
     let Some(memory) = memory_in(word) else {
-        return Err(bad_memory(alloc, &mut command, word.unwrap_or("")));
+        return Err(bad_memory(alloc, command, word.unwrap_or("")));
     };
-    let Ok(explain) = explained_in(alloc, &matches) else {
+    let Ok(explain) = explained_in(alloc, matches) else {
         return Err(Refused::OutOfMemory);
     };
-    match picks_in(alloc, &matches) {
-        Ok(picks) => Ok(options_of(&matches, memory, picks, explain)),
+    match picks_in(alloc, matches) {
+        Ok(picks) => Ok(options_of(matches, memory, picks, explain)),
         Err(BadPicks::Share) => {
-            let word = word_of(&matches, "share");
-            Err(bad_share(alloc, &mut command, word.unwrap_or("")))
+            let word = word_of(matches, "share");
+            Err(bad_share(alloc, command, word.unwrap_or("")))
         }
         Err(BadPicks::OutOfMemory) => Err(Refused::OutOfMemory),
     }

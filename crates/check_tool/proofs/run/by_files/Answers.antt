@@ -1,4 +1,4 @@
-use Rattle.std.proofs.Common.{◌∙◌, IsTrue, ap, inl, sym, subst}
+use Rattle.std.proofs.Common.{◌∙◌, IsTrue, ap, inl}
 use Rattle.std.proofs.lemmas.Result.{err_from_is_err_and}
 use Rattle.command_line.specs.declared.options.Texts.TheVariants.{Files}
 use Rattle.check_tool.specs.declared.fault.Place.TheVariants.{First, Second}

@@ -1,4 +1,4 @@
-use Rattle.std.proofs.Common.{◌≡◌, ◌≢◌, ◌∙◌, ◌⊎◌, ap, sym, subst, inl, inr, Result, Ok, Err, OnErr, arith}
+use Rattle.std.proofs.Common.{◌≡◌, ◌≢◌, ◌∙◌, ◌⊎◌, ap, sym, subst, inr, Result, Ok, Err, OnErr, arith}
 use Rattle.std.specs.Io.KnownBytes.{Keeps}
 use Rattle.check_tool.specs.declared.done.Done.{Done}
 use Rattle.check_report.specs.declared.fault.CheckFault.TheVariants.{Write}
@@ -6,11 +6,9 @@ use Rattle.check_tool.specs.declared.fault.ToolFault.{ToolFault}
 use Rattle.check_tool.specs.declared.fault.ToolFault.TheVariants.{Check, OutOfMemory}
 use Rattle.check_tool.specs.Ending.{Between, BreaksOff, Finishes, IsSaidOf, Scene, Written, asked_again, from, scene_of, tells, written}
 use Rattle.check_tool.specs.Opening.{AreTried, HasFailedAt}
-use Rattle.check_tool.specs.Running.{paths_of}
-use Rattle.check_tool.specs.Saving.{saves_of}
 use Rattle.check_tool.specs.Faults.{fault_status}
-use Rattle.check_tool.proofs.Composing.{keeps_own, asked_or, code_of, extends_more, neither}
-use Rattle.check_tool.proofs.Unsaved.{grows_none, none_opened}
+use Rattle.check_tool.proofs.Composing.{keeps_own, code_of, extends_more}
+use Rattle.check_tool.proofs.Unsaved.{grows_none}
 use Rattle.check_tool.proofs.Finishing.{ended, not_asked}
 use Rattle.check_tool.proofs.tool.run_asked.Goals as goal
 

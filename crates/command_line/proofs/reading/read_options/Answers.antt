@@ -1,33 +1,9 @@
-use Rattle.std.proofs.Common.{ℕ, Err, ap, inl, inr, subst, refl}
-use Rattle.std.specs.Prelude.{IsSomeAnd}
 use Rattle.clap.specs.Words.{found_of, rows_of}
-use Rattle.command_line.specs.Words.{IsMemory}
+use Rattle.command_line.proofs.Asked.{asked, refused_for}
 use Rattle.command_line.proofs.reading.read_options.Goals as goal
 
-pub returns-in-Some-clause-refused : goal.returns-in-Some-clause-refused
-returns-in-Some-clause-refused c =
-    inr (inl (rows_of (found_of c.in_ok-matches.matches), c.in_ok-matches.ensures.found, c.in-Some.ensures, c.conflict.ensures))
+pub returns-clause-options : goal.returns-clause-options
+returns-clause-options c = asked _ (rows_of (found_of c.in_ok-matches.matches)) c.in_ok-matches.ensures.found c.options_in.result c.options_in.ensures.options
 
-pub returns-in_default-memory_in-clause-refused : goal.returns-in_default-memory_in-clause-refused
-returns-in_default-memory_in-clause-refused c =
-    inr (inr (inl (
-      rows_of (found_of c.in_ok-matches.matches),
-      c.in_ok-matches.ensures.found,
-      c.in_default-odds_in.ensures,
-      inl (subst (λ w. IsSomeAnd w (λ text. (n : ℕ) → IsMemory text n → ⊥)) c.word_of-word.ensures (c.in_default-memory_in.ensures.none refl)),
-      c.bad_memory.ensures,
-    )))
-
-pub returns-in-Ok-picks_in-clause-options : goal.returns-in-Ok-picks_in-clause-options
-returns-in-Ok-picks_in-clause-options c =
-    (rows_of (found_of c.in_ok-matches.matches), c.in_ok-matches.ensures.found, c.in_default-odds_in.ensures, c.options_of.ensures)
-
-pub returns-in-Err-Share-clause-refused : goal.returns-in-Err-Share-clause-refused
-returns-in-Err-Share-clause-refused c =
-    inr (inr (inl (
-      rows_of (found_of c.in_ok-matches.matches),
-      c.in_ok-matches.ensures.found,
-      c.in_default-odds_in.ensures,
-      inr (c.in-Err-Share.ensures.share (ap Err c.in-Err-Share.field-0-is)),
-      c.bad_share.ensures,
-    )))
+pub returns-clause-refused : goal.returns-clause-refused
+returns-clause-refused c = refused_for _ (rows_of (found_of c.in_ok-matches.matches)) c.in_ok-matches.ensures.found c.options_in.result c.options_in.ensures.refused
