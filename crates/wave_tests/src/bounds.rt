@@ -4,7 +4,7 @@ ghost use Rattle.reduce_up.specs.Waves.{IsEntry};
 
 use crate::waves::{How, Way, crew_of, entries_of, run, start};
 use dd_store::{Ref, Store, Watch};
-use expand_work::{Free, Monitor, WaveFault};
+use expand_work::{Monitor, WaveFault};
 use req_table::{ComputedTable, Op};
 use std::alloc::Global;
 use std::process::Abort;
@@ -140,14 +140,33 @@ fn each_request_is_told_once(rt: HostRuntime) -> Result<(), Fail> {
     Ok(())
 }
 
-// Where no worker is called in, the caller's thread reduces each of seven requests once.
-#[test]
-fn each_request_is_reduced_once(rt: HostRuntime) -> Result<(), Fail> {
-    let mut store = Store::new(rt.alloc(), 4, 100)?;
-    let entries = product_of_sums(&rt, rt.alloc(), &mut store);
-    let crew = crew_of(&rt, rt.alloc(), 4, &Free);
+/// How many requests of that wave the caller's thread reduces, where four workers are called in likewise. All seven are expanded.
+fn reduced_alone<R: Threads + Wait + Abort + Sync>(
+    rt: &R,
+    alloc: Global,
+    alone: usize,
+) -> Result<u64, Fail> {
+    let mut store = Store::new(alloc, 4, 100)?;
+    let entries = product_of_sums(rt, alloc, &mut store);
+    let monitor = Bound {
+        most: usize::MAX,
+        alone,
+        told: AtomicUsize::new(0),
+        workers: AtomicUsize::new(0),
+    };
+    let crew = crew_of(rt, alloc, 4, &monitor);
     let mut engine = Engine::new(&crew)?;
     assert!(rt; engine.wave(&mut store, entries.as_slice()).is_ok());
-    assert!(rt; engine.expanded() == 7 && engine.reduced() == 7);
+    assert!(rt; engine.expanded() == 7);
+    Ok(engine.reduced())
+}
+
+// The caller's thread reduces each of seven requests once where no worker is called in, else those of the levels before.
+#[test]
+fn each_request_is_reduced_once(rt: HostRuntime) -> Result<(), Fail> {
+    for (alone, reduced) in [(4, 7), (2, 3), (1, 1), (0, 0)] {
+        let found = reduced_alone(&rt, rt.alloc(), alone)?;
+        assert!(rt; found == reduced);
+    }
     Ok(())
 }
