@@ -13,6 +13,7 @@ use Rattle.command_line.specs.declared.options.Texts.{Texts}
 use Rattle.check_tool.specs.Opening.{HasFailedAt}
 use Rattle.check_report.specs.Devices.{told_of, told_by, HasFailedIn}
 use Rattle.std.specs.Borrow.{Bor}
+use Rattle.check_report.specs.declared.choice.Choice.{Choice}
 use Rattle.check_report.specs.declared.settings.Settings.{Settings}
 use Rattle.check_report.specs.Explaining.{IsReportFault}
 use Rattle.check_tool.specs.Running.{HasFirstFailed, HasSecondFailed, HasGivenFailed, IsGivenFrom, IsOrderRefused}
