@@ -1,6 +1,6 @@
 #!/bin/sh
 # Tests that no contract can hold: refused memory and threads, a differential fuzz, devices, signals, stored runs,
-# the examples. docs/TESTING.md says what each adds. They take some six minutes on two cores; the last line is
+# the examples. docs/TESTING.md says what each adds. They take some eight minutes; the last line is
 # 'N passed, M failed', and the status is 0 where nothing failed.
 #
 # usage: tests/run.sh [--seed N] [--long] [PART ..]
