@@ -24,6 +24,21 @@ struct Listener {
     wide: AtomicUsize,
 }
 
+impl Listener {
+    /// One that has heard nothing.
+    fn new() -> Listener {
+        Listener {
+            times: AtomicUsize::new(0),
+            ranks: AtomicU64::new(0),
+            last_ranks: AtomicU64::new(0),
+            nodes: AtomicU64::new(0),
+            requests: AtomicUsize::new(0),
+            decided: AtomicUsize::new(0),
+            wide: AtomicUsize::new(0),
+        }
+    }
+}
+
 impl Watch for Listener {
     fn at_shard(&self, _shard: u8, _level: u16) {}
 }
@@ -94,15 +109,7 @@ fn told_of<R: Threads + Wait + Sync>(
         vcd: false,
         causes: false,
     };
-    let monitor = Listener {
-        times: AtomicUsize::new(0),
-        ranks: AtomicU64::new(0),
-        last_ranks: AtomicU64::new(0),
-        nodes: AtomicU64::new(0),
-        requests: AtomicUsize::new(0),
-        decided: AtomicUsize::new(0),
-        wide: AtomicUsize::new(0),
-    };
+    let monitor = Listener::new();
     let mut first = Through::new(text.as_bytes());
     let mut second = Through::new(text.as_bytes());
     let mut nothing: Option<Through<&[u8]>> = None;
