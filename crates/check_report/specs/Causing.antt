@@ -3,7 +3,7 @@ use Rattle.std.specs.Prelude.{◌≡◌, ℕ, ◌==◌, Bool, true, false, List,
 use Rattle.std.specs.List.{list_any}
 use Rattle.std.specs.declared.alloc.Global.{Global}
 use Rattle.std.specs.declared.vec.Vec.{Vec}
-use Rattle.net_bench.specs.Circuit.{Circuit, Net, circuit}
+use Rattle.net_bench.specs.Circuit.{Circuit, IsNet, Net, circuit}
 use Rattle.net_explain.specs.declared.differing.Inner.{Inner}
 use Rattle.net_explain.specs.Explaining.{Explained, IsExplanation}
 use Rattle.net_order.specs.Order.{Paired}
@@ -82,6 +82,9 @@ pub record HaveCauses (told : Told) (s : Settings) (tried : Option Attempt) (fou
   pub b : Net
   pub c : Option Circuit
   pub p : Paired
+  -- their ranks, which order inner signals, are those of their gates
+  pub first_sound : IsNet a
+  pub second_sound : IsNet b
   pub named : HaveNaming told s.matching (told_order s.order tried) (circuit a) (circuit b) c p
   -- the bits of an assignment are those of the variables of this naming
   pub variables : found.variables ≡ p.names

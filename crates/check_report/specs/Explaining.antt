@@ -1,6 +1,6 @@
 -- What stands behind a report: an explanation of each pair that is asked for.
 use Rattle.std.specs.Prelude.{◌≡◌, ◌⊎◌, ℕ, Bool, true, false, ◌&&◌, List, [], ◌∷◌, ◌++◌, map, find, Option, Some, None, Contains, IsTrue, bytes_eq, codes}
-use Rattle.net_bench.specs.Circuit.{Circuit, Net, circuit}
+use Rattle.net_bench.specs.Circuit.{Circuit, IsNet, Net, circuit}
 use Rattle.net_explain.specs.Explaining.{Explained, IsExplanation}
 use Rattle.net_explain.specs.Text.{explanation_text}
 use Rattle.net_order.specs.declared.order.Order.{Order}
@@ -115,6 +115,9 @@ pub record HaveExplanations (told : Told) (s : Settings) (tried : Option Attempt
   pub b : Net
   pub c : Option Circuit
   pub p : Paired
+  -- their ranks, which order inner signals, are those of their gates
+  pub first_sound : IsNet a
+  pub second_sound : IsNet b
   pub named : HaveNaming told s.matching (told_order s.order tried) (circuit a) (circuit b) c p
   -- the bits of an assignment are those of the variables of this naming
   pub variables : found.variables ≡ p.names

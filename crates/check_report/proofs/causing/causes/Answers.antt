@@ -62,6 +62,8 @@ returns-in-Ok-all_causes-clause-causes g c = λ told ga.
       b = task.second.now;
       c = condition task.given;
       p = c.in-Ok.naming;
+      first_sound = c.inputs.ensures.sound;
+      second_sound = c.inputs-2.ensures.sound;
       named = record { netlists = ga; naming = c.in-Ok.ensures.named };
       variables = c.requires.names ∙ sym c.in-Ok.ensures.named.names;
       led = led.0;

@@ -63,6 +63,8 @@ returns-in-Ok-explanations-clause-behind g c = λ told ga.
       b = task.second.now;
       c = condition task.given;
       p = c.in-Ok.naming;
+      first_sound = c.inputs.ensures.sound;
+      second_sound = c.inputs-2.ensures.sound;
       named = record { netlists = ga; naming = c.in-Ok.ensures.named };
       variables = c.requires.names ∙ sym c.in-Ok.ensures.named.names;
       known = c.requires.known;
